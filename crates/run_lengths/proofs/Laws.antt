@@ -4,9 +4,12 @@ use Rattle.std.proofs.lemmas.List.{length-drop, length-map, length-replicate, ta
 use Rattle.std.proofs.lemmas.Bool.Decides.{nat_tests}
 use Rattle.std.specs.Prelude.{flat_map, IfOk, nat_le, nat_lt, ◌&&◌}
 use Rattle.run_lengths.specs.Bytes.{Read, then_read, map_read, read_if, bytes_of, bytes_at, number_at, pixels_of, low_number}
-use Rattle.run_lengths.specs.Codes.{Kind, Length, Row, row_of}
-use Rattle.run_lengths.specs.Codes.Kind.{BackgroundRun, ForegroundRun, MaskImage, ColorRun, ColorImage, DitheredRun, FixedMask, FixedColor}
-use Rattle.run_lengths.specs.Codes.Length.{InCode, TwoBytes, Fixed}
+use Rattle.run_lengths.specs.Codes.{row_of}
+use Rattle.run_lengths.specs.declared.codes.Kind.{Kind}
+use Rattle.run_lengths.specs.declared.codes.Length.{Length}
+use Rattle.run_lengths.specs.declared.codes.Row.{Row}
+use Rattle.run_lengths.specs.declared.codes.Kind.TheVariants.{BackgroundRun, ForegroundRun, MaskImage, ColorRun, ColorImage, DitheredRun, FixedMask, FixedColor}
+use Rattle.run_lengths.specs.declared.codes.Length.TheVariants.{InCode, TwoBytes, Fixed}
 use Rattle.run_lengths.specs.RunLength.{Run, Order, run_size, bits_of, mask_bits, greatest_length, length_if, length_at, foreground_at, run_at, pixel_at, order_in_row, order_at, onto_orders, orders_after, orders_within, orders_in, Stroke, drawn_pixel, ground, figure, background_strokes, dithered_strokes, run_strokes, Drawn, drawn_after, follows_background, is_first_row, foreground_of, order_strokes, strokes_from, strokes_of, nothing_drawn, drawn_over, AreDrawn, Decompresses, rows_from, pixels_drawn, pixels_of_orders, unrle, refused_place, first_bad_run}
 use Rattle.run_lengths.specs.RunLength.Run.{Background, Foreground, Mask, Color, Image, Dithered}
 use Rattle.run_lengths.specs.RunLength.Stroke.{Plain, Above}

@@ -1,34 +1,16 @@
 -- The codes of run-length orders ([MS-RDPBCGR] 2.2.9.1.1.3.1.2.4), as data.
 use Rattle.std.specs.Prelude.{ℕ, ◌&&◌, nat_le, Bool, true, false, List, [], ◌∷◌, Option, Some, None, if◌then◌else◌}
+use Rattle.run_lengths.specs.declared.codes.Kind.{Kind}
+use Rattle.run_lengths.specs.declared.codes.Kind.TheVariants.{BackgroundRun, ForegroundRun, MaskImage, ColorRun, ColorImage, DitheredRun, FixedMask, FixedColor}
+use Rattle.run_lengths.specs.declared.codes.Length.{Length}
+use Rattle.run_lengths.specs.declared.codes.Length.TheVariants.{InCode, TwoBytes, Fixed}
+use Rattle.run_lengths.specs.declared.codes.Row.{Row}
 
--- what an order draws
-pub data Kind : Type 0 where
-  BackgroundRun : Kind
-  ForegroundRun : Kind
-  MaskImage : Kind
-  ColorRun : Kind
-  ColorImage : Kind
-  DitheredRun : Kind
-  FixedMask : ℕ → Kind
-  FixedColor : ℕ → Kind
-
--- where the length stands: the code's low bits times a scale, or, where they are 0, the next byte and so many more; the next two bytes; nowhere, since it is fixed
-pub data Length : Type 0 where
-  InCode : (scale more : ℕ) → Length
-  TwoBytes : Length
-  Fixed : ℕ → Length
-
--- the codes from the first to the last, and whether a new foreground pixel follows the length
-pub record Row : Type 0 where
-  pub first : ℕ
-  pub last : ℕ
-  pub sets_foreground : Bool
-  pub kind : Kind
-  pub length : Length
-
+-- a row of the table: its first and last code, whether a new foreground pixel follows the length, what it draws, where its length stands
 abbrev pub row : ℕ → ℕ → Bool → Kind → Length → Row
 row a b sets k l = record { first = a; last = b; sets_foreground = sets; kind = k; length = l }
 
+-- the lengths of runs, of masks, and of both in the lite forms
 -- the lengths of runs, of masks, and of both in the lite forms
 abbrev pub run : Length
 run = InCode 1 32

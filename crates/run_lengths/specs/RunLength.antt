@@ -1,9 +1,14 @@
 -- Run-length bitmaps ([MS-RDPBCGR] 2.2.9.1.1.3.1.2.4 and 3.1.9): the orders that a byte stream is cut into, and the pixels that they draw, the bottom row first.
 use Rattle.std.specs.Prelude.{◌≡◌, ℕ, zero, suc, ◌+◌, ◌-◌, ◌*◌, ◌/◌, ◌%◌, ◌==◌, nat_lt, nat_le, Bool, true, false, ◌&&◌, List, [], ◌∷◌, ◌++◌, length, map, flat_map, take, drop, replicate, Option, Some, None, unwrap_or, Result, Ok, Err, bit_xor, if◌then◌else◌}
 use Rattle.run_lengths.specs.Bytes.{Read, then_read, map_read, read_if, bytes_at, number_at, pixels_of, place_in}
-use Rattle.run_lengths.specs.Codes.{Kind, Length, Row, row_of, white}
-use Rattle.run_lengths.specs.Codes.Kind.{BackgroundRun, ForegroundRun, MaskImage, ColorRun, ColorImage, DitheredRun, FixedMask, FixedColor}
-use Rattle.run_lengths.specs.Codes.Length.{InCode, TwoBytes, Fixed}
+use Rattle.run_lengths.specs.Codes.{row_of, white}
+use Rattle.run_lengths.specs.declared.codes.Kind.{Kind}
+use Rattle.run_lengths.specs.declared.codes.Length.{Length}
+use Rattle.run_lengths.specs.declared.codes.Row.{Row}
+use Rattle.run_lengths.specs.declared.codes.Before.{Before}
+use Rattle.run_lengths.specs.declared.codes.Before.TheVariants.{Other, FirstRowBackground, LaterBackground}
+use Rattle.run_lengths.specs.declared.codes.Kind.TheVariants.{BackgroundRun, ForegroundRun, MaskImage, ColorRun, ColorImage, DitheredRun, FixedMask, FixedColor}
+use Rattle.run_lengths.specs.declared.codes.Length.TheVariants.{InCode, TwoBytes, Fixed}
 
 -- ---- orders
 
@@ -157,12 +162,7 @@ run_strokes (Color n c) follows g f = replicate n (Plain c)
 run_strokes (Image cs) follows g f = map (λ c. Plain c) cs
 run_strokes (Dithered n a b) follows g f = dithered_strokes n a b
 
--- what stands before an order: a background run that begins in the first row, one that begins later, or anything else
-pub data Before : Type 0 where
-  Other : Before
-  FirstRowBackground : Before
-  LaterBackground : Before
-
+-- what stands after a background run, by whether it begins in the first row
 abbrev pub background_before : Bool → Before
 background_before true = FirstRowBackground
 background_before false = LaterBackground

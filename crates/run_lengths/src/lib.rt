@@ -16,3 +16,7 @@
 //! A length "run" is the low five bits of the code, or, where they are 0, the next byte and 32. "Mask" is the low five bits times 8, or the next byte and 1. "Lite" is the same with the low four bits, and 16 for runs. From F0 to F8 the length is the next two bytes, the low one first.
 //! A pixel is blue, green, red in bytes, and the number 65536 * red + 256 * green + blue here. The bottom row comes first.
 #![tactic(auto)]
+
+mod codes;
+
+pub use codes::{Before, Kind, Length, Row};
