@@ -2,7 +2,7 @@
 use Rattle.std.proofs.Common.{◌≡◌, ℕ, zero, suc, ◌+◌, ◌-◌, ◌*◌, ◌/◌, ◌<◌, ◌≤◌, Bool, true, false, cond, List, [], ◌∷◌, ◌++◌, length, get_or, take, drop, replicate, min, refl, ap, sym, subst, ◌∙◌, arith, Some, None, Ok, Err, Option, Result, length-append, append_assoc, append-nil}
 use Rattle.std.proofs.lemmas.List.{length-drop, length-map, length-replicate, take-append-drop, length-take-le, drop_at, get_or_append_left, get_or-replicate, get_or-append_right}
 use Rattle.std.proofs.lemmas.Bool.Decides.{nat_tests}
-use Rattle.std.specs.Prelude.{flat_map, IfOk, nat_le, nat_lt, ◌&&◌}
+use Rattle.std.specs.Prelude.{flat_map, IfOk, IfErr, MatchResult, nat_le, nat_lt, ◌&&◌}
 use Rattle.run_lengths.specs.Bytes.{Read, then_read, map_read, read_if, bytes_of, bytes_at, number_at, pixels_of, low_number}
 use Rattle.run_lengths.specs.Codes.{row_of}
 use Rattle.run_lengths.specs.declared.codes.Kind.{Kind}
@@ -55,32 +55,32 @@ rows_drawn (suc h) w row ss e n =
 
 -- ---- what is read, and what is left
 
--- what is read has the property, and at most n bytes are left after it
+-- what is read has the property, and at most n bytes are left after it; a refused field has at most one more before its end
 abbrev pub Leaves : {A : Type 0} → (A → Type 0) → ℕ → Read A → Type 0
-Leaves P n r = IfOk r (λ v. P v.0 × (length v.1 ≤ n))
+Leaves P n r = MatchResult r (λ v. P v.0 × (length v.1 ≤ n)) (λ refused. length refused ≤ suc n)
 
 leaves_then : {A B : Type 0} (P : A → Type 0) (Q : B → Type 0) (n : ℕ) (r : Read A) (next : A → List ℕ → Read B) → Leaves P n r → ((a : A) (rest : List ℕ) → P a → length rest ≤ n → Leaves Q n (next a rest)) → Leaves Q n (then_read r next)
 leaves_then P Q n (Ok v) next h f = f v.0 v.1 h.0 h.1
-leaves_then P Q n (Err refused) next h f = tt
+leaves_then P Q n (Err refused) next h f = h
 
 leaves_map : {A B : Type 0} (P : A → Type 0) (Q : B → Type 0) (n : ℕ) (r : Read A) (f : A → B) → Leaves P n r → ((a : A) → P a → Q (f a)) → Leaves Q n (map_read f r)
 leaves_map P Q n (Ok v) f h g = (g v.0 h.0, h.1)
-leaves_map P Q n (Err refused) f h g = tt
+leaves_map P Q n (Err refused) f h g = h
 
-leaves_if : {A : Type 0} (P : A → Type 0) (n : ℕ) (test : Bool) (a : A) (rest field : List ℕ) → (test ≡ true → P a) → length rest ≤ n → Leaves P n (read_if test a rest field)
-leaves_if P n true a rest field h less = (h refl, less)
-leaves_if P n false a rest field h less = tt
+leaves_if : {A : Type 0} (P : A → Type 0) (n : ℕ) (test : Bool) (a : A) (rest field : List ℕ) → (test ≡ true → P a) → length rest ≤ n → length field ≤ suc n → Leaves P n (read_if test a rest field)
+leaves_if P n true a rest field h less l = (h refl, less)
+leaves_if P n false a rest field h less l = l
 
-leaves_bytes : (k n : ℕ) (field bytes : List ℕ) → length bytes ≤ n → Leaves (λ xs. length xs ≡ k) n (bytes_of field k bytes)
-leaves_bytes zero n field bytes le = (refl, le)
-leaves_bytes (suc k) n field [] le = tt
-leaves_bytes (suc k) n field (b ∷ bytes) le = leaves_map (λ xs. length xs ≡ k) (λ xs. length xs ≡ suc k) n (bytes_of field k bytes) (λ xs. b ∷ xs) (leaves_bytes k n field bytes (omega (arith, le))) (λ xs e. ap suc e)
+leaves_bytes : (k n : ℕ) (field bytes : List ℕ) → length bytes ≤ n → length field ≤ n → Leaves (λ xs. length xs ≡ k) n (bytes_of field k bytes)
+leaves_bytes zero n field bytes le l = (refl, le)
+leaves_bytes (suc k) n field [] le l = omega arith
+leaves_bytes (suc k) n field (b ∷ bytes) le l = leaves_map (λ xs. length xs ≡ k) (λ xs. length xs ≡ suc k) n (bytes_of field k bytes) (λ xs. b ∷ xs) (leaves_bytes k n field bytes (omega (arith, le)) l) (λ xs e. ap suc e)
 
 abbrev pub Any : {A : Type 0} → A → Type 0
 Any a = Unit {0}
 
 leaves_number : (k n : ℕ) (bytes : List ℕ) → length bytes ≤ n → Leaves (Any {A = ℕ}) n (number_at k bytes)
-leaves_number k n bytes le = leaves_map (λ xs. length xs ≡ k) (Any {A = ℕ}) n (bytes_at k bytes) low_number (leaves_bytes k n bytes bytes le) (λ xs e. tt)
+leaves_number k n bytes le = leaves_map (λ xs. length xs ≡ k) (Any {A = ℕ}) n (bytes_at k bytes) low_number (leaves_bytes k n bytes bytes le le) (λ xs e. tt)
 
 pub length-pixels_of : (n : ℕ) (bytes : List ℕ) → length bytes ≡ 3 * n → length (pixels_of bytes) ≡ n
 length-pixels_of zero [] e = refl
@@ -108,14 +108,14 @@ InRange greatest n = (1 ≤ n) × (n ≤ greatest)
 in_range : (greatest n : ℕ) → (nat_lt 0 n && nat_le n greatest) ≡ true → InRange greatest n
 in_range greatest n e = (grind (arith, nat_tests, e), grind (arith, nat_tests, e))
 
-leaves_length_if : (greatest n : ℕ) (rest field : List ℕ) (m : ℕ) → length rest ≤ m → Leaves (InRange greatest) m (length_if greatest n rest field)
-leaves_length_if greatest n rest field m less = leaves_if (InRange greatest) m (nat_lt 0 n && nat_le n greatest) n rest field (in_range greatest n) less
+leaves_length_if : (greatest n : ℕ) (rest field : List ℕ) (m : ℕ) → length rest ≤ m → length field ≤ suc m → Leaves (InRange greatest) m (length_if greatest n rest field)
+leaves_length_if greatest n rest field m less l = leaves_if (InRange greatest) m (nat_lt 0 n && nat_le n greatest) n rest field (in_range greatest n) less l
 
-leaves_length : (l : Length) (low greatest : ℕ) (stream rest : List ℕ) → Leaves (InRange greatest) (length rest) (length_at l low greatest stream rest)
-leaves_length (InCode scale more) zero greatest stream rest = leaves_then (Any {A = ℕ}) (InRange greatest) (length rest) (number_at 1 rest) (λ n after. length_if greatest (n + more) after rest) (leaves_number 1 (length rest) rest (omega arith)) (λ n after t le. leaves_length_if greatest (n + more) after rest (length rest) le)
-leaves_length (InCode scale more) (suc low) greatest stream rest = leaves_length_if greatest (scale * suc low) rest stream (length rest) (omega arith)
-leaves_length TwoBytes low greatest stream rest = leaves_then (Any {A = ℕ}) (InRange greatest) (length rest) (number_at 2 rest) (λ n after. length_if greatest n after rest) (leaves_number 2 (length rest) rest (omega arith)) (λ n after t le. leaves_length_if greatest n after rest (length rest) le)
-leaves_length (Fixed n) low greatest stream rest = leaves_length_if greatest n rest stream (length rest) (omega arith)
+leaves_length : (l : Length) (low greatest code : ℕ) (rest : List ℕ) → Leaves (InRange greatest) (length rest) (length_at l low greatest (code ∷ rest) rest)
+leaves_length (InCode scale more) zero greatest code rest = leaves_then (Any {A = ℕ}) (InRange greatest) (length rest) (number_at 1 rest) (λ n after. length_if greatest (n + more) after rest) (leaves_number 1 (length rest) rest (omega arith)) (λ n after t le. leaves_length_if greatest (n + more) after rest (length rest) le (omega arith))
+leaves_length (InCode scale more) (suc low) greatest code rest = leaves_length_if greatest (scale * suc low) rest (code ∷ rest) (length rest) (omega arith) (omega arith)
+leaves_length TwoBytes low greatest code rest = leaves_then (Any {A = ℕ}) (InRange greatest) (length rest) (number_at 2 rest) (λ n after. length_if greatest n after rest) (leaves_number 2 (length rest) rest (omega arith)) (λ n after t le. leaves_length_if greatest n after rest (length rest) le (omega arith))
+leaves_length (Fixed n) low greatest code rest = leaves_length_if greatest n rest (code ∷ rest) (length rest) (omega arith) (omega arith)
 
 leaves_foreground : (sets : Bool) (n : ℕ) (bytes : List ℕ) → length bytes ≤ n → Leaves (Any {A = Option ℕ}) n (foreground_at sets bytes)
 leaves_foreground true n bytes le = leaves_map (Any {A = ℕ}) (Any {A = Option ℕ}) n (pixel_at bytes) (λ c. Some c) (leaves_number 3 n bytes le) (λ c t. tt)
@@ -128,9 +128,9 @@ Draws left run = InRange left (run_size run)
 leaves_run : (kind : Kind) (left n m : ℕ) (bytes : List ℕ) → InRange (greatest_length kind left) n → length bytes ≤ m → Leaves (Draws left) m (run_at kind n bytes)
 leaves_run BackgroundRun left n m bytes h le = (h, le)
 leaves_run ForegroundRun left n m bytes h le = (h, le)
-leaves_run MaskImage left n m bytes h le = leaves_map (λ xs. length xs ≡ (n + 7) / 8) (Draws left) m (bytes_at ((n + 7) / 8) bytes) (λ ms. Mask (mask_bits n ms)) (leaves_bytes ((n + 7) / 8) m bytes bytes le) (λ xs e. let f = length-mask_bits n xs e in (omega (arith, f, h.0), omega (arith, f, h.1)))
+leaves_run MaskImage left n m bytes h le = leaves_map (λ xs. length xs ≡ (n + 7) / 8) (Draws left) m (bytes_at ((n + 7) / 8) bytes) (λ ms. Mask (mask_bits n ms)) (leaves_bytes ((n + 7) / 8) m bytes bytes le le) (λ xs e. let f = length-mask_bits n xs e in (omega (arith, f, h.0), omega (arith, f, h.1)))
 leaves_run ColorRun left n m bytes h le = leaves_map (Any {A = ℕ}) (Draws left) m (pixel_at bytes) (λ c. Color n c) (leaves_number 3 m bytes le) (λ c t. h)
-leaves_run ColorImage left n m bytes h le = leaves_map (λ xs. length xs ≡ 3 * n) (Draws left) m (bytes_at (3 * n) bytes) (λ xs. Image (pixels_of xs)) (leaves_bytes (3 * n) m bytes bytes le) (λ xs e. let f = length-pixels_of n xs e in (omega (arith, f, h.0), omega (arith, f, h.1)))
+leaves_run ColorImage left n m bytes h le = leaves_map (λ xs. length xs ≡ 3 * n) (Draws left) m (bytes_at (3 * n) bytes) (λ xs. Image (pixels_of xs)) (leaves_bytes (3 * n) m bytes bytes le le) (λ xs e. let f = length-pixels_of n xs e in (omega (arith, f, h.0), omega (arith, f, h.1)))
 leaves_run DitheredRun left n m bytes h le =
     let draws : (a b : ℕ) → Draws left (Dithered n a b) = λ a b. (omega (arith, h.0), omega (arith, h.1)) in
     leaves_then (Any {A = ℕ}) (Draws left) m (pixel_at bytes) (λ a rest. map_read (λ b. Dithered n a b) (pixel_at rest)) (leaves_number 3 m bytes le) (λ a rest t less. leaves_map (Any {A = ℕ}) (Draws left) m (pixel_at rest) (λ b. Dithered n a b) (leaves_number 3 m rest less) (λ b u. draws a b))
@@ -141,17 +141,17 @@ abbrev pub OrderDraws : ℕ → Order → Type 0
 OrderDraws left o = Draws left o.run
 
 leaves_row : (r : Option Row) (left code : ℕ) (bytes : List ℕ) → Leaves (OrderDraws left) (length bytes) (order_in_row r left code bytes)
-leaves_row None left code bytes = tt
+leaves_row None left code bytes = omega arith
 leaves_row (Some r) left code bytes =
     let n = length bytes in
     leaves_then (InRange (greatest_length r.kind left)) (OrderDraws left) n (length_at r.length (code - r.first) (greatest_length r.kind left) (code ∷ bytes) bytes) (λ n rest.
     then_read (foreground_at r.sets_foreground rest) (λ f more.
-    map_read (λ d. record { foreground = f; run = d }) (run_at r.kind n more))) (leaves_length r.length (code - r.first) (greatest_length r.kind left) (code ∷ bytes) bytes) (λ k rest in_range le.
+    map_read (λ d. record { foreground = f; run = d }) (run_at r.kind n more))) (leaves_length r.length (code - r.first) (greatest_length r.kind left) code bytes) (λ k rest in_range le.
     leaves_then (Any {A = Option ℕ}) (OrderDraws left) n (foreground_at r.sets_foreground rest) (λ f more.
     map_read (λ d. record { foreground = f; run = d }) (run_at r.kind k more)) (leaves_foreground r.sets_foreground n rest le) (λ f more t less.
     leaves_map (Draws left) (OrderDraws left) n (run_at r.kind k more) (λ d. record { foreground = f; run = d }) (leaves_run r.kind left k n more in_range less) (λ d e. e)))
 
--- an order draws at least one pixel and no more than are left, and fewer bytes are left after it
+-- an order draws at least one pixel and no more than are left, and fewer bytes are left after it; a refused field begins within its bytes
 pub order_leaves : (left code : ℕ) (bytes : List ℕ) → Leaves (OrderDraws left) (length bytes) (order_at left (code ∷ bytes))
 order_leaves left code bytes = leaves_row (row_of code) left code bytes
 
@@ -205,6 +205,28 @@ orders_sized (suc most) (suc left) (b ∷ bytes) = after_sized (suc left) (lengt
 -- the orders of a stream draw just so many pixels
 pub orders_draw_all : (count : ℕ) (bytes : List ℕ) (os : List Order) → orders_in count bytes ≡ Ok os → drawn_size os ≡ count
 orders_draw_all count bytes os e = let P : Result (List Order) (List ℕ) → Type 0 = λ r. IfOk r (λ os. drawn_size os ≡ count) in subst P e (orders_sized (length bytes) count bytes)
+
+abbrev pub IsWithin : ℕ → Result (List Order) (List ℕ) → Type 0
+IsWithin n r = IfErr r (λ refused. length refused ≤ n)
+
+onto_within : (o : Order) (n m : ℕ) (r : Result (List Order) (List ℕ)) → n ≤ m → IsWithin n r → IsWithin m (onto_orders o r)
+onto_within o n m (Ok os) le h = tt
+onto_within o n m (Err refused) le h = omega (arith, h, le)
+
+after_within : (left n : ℕ) (r : Read Order) (others : ℕ → List ℕ → Result (List Order) (List ℕ)) → Leaves (OrderDraws left) n r → ((l : ℕ) (rest : List ℕ) → IsWithin (length rest) (others l rest)) → IsWithin (suc n) (orders_after left r others)
+after_within left n (Ok v) others h e = onto_within v.0 (length v.1) (suc n) (others (left - run_size v.0.run) v.1) (omega (arith, h.1)) (e (left - run_size v.0.run) v.1)
+after_within left n (Err refused) others h e = h
+
+refused_within : (most left : ℕ) (bytes : List ℕ) → IsWithin (length bytes) (orders_within most left bytes)
+refused_within most zero [] = tt
+refused_within most zero (b ∷ bytes) = omega arith
+refused_within zero (suc left) bytes = omega arith
+refused_within (suc most) (suc left) [] = omega arith
+refused_within (suc most) (suc left) (b ∷ bytes) = after_within (suc left) (length bytes) (order_at (suc left) (b ∷ bytes)) (orders_within most) (order_leaves (suc left) b bytes) (λ l rest. refused_within most l rest)
+
+-- a refused field stands within the stream, or at its end
+pub refused_is_within : (count : ℕ) (bytes refused : List ℕ) → orders_in count bytes ≡ Err refused → length refused ≤ length bytes
+refused_is_within count bytes refused e = let P : Result (List Order) (List ℕ) → Type 0 = λ r. IsWithin (length bytes) r in subst P e (refused_within (length bytes) count bytes)
 
 length-background_strokes : (follows : Bool) (n : ℕ) (g f : Stroke) → length (background_strokes follows n g f) ≡ n
 length-background_strokes true zero g f = refl

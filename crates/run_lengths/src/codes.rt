@@ -25,11 +25,11 @@ pub enum Kind {
 #[derive(Clone, Copy, Debug, PartialEq, Eq)]
 pub enum Length {
     /// The low bits of the code times the first number, or, where they are 0, the next byte and the second.
-    InCode(usize, usize),
+    InCode(u8, u8),
     /// The next two bytes, the low one first.
     TwoBytes,
     /// It is always so much.
-    Fixed(usize),
+    Fixed(u8),
 }
 
 /// The codes from the first to the last, and what their orders are.
