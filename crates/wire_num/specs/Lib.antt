@@ -1,0 +1,4 @@
+pub mod Field
+pub mod Length
+pub mod Cursor
+pub mod Written
