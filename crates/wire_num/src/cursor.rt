@@ -1,9 +1,10 @@
 //! A place in a slice, from which fields are read one after the other.
 
-ghost use Rattle.std.specs.Prelude.{◌≡◌, ℕ, ◌+◌, ◌-◌, ◌≤◌, ◌<◌, length, drop, take};
+ghost use Rattle.std.specs.Prelude.{◌≡◌, ℕ, ◌+◌, ◌-◌, ◌≤◌, ◌<◌, ◌↔◌, length, drop, take, IsTrue, IfOk, List, []};
 ghost use Rattle.byteorder.specs.Endian.{big_number, little_number};
-ghost use Rattle.wire_num.specs.Cursor.{Reading, rest, Reads, ReadsAs};
-ghost use Rattle.wire_num.specs.Field.{big_at, little_at, bytes_at};
+ghost use Rattle.wire_num.specs.Cursor.{Reading, rest, ReadsField, ReadsFieldAs};
+ghost use Rattle.wire_num.specs.Field.{big_at, little_at, bytes_at, end_at};
+ghost use Rattle.wire_num.specs.Layout.{wanted_at};
 ghost use Rattle.wire_num.specs.Length.{per_len_at, ber_len_at};
 
 use crate::Short;
@@ -53,7 +54,7 @@ impl<'a> Cursor<'a> {
 
     /// `n` bytes of any value.
     pub fn bytes(&mut self, n: usize) -> Result<&'a [u8], Short>
-        ensures { ReadsAs (λ part. part.now) (bytes_at n) result self.old self.new }
+        ensures { ReadsFieldAs (λ part. part.now) (bytes_at n) result self.old self.new }
     {
         let left = &self.bytes[self.at..];
         if left.len() < n {
@@ -65,7 +66,7 @@ impl<'a> Cursor<'a> {
 
     /// One byte.
     pub fn u8(&mut self) -> Result<u8, Short>
-        ensures { Reads (big_at 1) result self.old self.new }
+        ensures { ReadsField (big_at 1) result self.old self.new }
     {
         let left = &self.bytes[self.at..];
         if left.len() < 1 {
@@ -77,7 +78,7 @@ impl<'a> Cursor<'a> {
 
     /// A number of two bytes, the lowest first.
     pub fn u16_le(&mut self) -> Result<u16, Short>
-        ensures { Reads (little_at 2) result self.old self.new }
+        ensures { ReadsField (little_at 2) result self.old self.new }
     {
         let left = &self.bytes[self.at..];
         if left.len() < 2 {
@@ -89,7 +90,7 @@ impl<'a> Cursor<'a> {
 
     /// A number of two bytes, the highest first.
     pub fn u16_be(&mut self) -> Result<u16, Short>
-        ensures { Reads (big_at 2) result self.old self.new }
+        ensures { ReadsField (big_at 2) result self.old self.new }
     {
         let left = &self.bytes[self.at..];
         if left.len() < 2 {
@@ -101,7 +102,7 @@ impl<'a> Cursor<'a> {
 
     /// A number of four bytes, the lowest first.
     pub fn u32_le(&mut self) -> Result<u32, Short>
-        ensures { Reads (little_at 4) result self.old self.new }
+        ensures { ReadsField (little_at 4) result self.old self.new }
     {
         let left = &self.bytes[self.at..];
         if left.len() < 4 {
@@ -113,7 +114,7 @@ impl<'a> Cursor<'a> {
 
     /// A length of the packed encoding rules: one byte, or two up to 16,383 (X.691, 10.9).
     pub fn per_len(&mut self) -> Result<u16, Short>
-        ensures { Reads per_len_at result self.old self.new }
+        ensures { ReadsField per_len_at result self.old self.new }
     {
         match &self.bytes[self.at..] {
             [short @ 0..=127, ..] => {
@@ -130,7 +131,7 @@ impl<'a> Cursor<'a> {
 
     /// A length of the basic encoding rules: one byte, `81` and one, or `82` and two (X.690, 8.1.3).
     pub fn ber_len(&mut self) -> Result<u16, Short>
-        ensures { Reads ber_len_at result self.old self.new }
+        ensures { ReadsField ber_len_at result self.old self.new }
     {
         match &self.bytes[self.at..] {
             [short @ 0..=127, ..] => {
@@ -147,5 +148,40 @@ impl<'a> Cursor<'a> {
             }
             _ => Err(Short { at: self.at }),
         }
+    }
+
+    /// Exactly these bytes, as one field.
+    pub fn expect(&mut self, wanted: &[u8]) -> Result<(), Short>
+        ensures { ReadsFieldAs (λ _. []) (wanted_at wanted.now) result self.old self.new }
+    {
+        let left = &self.bytes[self.at..];
+        if !left.starts_with(wanted) {
+            return Err(Short { at: self.at });
+        }
+        self.at += wanted.len();
+        Ok(())
+    }
+
+    /// Nothing is left; else the refusal is at the first byte that is left.
+    pub fn end(&self) -> Result<(), Short>
+        ensures { ReadsFieldAs (λ _. []) end_at result self.now self.now }
+    {
+        if self.at < self.bytes.len() {
+            return Err(Short { at: self.at });
+        }
+        Ok(())
+    }
+
+    /// The next `n` bytes, as a cursor with the same offsets that ends behind them.
+    pub fn within(&mut self, n: usize) -> Result<Cursor<'a>, Short>
+        ensures field { ReadsFieldAs (λ content. rest content) (bytes_at n) result self.old self.new }
+        ensures offsets { IfOk result (λ content. content ≡ record { bytes = take (self.old.at + n) self.old.bytes; at = self.old.at }) }
+    {
+        if self.bytes.len() - self.at < n {
+            return Err(Short { at: self.at });
+        }
+        let content = Cursor { bytes: &self.bytes[..self.at + n], at: self.at };
+        self.at += n;
+        Ok(content)
     }
 }
