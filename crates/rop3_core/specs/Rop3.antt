@@ -12,7 +12,7 @@ raster_bits zero code p s d = 0
 raster_bits (suc n) code p s d = raster_bit code (p % 2) (s % 2) (d % 2) + 2 * raster_bits n code (p / 2) (s / 2) (d / 2)
 
 -- the colour whose bit k is bit 4p + 2s + d of the code, of the bits k of pattern, source and destination
-abbrev pub ternary_raster : ℕ → ℕ → ℕ → ℕ → ℕ
+unfoldable pub ternary_raster : ℕ → ℕ → ℕ → ℕ → ℕ
 ternary_raster code p s d = raster_bits 24 code p s d
 
 -- some change of the pattern alone changes the result
