@@ -1,0 +1,2 @@
+pub mod Rop3
+pub mod Palette
