@@ -1,0 +1,2 @@
+pub mod WirePixels
+pub mod HostBytes
