@@ -3,3 +3,4 @@ pub mod Forms
 pub mod Presets
 pub mod Script
 pub mod Capture
+pub mod CaptureText
