@@ -2,3 +2,10 @@
 //!
 //! The definitions stand in specs/. They know nothing of how a host chooses what it sends.
 #![tactic(auto)]
+
+mod laws;
+
+pub use laws::{
+    drawing_is_said_by_its_fields, order_is_read_before_others, pieces_are_read_as_joined,
+    update_is_read_from_its_packet, updates_of_pieces_are_those_joined,
+};
