@@ -1,0 +1,2 @@
+//! Frames of fills: what a viewer makes of their bytes, as laws of the definitions.
+#![tactic(auto)]
