@@ -1,6 +1,6 @@
 -- Reading a text field by field, from its front. A refusal carries the bytes from the first byte of the field that
 -- breaks its rule, so that its place is a difference of two lengths.
-use Rattle.std.specs.Prelude.{ℕ, ◌-◌, ◌==◌, nat_lt, Bool, true, false, List, [], ◌∷◌, length, take, drop, Result, Ok, Err, if◌then◌else◌}
+use Rattle.std.specs.Prelude.{ℕ, ◌-◌, ◌==◌, nat_lt, nat_le, bit_and, Bool, true, List, [], length, take, drop, Result, Ok, Err, if◌then◌else◌}
 use Rattle.byteorder.specs.Endian.{big_number, little_number}
 
 -- a field's value and the bytes after it, or the bytes from the refused field on
@@ -23,24 +23,42 @@ as_one_field whole (Ok v) = Ok v
 as_one_field whole (Err left) = Err whole
 
 -- n bytes of any value
-abbrev pub bytes_at : ℕ → List ℕ → Read (List ℕ)
+unfoldable pub bytes_at : ℕ → List ℕ → Read (List ℕ)
 bytes_at n bs = if nat_lt (length bs) n then Err bs else Ok (take n bs, drop n bs)
 
 -- a number of n bytes, the highest first
-abbrev pub big_at : ℕ → List ℕ → Read ℕ
+unfoldable pub big_at : ℕ → List ℕ → Read ℕ
 big_at n bs = if nat_lt (length bs) n then Err bs else Ok (big_number n bs, drop n bs)
 
 -- a number of n bytes, the lowest first
-abbrev pub little_at : ℕ → List ℕ → Read ℕ
+unfoldable pub little_at : ℕ → List ℕ → Read ℕ
 little_at n bs = if nat_lt (length bs) n then Err bs else Ok (little_number n bs, drop n bs)
 
+-- tests of a field's value
+abbrev pub is_any : ℕ → Bool
+is_any n = true
+
+abbrev pub is_at_most : ℕ → ℕ → Bool
+is_at_most most n = nat_le n most
+
+abbrev pub has_bits : ℕ → ℕ → Bool
+has_bits bits n = bit_and n bits == bits
+
 -- a field whose value passes the test
-abbrev pub passing_at : {A : Type 0} → (A → Bool) → (List ℕ → Read A) → List ℕ → Read A
+unfoldable pub passing_at : {A : Type 0} → (A → Bool) → (List ℕ → Read A) → List ℕ → Read A
 passing_at test read bs = then_read (read bs) (λ v rest. if test v then Ok (v, rest) else Err bs)
 
 -- nothing is left
-abbrev pub end_at : List ℕ → Read (List ℕ)
+unfoldable pub end_at : List ℕ → Read (List ℕ)
 end_at bs = if length bs == 0 then Ok ([], bs) else Err bs
+
+-- n bytes are left; else the refusal is at the end
+unfoldable pub at_least : ℕ → List ℕ → Read (List ℕ)
+at_least n bs = if nat_lt (length bs) n then Err [] else Ok ([], bs)
+
+-- one byte, which counts those after it
+unfoldable pub rest_count_at : List ℕ → Read ℕ
+rest_count_at bs = then_read (big_at 1 bs) (λ n rest. if length rest == n then Ok (n, rest) else Err bs)
 
 -- what reading a whole text gives: its value, or the fault at the place of the refused field
 abbrev pub placed : {A E : Type 0} → (ℕ → E) → List ℕ → Read A → Result A E

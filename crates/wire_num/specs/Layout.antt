@@ -1,11 +1,10 @@
 -- A grammar as a table: the fields of a text, in their order.
-use Rattle.std.specs.Prelude.{ℕ, ◌==◌, nat_lt, nat_eq, Bool, true, false, List, [], ◌∷◌, ◌++◌, length, take, drop, Result, Ok, Err, if◌then◌else◌}
+use Rattle.std.specs.Prelude.{ℕ, ◌==◌, nat_eq, Bool, List, [], ◌∷◌, ◌++◌, length, drop, Ok, Err, if◌then◌else◌}
 use Rattle.std.specs.List.{starts_with}
-use Rattle.wire_num.specs.Field.{Read, then_read, map_read, as_one_field, passing_at, bytes_at, big_at, little_at, end_at}
+use Rattle.wire_num.specs.Field.{Read, then_read, map_read, passing_at, bytes_at, big_at, little_at, end_at, at_least, rest_count_at}
 use Rattle.wire_num.specs.Length.{per_len_at, ber_len_at}
 
 infixr 4 ◌▸◌
-
 -- how a count of bytes is written before them: in one byte, packed, or basic
 pub data Count : Type 0 where
   OneByte : Count
@@ -41,20 +40,18 @@ pub data Layout : Type 0 where
 abbrev pub ◌▸◌ : (Layout → Layout) → Layout → Layout
 field ▸ next = field next
 
-abbrev pub is_any : ℕ → Bool
-is_any n = true
-
-abbrev pub is_number : ℕ → ℕ → Bool
-is_number n m = n == m
-
 abbrev pub count_at : Count → List ℕ → Read ℕ
 count_at OneByte bs = big_at 1 bs
 count_at Packed bs = per_len_at bs
 count_at Basic bs = ber_len_at bs
 
 -- these bytes, as one field
-abbrev pub wanted_at : List ℕ → List ℕ → Read (List ℕ)
+unfoldable pub wanted_at : List ℕ → List ℕ → Read (List ℕ)
 wanted_at ws bs = if starts_with nat_eq bs ws then Ok ([], drop (length ws) bs) else Err bs
+
+-- n bytes of any value, and nothing after them
+unfoldable pub exactly_at : ℕ → List ℕ → Read (List ℕ)
+exactly_at n bs = if length bs == n then Ok (bs, []) else Err bs
 
 -- what fields in the first bytes give, with the bytes after them
 abbrev pub before : {A : Type 0} → List ℕ → Read A → Read A
@@ -67,16 +64,15 @@ fields_at Open bs = Ok ([], bs)
 fields_at End bs = end_at bs
 fields_at Rest bs = Ok ([], [])
 fields_at (Body form) bs =
-    then_read (count_at form bs) (λ n rest. if length rest == n then Ok (n ∷ [], []) else Err rest)
+    then_read (count_at form bs) (λ n rest. map_read (λ _. n ∷ []) (exactly_at n rest))
 fields_at (Bytes ws next) bs = then_read (wanted_at ws bs) (λ _ rest. fields_at next rest)
 fields_at (Any n next) bs = then_read (bytes_at n bs) (λ _ rest. fields_at next rest)
 fields_at (Big n test next) bs =
     then_read (passing_at test (big_at n) bs) (λ v rest. map_read (λ vs. v ∷ vs) (fields_at next rest))
 fields_at (Little n test next) bs =
     then_read (passing_at test (little_at n) bs) (λ v rest. map_read (λ vs. v ∷ vs) (fields_at next rest))
-fields_at (CountsRest next) bs =
-    then_read (big_at 1 bs) (λ n rest. if length rest == n then fields_at next rest else Err bs)
-fields_at (AtLeast n next) bs = if nat_lt (length bs) n then Err [] else fields_at next bs
+fields_at (CountsRest next) bs = then_read (rest_count_at bs) (λ _ rest. fields_at next rest)
+fields_at (AtLeast n next) bs = then_read (at_least n bs) (λ _ rest. fields_at next rest)
 fields_at (Length form next) bs = then_read (count_at form bs) (λ _ rest. fields_at next rest)
 fields_at (Within form inner next) bs =
     then_read (count_at form bs) (λ n rest.

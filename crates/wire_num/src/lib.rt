@@ -4,11 +4,16 @@
 mod cursor;
 mod length;
 mod memory;
+mod number;
 mod range;
 mod short;
 
 pub use cursor::Cursor;
 pub use length::{put_ber_len, put_per_len};
 pub use memory::OutOfMemory;
+pub use number::{put_u16_be, put_u16_le, put_u32_le};
 pub use range::Range;
 pub use short::Short;
+
+#[cfg(test)]
+mod tests;
