@@ -1,10 +1,11 @@
 //! Uses whose answers were worked out by hand.
 
 use crate::{Cache, CacheFault, Use};
+use std::test::Fail;
 
 #[test]
-fn the_entry_used_longest_ago_is_given_up(rt: HostRuntime) {
-    let mut cache = Cache::new(rt.alloc(), 2).unwrap();
+fn the_entry_used_longest_ago_is_given_up(rt: HostRuntime) -> Result<(), Fail> {
+    let mut cache = Cache::new(rt.alloc(), 2)?;
     for (key, want) in [
         (0xA, Use::Miss(0)),
         (0xB, Use::Miss(1)),
@@ -13,8 +14,9 @@ fn the_entry_used_longest_ago_is_given_up(rt: HostRuntime) {
         (0xB, Use::Miss(0)),
         (0xA, Use::Miss(1)),
     ] {
-        assert!(rt; cache.use_key(key) == Ok(want), "at {key}");
+        assert_eq!(rt; cache.use_key(key)?, want, "at {key}");
     }
+    Ok(())
 }
 
 #[test]

@@ -1,11 +1,11 @@
 -- The list of recency follows the history of uses, by the steps of a hit and of a miss.
-use Rattle.std.proofs.Common.{◌≡◌, ℕ, List, ◌∷◌, ◌<◌, ◌≤◌, true, false, sym, ap, ◌∙◌, subst, Some, None, eqb, length, IsOk}
-use Rattle.lru.specs.LruCache.{LruCache, last_entry, lru_cache, put_entries, promoted}
-use Rattle.cache_use.specs.CacheUse.{misses, last_index, held_keys, IsMiss}
+use Rattle.std.proofs.Common.{◌≡◌, ℕ, List, ◌∷◌, ◌<◌, ◌≤◌, true, sym, ◌∙◌, subst, Some, eqb, length, IsOk}
+use Rattle.lru.specs.LruCache.{LruCache, last_entry, lru_cache, put_entries}
+use Rattle.cache_use.specs.CacheUse.{misses, IsMiss}
 use Rattle.cache_plan.specs.Answers.{use_of, IsAfterUses}
 use Rattle.cache_plan.specs.Kept.{Kept}
 use Rattle.cache_plan.specs.declared.uses.Use.TheVariants.{Hit, Miss}
-use Rattle.cache_plan.proofs.UseSteps.{hit_at, miss_at, with_index}
+use Rattle.cache_plan.proofs.UseSteps.{hit_at, miss_at}
 use Rattle.cache_plan.proofs.cache.Cache.use_key.Goals as goal
 use Rattle.cache_plan.proofs.cache.Cache.use_key.Goals.{in-Ok, in-Err}
 
