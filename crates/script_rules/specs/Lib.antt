@@ -4,3 +4,4 @@ pub mod Presets
 pub mod Script
 pub mod Capture
 pub mod CaptureText
+pub mod Headline

@@ -2,17 +2,17 @@
 use Rattle.std.proofs.Common.{◌≡◌, ℕ, List, [], ◌++◌, refl}
 use Rattle.std.specs.Fmt.{digits}
 use Rattle.std.specs.Prelude.{codes}
-use Rattle.script_rules.specs.Script.{whole_grammar, opening_of}
+use Rattle.script_rules.specs.Script.{whole_grammar}
 use Rattle.script_rules.specs.Capture.{ended}
 use Rattle.script_rules.specs.CaptureText.{FrameText, capture_of}
 
 -- an encoder that writes nothing
 abbrev no_bytes : FrameText (Unit {0})
-no_bytes = record { first = tt; bytes = λ c e take. []; after = λ c e take. e }
+no_bytes = record { first = tt; bytes = λ size c j e take. []; after = λ size c j e take. e }
 
 -- a script's capture without the bytes of its frames
 abbrev answers_of : List ℕ → List ℕ
-answers_of script = capture_of no_bytes (opening_of whole_grammar script)
+answers_of script = capture_of no_bytes whole_grammar script
 
 control_is_handed_on : answers_of (ended (codes "size 64 48")
     ++ ended (codes "invite ann owner")
