@@ -1,5 +1,5 @@
 -- The Erect Domain Request (T.125, 7, ErectDomainRequest; MS-RDPBCGR, 2.2.1.5).
-use Rattle.std.specs.Prelude.{List, [], ◌∷◌}
+use Rattle.std.specs.Prelude.{[], ◌∷◌}
 use Rattle.wire_num.specs.Layout.{Layout, End, Bytes, Counted, OneByte, ◌▸◌}
 
 -- choice; subHeight; subInterval

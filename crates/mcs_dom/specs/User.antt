@@ -1,5 +1,5 @@
 -- User channels (T.125, 7: UserId): a number from 1001 on, written as what it is above it, in two bytes.
-use Rattle.std.specs.Prelude.{ℕ, ◌+◌, ◌-◌, Bool, List}
+use Rattle.std.specs.Prelude.{ℕ, ◌-◌, Bool, List}
 use Rattle.byteorder.specs.Endian.{big_bytes}
 use Rattle.wire_num.specs.Field.{is_at_most}
 

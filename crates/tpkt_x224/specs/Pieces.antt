@@ -1,5 +1,5 @@
 -- The packets of a stream that comes in pieces.
-use Rattle.std.specs.Prelude.{ℕ, zero, suc, List, [], ◌∷◌, ◌++◌, length, take, drop, Option, Some, None}
+use Rattle.std.specs.Prelude.{ℕ, zero, suc, List, [], ◌∷◌, ◌++◌, length, take, drop}
 use Rattle.tpkt_x224.specs.declared.tpkt.Packet.{Packet}
 use Rattle.tpkt_x224.specs.declared.tpkt.Packet.TheVariants.{Whole, Part, NotTpkt, BadLength}
 use Rattle.tpkt_x224.specs.Tpkt.{packet_at}
