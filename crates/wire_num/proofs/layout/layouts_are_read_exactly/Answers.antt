@@ -1,0 +1,5 @@
+use Rattle.wire_num.proofs.Texts.{read_is_text, text_is_read}
+use Rattle.wire_num.proofs.layout.layouts_are_read_exactly.Goals as goal
+
+pub returns : goal.returns
+returns c = λ layout bytes values left. (read_is_text layout bytes values left, text_is_read layout bytes values left)
