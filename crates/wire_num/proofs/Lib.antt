@@ -1,2 +1,4 @@
 pub mod Fronts
-pub mod Texts
+pub mod Steps
+pub mod ReadIsText
+pub mod TextIsRead

@@ -1,4 +1,5 @@
-use Rattle.wire_num.proofs.Texts.{read_is_text, text_is_read}
+use Rattle.wire_num.proofs.ReadIsText.{read_is_text}
+use Rattle.wire_num.proofs.TextIsRead.{text_is_read}
 use Rattle.wire_num.proofs.layout.layouts_are_read_exactly.Goals as goal
 
 pub returns : goal.returns
