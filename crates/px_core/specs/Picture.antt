@@ -1,5 +1,5 @@
 -- Pictures: lists of pixels, row by row from the top, over any type of pixel. The session's pixels are colours, a viewer's may be unknown.
-use Rattle.std.specs.Prelude.{ℕ, zero, suc, ◌+◌, ◌*◌, ◌/◌, ◌%◌, Bool, true, false, ◌&&◌, ◌||◌, ℤ, pos, negsuc, ◌+ℤ◌, List, [], ◌∷◌, replicate}
+use Rattle.std.specs.Prelude.{ℕ, zero, suc, ◌+◌, ◌*◌, ◌/◌, ◌%◌, Bool, true, false, ◌&&◌, ◌||◌, ℤ, pos, negsuc, List, [], ◌∷◌, replicate}
 use Rattle.px_core.specs.declared.surface.Size.{Size}
 
 -- the number of pixels of a picture

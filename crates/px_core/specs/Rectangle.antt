@@ -1,5 +1,5 @@
 -- Rectangles as sets of pixels.
-use Rattle.std.specs.Prelude.{ℕ, ◌+◌, ◌*◌, ◌/◌, ◌%◌, nat_le, ◌≤◌, ◌≤ℤ◌, Bool, true, false, ◌&&◌, ℤ, pos, negsuc, ◌+ℤ◌, ◌-ℤ◌, int_le, int_lt, List, Option, Some, None}
+use Rattle.std.specs.Prelude.{ℕ, ◌*◌, ◌/◌, ◌%◌, ◌==◌, nat_le, ◌≤◌, ◌≤ℤ◌, Bool, false, ◌&&◌, ℤ, pos, negsuc, ◌+ℤ◌, ◌-ℤ◌, int_le, int_lt, List, Option, Some, None}
 use Rattle.std.specs.Int.{int_min, int_max}
 use Rattle.px_core.specs.declared.surface.Size.{Size}
 use Rattle.px_core.specs.declared.rectangle.Rect.{Rect}
@@ -72,7 +72,7 @@ pub record IsPlaced (r : Rect) : Type 0 where
 
 -- a size that a session may have: its width is a multiple of four from 4 to 2,048, its height is 1 to 2,048 (profile)
 abbrev pub is_session_size : ℕ → ℕ → Bool
-is_session_size w h = (nat_le 4 w && nat_le w 2048) && ((nat_le 1 h && nat_le h 2048) && nat_le (w % 4) 0)
+is_session_size w h = (nat_le 4 w && nat_le w 2048) && ((nat_le 1 h && nat_le h 2048) && (w % 4 == 0))
 
 -- a stretch of whole numbers as one side of such a rectangle
 pub record IsShort (from : ℤ) (n : ℕ) : Type 0 where

@@ -6,5 +6,8 @@
 mod rectangle;
 mod surface;
 
-pub use rectangle::Rect;
+pub use rectangle::{Rect, meet};
 pub use surface::Size;
+
+#[cfg(test)]
+mod tests;

@@ -1,0 +1,5 @@
+//! The one error of the crate.
+
+/// There was no memory.
+#[derive(Clone, Copy, Debug, PartialEq, Eq)]
+pub struct OutOfMemory;

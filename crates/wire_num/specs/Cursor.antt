@@ -1,0 +1,30 @@
+-- A cursor, seen as a slice and a place in it, and what a call that reads says.
+use Rattle.std.specs.Prelude.{◌≡◌, ℕ, List, drop, Result, Ok, Err}
+use Rattle.wire_num.specs.declared.short.Short.{Short}
+use Rattle.wire_num.specs.Field.{Read}
+
+pub record Reading : Type 0 where
+  pub bytes : List ℕ
+  pub at : ℕ
+
+-- the bytes from the place on
+abbrev pub rest : Reading → List ℕ
+rest c = drop c.at c.bytes
+
+-- The call read the fields that stand at the cursor, seen by view, and went past them; or it came to a field that is
+-- refused, and the cursor stands there.
+abbrev pub ReadsFieldsAs : {X A : Type 0} → (X → A) → (List ℕ → Read A) → Result X Short → Reading → Reading → Type 0
+ReadsFieldsAs view read (Ok v) old new = (read (rest old) ≡ Ok (view v, rest new)) × (new.bytes ≡ old.bytes)
+ReadsFieldsAs view read (Err short) old new =
+    (read (rest old) ≡ Err (rest new)) × (new.bytes ≡ old.bytes) × (short.at ≡ new.at)
+
+abbrev pub ReadsFields : {A : Type 0} → (List ℕ → Read A) → Result A Short → Reading → Reading → Type 0
+ReadsFields read result old new = ReadsFieldsAs (λ v. v) read result old new
+
+-- The same of one field: where it is refused, the cursor stands where it stood.
+abbrev pub ReadsFieldAs : {X A : Type 0} → (X → A) → (List ℕ → Read A) → Result X Short → Reading → Reading → Type 0
+ReadsFieldAs view read (Ok v) old new = (read (rest old) ≡ Ok (view v, rest new)) × (new.bytes ≡ old.bytes)
+ReadsFieldAs view read (Err short) old new = (read (rest old) ≡ Err (rest old)) × (new ≡ old) × (short.at ≡ old.at)
+
+abbrev pub ReadsField : {A : Type 0} → (List ℕ → Read A) → Result A Short → Reading → Reading → Type 0
+ReadsField read result old new = ReadsFieldAs (λ v. v) read result old new

@@ -1,0 +1,5 @@
+pub mod Field
+pub mod Length
+pub mod Layout
+pub mod Cursor
+pub mod Written

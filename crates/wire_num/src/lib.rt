@@ -1,0 +1,19 @@
+//! Numbers and lengths in bytes: a cursor that reads them, and the calls that write them (X.690, 8.1.3; X.691, 10.9).
+#![tactic(auto)]
+
+mod cursor;
+mod length;
+mod memory;
+mod number;
+mod range;
+mod short;
+
+pub use cursor::Cursor;
+pub use length::{put_ber_len, put_per_len};
+pub use memory::OutOfMemory;
+pub use number::{put_u16_be, put_u16_le, put_u32_le};
+pub use range::Range;
+pub use short::Short;
+
+#[cfg(test)]
+mod tests;
