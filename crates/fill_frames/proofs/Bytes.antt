@@ -7,7 +7,8 @@ use Rattle.order_fields.specs.declared.kind.Kind.TheVariants.{Coordinate, Number
 use Rattle.order_fields.specs.Bytes.{low_bytes, low_signed, unsigned}
 use Rattle.order_fields.specs.OrderTable.{Registers, opaque_rect, last_values}
 use Rattle.order_fields.specs.OrderDelta.{Field, fields_of, is_same, value_bytes, unless_same, field_bytes, present_bytes, shown, type_bytes, order_bytes, flags_of, fields_in, takes_deltas, is_typed, bit, control_byte, omitted_in, color_bytes}
-use Rattle.fill_frames.specs.Patches.{Patch, patch_fields}
+use Rattle.fill_frames.specs.declared.patch.Patch.{Patch}
+use Rattle.fill_frames.specs.Patches.{patch_fields}
 
 abbrev pub AreBytes : List ℕ → Type 0
 AreBytes bytes = All (λ b. b < 256) bytes

@@ -16,7 +16,8 @@ use Rattle.order_means.specs.Updates.Stage.{Between}
 use Rattle.order_means.specs.FrameMarks.{View, Refusal, Update, update_at, view_after_read, view_after_body, view_after_bodies, view_after_stream, view_after_orders, with_registers, marked_if, meant, Reading, reading, reading_after, read_on}
 use Rattle.order_means.specs.FrameMarks.Update.{Orders}
 use Rattle.frame_rules.specs.FrameBytes.{joined_bytes, update_of, updates_of}
-use Rattle.fill_frames.specs.Patches.{Patch, ArePatches, patch_fields, read_patch}
+use Rattle.fill_frames.specs.declared.patch.Patch.{Patch}
+use Rattle.fill_frames.specs.Patches.{ArePatches, patch_fields, read_patch}
 use Rattle.fill_frames.specs.Views.{registers_after_patches, bytes_of_patches, patches_bytes, view_after_patches, view_after_frame}
 use Rattle.fill_frames.proofs.Reading.{orders_read, patches_obeyed, joined_short, one_update}
 

@@ -4,3 +4,4 @@ pub mod Lengths
 pub mod Bytes
 pub mod Reading
 pub mod Frames
+pub mod Pictures

@@ -8,7 +8,8 @@ use Rattle.draw_ops.specs.Fits.{broken_if, is_side, is_corner, rect_rule}
 use Rattle.px_core.specs.Rectangle.{has_pixel}
 use Rattle.px_core.specs.declared.rectangle.Rect.{Rect}
 use Rattle.order_fields.specs.OrderTable.{IsFieldList, FieldList, Registers, fits_coordinate, IsBelow}
-use Rattle.fill_frames.specs.Patches.{Patch, IsPatch, patch_fields}
+use Rattle.fill_frames.specs.declared.patch.Patch.{Patch}
+use Rattle.fill_frames.specs.Patches.{IsPatch, patch_fields}
 
 unbroken : (b : Bool) → broken_if (not b) 1 ≡ None → b ≡ true
 unbroken true e = refl

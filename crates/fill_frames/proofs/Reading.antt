@@ -19,7 +19,8 @@ use Rattle.order_means.specs.ClientState.{client_after_order, client_after_drawi
 use Rattle.order_means.specs.ClientState.Fault.{Broken}
 use Rattle.order_means.specs.FrameMarks.{View, view_after_order, view_after_orders, counted_order, view_with}
 use Rattle.frame_rules.specs.FrameBytes.{bytes_of_orders, registers_after_orders, joins_update, onto_update, gathered_after, gathered, joined_bytes, update_of, updates_of}
-use Rattle.fill_frames.specs.Patches.{Patch, IsPatch, ArePatches, patch_order, patch_fields, read_patch}
+use Rattle.fill_frames.specs.declared.patch.Patch.{Patch}
+use Rattle.fill_frames.specs.Patches.{IsPatch, ArePatches, patch_order, patch_fields, read_patch}
 use Rattle.fill_frames.specs.Views.{registers_after_patches, bytes_of_patches, view_after_patch, view_after_patches}
 use Rattle.fill_frames.proofs.Registers.{registers_keep}
 use Rattle.fill_frames.proofs.Patches.{patch_fits, patch_has_pixel}

@@ -15,13 +15,9 @@ use Rattle.order_fields.specs.OrderStream.Order.{Primary}
 use Rattle.order_fields.specs.OrderStream.{Order}
 use Rattle.order_means.specs.NamedDrawing.{fields_of}
 use Rattle.order_means.specs.NamedDrawing.NamedDrawing.{Opaque}
+use Rattle.fill_frames.specs.declared.patch.Patch.{Patch}
 use Rattle.frame_rules.specs.FrameOrders.{SentOrder}
 use Rattle.frame_rules.specs.FrameOrders.SentOrder.{Drawn}
-
--- a rectangle in one colour
-pub record Patch : Type 0 where
-  pub rect : Rect
-  pub color : ℕ
 
 -- a patch that a drawing or a whole picture may be
 pub record IsPatch (p : Patch) : Type 0 where

@@ -7,7 +7,8 @@ use Rattle.order_fields.specs.OrderTable.{Registers}
 use Rattle.order_means.specs.ClientState.{ClientState}
 use Rattle.order_means.specs.FrameMarks.{View, with_registers, marked_if}
 use Rattle.frame_rules.specs.FrameBytes.{bytes_of_orders, registers_after_orders, updates_of, mark_bytes}
-use Rattle.fill_frames.specs.Patches.{Patch, patch_order, with_patch}
+use Rattle.fill_frames.specs.declared.patch.Patch.{Patch}
+use Rattle.fill_frames.specs.Patches.{patch_order, with_patch}
 
 -- the registers after patches
 abbrev pub registers_after_patches : Registers → List Patch → Registers
