@@ -41,17 +41,17 @@ BoardAgrees-opening size good = record {
 -- ---- drawings of others
 
 -- the board's slots hold what they held, and no slot list changed its length
-record Keeps (st after : SurfaceState) : Type 0 where
-  block : lookup board_block after.blocks ≡ lookup board_block st.blocks
-  brush : lookup board_brush after.brushes ≡ lookup board_brush st.brushes
-  image : lookup board_image after.images ≡ lookup board_image st.images
-  glyph : (code : ℕ) → lookup (glyph_slot board_font code) after.glyphs ≡ lookup (glyph_slot board_font code) st.glyphs
-  images : length after.images ≡ length st.images
-  brushes : length after.brushes ≡ length st.brushes
-  glyphs : length after.glyphs ≡ length st.glyphs
-  blocks : length after.blocks ≡ length st.blocks
+pub record Keeps (st after : SurfaceState) : Type 0 where
+  pub block : lookup board_block after.blocks ≡ lookup board_block st.blocks
+  pub brush : lookup board_brush after.brushes ≡ lookup board_brush st.brushes
+  pub image : lookup board_image after.images ≡ lookup board_image st.images
+  pub glyph : (code : ℕ) → lookup (glyph_slot board_font code) after.glyphs ≡ lookup (glyph_slot board_font code) st.glyphs
+  pub images : length after.images ≡ length st.images
+  pub brushes : length after.brushes ≡ length st.brushes
+  pub glyphs : length after.glyphs ≡ length st.glyphs
+  pub blocks : length after.blocks ≡ length st.blocks
 
-same_slots : (st : SurfaceState) → Keeps st st
+pub same_slots : (st : SurfaceState) → Keeps st st
 same_slots st = record { block = refl; brush = refl; image = refl; glyph = λ code. refl; images = refl; brushes = refl; glyphs = refl; blocks = refl }
 
 differ : (m n : ℕ) → (m == n) ≡ false → n ≢ m
@@ -93,23 +93,23 @@ rules_kept None m h = refl
 rules_kept (Some rule) m h = absurd (cc h)
 
 -- what agrees with the board still does, where the board's slots are kept
-popup_kept : (size : Size) (st after : SurfaceState) (o : Option Point) → lookup board_block after.blocks ≡ lookup board_block st.blocks → IsPopupKept size st o → IsPopupKept size after o
+pub popup_kept : (size : Size) (st after : SurfaceState) (o : Option Point) → lookup board_block after.blocks ≡ lookup board_block st.blocks → IsPopupKept size st o → IsPopupKept size after o
 popup_kept size st after None eq h = tt
 popup_kept size st after (Some at) eq h = (h.0, rw eq h.1)
 
-brush_kept : (st after : SurfaceState) (t : Bool) → lookup board_brush after.brushes ≡ lookup board_brush st.brushes → IsBrushKept st t → IsBrushKept after t
+pub brush_kept : (st after : SurfaceState) (t : Bool) → lookup board_brush after.brushes ≡ lookup board_brush st.brushes → IsBrushKept st t → IsBrushKept after t
 brush_kept st after false eq h = tt
 brush_kept st after true eq h = rw eq h
 
-image_kept : (st after : SurfaceState) (t : Bool) → lookup board_image after.images ≡ lookup board_image st.images → IsImageKept st t → IsImageKept after t
+pub image_kept : (st after : SurfaceState) (t : Bool) → lookup board_image after.images ≡ lookup board_image st.images → IsImageKept st t → IsImageKept after t
 image_kept st after false eq h = tt
 image_kept st after true eq h = rw eq h
 
-glyphs_kept : (st after : SurfaceState) (codes : List ℕ) → ((code : ℕ) → lookup (glyph_slot board_font code) after.glyphs ≡ lookup (glyph_slot board_font code) st.glyphs) → AreGlyphsKept st codes → AreGlyphsKept after codes
+pub glyphs_kept : (st after : SurfaceState) (codes : List ℕ) → ((code : ℕ) → lookup (glyph_slot board_font code) after.glyphs ≡ lookup (glyph_slot board_font code) st.glyphs) → AreGlyphsKept st codes → AreGlyphsKept after codes
 glyphs_kept st after [] eq h = tt
 glyphs_kept st after (code ∷ codes) eq h = (rw (eq code) h.0, glyphs_kept st after codes eq h.1)
 
-agrees_kept : (size : Size) (st after : SurfaceState) (b : Board) → Keeps st after → length after.picture ≡ length st.picture → BoardAgrees size st b → BoardAgrees size after b
+pub agrees_kept : (size : Size) (st after : SurfaceState) (b : Board) → Keeps st after → length after.picture ≡ length st.picture → BoardAgrees size st b → BoardAgrees size after b
 agrees_kept size st after b k whole h = record {
   sized = record { pixels = whole ∙ h.sized.pixels; images = k.images ∙ h.sized.images; brushes = k.brushes ∙ h.sized.brushes; glyphs = k.glyphs ∙ h.sized.glyphs; blocks = k.blocks ∙ h.sized.blocks };
   pen = h.pen;
@@ -121,7 +121,7 @@ agrees_kept size st after b k whole h = record {
 }
 
 -- the picture and the count of drawings are no matter
-keeps_drawn : (size : Size) (st : SurfaceState) (d : Drawing) → Keeps st (slots_after size st d.shape) → Keeps st (state_after_drawing size st d)
+pub keeps_drawn : (size : Size) (st : SurfaceState) (d : Drawing) → Keeps st (slots_after size st d.shape) → Keeps st (state_after_drawing size st d)
 keeps_drawn size st d k = record { block = k.block; brush = k.brush; image = k.image; glyph = k.glyph; images = k.images; brushes = k.brushes; glyphs = k.glyphs; blocks = k.blocks }
 
 pub BoardAgrees-drawn : (size : Size) (st : SurfaceState) (b : Board) (d : Drawing) → FitsState size st d → names_board_slot d.shape ≡ false → BoardAgrees size st b → BoardAgrees size (state_after_drawing size st d) b
