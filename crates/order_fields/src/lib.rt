@@ -25,3 +25,6 @@ pub use opaque::opaque_rect;
 pub use order::{write_bounds, write_order};
 pub use regs::Regs;
 pub use wire_num::OutOfMemory;
+
+#[cfg(test)]
+mod tests;
