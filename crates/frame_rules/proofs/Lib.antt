@@ -1,3 +1,6 @@
 pub mod Paint
 pub mod TileLaws
 pub mod FrameLaws
+pub mod SecondaryBack
+pub mod RegistersKept
+pub mod OrdersBack
