@@ -4,3 +4,5 @@ pub mod FrameLaws
 pub mod SecondaryBack
 pub mod RegistersKept
 pub mod OrdersBack
+pub mod RegistersApart
+pub mod UpdatesBack

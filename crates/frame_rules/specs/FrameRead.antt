@@ -1,6 +1,5 @@
 -- The orders of a frame as a client reads them.
-use Rattle.std.specs.Prelude.{◌≡◌, ℕ, ◌+◌, ◌*◌, ◌^◌, ◌<◌, ◌≤◌, Bool, true, List, [], ◌∷◌, map, length, Option, Some, None, All}
-use Rattle.px_core.specs.declared.rectangle.Rect.{Rect}
+use Rattle.std.specs.Prelude.{◌≡◌, ℕ, ◌+◌, ◌^◌, ◌<◌, ◌≤◌, true, List, [], ◌∷◌, length, All, Ok}
 use Rattle.caps_sets.specs.declared.confirmed.Confirmed.{Confirmed}
 use Rattle.draw_ops.specs.Content.{ImageOf, GlyphOf}
 use Rattle.order_fields.specs.OrderTable.{IsFieldList, FitBounds, fits_coordinate}
@@ -13,6 +12,12 @@ use Rattle.order_means.specs.NamedDrawing.{fields_of}
 use Rattle.order_means.specs.WirePixels.{turned_over, padded_image, padded_glyph, PixelData, data_of}
 use Rattle.order_means.specs.ClientState.{bitmap_flags}
 use Rattle.frame_rules.specs.FrameOrders.{SentOrder}
+use Rattle.order_fields.specs.OrderTable.{Registers}
+use Rattle.px_core.specs.declared.surface.Size.{Size}
+use Rattle.order_means.specs.Updates.{cutting}
+use Rattle.order_means.specs.Updates.Stage.{Between}
+use Rattle.order_means.specs.FrameMarks.{View, reading, read_on}
+use Rattle.frame_rules.specs.FrameBytes.{bytes_of_order, registers_after_order}
 use Rattle.frame_rules.specs.FrameOrders.SentOrder.{Drawn, CacheImage, CacheGlyph, CacheBrush, FrameMarker}
 
 -- the bytes of an image's pixels on the wire, and whether they are packed
@@ -21,7 +26,15 @@ image_data c image = data_of c.no_header (padded_image image).w (turned_over (pa
 
 abbrev pub cached_bitmap : ℕ → ℕ → ImageOf → PixelData → Cached
 cached_bitmap cache index image pixels = Bitmap (record {
-  cache = cache; index = index; w = (padded_image image).w; h = (padded_image image).h; depth = 24; flags = bitmap_flags pixels.is_packed; packed = pixels.is_packed; bytes = pixels.bytes })
+  cache = cache;
+  index = index;
+  w = (padded_image image).w;
+  h = (padded_image image).h;
+  depth = 24;
+  flags = bitmap_flags pixels.is_packed;
+  packed = pixels.is_packed;
+  bytes = pixels.bytes;
+})
 
 -- an order that was sent, as it is read: a cached image with the columns that were added to its width, a cached glyph with its padded bits, a cached brush with its rows from the bottom up
 abbrev pub as_read : Confirmed → SentOrder → Order
@@ -60,3 +73,12 @@ FitsOrder c (FrameMarker ends) = Unit {0}
 abbrev pub FitOrders : Confirmed → List SentOrder → Type 0
 FitOrders c [] = Unit {0}
 FitOrders c (o ∷ os) = FitsOrder c o × FitOrders c os
+
+-- each order fits into an update of its own
+abbrev pub AreShort : Confirmed → Registers → List SentOrder → Type 0
+AreShort c regs [] = Unit {0}
+AreShort c regs (o ∷ os) = (length (bytes_of_order c regs o) ≤ 16357) × AreShort c (registers_after_order regs o) os
+
+-- bytes that aren't refused and leave no rest, read from a place between packets on, and the viewer after them
+abbrev pub Reads : Confirmed → Size → View → ℕ → List ℕ → View → Type 0
+Reads c size v place bytes w = read_on c size (reading v (cutting place Between)) bytes ≡ Ok (reading w (cutting (place + length bytes) Between))
