@@ -6,15 +6,19 @@ use Rattle.std.proofs.lemmas.List.FromFn.{length-range_with_len, get_or-range_wi
 use Rattle.grow_lock.specs.Journal.{StartsWith, longer, added_places}
 
 module _ {E : Type 0} where
+  -- a list begins with itself
   pub starts_itself : (xs : List E) → StartsWith xs xs
   starts_itself xs = ([], sym (append-nil xs))
 
+  -- what begins a beginning begins the list
   pub starts_trans : (xs ys zs : List E) → StartsWith xs ys → StartsWith ys zs → StartsWith xs zs
   starts_trans xs ys zs a b = (b.0 ++ a.0, a.1 ∙ ap (λ l. l ++ a.0) b.1 ∙ append_assoc zs b.0 a.0)
 
+  -- what begins a list is no longer
   pub length_starts : (xs ys : List E) → StartsWith xs ys → length ys ≤ length xs
   length_starts xs ys a = omega (arith, ap length a.1, length-append ys a.0)
 
+  -- the items after the first
   abbrev tail : List E → List E
   tail [] = []
   tail (x ∷ xs) = xs
@@ -39,6 +43,7 @@ module _ {E : Type 0} where
       let r = starts_shorter zs xs ys (more, ap tail a) (more', ap tail b) (omega (arith, le)) in
       (r.0, λ i. same i ∷ r.1 i)
 
+  -- which of two lists is the longer
   abbrev pub ByLength : List E → List E → Type 0
   ByLength xs ys = ((length xs < length ys) × (longer xs ys ≡ ys)) ⊎ ((length ys ≤ length xs) × (longer xs ys ≡ xs))
 
@@ -73,6 +78,7 @@ module _ {E : Type 0} where
       (λ (t : (length ys ≤ length xs) × (longer xs ys ≡ xs)). t.1)
       (longer_cases xs ys)
 
+  -- and so where the journal is the second
   pub longer_second : (xs ys : List E) → StartsWith ys xs → longer xs ys ≡ ys
   longer_second xs ys a = ⊎_elim
       (λ (t : (length xs < length ys) × (longer xs ys ≡ ys)). t.1)

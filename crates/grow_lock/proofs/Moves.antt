@@ -8,22 +8,24 @@ use mathlib.Core.Option as maybe
 use mathlib.Core.Logic.{dite}
 use native.Mathlib.Decide.{ℕ_discrete}
 use lib.ListN.{get_elem?}
-use Rattle.atomic_table.specs.Table.{State}
 use Rattle.atomic_table.proofs.Lists.{at_set, set_else, set_here}
 use Rattle.grow_lock.specs.declared.notes.Notes.{Notes}
 use Rattle.grow_lock.specs.declared.notes.Stage.{Stage}
 use Rattle.grow_lock.specs.declared.notes.Stage.TheVariants.{Out, Taken, Measured, Published, Joined}
 use Rattle.grow_lock.specs.Journal.{StartsWith}
 use Rattle.grow_lock.specs.Notes.{is_in_turn}
-use Rattle.grow_lock.specs.Rule.{IsAtStage, IsSpent, IsSeated, IsHome, IsTable, turn_word}
+use Rattle.grow_lock.specs.Rule.{IsAtStage, IsSpent, IsSeated, IsHome, IsTable, LockTable, turn_word}
 use Rattle.grow_lock.proofs.Lists.{starts_trans}
 
+-- where no seat is in turn, this one isn't
 pub none_in_turn : (seat : ℕ) → None ≡ Some seat → ⊥
 none_in_turn seat e = cc
 
+-- one seat is in turn at most
 pub same_seat : (seat other : ℕ) → Some seat ≡ Some other → seat ≡ other
 same_seat seat other e = cc
 
+-- where there is an item, its place is in range
 pub in_range : {A : Type 0} (l : List A) (i : ℕ) (a : A) → get_elem? l i ≡ some a → i < length l
 in_range [] i a e = absurd (some-ne-none a (sym e))
 in_range (x ∷ xs) zero a e = omega arith
@@ -55,6 +57,7 @@ module _ {H E : Type 0} where
   no_place_past h journal turn seat notes (inl spent) n has = let none_has : Contains [] n = subst (λ (z : Notes H E). Contains z.mine n) spent has in let f = none_has.1 in absurd (omega arith)
   no_place_past h journal turn seat notes (inr seated) n has = All-contains (λ m. m < length journal) notes.mine n seated.below has
 
+  -- what holds of a seat that isn't in turn still holds after another's step
   pub other_stays : (h : H) (journal journal' : List E) (turn turn' : Option ℕ) (seat : ℕ) (notes : Notes H E) → StartsWith journal' journal → length journal ≤ length journal' → (turn ≡ Some seat → ⊥)
       → IsSeated h journal turn seat notes → IsSeated h journal' turn' seat notes
   other_stays h journal journal' turn turn' seat notes grows le not old = record {
@@ -65,14 +68,11 @@ module _ {H E : Type 0} where
   }
 
 module _ {T H E : Type 0} (head : T → H) (list : T → List E) (h : H) where
-  abbrev pub Table : Type 0
-  Table = State (Option T) (Notes H E)
-
   -- A seat's notes v become w, with a journal that is as long or longer. It is enough that
   --   the words, the slot and w are as they should be, and each other seat stays as it should be,
   --   w has no place but those of v and new ones, w has seen the journal or neither changed,
   --   and who is in turn is w, or another as before.
-  pub moves : (journal journal' : List E) (turn turn' : Option ℕ) (s : Table) (seat : ℕ) (v w : Notes H E) (words' : List ℕ) (homes' : List (maybe.Option (Option T))) → get_elem? s.views seat ≡ some v → IsTable head list h journal turn s
+  pub moves : (journal journal' : List E) (turn turn' : Option ℕ) (s : LockTable T H E) (seat : ℕ) (v w : Notes H E) (words' : List ℕ) (homes' : List (maybe.Option (Option T))) → get_elem? s.views seat ≡ some v → IsTable head list h journal turn s
       → words' ≡ turn_word turn' ∷ length journal' ∷ [] → IsHome head list h homes' journal' turn' → IsSeated h journal' turn' seat w
       → ((other : ℕ) (u : Notes H E) → other ≢ seat → IsSeated h journal turn other u → IsSeated h journal' turn' other u)
       → ((n : ℕ) → Contains w.mine n → Contains v.mine n ⊎ (length journal ≤ n))

@@ -7,31 +7,28 @@ use mathlib.Core.Option.{none, some}
 use mathlib.Core.Option as maybe
 use lib.ListN.{get_elem?}
 use prog.Atomic.{either}
-use Rattle.atomic_table.specs.Table.{State, step, Act, keeps, takes, gives, Valid, stepped, carried_after, Allows}
+use Rattle.atomic_table.specs.Table.{step, Act, keeps, takes, gives, Valid, stepped, carried_after, Allows}
 use Rattle.atomic_table.proofs.Lists.{set_again, exchanged}
 use Rattle.grow_lock.specs.declared.notes.Notes.{Notes}
 use Rattle.grow_lock.specs.declared.notes.Stage.{Stage}
 use Rattle.grow_lock.specs.declared.notes.Stage.TheVariants.{Out, Taken, Measured, Published}
 use Rattle.grow_lock.specs.Journal.{StartsWith, added_places}
 use Rattle.grow_lock.specs.Notes.{is_in_turn, base_of}
-use Rattle.grow_lock.specs.Rule.{IsAtStage, IsSeated, IsHome, IsTable, IsKept, turn_word}
-use Rattle.grow_lock.specs.Steps.{Holder, TakesTurn, ReadsLength, PublishesLength, FreesTurn}
+use Rattle.grow_lock.specs.Rule.{IsAtStage, IsSeated, IsHome, IsTable, IsKept, LockTable, turn_word}
+use Rattle.grow_lock.specs.Steps.{Holder, carried_list, TakesTurn, ReadsLength, PublishesLength, FreesTurn}
 use Rattle.grow_lock.proofs.Lists.{starts_itself, length_starts, added_places_within}
 use Rattle.grow_lock.proofs.Moves.{none_in_turn, same_seat, seated_by_head, seated_by_stage, other_stays, moves}
 
 module _ {T H E : Type 0} (head : T → H) (list : T → List E) (h : H) where
-  abbrev Table : Type 0
-  Table = State (Option T) (Notes H E)
-
   abbrev Seat : Type 0
   Seat = Holder T H E
 
   -- the step can go on at this table: the seat has new notes and an act, for which the rule is kept and the step tells what it should
-  abbrev pub Goes : Table → ℕ → ℕ → Seat → (ℕ → Seat → Type 0) → ℕ → Type 0
+  abbrev pub Goes : LockTable T H E → ℕ → ℕ → Seat → (ℕ → Seat → Type 0) → ℕ → Type 0
   Goes s word id me tells new = (w : Notes H E) × (a : Act (Option T)) × Valid s.homes me.1 a × IsKept head list h (stepped s word new id me.1 w a) × tells (get_or s.words word 0) (w, carried_after me.1 a)
 
   -- a step that changes nothing
-  pub stays : (s : Table) → IsKept head list h s → (word id : ℕ) (me : Seat) (tells : ℕ → Seat → Type 0) → get_elem? s.views id ≡ some me.0 → tells (get_or s.words word 0) me → Goes s word id me tells (get_or s.words word 0)
+  pub stays : (s : LockTable T H E) → IsKept head list h s → (word id : ℕ) (me : Seat) (tells : ℕ → Seat → Type 0) → get_elem? s.views id ≡ some me.0 → tells (get_or s.words word 0) me → Goes s word id me tells (get_or s.words word 0)
   stays s k word id me tells at told = (
     me.0,
     keeps,
@@ -40,7 +37,8 @@ module _ {T H E : Type 0} (head : T → H) (list : T → List E) (h : H) where
     told,
   )
 
-  take_at : (n id : ℕ) (known : H) (me : Seat) (s : Table) (journal : List E) (turn : Option ℕ) → IsTable head list h journal turn s → get_elem? s.views id ≡ some me.0 → me.0.head ≡ Some known → me.1 ≡ [] → get_or s.words 0 0 ≡ 0
+  -- a try that finds 0
+  take_at : (n id : ℕ) (known : H) (me : Seat) (s : LockTable T H E) (journal : List E) (turn : Option ℕ) → IsTable head list h journal turn s → get_elem? s.views id ≡ some me.0 → me.0.head ≡ Some known → me.1 ≡ [] → get_or s.words 0 0 ≡ 0
       → Goes s 0 id me (TakesTurn head list (step n 0 0 1 none) me) 1
   take_at n id known me s journal None k at is_known none_held zero_is =
       let x : T = k.home.0 in
@@ -72,7 +70,7 @@ module _ {T H E : Type 0} (head : T → H) (list : T → List E) (h : H) where
       (λ miss. stays s k 0 id me tells at ((λ hit. absurd (miss hit)), λ _. refl))
 
   -- the seat is in turn, as far as its stage says
-  turning_at : (s : Table) (k : IsKept head list h s) (id : ℕ) (v : Notes H E) → get_elem? s.views id ≡ some v → (stage : Stage E) → v.stage ≡ stage → is_in_turn stage ≡ true
+  turning_at : (s : LockTable T H E) (k : IsKept head list h s) (id : ℕ) (v : Notes H E) → get_elem? s.views id ≡ some v → (stage : Stage E) → v.stage ≡ stage → is_in_turn stage ≡ true
       → IsSeated h k.0 k.1 id v × IsAtStage k.0 k.1 id v.seen v.found stage
   turning_at s k id v at stage is turning = let ok = seated_by_stage h k.0 k.1 id v (ap is_in_turn is ∙ turning) (k.2.each_seat id v at) in (ok, subst (IsAtStage k.0 k.1 id v.seen v.found) is ok.at_stage)
 
@@ -104,8 +102,9 @@ module _ {T H E : Type 0} (head : T → H) (list : T → List E) (h : H) where
   still_out : (homes : List (maybe.Option (Option T))) (journal journal' : List E) (turn : Option ℕ) (id : ℕ) → turn ≡ Some id → IsHome head list h homes journal turn → IsHome head list h homes journal' turn
   still_out homes journal journal' turn id is out = subst (IsHome head list h homes journal') (sym is) (subst (IsHome head list h homes journal) is out)
 
+  -- the store, by the seat in turn
   publish_at : (n id new : ℕ) (v : Notes H E) (x : T) (more : List (ℕ × Option T)) (base : List E) → v.stage ≡ Measured base → StartsWith (list x) base → new ≡ length (list x)
-      → (s : Table) → IsKept head list h s → get_elem? s.views id ≡ some v → Goes s 1 id (v, (0, Some x) ∷ more) (λ _ m. PublishesLength list (step n 1 new 0 none) (v, (0, Some x) ∷ more) new m) new
+      → (s : LockTable T H E) → IsKept head list h s → get_elem? s.views id ≡ some v → Goes s 1 id (v, (0, Some x) ∷ more) (λ _ m. PublishesLength list (step n 1 new 0 none) (v, (0, Some x) ∷ more) new m) new
   publish_at n id new v x more base is grows long s k at =
       let now = turning_at s k id v at (Measured base) is refl in
       let ok = now.0 in
@@ -139,15 +138,16 @@ module _ {T H E : Type 0} (head : T → H) (list : T → List E) (h : H) where
         (refl, refl),
       )
 
-  -- kind 4
-  pub publishes : (n id new : ℕ) (me : Seat) (x : T) (more : List (ℕ × Option T)) → me.1 ≡ (0, Some x) ∷ more → me.0.stage ≡ Measured (base_of me.0.stage) → StartsWith (list x) (base_of me.0.stage) → new ≡ length (list x)
+  -- kind 4, for a seat that has its value home in the slot
+  pub publishes : (n id new : ℕ) (me : Seat) (v : Notes H E) (x : T) → me ≡ (v, (0, Some x) ∷ []) → v.stage ≡ Measured (base_of v.stage) → StartsWith (list x) (base_of v.stage) → new ≡ length (list x)
       → Allows (IsKept head list h) n id me 1 (λ _. new) (λ _ m. PublishesLength list (step n 1 new 0 none) me new m)
-  publishes n id new me x more has is grows long s k wide at small =
-      subst (λ (c : List (ℕ × Option T)). Goes s 1 id (me.0, c) (λ _ m. PublishesLength list (step n 1 new 0 none) (me.0, c) new m) new) (sym has)
-      (publish_at n id new me.0 x more (base_of me.0.stage) is grows long s k at)
+  publishes n id new me v x is stage grows long =
+      subst (λ (z : Seat). Allows (IsKept head list h) n id z 1 (λ _. new) (λ _ m. PublishesLength list (step n 1 new 0 none) z new m)) (sym is)
+      (λ s k wide at small. publish_at n id new v x [] (base_of v.stage) stage grows long s k at)
 
+  -- the store, by the seat that has published
   free_at : (n id : ℕ) (v : Notes H E) (x : T) → v.stage ≡ Published → v.head ≡ Some (head x) → list x ≡ v.seen
-      → (s : Table) → IsKept head list h s → get_elem? s.views id ≡ some v → Goes s 0 id (v, (0, Some x) ∷ []) (λ _ m. FreesTurn (step n 0 0 0 none) (v, (0, Some x) ∷ []) 0 m) 0
+      → (s : LockTable T H E) → IsKept head list h s → get_elem? s.views id ≡ some v → Goes s 0 id (v, (0, Some x) ∷ []) (λ _ m. FreesTurn (step n 0 0 0 none) (v, (0, Some x) ∷ []) 0 m) 0
   free_at n id v x is head_is list_is s k at =
       let now = turning_at s k id v at Published is refl in
       let ok = now.0 in
@@ -170,8 +170,12 @@ module _ {T H E : Type 0} (head : T → H) (list : T → List E) (h : H) where
         (refl, refl),
       )
 
-  -- kind 6
-  pub frees : (n id : ℕ) (me : Seat) (x : T) → me.1 ≡ (0, Some x) ∷ [] → me.0.stage ≡ Published → me.0.head ≡ Some (head x) → list x ≡ me.0.seen
+  -- kind 6, after kind 4
+  pub frees : (n id : ℕ) (me before : Seat) (v : Notes H E) (x : T) → before ≡ (v, (0, Some x) ∷ []) → PublishesLength list (step n 1 0 0 none) before 0 me → v.head ≡ Some (head x)
       → Allows (IsKept head list h) n id me 0 (λ _. 0) (λ _ m. FreesTurn (step n 0 0 0 none) me 0 m)
-  frees n id me x has is head_is list_is s k wide at small =
-      subst (λ (c : List (ℕ × Option T)). Goes s 0 id (me.0, c) (λ _ m. FreesTurn (step n 0 0 0 none) (me.0, c) 0 m) 0) (sym has) (free_at n id me.0 x is head_is list_is s k at)
+  frees n id me before v x is published known s k wide at small =
+      let held : me.1 ≡ (0, Some x) ∷ [] = published.1 ∙ ap (λ (z : Seat). z.1) is in
+      let head_is : me.0.head ≡ Some (head x) = ap (λ (z : Notes H E). z.head) published.0 ∙ ap (λ (z : Seat). z.0.head) is ∙ known in
+      let seen_is : me.0.seen ≡ list x = ap (λ (z : Notes H E). z.seen) published.0 ∙ ap (λ (z : Seat). carried_list list z.1) is in
+      subst (λ (c : List (ℕ × Option T)). Goes s 0 id (me.0, c) (λ _ m. FreesTurn (step n 0 0 0 none) (me.0, c) 0 m) 0) (sym held)
+      (free_at n id me.0 x (ap (λ (z : Notes H E). z.stage) published.0) head_is (sym seen_is) s k at)

@@ -11,6 +11,10 @@ use Rattle.grow_lock.specs.declared.notes.Notes.{Notes}
 use Rattle.grow_lock.specs.declared.notes.Stage.{Stage}
 use Rattle.grow_lock.specs.declared.notes.Stage.TheVariants.{Out, Taken, Measured, Published, Joined}
 
+-- the lock's table as plain data
+abbrev pub LockTable : Type 0 → Type 0 → Type 0 → Type 0
+LockTable T H E = State (Option T) (Notes H E)
+
 -- word 0, from the seat in turn, if there is one
 abbrev pub turn_word : Option ℕ → ℕ
 turn_word None = 0
@@ -21,7 +25,9 @@ abbrev pub EndsIn : List ℕ → ℕ → Type 0
 EndsIn found n = (earlier : List ℕ) × (found ≡ earlier ++ n ∷ [])
 
 module _ {E : Type 0} (journal : List E) (turn : Option ℕ) (seat : ℕ) (seen : List E) (found : List ℕ) where
-  -- what a stage means: a seat in turn is the one in turn, and has the journal before it; once it has read word 1, that is its last `found`; once it has published, it has seen the journal
+  -- what a stage means
+  -- a seat in turn is the one in turn, and until it publishes the list that it found is the journal; once it has read word 1, that number is its last `found`; once it has published, it has seen the journal
+  -- of two seats that were joined, the journal begins with what each had seen, and no place was added by both
   abbrev pub IsAtStage : Stage E → Type 0
   IsAtStage Out = ⊤
   IsAtStage (Taken base) = (turn ≡ Some seat) × (base ≡ journal)
@@ -47,7 +53,7 @@ module _ {T H E : Type 0} (head : T → H) (list : T → List E) (lock_head : H)
   IsHome homes journal (Some seat) = homes ≡ none ∷ []
 
   -- the table, where this list is published and this seat, if any, is in turn
-  pub record IsTable (journal : List E) (turn : Option ℕ) (table : State (Option T) (Notes H E)) : Type 0 where
+  pub record IsTable (journal : List E) (turn : Option ℕ) (table : LockTable T H E) : Type 0 where
     pub words_are : table.words ≡ turn_word turn ∷ length journal ∷ []
     pub home : IsHome table.homes journal turn
     pub longest : (seat : ℕ) × (notes : Notes H E) × (get_elem? table.views seat ≡ some notes) × (notes.seen ≡ journal)
@@ -56,5 +62,5 @@ module _ {T H E : Type 0} (head : T → H) (list : T → List E) (lock_head : H)
     pub in_turn : (seat : ℕ) → turn ≡ Some seat → (notes : Notes H E) × (get_elem? table.views seat ≡ some notes) × (is_in_turn notes.stage ≡ true)
 
   -- there is a journal, and at most one seat in turn, for which the table is as it should be
-  abbrev pub IsKept : State (Option T) (Notes H E) → Type 0
+  abbrev pub IsKept : LockTable T H E → Type 0
   IsKept table = (journal : List E) × (turn : Option ℕ) × IsTable journal turn table

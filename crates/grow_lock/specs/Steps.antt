@@ -1,5 +1,5 @@
 -- What each kind of atomic step on a word tells the seat that takes it: of the step, the seat before, the number found (at a store, the number stored) and the seat after.
-use Rattle.std.specs.Prelude.{◌≡◌, ◌≢◌, ℕ, List, [], ◌∷◌, ◌++◌, length, Option, Some, None}
+use Rattle.std.specs.Prelude.{◌≡◌, ◌≢◌, ℕ, List, [], ◌∷◌, ◌++◌, length, Option, Some, None, ⊤}
 use Rattle.atomic_table.specs.Table.{Me, Step, rest}
 use Rattle.grow_lock.specs.Journal.{StartsWith, IsDisjoint, added_places, longer}
 use Rattle.grow_lock.specs.Notes.{base_of}
@@ -24,10 +24,10 @@ carried_list list ((slot, Some value) ∷ slots) = list value
 -- the longer of what two seats had seen begins with both, and no place was added by both
 abbrev pub IsJoinSound : {E : Type 0} → Stage E → Type 0
 IsJoinSound (Joined seen other_seen mine other_mine) = StartsWith (longer seen other_seen) seen × StartsWith (longer seen other_seen) other_seen × IsDisjoint mine other_mine
-IsJoinSound Out = Unit {0}
-IsJoinSound (Taken base) = Unit {0}
-IsJoinSound (Measured base) = Unit {0}
-IsJoinSound Published = Unit {0}
+IsJoinSound Out = ⊤
+IsJoinSound (Taken base) = ⊤
+IsJoinSound (Measured base) = ⊤
+IsJoinSound Published = ⊤
 
 module _ {T H E : Type 0} where
   -- where the word was 0 the seat is in turn, with the value, whose head is the lock's and whose list begins with what was seen; else nothing changed

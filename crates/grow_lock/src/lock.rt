@@ -114,13 +114,15 @@ impl<T: Grows> GrowLock<T> {
         Pass { seat, count }
     }
 
-    /// A further pass of this lock, which has seen the same and has entered never. Does not wait, and takes no memory:
+    /// A further pass of this lock, which has seen the same and has never entered. Does not wait, and takes no memory:
     /// the number of passes has no bound.
     pub fn split(&self, pass: &mut Pass<T>) -> Pass<T>
         requires { IsPassOf self.now pass.old }
         ensures unchanged { pass.new ≡ pass.old }
         ensures lock { IsPassOf self.now result }
-        ensures lists { (result.seen ≡ pass.old.seen) × (result.found ≡ []) × (result.mine ≡ []) }
+        ensures seen { result.seen ≡ pass.old.seen }
+        ensures found { result.found ≡ [] }
+        ensures mine { result.mine ≡ [] }
     {
         let count = pass.count;
         let seat = self.table.shared.split_seat::<SplitSeat>(&mut pass.seat);

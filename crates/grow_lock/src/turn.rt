@@ -10,6 +10,7 @@ use std::marker::Model;
 /// A turn at a lock, with its value. End it by `leave`: while a turn that was dropped instead is not ended, nobody can
 /// enter. Contracts see the value, the list that `enter` found (`base`), and the pass that entered.
 #[derive(Drop)]
+#[must_use]
 pub struct Turn<T: Grows> {
     pub(crate) value: T,
     pub(crate) seat: Place<T>,

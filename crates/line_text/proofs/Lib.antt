@@ -1,1 +1,4 @@
 mod Rows
+pub mod PartLemmas
+pub mod DigitLemmas
+pub mod HexadecimalLemmas

@@ -1,19 +1,15 @@
 -- Hexadecimal numbers and bytes in a line.
-use Rattle.std.specs.Prelude.{ℕ, zero, suc, ◌+◌, ◌*◌, ◌/◌, ◌%◌, ◌==◌, List, [], ◌∷◌, length, take, drop, if◌then◌else◌}
+use Rattle.std.specs.Prelude.{◌≡◌, ℕ, zero, suc, ◌/◌, ◌%◌, ◌==◌, List, [], ◌∷◌, ◌++◌, length, take, drop, if◌then◌else◌}
 use Rattle.std.specs.declared.option.Option.{Option}
 use Rattle.std.specs.declared.option.Option.TheVariants.{Some, None}
 use Rattle.std.specs.Bool.{then_some}
 use Rattle.std.specs.Option.{option_map}
-use Rattle.std.specs.Char.{digit_value, digit_char, is_ascii_hexdigit}
+use Rattle.std.specs.Char.{digit_char}
+use Rattle.line_text.specs.Numbers.{digits_behind}
 
--- the number that hexadecimal digits of either case write behind the digits of n
-abbrev pub hexadecimal_behind : ℕ → List ℕ → Option ℕ
-hexadecimal_behind n [] = Some n
-hexadecimal_behind n (b ∷ bs) = if is_ascii_hexdigit b then hexadecimal_behind (16 * n + digit_value b) bs else None
-
--- the number that a word of exactly so many hexadecimal digits writes
+-- the number that a word of exactly so many hexadecimal digits of either case writes
 abbrev pub hexadecimal_of : ℕ → List ℕ → Option ℕ
-hexadecimal_of digits word = if length word == digits then hexadecimal_behind 0 word else None
+hexadecimal_of digits word = if length word == digits then digits_behind 16 0 word else None
 
 -- a first number, and the numbers after it
 abbrev pub with_first : Option ℕ → Option (List ℕ) → Option (List ℕ)
@@ -33,3 +29,10 @@ hexadecimals_of digits word = hexadecimals (length word / digits) digits word
 abbrev pub hexadecimal_text : List ℕ → List ℕ
 hexadecimal_text [] = []
 hexadecimal_text (b ∷ bs) = digit_char (b / 16) ∷ digit_char (b % 16) ∷ hexadecimal_text bs
+
+-- a vector kept what it held and got a front of these bytes, and not the rest
+pub record HoldsFront (old new bytes : List ℕ) : Type 0 where
+  pub front : List ℕ
+  pub rest : List ℕ
+  pub whole : bytes ≡ front ++ rest
+  pub held : new ≡ old ++ front

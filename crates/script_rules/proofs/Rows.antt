@@ -1,8 +1,7 @@
 -- Scripts read by the definition: the first line that breaks a rule, and the least rule that it breaks.
 use Rattle.std.proofs.Common.{◌≡◌, ℕ, List, [], ◌∷◌, ◌++◌, refl, Some, None}
 use Rattle.std.specs.Prelude.{codes, Option}
-use Rattle.std.specs.Option.{option_map}
-use Rattle.script_rules.specs.Script.{opening_of, whole_grammar, first_grammar, Grammar, Opening, Script, LineRefusal}
+use Rattle.script_rules.specs.Script.{opening_of, whole_grammar, first_grammar, Grammar, Opening, LineRefusal}
 use Rattle.script_rules.specs.Script.Opening.{NoSize, Unended, Opened}
 use Rattle.script_rules.specs.Capture.{ended, first_broken_line, viewer_bytes}
 

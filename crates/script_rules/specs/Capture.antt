@@ -1,5 +1,5 @@
 -- Captures: the text of each answer, and what a capture's lines say (profile).
-use Rattle.std.specs.Prelude.{ℕ, ◌+◌, ◌-◌, ◌/◌, ◌%◌, ◌==◌, nat_lt, nat_le, Bool, true, false, ◌&&◌, ◌||◌, not, List, [], ◌∷◌, ◌++◌, length, if◌then◌else◌, codes, decimal}
+use Rattle.std.specs.Prelude.{ℕ, ◌+◌, ◌%◌, ◌==◌, nat_lt, nat_le, Bool, true, false, ◌&&◌, ◌||◌, not, List, [], ◌∷◌, ◌++◌, length, if◌then◌else◌, codes, decimal}
 use Rattle.std.specs.Prelude.{is_some}
 use Rattle.std.specs.declared.option.Option.{Option}
 use Rattle.std.specs.declared.option.Option.TheVariants.{Some, None}
@@ -14,7 +14,7 @@ use Rattle.line_text.specs.Numbers.{number_of, number_up_to}
 use Rattle.line_text.specs.Hexadecimal.{hexadecimals_of, hexadecimal_text}
 use Rattle.session_rules.specs.Journal.{Refusal}
 use Rattle.session_rules.specs.Journal.Refusal.{NotInvited, RoomFull, JoinsSpent, NotHolder, BadDrawing, EmptySlot, SlotSize, JournalFull, Unfit}
-use Rattle.session_rules.specs.Steps.{Step, Answer, TakeOf, is_same_name}
+use Rattle.session_rules.specs.Steps.{Step, Answer, is_same_name}
 use Rattle.session_rules.specs.Steps.Step.{JoinStep, LeaveStep, InputStep, DrawStep, RefreshStep, SuppressStep, TakeStep}
 use Rattle.session_rules.specs.Steps.Answer.{Joined, Left, Accepted, Refused, Nothing, Frame}
 use Rattle.script_rules.specs.Presets.{presets, confirmed_by}
@@ -34,17 +34,21 @@ spaced (word ∷ words) = 32 ∷ word ++ spaced words
 abbrev pub of_viewer : ℕ → List ℕ → List ℕ
 of_viewer v text = ended (decimal v ++ 32 ∷ text)
 
--- the words of a refusal, where it has some: an entry that no call makes is refused without
-abbrev pub refusal_text : Refusal → List ℕ
-refusal_text NotInvited = codes "not-invited"
-refusal_text RoomFull = codes "room-full"
-refusal_text JoinsSpent = codes "joins-spent"
-refusal_text (NotHolder holder) = codes "not-holder " ++ decimal holder
-refusal_text (BadDrawing rule) = codes "bad-drawing " ++ decimal rule
-refusal_text (EmptySlot slot) = codes "empty-slot " ++ decimal slot
-refusal_text (SlotSize slot) = codes "slot-size " ++ decimal slot
-refusal_text JournalFull = codes "journal-full"
-refusal_text Unfit = []
+-- the line of a refusal of a viewer's step, or of a join where the viewer is 0
+abbrev pub refused_with : ℕ → List ℕ → List ℕ
+refused_with v text = of_viewer v (codes "refused " ++ text)
+
+-- an entry that no call makes has no line
+abbrev pub refusal_line : ℕ → Refusal → List ℕ
+refusal_line v NotInvited = refused_with v (codes "not-invited")
+refusal_line v RoomFull = refused_with v (codes "room-full")
+refusal_line v JoinsSpent = refused_with v (codes "joins-spent")
+refusal_line v (NotHolder holder) = refused_with v (codes "not-holder " ++ decimal holder)
+refusal_line v (BadDrawing rule) = refused_with v (codes "bad-drawing " ++ decimal rule)
+refusal_line v (EmptySlot slot) = refused_with v (codes "empty-slot " ++ decimal slot)
+refusal_line v (SlotSize slot) = refused_with v (codes "slot-size " ++ decimal slot)
+refusal_line v JournalFull = refused_with v (codes "journal-full")
+refusal_line v Unfit = []
 
 -- the viewer whose step it is, and 0 for a join
 abbrev pub viewer_of : Step → ℕ
@@ -64,7 +68,7 @@ abbrev pub answer_line : Size → Asked → Answer → List ℕ → List ℕ
 answer_line size a (Joined v) frame = joined_line size v a.preset
 answer_line size a Left frame = of_viewer (viewer_of a.step) (codes "left")
 answer_line size a Accepted frame = []
-answer_line size a (Refused refusal) frame = of_viewer (viewer_of a.step) (codes "refused " ++ refusal_text refusal)
+answer_line size a (Refused refusal) frame = refusal_line (viewer_of a.step) refusal
 answer_line size a Nothing frame = of_viewer (viewer_of a.step) (codes "nothing")
 answer_line size a (Frame take) frame = of_viewer (viewer_of a.step) (hexadecimal_text frame)
 

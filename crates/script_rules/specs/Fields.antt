@@ -1,5 +1,5 @@
 -- The fields of a script's line, and the drawings that they ask for.
-use Rattle.std.specs.Prelude.{ℕ, ◌+◌, ◌*◌, ◌/◌, ◌==◌, nat_lt, nat_le, Bool, ◌&&◌, ℤ, pos, List, [], ◌∷◌, length, replicate, if◌then◌else◌, codes}
+use Rattle.std.specs.Prelude.{ℕ, ◌+◌, ◌*◌, ◌/◌, ◌==◌, nat_lt, nat_le, Bool, true, false, ◌&&◌, ℤ, pos, List, [], ◌∷◌, length, replicate, if◌then◌else◌, codes}
 use Rattle.std.specs.declared.option.Option.{Option}
 use Rattle.std.specs.declared.option.Option.TheVariants.{Some, None}
 use Rattle.std.specs.Bool.{then_some}
@@ -132,14 +132,13 @@ image_pixels w h [] = None
 image_pixels w h (color ∷ []) = Some (replicate (w * h) color)
 image_pixels w h (color ∷ next ∷ colors) = then_some (length (color ∷ next ∷ colors) == w * h) (color ∷ next ∷ colors)
 
--- an image; one with a bad side has any digits and no pixels
-abbrev pub image_with : ℕ → ℕ → ℕ → List ℕ → Option Shape
-image_with slot w h digits = if is_image_side w && is_image_side h
-    then option_map (λ pixels. LoadImage slot (record { w = w; h = h; pixels = pixels })) (option_and_then (image_pixels w h) (hexadecimals_of 6 digits))
-    else option_and_then (λ ds. then_some (nat_lt 0 (length ds)) (LoadImage slot (record { w = w; h = h; pixels = [] }))) (hexadecimals_of 1 digits)
+-- an image by the test of its sides; one with a bad side has any digits and no pixels
+abbrev pub image_with : Bool → ℕ → ℕ → ℕ → List ℕ → Option Shape
+image_with true slot w h digits = option_map (λ pixels. LoadImage slot (record { w = w; h = h; pixels = pixels })) (option_and_then (image_pixels w h) (hexadecimals_of 6 digits))
+image_with false slot w h digits = option_and_then (λ ds. then_some (nat_lt 0 (length ds)) (LoadImage slot (record { w = w; h = h; pixels = [] }))) (hexadecimals_of 1 digits)
 
 abbrev pub image_by : List ℤ → List (List ℕ) → Option Shape
-image_by (slot ∷ w ∷ h ∷ []) (digits ∷ []) = image_with (nat_of slot) (nat_of w) (nat_of h) digits
+image_by (slot ∷ w ∷ h ∷ []) (digits ∷ []) = image_with (is_image_side (nat_of w) && is_image_side (nat_of h)) (nat_of slot) (nat_of w) (nat_of h) digits
 image_by numbers words = None
 
 -- the number of pixels of a brush

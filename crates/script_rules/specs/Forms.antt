@@ -1,5 +1,5 @@
 -- The forms of a script's lines, as a table: a row for each first word, with what its other words ask for.
-use Rattle.std.specs.Prelude.{ℕ, ◌==◌, Bool, true, false, ℤ, List, [], ◌∷◌, ◌++◌, if◌then◌else◌, codes}
+use Rattle.std.specs.Prelude.{ℕ, Bool, true, false, ℤ, List, [], ◌∷◌, ◌++◌, if◌then◌else◌, codes}
 use Rattle.std.specs.declared.option.Option.{Option}
 use Rattle.std.specs.declared.option.Option.TheVariants.{Some, None}
 use Rattle.std.specs.Option.{option_map, option_and_then}
@@ -8,11 +8,10 @@ use Rattle.line_text.specs.Numbers.{number_up_to}
 use Rattle.line_text.specs.Hexadecimal.{hexadecimal_of}
 use Rattle.draw_ops.specs.declared.shape.Shape.{Shape}
 use Rattle.draw_ops.specs.declared.shape.Drawing.{Drawing}
-use Rattle.session_rules.specs.declared.event.Event.{Event}
 use Rattle.session_rules.specs.declared.event.Event.TheVariants.{Scan, Unicode, Mouse}
 use Rattle.session_rules.specs.Steps.{Step, is_same_name}
 use Rattle.session_rules.specs.Steps.Step.{LeaveStep, InputStep, DrawStep, RefreshStep, SuppressStep, TakeStep}
-use Rattle.script_rules.specs.Fields.{Field, Values, values_of, rect_fields, rect_of, with_clip, without_clip, pairs_of, text_by, fill_by, dst_by, pat_by, copy_by, blit_by, blit3_by, line_by, save_by, restore_by, image_by, brush_by, glyph_by}
+use Rattle.script_rules.specs.Fields.{Field, values_of, rect_fields, rect_of, with_clip, without_clip, pairs_of, text_by, fill_by, dst_by, pat_by, copy_by, blit_by, blit3_by, line_by, save_by, restore_by, image_by, brush_by, glyph_by}
 use Rattle.script_rules.specs.Fields.Field.{Coordinate, Count, Small, Digits}
 
 -- a form: its first word, and the step that a viewer and the other words ask for

@@ -3,3 +3,5 @@ pub mod Forms
 pub mod Presets
 pub mod Script
 pub mod Capture
+pub mod CaptureText
+pub mod Headline

@@ -16,7 +16,8 @@ use Rattle.line_text.specs.Numbers.{number_of, number_up_to}
 use Rattle.session_rules.specs.declared.entry.Role.{Role}
 use Rattle.session_rules.specs.declared.entry.Role.TheVariants.{Owner, Control, View}
 use Rattle.session_rules.specs.Journal.{Head, Row, is_present}
-use Rattle.session_rules.specs.Steps.{Step, Play, play_at_first, outcome, is_same_name, row_role}
+use Rattle.session_rules.specs.Steps.{Step, Answer, Play, play_at_first, outcome, answer_of_step, is_same_name, row_role}
+use Rattle.session_rules.specs.Steps.Answer.{Joined, Left, Accepted, Refused, Nothing, Frame}
 use Rattle.session_rules.specs.Steps.Step.{JoinStep, LeaveStep, InputStep, DrawStep, RefreshStep, SuppressStep, TakeStep}
 use Rattle.draw_ops.specs.Fits.{first_some}
 use Rattle.script_rules.specs.Forms.{Form, step_forms, first_forms, step_in}
@@ -236,18 +237,23 @@ with_row r row = record r { head = record r.head { rows = r.head.rows ++ row ∷
 abbrev pub replaced : ℕ → ℕ → (ℕ → ℕ) → ℕ → ℕ
 replaced v n f u = if u == v then n else f u
 
--- the drawings that each viewer's last take has found, after a step
-abbrev pub found_after : Reading → Step → ℕ → ℕ
-found_after r (TakeStep v) = replaced v r.play.reached.state.surface.count r.found
-found_after r (JoinStep name) = r.found
-found_after r (LeaveStep v) = r.found
-found_after r (InputStep v event) = r.found
-found_after r (DrawStep v d) = r.found
-found_after r (RefreshStep v rect) = r.found
-found_after r (SuppressStep v stop) = r.found
+-- the drawings that each viewer's last take has found, after a step of a viewer that is answered: a take without a frame finds none
+abbrev pub found_after : Reading → Step → Answer → ℕ → ℕ
+found_after r (TakeStep v) (Frame take) = replaced v r.play.reached.state.surface.count r.found
+found_after r (TakeStep v) Nothing = r.found
+found_after r (TakeStep v) (Joined u) = r.found
+found_after r (TakeStep v) Left = r.found
+found_after r (TakeStep v) Accepted = r.found
+found_after r (TakeStep v) (Refused refusal) = r.found
+found_after r (JoinStep name) answer = r.found
+found_after r (LeaveStep v) answer = r.found
+found_after r (InputStep v event) answer = r.found
+found_after r (DrawStep v d) answer = r.found
+found_after r (RefreshStep v rect) answer = r.found
+found_after r (SuppressStep v stop) answer = r.found
 
 abbrev pub after_step : Reading → Step → Reading
-after_step r step = record { head = r.head; begun = true; play = (outcome r.head r.play step).play; found = found_after r step }
+after_step r step = record { head = r.head; begun = true; play = (outcome r.head r.play step).play; found = found_after r step (answer_of_step r.head r.play step) }
 
 -- what a line's outcome makes of the reading, where it goes on
 abbrev pub reading_after : Reading → LineOutcome → Option Reading

@@ -101,8 +101,8 @@ input_effect p v e = if is_f12 e
     else Enters (Input v e) Accepted
 
 -- whether a take has work: the viewer isn't suppressed, and the journal has grown since its last take or a tile is asked for
-abbrev pub hxswork : Size → Play → ℕ → Bool
-hxswork size p v = not (p.suppressed v) && (not (p.taken v == p.reached.length) || share_tile size (p.asked v) all_tiles)
+abbrev pub has_work : Size → Play → ℕ → Bool
+has_work size p v = not (p.suppressed v) && (not (p.taken v == p.reached.length) || share_tile size (p.asked v) all_tiles)
 
 abbrev pub take_effect : Bool → ℕ → Effect
 take_effect true v = Takes v
@@ -115,7 +115,7 @@ effect_of head p (InputStep v e) = input_effect p v e
 effect_of head p (DrawStep v d) = Enters (Draw v d) Accepted
 effect_of head p (RefreshStep v r) = Asks v (tiles_of head.size r)
 effect_of head p (SuppressStep v stop) = Suppresses v stop
-effect_of head p (TakeStep v) = take_effect (hxswork head.size p v) v
+effect_of head p (TakeStep v) = take_effect (has_work head.size p v) v
 
 -- ---- what comes of a step
 

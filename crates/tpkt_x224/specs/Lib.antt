@@ -1,0 +1,4 @@
+pub mod Tpkt
+pub mod Request
+pub mod Confirm
+pub mod Data

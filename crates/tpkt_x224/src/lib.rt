@@ -1,0 +1,17 @@
+//! TPKT packets and the X.224 headers in them (RFC 1006, section 6; X.224, 13.3, 13.4 and 13.7).
+#![tactic(auto)]
+
+mod bad_tpdu;
+mod confirm;
+mod data;
+mod request;
+mod tpkt;
+
+pub use bad_tpdu::BadTpdu;
+pub use confirm::write_confirm;
+pub use data::data_header;
+pub use request::{Request, read_request};
+pub use tpkt::{Packet, next_packet};
+
+#[cfg(test)]
+mod tests;
