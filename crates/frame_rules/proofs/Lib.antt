@@ -6,3 +6,5 @@ pub mod RegistersKept
 pub mod OrdersBack
 pub mod RegistersApart
 pub mod UpdatesBack
+pub mod TileShown
+pub mod TilePhase

@@ -5,7 +5,7 @@ ghost use Rattle.px_core.specs.declared.surface.Size.{Size};
 ghost use Rattle.px_core.specs.declared.rectangle.Rect.{Rect};
 ghost use Rattle.px_core.specs.Picture.{Area, Formula, pixel_count, painted};
 ghost use Rattle.px_core.specs.Rectangle.{in_clip, clipped};
-ghost use Rattle.px_core.specs.Tiles.{Tiles, either_tiles, tile_at, tiles_of};
+ghost use Rattle.px_core.specs.Tiles.{Tiles, either_tiles, tile_at, tiles_of, tiles_in};
 ghost use Rattle.draw_ops.specs.Formulas.{Painting, painted_area, picture_after};
 ghost use Rattle.caps_sets.specs.declared.confirmed.Confirmed.{Confirmed};
 ghost use Rattle.session_rules.specs.declared.entry.Entry.{Entry};
@@ -16,7 +16,7 @@ ghost use Rattle.order_means.specs.ClientState.{first_client};
 ghost use Rattle.order_means.specs.FrameMarks.{View, view_after_orders, with_registers, marked_if};
 ghost use Rattle.frame_rules.specs.Blocks.{Held};
 ghost use Rattle.frame_rules.specs.Frame.{frame_of};
-ghost use Rattle.frame_rules.specs.Shown.{tile_of_place, ShowsOutside};
+ghost use Rattle.frame_rules.specs.Shown.{tile_of_place, ShowsOutside, canvas_after_tiles};
 ghost use Rattle.frame_rules.specs.Encoder.{Encoder, first_encoder, take_bytes, encoder_after};
 ghost use Rattle.frame_rules.specs.Describes.{DescribesClient};
 ghost use Rattle.frame_rules.specs.FrameOrders.{SentOrder};
@@ -61,6 +61,12 @@ pub fn sent_drawing_keeps_what_is_shown()
         → ((i d : ℕ) → i < pixel_count size → dirty (tile_of_place size i) ≡ false → painted_area clip p (pos (i % size.w)) (pos (i / size.w)) ≡ true
         → f (pos (i % size.w)) (pos (i / size.w)) (Some d) ≡ Some (p.formula (pos (i % size.w)) (pos (i / size.w)) d))
         → ShowsOutside size dirty canvas old → ShowsOutside size dirty (painted size area f canvas) (picture_after size clip p old) }
+{}
+
+/// Once the dirty tiles that lie on the picture were sent, with pixels cut out of the session's picture, the client's picture is the session's, and every pixel of it is known.
+pub fn dirty_tiles_complete_the_picture()
+    ensures { (size : Size) (dirty : Tiles) (canvas : List (Option ℕ)) (picture : List ℕ) → size.w ≤ 2048 → ShowsOutside size dirty canvas picture
+        → canvas_after_tiles size picture (tiles_in size dirty) canvas ≡ map Some picture }
 {}
 
 /// The encoder of a new viewer describes the client of a new viewer.
