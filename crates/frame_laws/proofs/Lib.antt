@@ -1,0 +1,5 @@
+pub mod Bounds
+pub mod NotSent
+pub mod Unsent
+pub mod Sent
+pub mod Jump
