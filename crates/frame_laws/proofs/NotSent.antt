@@ -72,14 +72,14 @@ differ : (a b c : ℕ) → (a == b) ≡ true → (a == c) ≡ false → (b == c)
 differ a b c h k = grind (arith, nat_tests, h, k)
 
 -- the place of another slot's block stays
-record OtherPlace (slot k : ℕ) (held : Held) (place : Place) : Type 0 where
-  stays : place_of k held ≡ Some place
-  other : (k == slot) ≡ false
+pub record OtherPlace (slot k : ℕ) (held : Held) (place : Place) : Type 0 where
+  pub stays : place_of k held ≡ Some place
+  pub other : (k == slot) ≡ false
 
 same_number : (a b : ℕ) → (a == b) ≡ true → a ≡ b
 same_number a b h = grind (arith, nat_tests, h)
 
-place-without : (slot k : ℕ) (held : Held) (place : Place) → place_of k (without_slot slot held) ≡ Some place → OtherPlace slot k held place
+pub place-without : (slot k : ℕ) (held : Held) (place : Place) → place_of k (without_slot slot held) ≡ Some place → OtherPlace slot k held place
 place-without slot k [] place h = absurd (cc h)
 place-without slot k (b ∷ bs) place h = by (b.0 == slot) (b.0 == k) refl refl (λ g. place-without slot k bs place g)
   where

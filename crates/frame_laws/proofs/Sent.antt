@@ -37,13 +37,13 @@ use Rattle.frame_laws.proofs.Bounds.{painted_area-bounds}
 -- ---- any painting
 
 -- the client's painting does what the session's does, at each pixel whose tile isn't dirty
-record DoesTheSame (size : Size) (st : SurfaceState) (dirty : Tiles) (clip : Option Rect) (p : Painting ℕ) (q : Painting (Option ℕ)) : Type 0 where
-  rects : p.rect ≡ q.rect
-  areas : (x y : ℤ) → p.area x y ≡ q.area x y
-  formulas : (i d : ℕ) → i < pixel_count size → dirty (tile_of_place size i) ≡ false → painted_area (in_clip clip) p (pos (i % size.w)) (pos (i / size.w)) ≡ true
+pub record DoesTheSame (size : Size) (st : SurfaceState) (dirty : Tiles) (clip : Option Rect) (p : Painting ℕ) (q : Painting (Option ℕ)) : Type 0 where
+  pub rects : p.rect ≡ q.rect
+  pub areas : (x y : ℤ) → p.area x y ≡ q.area x y
+  pub formulas : (i d : ℕ) → i < pixel_count size → dirty (tile_of_place size i) ≡ false → painted_area (in_clip clip) p (pos (i % size.w)) (pos (i / size.w)) ≡ true
       → q.formula (pos (i % size.w)) (pos (i / size.w)) (Some d) ≡ Some (p.formula (pos (i % size.w)) (pos (i / size.w)) d)
 
-painting_agrees : (size : Size) (st : SurfaceState) (w : Walk) (client : ClientState) (s : Shape) (clip : Option Rect) (q : Painting (Option ℕ))
+pub painting_agrees : (size : Size) (st : SurfaceState) (w : Walk) (client : ClientState) (s : Shape) (clip : Option Rect) (q : Painting (Option ℕ))
     → (slots_after size st s).blocks ≡ st.blocks → DoesTheSame size st w.dirty clip (painting_of size st s) q → Agrees size st w client
     → Agrees size (state_after_drawing size st (drawn s clip)) w (after_painting size (edges_of_optional (bounds_of (painting_of size st s).rect clip)) q client)
 painting_agrees size st w client s clip q kept same a = let p = painting_of size st s in record {
@@ -54,7 +54,7 @@ painting_agrees size st w client s clip q kept same a = let p = painting_of size
 
 -- ---- an order that is obeyed, and the agreement after it
 
-obeyed_as : (c : Confirmed) (size : Size) (client : ClientState) (r : Rect) (d : NamedDrawing) (bounds : Option Rect) (made : Result ClientState Fault) → HasPixel d
+pub obeyed_as : (c : Confirmed) (size : Size) (client : ClientState) (r : Rect) (d : NamedDrawing) (bounds : Option Rect) (made : Result ClientState Fault) → HasPixel d
     → client_after_drawing c size (edges_of_optional bounds) client d ≡ made → client_after_order c size client (as_read c (Drawn r d bounds)) ≡ made
 obeyed_as c size client r d bounds made some h = ap (λ o. bind (found o Broken) (client_after_drawing c size (edges_of_optional bounds) client)) (named_again r d some) ∙ h
 
@@ -84,7 +84,7 @@ left_false : (u v : Bool) → (u && v) ≡ false → v ≡ true → u ≡ false
 left_false true v e f = absurd (cc (sym e ∙ f))
 left_false false v e f = refl
 
-same_number : (a b : ℕ) → (a == b) ≡ true → a ≡ b
+pub same_number : (a b : ℕ) → (a == b) ≡ true → a ≡ b
 same_number a b h = grind (arith, nat_tests, h)
 
 -- a tile of the one set isn't in the other, where they share none
@@ -111,7 +111,7 @@ record Source (size : Size) (r : Rect) (sx sy : ℤ) (x y : ℕ) : Type 0 where
   row : nat_of ((pos y -ℤ r.y) +ℤ sy) < size.h
   inside : in_rect (boxed sx sy r.w r.h) (pos (nat_of ((pos x -ℤ r.x) +ℤ sx))) (pos (nat_of ((pos y -ℤ r.y) +ℤ sy))) ≡ true
 
-shifted_within : (from : ℤ) (n : ℕ) (s : ℤ) (most z : ℕ) → within from n (pos z) ≡ true → int_le (pos 0) s ≡ true → int_le (s +ℤ pos n) (pos most) ≡ true
+pub shifted_within : (from : ℤ) (n : ℕ) (s : ℤ) (most z : ℕ) → within from n (pos z) ≡ true → int_le (pos 0) s ≡ true → int_le (s +ℤ pos n) (pos most) ≡ true
     → (nat_of ((pos z -ℤ from) +ℤ s) < most) × (within s n (pos (nat_of ((pos z -ℤ from) +ℤ s))) ≡ true)
 shifted_within from n s most z h low high =
     let a = within-low from n (pos z) h in
@@ -130,7 +130,7 @@ source_of size r sx sy x y whole here =
     record { column = a.0; row = b.0; inside = and_from _ _ a.1 b.1 }
 
 -- a source pixel lies in a clean tile
-source_clean : (size : Size) (dirty : Tiles) (r : Rect) (sx sy : ℤ) (X Y : ℕ) → size.w ≤ 2048 → share_tile size dirty (tiles_of size (boxed sx sy r.w r.h)) ≡ false → X < size.w → Y < size.h
+pub source_clean : (size : Size) (dirty : Tiles) (r : Rect) (sx sy : ℤ) (X Y : ℕ) → size.w ≤ 2048 → share_tile size dirty (tiles_of size (boxed sx sy r.w r.h)) ≡ false → X < size.w → Y < size.h
     → in_rect (boxed sx sy r.w r.h) (pos X) (pos Y) ≡ true → dirty (tile_at X Y) ≡ false
 source_clean size dirty r sx sy X Y narrow apart hx hy inside =
     not_shared (picture_tiles size) dirty (tiles_of size (boxed sx sy r.w r.h)) (tile_at X Y) apart (there_is (column_of size.w X Y hx) (row_of size.w X Y hx)) (tiles_of-in_rect size (boxed sx sy r.w r.h) X Y narrow hx hy inside)
