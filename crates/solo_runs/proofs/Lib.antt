@@ -1,2 +1,4 @@
 pub mod Views
 pub mod TakeBytes
+pub mod Reached
+pub mod Simulation
