@@ -2,3 +2,4 @@ pub mod Views
 pub mod TakeBytes
 pub mod Reached
 pub mod Simulation
+pub mod Runs

@@ -59,7 +59,7 @@ work_by : (begun : Bool) (sent n : ℕ) → (not (number_before begun sent == 1 
 work_by false sent n = let e : (0 == 1 + n) ≡ false = grind (arith, nat_tests) in ap (λ b. not b || false) e
 work_by true sent n = ap (λ b. not b || false) (same_next sent n) ∙ or_false (sent == n)
 
-work_is : (size : Size) (s : Solo) (run : Run Encoder) → Stands size s run → has_work size run.play solo_viewer ≡ takes_frame s
+pub work_is : (size : Size) (s : Solo) (run : Run Encoder) → Stands size s run → has_work size run.play solo_viewer ≡ takes_frame s
 work_is size s run h =
   ap (λ b. not b && (not (run.play.taken solo_viewer == run.play.reached.length) || share_tile size (run.play.asked solo_viewer) all_tiles)) h.suppressed
   ∙ ap (λ n. not (n == run.play.reached.length) || share_tile size (run.play.asked solo_viewer) all_tiles) h.taken
@@ -102,7 +102,7 @@ pub record Steps (size : Size) (run : Run Encoder) (a : SoloStep) (o : Outcome) 
   pub line_is : line_by encoder_frames size run (asked_of a) o.answer ≡ line
   pub stands : Stands size after (after_step_of size run a o)
 
-take_steps : (size : Size) (s : Solo) (run : Run Encoder) → Stands size s run → length (pending s) ≤ 256 → (b : Bool) →
+pub take_steps : (size : Size) (s : Solo) (run : Run Encoder) → Stands size s run → length (pending s) ≤ 256 → (b : Bool) →
     Steps size run Take (outcome_of (solo_head size) run.play (take_effect b solo_viewer)) (take_line b size s) (after_take b size s)
 take_steps size s run h few true = record {
   line_is = ap (λ bytes. of_viewer solo_viewer (hexadecimal_text bytes)) (take_bytes_are size s run h few);
@@ -142,7 +142,7 @@ draws_more ps p = ap (λ es. Join solo_viewer Owner ∷ es) (by ps)
   by [] = refl
   by (q ∷ qs) = ap (λ es. Draw solo_viewer (patch_drawing q) ∷ es) (by qs)
 
-fill_steps : (size : Size) (s : Solo) (run : Run Encoder) (p : Patch) → Stands size s run → (refusal : Option Refusal) →
+pub fill_steps : (size : Size) (s : Solo) (run : Run Encoder) (p : Patch) → Stands size s run → (refusal : Option Refusal) →
     Steps size run (Fill p) (entered (solo_head size) run.play (Draw solo_viewer (patch_drawing p)) Accepted refusal) (fill_line refusal) (after_fill refusal s p)
 fill_steps size s run p h None =
   let e = Draw solo_viewer (patch_drawing p) in
