@@ -3,3 +3,4 @@ pub mod TakeBytes
 pub mod Reached
 pub mod Simulation
 pub mod Runs
+pub mod LineBytes
