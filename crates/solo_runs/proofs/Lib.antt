@@ -4,3 +4,5 @@ pub mod Reached
 pub mod Simulation
 pub mod Runs
 pub mod LineBytes
+pub mod CaptureBytes
+pub mod Forms

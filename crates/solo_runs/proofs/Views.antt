@@ -104,7 +104,7 @@ next_picture false size s some unsent =
 -- ---- a take with work
 
 -- the next frame is not empty
-some_patch : (begun : Bool) (size : Size) (s : Solo) → begun ≡ s.begun → takes_frame s ≡ true → s.sent ≤ length s.patches → 0 < length (frame_patches size (not begun) (pending s))
+pub some_patch : (begun : Bool) (size : Size) (s : Solo) → begun ≡ s.begun → takes_frame s ≡ true → s.sent ≤ length s.patches → 0 < length (frame_patches size (not begun) (pending s))
 some_patch false size s is work sent = omega arith
 some_patch true size s is work sent =
   let other : (s.sent == length s.patches) ≡ false = not_same (s.sent == length s.patches) (ap (λ b. not (b && (s.sent == length s.patches))) is ∙ work) in
@@ -115,7 +115,7 @@ some_patch true size s is work sent =
   not_same true e = sym e
   not_same false e = refl
 
-few_patches : (first : Bool) (size : Size) (ps : List Patch) → length ps ≤ 256 → length (frame_patches size first ps) ≤ 257
+pub few_patches : (first : Bool) (size : Size) (ps : List Patch) → length ps ≤ 256 → length (frame_patches size first ps) ≤ 257
 few_patches true size ps h = omega arith
 few_patches false size ps h = omega arith
 
