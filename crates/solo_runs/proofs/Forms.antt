@@ -190,7 +190,7 @@ take_found : (words : List (List ℕ)) → Found (alone TakeStep solo_viewer wor
 take_found [] = record { solo = Take; is = refl; range = tt }
 take_found (word ∷ words) = tt
 
-abbrev IsSoloForm : LineForm → Type 0
+abbrev pub IsSoloForm : LineForm → Type 0
 IsSoloForm (InviteForm name role) = ⊥
 IsSoloForm (JoinForm name words) = ⊥
 IsSoloForm (StepForm v s) = (v ≡ solo_viewer) × IsSoloStep s

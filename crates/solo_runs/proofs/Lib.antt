@@ -6,3 +6,4 @@ pub mod Runs
 pub mod LineBytes
 pub mod CaptureBytes
 pub mod Forms
+pub mod Scripts
