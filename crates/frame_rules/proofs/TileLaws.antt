@@ -18,7 +18,7 @@ use Rattle.frame_rules.proofs.Paint.{painted_at, item-painted_from, length-paint
 true_is_not_false : true ≡ false → ⊥
 true_is_not_false e = cc e
 
-pos-nat_of : (z : ℤ) → pos 0 ≤ℤ z → pos (nat_of z) ≡ z
+pub pos-nat_of : (z : ℤ) → pos 0 ≤ℤ z → pos (nat_of z) ≡ z
 pos-nat_of (pos n) h = refl
 pos-nat_of (negsuc n) h = absurd (omega (arith, ints, h))
 
@@ -36,10 +36,10 @@ int_lt_from a b h = by (int_lt a b) refl
     by true e = refl
     by false e = absurd (omega (arith, ints, h))
 
-within-low : (a : ℤ) (m : ℕ) (z : ℤ) → within a m z ≡ true → a ≤ℤ z
+pub within-low : (a : ℤ) (m : ℕ) (z : ℤ) → within a m z ≡ true → a ≤ℤ z
 within-low a m z h = let e = (and_parts (int_le a z) (int_lt z (a +ℤ pos m)) h).0 in omega (arith, ints)
 
-within-high : (a : ℤ) (m : ℕ) (z : ℤ) → within a m z ≡ true → z <ℤ (a +ℤ pos m)
+pub within-high : (a : ℤ) (m : ℕ) (z : ℤ) → within a m z ≡ true → z <ℤ (a +ℤ pos m)
 within-high a m z h = let e = (and_parts (int_le a z) (int_lt z (a +ℤ pos m)) h).1 in omega (arith, ints)
 
 within-between : (low high z : ℤ) → low ≤ℤ z → z <ℤ high → within low (nat_of (high -ℤ low)) z ≡ true
