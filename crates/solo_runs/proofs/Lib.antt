@@ -7,3 +7,4 @@ pub mod LineBytes
 pub mod CaptureBytes
 pub mod Forms
 pub mod Scripts
+pub mod Headline

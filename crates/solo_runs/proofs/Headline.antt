@@ -1,0 +1,92 @@
+-- The headline for first scripts: each viewer's bytes in the capture are read whole, and each mark shows the journal.
+use Rattle.std.proofs.Common.{◌≡◌, ℕ, zero, suc, ◌+◌, ◌-◌, ◌^◌, ◌<◌, ◌≤◌, List, [], ◌∷◌, ◌++◌, length, map, take, drop, refl, ap, sym, ◌∙◌, subst, arith, Some, None, Bool, true, false, append_assoc}
+use Rattle.std.specs.Prelude.{Option, pos, Result, Ok, Err, ⊤, not, ◌&&◌, ◌==◌, nat_le, nat_lt, codes, decimal, is_some, IsTrue, All, if◌then◌else◌}
+use Rattle.std.proofs.lemmas.Bool.{and_parts}
+use Rattle.std.proofs.lemmas.Bool.Decides.{nat_tests}
+use Rattle.std.proofs.lemmas.List.{append-nil}
+use Rattle.std.proofs.lemmas.List.Elements.{All-nil, All-cons, All-append}
+use Rattle.px_core.specs.declared.surface.Size.{Size}
+use Rattle.px_core.specs.Picture.{pixel_count, black_picture}
+use Rattle.px_core.specs.Rectangle.{is_session_size}
+use Rattle.rop3_core.specs.Palette.{session_colors}
+use Rattle.caps_sets.specs.declared.confirmed.Confirmed.{Confirmed}
+use Rattle.caps_sets.specs.Confirmed.{plain}
+use Rattle.session_rules.specs.declared.entry.Entry.{Entry}
+use Rattle.session_rules.specs.declared.entry.Entry.TheVariants.{Join, Draw}
+use Rattle.session_rules.specs.declared.entry.Role.TheVariants.{Owner}
+use Rattle.session_rules.specs.Journal.{Head, reached_at_first, reached_after_entry, reached_after, picture_after_entries}
+use Rattle.session_rules.specs.Steps.{Step, play_at_first, journal_of_steps, frame_numbers, takes_of, takes_from, entries_from}
+use Rattle.session_rules.proofs.Journals.{IsLegalJournal-journal_of_steps}
+use Rattle.session_rules.proofs.Changes.{ChangesAreTheHolders-legal}
+use Rattle.order_fields.specs.Bytes.{bind}
+use Rattle.order_fields.specs.OrderTable.{first_registers, AreRegisters}
+use Rattle.frame_rules.proofs.FrameLaws.{first_are_registers}
+use Rattle.order_means.specs.Updates.{Cutting, cutting, Updates, updates_in, refusal_in}
+use Rattle.order_means.specs.Updates.Stage.{Between}
+use Rattle.order_means.specs.FrameMarks.{View, first_view, Refusal, Reading, reading, unless_refused_at, reading_after, view_after_bodies, read_on, read_stream, pictures_at_marks, EndsBetween}
+use Rattle.frame_rules.specs.Encoder.{Encoder}
+use Rattle.fill_frames.specs.declared.patch.Patch.{Patch}
+use Rattle.fill_frames.specs.Patches.{patch_drawing, with_patches}
+use Rattle.script_rules.specs.CaptureText.{Run, run_at_first, run_after}
+use Rattle.script_rules.specs.Script.{Asked, solo_join}
+use Rattle.script_rules.specs.Headline.{known_picture, pictures_after, SeesJournal, encoder_frames, steps_of}
+use Rattle.solo_runs.specs.declared.step.SoloStep.{SoloStep}
+use Rattle.solo_runs.specs.Solo.{Solo, solo_viewer, solo_head, solo_at_first, asked_of, journal_of_patches, solo_bytes, solo_numbers, solo_patches, AreSoloSteps}
+use Rattle.solo_runs.proofs.TakeBytes.{draws}
+use Rattle.solo_runs.proofs.Reached.{picture_reached, SoloReached}
+use Rattle.solo_runs.proofs.Simulation.{Stands}
+use Rattle.solo_runs.proofs.Views.{Sees, IsRead, picture_at, solo_is_read}
+use Rattle.solo_runs.proofs.Runs.{RunsAs, solo_runs_as}
+
+-- ---- the run after the join
+
+abbrev pub joined_run : Size → Run Encoder
+joined_run size = run_after encoder_frames (solo_head size) (run_at_first encoder_frames size) solo_join
+
+pub stands_at_first : (size : Size) → Stands size solo_at_first (joined_run size)
+stands_at_first size = record {
+  journal = refl; reached_is = refl;
+  reached = record { viewers = refl; holder = refl; length = refl; limited = refl; images = refl; count = refl };
+  asked = refl; suppressed = refl; taken = refl; confirmed = refl; encoder = refl; unsent = λ e. refl;
+}
+
+-- ---- the viewer at first
+
+sees_at_first : (size : Size) → Sees size solo_at_first (first_view plain size)
+sees_at_first size = record { registers = refl; are_registers = first_are_registers; are_patches = tt; sent = omega arith; unsent = λ e. refl; picture = refl }
+
+-- ---- the pictures
+
+draws-take : (n : ℕ) (ps : List Patch) → take n (draws ps) ≡ draws (take n ps)
+draws-take zero ps = refl
+draws-take (suc n) [] = refl
+draws-take (suc n) (p ∷ ps) = ap (λ es. Draw solo_viewer (patch_drawing p) ∷ es) (draws-take n ps)
+
+picture_of_number : (size : Size) (all : List Patch) (n : ℕ) → picture_at size all n ≡ known_picture (picture_after_entries size (journal_of_patches all) n)
+picture_of_number size all zero = refl
+picture_of_number size all (suc m) =
+  let joined = reached_after_entry size (reached_at_first size) (Join solo_viewer Owner) in
+  let number : suc m - 1 ≡ m = omega arith in
+  ap (λ k. map Some (with_patches session_colors size (take k all) (black_picture size))) number
+  ∙ ap (map Some) (sym (ap (λ es. (reached_after size joined es).state.surface.picture) (draws-take m all) ∙ picture_reached size (take m all) joined))
+
+pictures_are : (size : Size) (all : List Patch) (numbers : List ℕ) → map (picture_at size all) numbers ≡ pictures_after size (journal_of_patches all) numbers
+pictures_are size all [] = refl
+pictures_are size all (n ∷ numbers) = ap (λ p. p ∷ map (picture_at size all) numbers) (picture_of_number size all n) ∙ ap (λ ps. known_picture (picture_after_entries size (journal_of_patches all) n) ∷ ps) (pictures_are size all numbers)
+
+-- ---- a stream that was read ends between packets
+
+stage_of : Result Reading Refusal → Cutting
+stage_of (Ok r) = r.cut
+stage_of (Err refusal) = cutting 0 Between
+
+ends_by : (confirmed : Confirmed) (size : Size) (w : Result View Refusal) (o : Option ℕ) (next : Cutting) (view : View) (end : ℕ) →
+    bind w (λ v. unless_refused_at o (reading v next)) ≡ Ok (reading view (cutting end Between)) → next.stage ≡ Between
+unfolding stage_of
+ends_by confirmed size (Ok v) None next view end e = ap (λ r. (stage_of r).stage) e
+ends_by confirmed size (Ok v) (Some place) next view end e = absurd (cc e)
+ends_by confirmed size (Err refusal) o next view end e = absurd (cc e)
+
+ends_between : (confirmed : Confirmed) (size : Size) (bytes : List ℕ) (view : View) (end : ℕ) → read_stream confirmed size bytes ≡ Ok (reading view (cutting end Between)) → EndsBetween bytes
+ends_between confirmed size bytes view end e =
+  ends_by confirmed size (view_after_bodies confirmed size (first_view confirmed size) (updates_in bytes).bodies) (refusal_in (updates_in bytes).next.stage) (updates_in bytes).next view end e
