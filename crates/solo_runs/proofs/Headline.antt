@@ -90,3 +90,41 @@ ends_by confirmed size (Err refusal) o next view end e = absurd (cc e)
 ends_between : (confirmed : Confirmed) (size : Size) (bytes : List ℕ) (view : View) (end : ℕ) → read_stream confirmed size bytes ≡ Ok (reading view (cutting end Between)) → EndsBetween bytes
 ends_between confirmed size bytes view end e =
   ends_by confirmed size (view_after_bodies confirmed size (first_view confirmed size) (updates_in bytes).bodies) (refusal_in (updates_in bytes).next.stage) (updates_in bytes).next view end e
+
+-- ---- the viewers of a solo run
+
+abbrev pub all_asked : List SoloStep → List Asked
+all_asked steps = solo_join ∷ map asked_of steps
+
+journal_is : (size : Size) (steps : List SoloStep) → AreSoloSteps size solo_at_first steps → journal_of_steps (solo_head size) (steps_of (all_asked steps)) ≡ journal_of_patches (solo_patches size solo_at_first steps)
+journal_is size steps ok = ap (λ es. Join solo_viewer Owner ∷ es) (solo_runs_as size steps solo_at_first (joined_run size) (stands_at_first size) ok).entries
+
+numbers_are : (size : Size) (steps : List SoloStep) → AreSoloSteps size solo_at_first steps → frame_numbers (solo_head size) (steps_of (all_asked steps)) solo_viewer ≡ solo_numbers size solo_at_first steps
+numbers_are size steps ok = (solo_runs_as size steps solo_at_first (joined_run size) (stands_at_first size) ok).numbers
+
+others_have_none : (size : Size) (steps : List SoloStep) (v : ℕ) → AreSoloSteps size solo_at_first steps → (solo_viewer == v) ≡ false → frame_numbers (solo_head size) (steps_of (all_asked steps)) v ≡ []
+others_have_none size steps v ok e = ap (map (λ t. t.number)) ((solo_runs_as size steps solo_at_first (joined_run size) (stands_at_first size) ok).others v e)
+
+-- the viewer of the run sees the journal
+pub viewer_sees : (size : Size) (steps : List SoloStep) → IsTrue (is_session_size size.w size.h) → AreSoloSteps size solo_at_first steps →
+    SeesJournal size plain (journal_of_steps (solo_head size) (steps_of (all_asked steps))) (frame_numbers (solo_head size) (steps_of (all_asked steps)) solo_viewer) (solo_bytes size solo_at_first steps)
+viewer_sees size steps is ok =
+  let all = solo_patches size solo_at_first steps in
+  let r = solo_is_read size is steps all solo_at_first (first_view plain size) 0 (sees_at_first size) ok refl in
+  let bytes = solo_bytes size solo_at_first steps in
+  let numbers = solo_numbers size solo_at_first steps in
+  record {
+    marks_show_journal = ap (λ o. bind o (λ q. Ok q.view.pictures)) r.read
+      ∙ ap Ok (r.pictures ∙ pictures_are size all numbers
+        ∙ ap (λ j. pictures_after size j numbers) (sym (journal_is size steps ok))
+        ∙ ap (pictures_after size (journal_of_steps (solo_head size) (steps_of (all_asked steps)))) (sym (numbers_are size steps ok)));
+    ends_between_packets = ends_between plain size bytes r.view r.end r.read;
+  }
+
+-- nobody else is sent anything
+pub other_sees : (size : Size) (steps : List SoloStep) (v : ℕ) (confirmed : Confirmed) → AreSoloSteps size solo_at_first steps → (solo_viewer == v) ≡ false →
+    SeesJournal size confirmed (journal_of_steps (solo_head size) (steps_of (all_asked steps))) (frame_numbers (solo_head size) (steps_of (all_asked steps)) v) []
+other_sees size steps v confirmed ok e = record {
+  marks_show_journal = ap (λ ns. Ok (pictures_after size (journal_of_steps (solo_head size) (steps_of (all_asked steps))) ns)) (sym (others_have_none size steps v ok e));
+  ends_between_packets = refl;
+}

@@ -8,3 +8,4 @@ pub mod CaptureBytes
 pub mod Forms
 pub mod Scripts
 pub mod Headline
+pub mod FixedLines

@@ -18,7 +18,7 @@ use Rattle.script_rules.specs.Capture.CaptureLine.{BytesLine, OtherLine, NobodyL
 use Rattle.script_rules.proofs.ReadBack.{Lacks, lines_of-ended, words_of-first, words_of-last, text_lacks, bytes_word-text}
 use Rattle.fill_frames.proofs.Bytes.{AreBytes}
 
-abbrev all_other : ℕ → List ℕ → Bool
+abbrev pub all_other : ℕ → List ℕ → Bool
 all_other byte [] = true
 all_other byte (b ∷ text) = not (b == byte) && all_other byte text
 
@@ -31,19 +31,19 @@ digits_lack : (byte : ℕ) (ds : List ℕ) → byte < 48 → AllDigits 10 ds →
 digits_lack byte [] low h = All-nil (λ b. (b == byte) ≡ false)
 digits_lack byte (c ∷ ds) low h = All-cons (λ b. (b == byte) ≡ false) c ds (digit_other byte c low h.0) (digits_lack byte ds low h.1)
 
-decimal_lacks : (byte n : ℕ) → byte < 48 → n < 2 ^ 64 → Lacks byte (decimal n)
+pub decimal_lacks : (byte n : ℕ) → byte < 48 → n < 2 ^ 64 → Lacks byte (decimal n)
 decimal_lacks byte n low h = digits_lack byte (decimal n) low (decimal_is_IsNumeral n h).0.1
 
-one : decimal 1 ≡ 49 ∷ []
+pub one : decimal 1 ≡ 49 ∷ []
 one = decimal_digit 1 (omega arith)
 
 -- ---- a line at the front
 
 -- the bytes that a line of a text is read as
-abbrev bytes_of_text : ℕ → List ℕ → List ℕ
+abbrev pub bytes_of_text : ℕ → List ℕ → List ℕ
 bytes_of_text v text = bytes_of_line v (capture_line (words_of text))
 
-front_line : (v : ℕ) (text more : List ℕ) → Lacks line_feed text → bytes_of_lines v (lines_of (ended text ++ more)) ≡ bytes_of_text v text ++ bytes_of_lines v (lines_of more)
+pub front_line : (v : ℕ) (text more : List ℕ) → Lacks line_feed text → bytes_of_lines v (lines_of (ended text ++ more)) ≡ bytes_of_text v text ++ bytes_of_lines v (lines_of more)
 front_line v text more clean = ap (bytes_of_lines v) (lines_of-ended text more clean)
 
 -- ---- hexadecimal lines
@@ -70,7 +70,7 @@ viewer_bytes_line bytes some h =
   ap (λ b. if b then Some (OtherLine 1) else option_map (BytesLine 1) (bytes_word (hexadecimal_text bytes))) (no_word bytes some h)
   ∙ ap (option_map (BytesLine 1)) (bytes_word-text bytes some h)
 
-of_viewer_lacks : (text : List ℕ) → Lacks line_feed text → Lacks line_feed (decimal 1 ++ 32 ∷ text)
+pub of_viewer_lacks : (text : List ℕ) → Lacks line_feed text → Lacks line_feed (decimal 1 ++ 32 ∷ text)
 of_viewer_lacks text h =
   let clean : Lacks line_feed (49 ∷ 32 ∷ text) = All-cons (λ b. (b == 10) ≡ false) 49 (32 ∷ text) refl (All-cons (λ b. (b == 10) ≡ false) 32 text refl h) in
   subst (λ d. Lacks line_feed (d ++ 32 ∷ text)) (sym one) clean
@@ -89,7 +89,7 @@ frame_line v bytes more some h =
 -- ---- other lines
 
 -- a text whose words are known, without a line feed
-lacks_by : (byte : ℕ) (text : List ℕ) → all_other byte text ≡ true → Lacks byte text
+pub lacks_by : (byte : ℕ) (text : List ℕ) → all_other byte text ≡ true → Lacks byte text
 lacks_by byte [] e = All-nil (λ b. (b == byte) ≡ false)
 lacks_by byte (b ∷ text) e = let p = and_parts (not (b == byte)) (all_other byte text) e in All-cons (λ c. (c == byte) ≡ false) b text (is_false (b == byte) p.0) (lacks_by byte text p.1)
   where
