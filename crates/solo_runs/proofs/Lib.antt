@@ -9,3 +9,4 @@ pub mod Forms
 pub mod Scripts
 pub mod Headline
 pub mod FixedLines
+pub mod Law

@@ -1,34 +1,31 @@
 -- What is kept of a solo run is the run: each step is answered and written as the definitions say.
-use Rattle.std.proofs.Common.{◌≡◌, ℕ, zero, suc, ◌+◌, ◌-◌, ◌*◌, ◌<◌, ◌≤◌, List, [], ◌∷◌, ◌++◌, length, map, take, drop, refl, ap, sym, ◌∙◌, subst, arith, Some, None, Bool, true, false, append_assoc, length-append}
-use Rattle.std.specs.Prelude.{Option, not, ◌&&◌, ◌||◌, ◌==◌, codes}
+use Rattle.std.proofs.Common.{◌≡◌, ℕ, ◌+◌, ◌≤◌, List, [], ◌∷◌, ◌++◌, length, refl, ap, sym, ◌∙◌, subst, arith, Some, None, Bool, true, false, length-append}
+use Rattle.std.specs.Prelude.{Option, not, ◌&&◌, ◌||◌, ◌==◌}
 use Rattle.std.proofs.lemmas.Bool.Decides.{nat_tests}
 use Rattle.std.proofs.lemmas.List.{append-nil}
 use Rattle.px_core.specs.declared.surface.Size.{Size}
 use Rattle.px_core.specs.Tiles.{Tiles, no_tiles, all_tiles, share_tile}
 use Rattle.caps_sets.specs.Confirmed.{plain}
 use Rattle.caps_sets.specs.declared.confirmed.Confirmed.{Confirmed}
-use Rattle.draw_ops.specs.Ranges.{is_drawing_in_range}
 use Rattle.session_rules.specs.declared.entry.Entry.{Entry}
 use Rattle.session_rules.specs.declared.entry.Entry.TheVariants.{Join, Draw}
 use Rattle.session_rules.specs.declared.entry.Role.TheVariants.{Owner}
-use Rattle.session_rules.specs.Journal.{Head, Reached, Refusal, reached_at_first, reached_after_entry, reached_after, refusal_of}
-use Rattle.session_rules.specs.Steps.{Step, TakeOf, Play, Outcome, Answer, take_of, has_work, take_effect, outcome_of, outcome, entered, entries_from, takes_from}
+use Rattle.session_rules.specs.Journal.{Refusal, reached_at_first, reached_after_entry, reached_after}
+use Rattle.session_rules.specs.Steps.{TakeOf, Outcome, take_of, has_work, take_effect, outcome_of, entered}
 use Rattle.session_rules.specs.Steps.Answer.{Accepted}
-use Rattle.order_fields.specs.OrderTable.{Registers}
 use Rattle.frame_rules.specs.Encoder.{Encoder, take_bytes, encoder_after}
 use Rattle.fill_frames.specs.declared.patch.Patch.{Patch}
-use Rattle.fill_frames.specs.Patches.{patch_drawing, frame_patches}
-use Rattle.fill_frames.specs.Views.{patches_bytes, registers_after_patches}
+use Rattle.fill_frames.specs.Patches.{patch_drawing}
+use Rattle.fill_frames.specs.Views.{registers_after_patches}
 use Rattle.line_text.specs.Hexadecimal.{hexadecimal_text}
-use Rattle.script_rules.specs.Script.{Asked}
-use Rattle.script_rules.specs.Capture.{of_viewer, answer_line}
-use Rattle.script_rules.specs.CaptureText.{Run, run_by, run_after, line_by, line_in_run, lines_from}
-use Rattle.script_rules.specs.Headline.{encoder_frames, steps_of}
+use Rattle.script_rules.specs.Capture.{of_viewer}
+use Rattle.script_rules.specs.CaptureText.{Run, run_by, line_by}
+use Rattle.script_rules.specs.Headline.{encoder_frames}
 use Rattle.solo_runs.specs.declared.step.SoloStep.{SoloStep}
 use Rattle.solo_runs.specs.declared.step.SoloStep.TheVariants.{Take, Fill}
-use Rattle.solo_runs.specs.Solo.{Solo, solo_viewer, solo_head, step_of, asked_of, journal_of_patches, pending, next_patches, next_bytes, patch_refusal, fill_line, after_fill, takes_frame, take_line, after_take, solo_line, solo_after, solo_lines, number_if, solo_numbers, accepted_if, solo_patches, AreSoloSteps}
+use Rattle.solo_runs.specs.Solo.{Solo, solo_viewer, solo_head, asked_of, journal_of_patches, pending, next_patches, next_bytes, fill_line, after_fill, takes_frame, take_line, after_take}
 use Rattle.solo_runs.proofs.TakeBytes.{draws, no_tile_is_shared, number_before, take_at_number, encoder_with, solo_take_bytes, solo_encoder_after}
-use Rattle.solo_runs.proofs.Reached.{SoloReached, patch_reached, reached_after_more, refusal_is}
+use Rattle.solo_runs.proofs.Reached.{SoloReached, patch_reached, reached_after_more}
 
 -- what is kept stands for the run
 pub record Stands (size : Size) (s : Solo) (run : Run Encoder) : Type 0 where
@@ -47,9 +44,9 @@ pub record Stands (size : Size) (s : Solo) (run : Run Encoder) : Type 0 where
 same_next : (m n : ℕ) → (1 + m == 1 + n) ≡ (m == n)
 same_next m n = by (m == n) refl
   where
-  by : (b : Bool) → (m == n) ≡ b → (1 + m == 1 + n) ≡ b
-  by true e = grind (arith, nat_tests, e)
-  by false e = grind (arith, nat_tests, e)
+    by : (b : Bool) → (m == n) ≡ b → (1 + m == 1 + n) ≡ b
+    by true e = grind (arith, nat_tests, e)
+    by false e = grind (arith, nat_tests, e)
 
 or_false : (b : Bool) → (not b || false) ≡ not (true && b)
 or_false true = refl
@@ -61,30 +58,30 @@ work_by true sent n = ap (λ b. not b || false) (same_next sent n) ∙ or_false 
 
 pub work_is : (size : Size) (s : Solo) (run : Run Encoder) → Stands size s run → has_work size run.play solo_viewer ≡ takes_frame s
 work_is size s run h =
-  ap (λ b. not b && (not (run.play.taken solo_viewer == run.play.reached.length) || share_tile size (run.play.asked solo_viewer) all_tiles)) h.suppressed
-  ∙ ap (λ n. not (n == run.play.reached.length) || share_tile size (run.play.asked solo_viewer) all_tiles) h.taken
-  ∙ ap (λ n. not (number_before s.begun s.sent == n) || share_tile size (run.play.asked solo_viewer) all_tiles) h.reached.length
-  ∙ ap (λ tiles. not (number_before s.begun s.sent == 1 + length s.patches) || share_tile size tiles all_tiles) h.asked
-  ∙ ap (λ b. not (number_before s.begun s.sent == 1 + length s.patches) || b) (no_tile_is_shared size)
-  ∙ work_by s.begun s.sent (length s.patches)
+    ap (λ b. not b && (not (run.play.taken solo_viewer == run.play.reached.length) || share_tile size (run.play.asked solo_viewer) all_tiles)) h.suppressed
+    ∙ ap (λ n. not (n == run.play.reached.length) || share_tile size (run.play.asked solo_viewer) all_tiles) h.taken
+    ∙ ap (λ n. not (number_before s.begun s.sent == n) || share_tile size (run.play.asked solo_viewer) all_tiles) h.reached.length
+    ∙ ap (λ tiles. not (number_before s.begun s.sent == 1 + length s.patches) || share_tile size tiles all_tiles) h.asked
+    ∙ ap (λ b. not (number_before s.begun s.sent == 1 + length s.patches) || b) (no_tile_is_shared size)
+    ∙ work_by s.begun s.sent (length s.patches)
 
 abbrev take_with : ℕ → ℕ → Tiles → TakeOf
 take_with before number asked = record { before = before; number = number; asked = asked }
 
 take_is : (size : Size) (s : Solo) (run : Run Encoder) → Stands size s run → take_of run.play solo_viewer ≡ take_at_number s.begun s.sent (length s.patches)
 take_is size s run h =
-  ap (λ n. take_with n run.play.reached.length (run.play.asked solo_viewer)) h.taken
-  ∙ ap (λ n. take_with (number_before s.begun s.sent) n (run.play.asked solo_viewer)) h.reached.length
-  ∙ ap (take_with (number_before s.begun s.sent) (1 + length s.patches)) h.asked
+    ap (λ n. take_with n run.play.reached.length (run.play.asked solo_viewer)) h.taken
+    ∙ ap (λ n. take_with (number_before s.begun s.sent) n (run.play.asked solo_viewer)) h.reached.length
+    ∙ ap (take_with (number_before s.begun s.sent) (1 + length s.patches)) h.asked
 
 -- what a function of the viewer's take gives, over what is kept
 over_take : {A : Type 0} (f : Confirmed → List Entry → Encoder → TakeOf → A) (size : Size) (s : Solo) (run : Run Encoder) → Stands size s run →
     f (run.confirmed solo_viewer) run.journal (run.encoders solo_viewer) (take_of run.play solo_viewer) ≡ f plain (journal_of_patches s.patches) (encoder_with s.registers) (take_at_number s.begun s.sent (length s.patches))
 over_take f size s run h =
-  ap (λ c. f c run.journal (run.encoders solo_viewer) (take_of run.play solo_viewer)) h.confirmed
-  ∙ ap (λ j. f plain j (run.encoders solo_viewer) (take_of run.play solo_viewer)) h.journal
-  ∙ ap (λ e. f plain (journal_of_patches s.patches) e (take_of run.play solo_viewer)) h.encoder
-  ∙ ap (f plain (journal_of_patches s.patches) (encoder_with s.registers)) (take_is size s run h)
+    ap (λ c. f c run.journal (run.encoders solo_viewer) (take_of run.play solo_viewer)) h.confirmed
+    ∙ ap (λ j. f plain j (run.encoders solo_viewer) (take_of run.play solo_viewer)) h.journal
+    ∙ ap (λ e. f plain (journal_of_patches s.patches) e (take_of run.play solo_viewer)) h.encoder
+    ∙ ap (f plain (journal_of_patches s.patches) (encoder_with s.registers)) (take_is size s run h)
 
 take_bytes_are : (size : Size) (s : Solo) (run : Run Encoder) → Stands size s run → length (pending s) ≤ 256 →
     take_bytes size (run.confirmed solo_viewer) run.journal (run.encoders solo_viewer) (take_of run.play solo_viewer) ≡ next_bytes size s
@@ -138,30 +135,30 @@ take_steps size s run h few false = record {
 draws_more : (ps : List Patch) (p : Patch) → journal_of_patches (ps ++ p ∷ []) ≡ journal_of_patches ps ++ Draw solo_viewer (patch_drawing p) ∷ []
 draws_more ps p = ap (λ es. Join solo_viewer Owner ∷ es) (by ps)
   where
-  by : (qs : List Patch) → draws (qs ++ p ∷ []) ≡ draws qs ++ Draw solo_viewer (patch_drawing p) ∷ []
-  by [] = refl
-  by (q ∷ qs) = ap (λ es. Draw solo_viewer (patch_drawing q) ∷ es) (by qs)
+    by : (qs : List Patch) → draws (qs ++ p ∷ []) ≡ draws qs ++ Draw solo_viewer (patch_drawing p) ∷ []
+    by [] = refl
+    by (q ∷ qs) = ap (λ es. Draw solo_viewer (patch_drawing q) ∷ es) (by qs)
 
 pub fill_steps : (size : Size) (s : Solo) (run : Run Encoder) (p : Patch) → Stands size s run → (refusal : Option Refusal) →
     Steps size run (Fill p) (entered (solo_head size) run.play (Draw solo_viewer (patch_drawing p)) Accepted refusal) (fill_line refusal) (after_fill refusal s p)
 fill_steps size s run p h None =
-  let e = Draw solo_viewer (patch_drawing p) in
-  let one : length (s.patches ++ p ∷ []) ≡ length s.patches + 1 = length-append s.patches (p ∷ []) in
-  record {
-  line_is = refl;
-  stands = record {
-    journal = ap (λ j. j ++ e ∷ []) h.journal ∙ sym (draws_more s.patches p);
-    reached_is = ap (λ r. reached_after_entry size r e) h.reached_is ∙ sym (reached_after_more size (reached_at_first size) (journal_of_patches s.patches) (e ∷ []))
-      ∙ ap (reached_after size (reached_at_first size)) (sym (draws_more s.patches p));
-    reached = subst (λ n. SoloReached n (reached_after_entry size run.play.reached e)) (sym one) (patch_reached size (length s.patches) run.play.reached p h.reached);
-    asked = h.asked;
-    suppressed = h.suppressed;
-    taken = h.taken;
-    confirmed = h.confirmed;
-    encoder = h.encoder;
-    unsent = h.unsent;
-  };
-}
+    let e = Draw solo_viewer (patch_drawing p) in
+    let one : length (s.patches ++ p ∷ []) ≡ length s.patches + 1 = length-append s.patches (p ∷ []) in
+    record {
+      line_is = refl;
+      stands = record {
+        journal = ap (λ j. j ++ e ∷ []) h.journal ∙ sym (draws_more s.patches p);
+        reached_is = ap (λ r. reached_after_entry size r e) h.reached_is ∙ sym (reached_after_more size (reached_at_first size) (journal_of_patches s.patches) (e ∷ []))
+            ∙ ap (reached_after size (reached_at_first size)) (sym (draws_more s.patches p));
+        reached = subst (λ n. SoloReached n (reached_after_entry size run.play.reached e)) (sym one) (patch_reached size (length s.patches) run.play.reached p h.reached);
+        asked = h.asked;
+        suppressed = h.suppressed;
+        taken = h.taken;
+        confirmed = h.confirmed;
+        encoder = h.encoder;
+        unsent = h.unsent;
+      };
+    }
 fill_steps size s run p h (Some r) = record {
   line_is = refl;
   stands = record {

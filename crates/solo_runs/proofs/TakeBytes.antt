@@ -1,10 +1,9 @@
 -- The frame of a take over a journal of patches, and its bytes.
-use Rattle.std.proofs.Common.{◌≡◌, ℕ, zero, suc, ◌+◌, ◌-◌, ◌<◌, ◌≤◌, List, [], ◌∷◌, ◌++◌, length, map, take, drop, refl, ap, sym, ◌∙◌, arith, Some, None, Bool, true, false, append_assoc, filter}
-use Rattle.std.specs.Prelude.{Option, not, ◌&&◌, ◌||◌, ◌==◌, nat_lt}
+use Rattle.std.proofs.Common.{◌≡◌, ℕ, zero, suc, ◌+◌, ◌≤◌, List, [], ◌∷◌, ◌++◌, length, map, take, drop, refl, ap, sym, ◌∙◌, arith, None, Bool, true, false, filter}
+use Rattle.std.specs.Prelude.{not, ◌==◌, nat_lt}
 use Rattle.std.proofs.lemmas.Bool.Decides.{nat_tests}
-use Rattle.std.proofs.lemmas.List.{append-nil}
 use Rattle.px_core.specs.declared.surface.Size.{Size}
-use Rattle.px_core.specs.Tiles.{Tiles, no_tiles, all_tiles, either_tiles, picture_tiles, tiles_in, share_tile, any_shared}
+use Rattle.px_core.specs.Tiles.{no_tiles, all_tiles, either_tiles, picture_tiles, share_tile, any_shared}
 use Rattle.caps_sets.specs.Confirmed.{plain}
 use Rattle.session_rules.specs.declared.entry.Entry.{Entry}
 use Rattle.session_rules.specs.declared.entry.Role.TheVariants.{Owner}
@@ -13,9 +12,8 @@ use Rattle.session_rules.specs.Journal.{State, state_after, state_after_entry}
 use Rattle.session_rules.specs.Steps.{TakeOf}
 use Rattle.order_fields.specs.OrderTable.{Registers}
 use Rattle.frame_rules.specs.Pending.{Pending, pending_from, pending_between}
-use Rattle.frame_rules.specs.Blocks.{Held}
 use Rattle.frame_rules.specs.Frame.{Walk, Sent, FrameOf, sent_from, walk_after, frame_over, frame_of, framed, framed_by, first_dirty}
-use Rattle.frame_rules.specs.FrameOrders.{SentOrder, orders_from, uses_after, orders_before_tiles, black_orders}
+use Rattle.frame_rules.specs.FrameOrders.{orders_from, uses_after, orders_before_tiles, black_orders}
 use Rattle.frame_rules.specs.FrameBytes.{frame_bytes, registers_after_orders, bytes_of_orders, updates_of, mark_bytes}
 use Rattle.frame_rules.specs.Encoder.{Encoder, take_bytes, encoder_after, encoder_after_frame}
 use Rattle.fill_frames.specs.declared.patch.Patch.{Patch}
@@ -71,15 +69,15 @@ length-pending (p ∷ ps) = ap suc (length-pending ps)
 over_patches : (size : Size) (first : Bool) (picture : List ℕ) (ps : List Patch) → length ps ≤ 256 →
     frame_over size plain first [] no_tiles picture (map pending_patch ps) ≡ patches_frame first ps picture
 over_patches size first picture ps few =
-  let w : Walk = record { dirty = first_dirty first plain; held = [] } in
-  let clean : Walk = record { dirty = no_tiles; held = [] } in
-  let fits : nat_lt 256 (length (map pending_patch ps)) ≡ false = grind (arith, nat_tests, few, length-pending ps) in
-  let walks : w ≡ clean = ap (λ tiles. let x : Walk = record { dirty = tiles; held = [] } in x) (clean_at_first first) in
-  ap (λ b. framed_by b size plain first w no_tiles picture (map pending_patch ps)) fits
-  ∙ ap (λ x. framed size first no_tiles picture (sent_from size plain x (map pending_patch ps)) (walk_after size plain x (map pending_patch ps))) walks
-  ∙ ap (λ sent. framed size first no_tiles picture sent (walk_after size plain clean (map pending_patch ps))) (all_sent size clean ps)
-  ∙ ap (λ x. framed size first no_tiles picture (map sent_patch ps) x) (walk_stays size clean ps)
-  ∙ ap (λ tiles. let f : FrameOf = record { first = first; sent = map sent_patch ps; tiles = tiles; held = []; picture = picture } in f) (none_left (picture_tiles size))
+    let w : Walk = record { dirty = first_dirty first plain; held = [] } in
+    let clean : Walk = record { dirty = no_tiles; held = [] } in
+    let fits : nat_lt 256 (length (map pending_patch ps)) ≡ false = grind (arith, nat_tests, few, length-pending ps) in
+    let walks : w ≡ clean = ap (λ tiles. let x : Walk = record { dirty = tiles; held = [] } in x) (clean_at_first first) in
+    ap (λ b. framed_by b size plain first w no_tiles picture (map pending_patch ps)) fits
+    ∙ ap (λ x. framed size first no_tiles picture (sent_from size plain x (map pending_patch ps)) (walk_after size plain x (map pending_patch ps))) walks
+    ∙ ap (λ sent. framed size first no_tiles picture sent (walk_after size plain clean (map pending_patch ps))) (all_sent size clean ps)
+    ∙ ap (λ x. framed size first no_tiles picture (map sent_patch ps) x) (walk_stays size clean ps)
+    ∙ ap (λ tiles. let f : FrameOf = record { first = first; sent = map sent_patch ps; tiles = tiles; held = []; picture = picture } in f) (none_left (picture_tiles size))
 
 sent_orders : (ps : List Patch) → orders_from plain [] (map sent_patch ps) ≡ map patch_order ps
 sent_orders [] = refl
@@ -127,16 +125,16 @@ number_before true sent = 1 + sent
 pending_are : (size : Size) (ps : List Patch) (begun : Bool) (sent : ℕ) → (begun ≡ false → sent ≡ 0) →
     pending_between size (journal_of_patches ps) (number_before begun sent) (1 + length ps) ≡ map pending_patch (drop sent ps)
 pending_are size ps false sent unsent =
-  ap (λ j. pending_from size (state_after size (journal_of_patches ps) 0) j) (whole_journal ps)
-  ∙ pending_draws size ps (state_after_entry size (state_after size (journal_of_patches ps) 0) (Join solo_viewer Owner))
-  ∙ ap (λ n. map pending_patch (drop n ps)) (sym (unsent refl))
+    ap (λ j. pending_from size (state_after size (journal_of_patches ps) 0) j) (whole_journal ps)
+    ∙ pending_draws size ps (state_after_entry size (state_after size (journal_of_patches ps) 0) (Join solo_viewer Owner))
+    ∙ ap (λ n. map pending_patch (drop n ps)) (sym (unsent refl))
 pending_are size ps true sent unsent =
-  let st = state_after size (journal_of_patches ps) (1 + sent) in
-  let next : 1 + sent ≡ suc sent = omega arith in
-  ap (λ j. pending_from size st (drop (1 + sent) j)) (whole_journal ps)
-  ∙ ap (λ n. pending_from size st (drop n (journal_of_patches ps))) next
-  ∙ ap (pending_from size st) (drop-map (λ p. Draw solo_viewer (patch_drawing p)) sent ps)
-  ∙ pending_draws size (drop sent ps) st
+    let st = state_after size (journal_of_patches ps) (1 + sent) in
+    let next : 1 + sent ≡ suc sent = omega arith in
+    ap (λ j. pending_from size st (drop (1 + sent) j)) (whole_journal ps)
+    ∙ ap (λ n. pending_from size st (drop n (journal_of_patches ps))) next
+    ∙ ap (pending_from size st) (drop-map (λ p. Draw solo_viewer (patch_drawing p)) sent ps)
+    ∙ pending_draws size (drop sent ps) st
 
 first_by : (begun : Bool) (sent : ℕ) → (number_before begun sent == 0) ≡ not begun
 first_by false sent = refl
@@ -149,10 +147,10 @@ solo_frame : (size : Size) (ps : List Patch) (begun : Bool) (sent : ℕ) → (be
     frame_of size plain (journal_of_patches ps) [] (take_at_number begun sent (length ps))
     ≡ patches_frame (not begun) (drop sent ps) (state_after size (journal_of_patches ps) (1 + length ps)).surface.picture
 solo_frame size ps begun sent unsent few =
-  let picture = (state_after size (journal_of_patches ps) (1 + length ps)).surface.picture in
-  ap (λ pending. frame_over size plain (number_before begun sent == 0) [] no_tiles picture pending) (pending_are size ps begun sent unsent)
-  ∙ ap (λ first. frame_over size plain first [] no_tiles picture (map pending_patch (drop sent ps))) (first_by begun sent)
-  ∙ over_patches size (not begun) picture (drop sent ps) few
+    let picture = (state_after size (journal_of_patches ps) (1 + length ps)).surface.picture in
+    ap (λ pending. frame_over size plain (number_before begun sent == 0) [] no_tiles picture pending) (pending_are size ps begun sent unsent)
+    ∙ ap (λ first. frame_over size plain first [] no_tiles picture (map pending_patch (drop sent ps))) (first_by begun sent)
+    ∙ over_patches size (not begun) picture (drop sent ps) few
 
 -- an encoder that keeps registers alone
 abbrev pub encoder_with : Registers → Encoder
@@ -161,13 +159,13 @@ encoder_with regs = record { held = []; uses = []; registers = regs }
 pub solo_take_bytes : (size : Size) (ps : List Patch) (begun : Bool) (sent : ℕ) (regs : Registers) → (begun ≡ false → sent ≡ 0) → length (drop sent ps) ≤ 256 →
     take_bytes size plain (journal_of_patches ps) (encoder_with regs) (take_at_number begun sent (length ps)) ≡ patches_bytes regs (frame_patches size (not begun) (drop sent ps))
 solo_take_bytes size ps begun sent regs unsent few =
-  ap (frame_bytes size plain regs []) (solo_frame size ps begun sent unsent few)
-  ∙ frame_bytes_are size regs (not begun) (drop sent ps) (state_after size (journal_of_patches ps) (1 + length ps)).surface.picture
+    ap (frame_bytes size plain regs []) (solo_frame size ps begun sent unsent few)
+    ∙ frame_bytes_are size regs (not begun) (drop sent ps) (state_after size (journal_of_patches ps) (1 + length ps)).surface.picture
 
 pub solo_encoder_after : (size : Size) (ps : List Patch) (begun : Bool) (sent : ℕ) (regs : Registers) → (begun ≡ false → sent ≡ 0) → length (drop sent ps) ≤ 256 →
     encoder_after size plain (journal_of_patches ps) (encoder_with regs) (take_at_number begun sent (length ps)) ≡ encoder_with (registers_after_patches regs (frame_patches size (not begun) (drop sent ps)))
 solo_encoder_after size ps begun sent regs unsent few =
-  let picture = (state_after size (journal_of_patches ps) (1 + length ps)).surface.picture in
-  ap (encoder_after_frame size plain (encoder_with regs)) (solo_frame size ps begun sent unsent few)
-  ∙ ap (λ uses. let e : Encoder = record { held = []; uses = uses; registers = registers_after_orders regs (orders_before_tiles size plain [] (patches_frame (not begun) (drop sent ps) picture)) } in e) (no_uses (drop sent ps))
-  ∙ ap (λ os. encoder_with (registers_after_orders regs os)) (frame_orders_are size (not begun) (drop sent ps) picture)
+    let picture = (state_after size (journal_of_patches ps) (1 + length ps)).surface.picture in
+    ap (encoder_after_frame size plain (encoder_with regs)) (solo_frame size ps begun sent unsent few)
+    ∙ ap (λ uses. let e : Encoder = record { held = []; uses = uses; registers = registers_after_orders regs (orders_before_tiles size plain [] (patches_frame (not begun) (drop sent ps) picture)) } in e) (no_uses (drop sent ps))
+    ∙ ap (λ os. encoder_with (registers_after_orders regs os)) (frame_orders_are size (not begun) (drop sent ps) picture)

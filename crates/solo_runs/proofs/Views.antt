@@ -1,6 +1,6 @@
 -- What the viewer of a solo script sees: its bytes are read whole, and each mark shows the patches that the take found.
-use Rattle.std.proofs.Common.{◌≡◌, ℕ, zero, suc, ◌+◌, ◌-◌, ◌<◌, ◌≤◌, List, [], ◌∷◌, ◌++◌, length, map, take, drop, replicate, refl, ap, sym, ◌∙◌, subst, arith, Some, None, Bool, true, false, append_assoc, length-append, length-drop}
-use Rattle.std.specs.Prelude.{Option, Ok, not, ◌&&◌, ◌==◌, IsTrue, nat_le, nat_lt, option_map}
+use Rattle.std.proofs.Common.{◌≡◌, ℕ, zero, suc, ◌+◌, ◌-◌, ◌<◌, ◌≤◌, List, [], ◌∷◌, ◌++◌, length, map, take, drop, replicate, refl, ap, sym, ◌∙◌, arith, Some, None, Bool, true, false, append_assoc, length-append, length-drop}
+use Rattle.std.specs.Prelude.{Option, Ok, not, ◌&&◌, ◌==◌, IsTrue, nat_lt, option_map}
 use Rattle.std.proofs.lemmas.Bool.{and_parts}
 use Rattle.std.proofs.lemmas.Bool.Decides.{nat_tests}
 use Rattle.std.proofs.lemmas.List.{append-nil, take_at, take-append-drop, take-append-le}
@@ -10,7 +10,7 @@ use Rattle.px_core.specs.Rectangle.{is_session_size, whole}
 use Rattle.rop3_core.specs.Palette.{session_colors, client_colors}
 use Rattle.caps_sets.specs.Confirmed.{plain}
 use Rattle.draw_ops.specs.Colors.{is_color}
-use Rattle.draw_ops.specs.Ranges.{is_drawing_in_range, is_rect_in_range, is_shape_in_range}
+use Rattle.draw_ops.specs.Ranges.{is_drawing_in_range, is_rect_in_range}
 use Rattle.draw_ops.specs.Fits.{rect_rule, is_side, first_some}
 use Rattle.session_rules.specs.Journal.{Refusal, unless, most_entries}
 use Rattle.session_rules.specs.Journal.Refusal.{BadDrawing, JournalFull}
@@ -18,18 +18,18 @@ use Rattle.order_fields.specs.Bytes.{bind}
 use Rattle.order_fields.specs.OrderTable.{Registers, AreRegisters, registers_after}
 use Rattle.order_means.specs.Updates.{cutting}
 use Rattle.order_means.specs.Updates.Stage.{Between}
-use Rattle.order_means.specs.FrameMarks.{View, with_registers, marked_if, Reading, reading, read_on}
+use Rattle.order_means.specs.FrameMarks.{View, with_registers, reading, read_on}
 use Rattle.order_means.proofs.Pieces.{read_joined}
 use Rattle.fill_frames.specs.declared.patch.Patch.{Patch}
 use Rattle.fill_frames.specs.Patches.{IsPatch, ArePatches, patch_fields, patch_drawing, with_patch, with_patches, black_patch, frame_patches}
-use Rattle.fill_frames.specs.Views.{registers_after_patches, patches_bytes, view_after_patch, view_after_patches, view_after_frame}
+use Rattle.fill_frames.specs.Views.{registers_after_patches, view_after_patch, view_after_patches, view_after_frame, FrameIsRead}
 use Rattle.fill_frames.proofs.Registers.{registers_keep}
 use Rattle.fill_frames.proofs.Patches.{patch_fits}
 use Rattle.fill_frames.proofs.Pictures.{patches_known, black_on_unknown}
-use Rattle.fill_frames.proofs.Frames.{FrameIsRead, frame_is_read}
+use Rattle.fill_frames.proofs.Frames.{frame_is_read}
 use Rattle.solo_runs.specs.declared.step.SoloStep.{SoloStep}
 use Rattle.solo_runs.specs.declared.step.SoloStep.TheVariants.{Take, Fill}
-use Rattle.solo_runs.specs.Solo.{Solo, pending, next_patches, next_bytes, patch_refusal, after_fill, takes_frame, after_take, solo_after, bytes_if, solo_bytes, number_if, solo_numbers, accepted_if, solo_patches, IsInRange, FindsFew, AreSoloSteps}
+use Rattle.solo_runs.specs.Solo.{Solo, pending, next_patches, next_bytes, patch_refusal, after_fill, takes_frame, after_take, bytes_if, solo_bytes, number_if, solo_numbers, accepted_if, solo_patches, AreSoloSteps}
 
 -- ---- views after patches
 
@@ -66,9 +66,9 @@ registers_kept (p ∷ ps) regs are h = registers_kept ps (registers_after regs (
 
 black_is_patch : (size : Size) → IsTrue (is_session_size size.w size.h) → IsPatch (black_patch size)
 black_is_patch size h =
-  let wide : is_side size.w ≡ true = grind (arith, nat_tests, h) in
-  let high : is_side size.h ≡ true = grind (arith, nat_tests, h) in
-  record { fits = rw (wide, high) refl; colored = omega arith }
+    let wide : is_side size.w ≡ true = grind (arith, nat_tests, h) in
+    let high : is_side size.h ≡ true = grind (arith, nat_tests, h) in
+    record { fits = rw (wide, high) refl; colored = omega arith }
 
 -- ---- what is kept of the view
 
@@ -94,12 +94,12 @@ whole_picture size s = with_patches session_colors size s.patches (black_picture
 next_picture : (begun : Bool) (size : Size) (s : Solo) → 0 < size.w → (begun ≡ false → s.sent ≡ 0) →
     with_patches client_colors size (frame_patches size (not begun) (pending s)) (shown_by begun size s) ≡ map Some (whole_picture size s)
 next_picture true size s some unsent =
-  patches_known size (pending s) (with_patches session_colors size (take s.sent s.patches) (black_picture size))
-  ∙ ap (map Some) (sym (patches_after size (take s.sent s.patches) (drop s.sent s.patches) (black_picture size)) ∙ ap (λ ps. with_patches session_colors size ps (black_picture size)) (take-append-drop s.sent s.patches))
+    patches_known size (pending s) (with_patches session_colors size (take s.sent s.patches) (black_picture size))
+    ∙ ap (map Some) (sym (patches_after size (take s.sent s.patches) (drop s.sent s.patches) (black_picture size)) ∙ ap (λ ps. with_patches session_colors size ps (black_picture size)) (take-append-drop s.sent s.patches))
 next_picture false size s some unsent =
-  ap (with_patches client_colors size (pending s)) (black_on_unknown size some)
-  ∙ patches_known size (pending s) (black_picture size)
-  ∙ ap (λ n. map Some (with_patches session_colors size (drop n s.patches) (black_picture size))) (unsent refl)
+    ap (with_patches client_colors size (pending s)) (black_on_unknown size some)
+    ∙ patches_known size (pending s) (black_picture size)
+    ∙ ap (λ n. map Some (with_patches session_colors size (drop n s.patches) (black_picture size))) (unsent refl)
 
 -- ---- a take with work
 
@@ -107,13 +107,13 @@ next_picture false size s some unsent =
 pub some_patch : (begun : Bool) (size : Size) (s : Solo) → begun ≡ s.begun → takes_frame s ≡ true → s.sent ≤ length s.patches → 0 < length (frame_patches size (not begun) (pending s))
 some_patch false size s is work sent = omega arith
 some_patch true size s is work sent =
-  let other : (s.sent == length s.patches) ≡ false = not_same (s.sent == length s.patches) (ap (λ b. not (b && (s.sent == length s.patches))) is ∙ work) in
-  let fewer : s.sent < length s.patches = grind (arith, nat_tests, other, sent) in
-  omega (arith, fewer, length-drop s.sent s.patches)
+    let other : (s.sent == length s.patches) ≡ false = not_same (s.sent == length s.patches) (ap (λ b. not (b && (s.sent == length s.patches))) is ∙ work) in
+    let fewer : s.sent < length s.patches = grind (arith, nat_tests, other, sent) in
+    omega (arith, fewer, length-drop s.sent s.patches)
   where
-  not_same : (b : Bool) → not (true && b) ≡ true → b ≡ false
-  not_same true e = sym e
-  not_same false e = refl
+    not_same : (b : Bool) → not (true && b) ≡ true → b ≡ false
+    not_same true e = sym e
+    not_same false e = refl
 
 pub few_patches : (first : Bool) (size : Size) (ps : List Patch) → length ps ≤ 256 → length (frame_patches size first ps) ≤ 257
 few_patches true size ps h = omega arith
@@ -129,34 +129,34 @@ frame_read size v at regs (p ∷ ps) same are h some few = frame_is_read size v 
 
 sees_frame : (size : Size) (s : Solo) (v : View) → IsTrue (is_session_size size.w size.h) → Sees size s v → Sees size (after_take true size s) (view_after_frame size v s.registers (next_patches size s))
 sees_frame size s v is h =
-  let ps = next_patches size s in
-  let regs = registers_after_patches s.registers ps in
-  let wide : 0 < size.w = grind (arith, nat_tests, is) in
-  record {
-    registers = registers_stay size ps (with_registers v regs);
-    are_registers = registers_kept ps s.registers h.are_registers (are_next (not s.begun) size (pending s) is (are_dropped s.sent s.patches h.are_patches));
-    are_patches = h.are_patches;
-    sent = omega arith;
-    unsent = λ e. absurd (cc e);
-    picture = picture_is size ps (with_registers v regs)
-      ∙ ap (with_patches client_colors size ps) h.picture
-      ∙ next_picture s.begun size s wide h.unsent
-      ∙ ap (λ all. map Some (with_patches session_colors size all (black_picture size))) (sym (take_all s.patches));
-  }
+    let ps = next_patches size s in
+    let regs = registers_after_patches s.registers ps in
+    let wide : 0 < size.w = grind (arith, nat_tests, is) in
+    record {
+      registers = registers_stay size ps (with_registers v regs);
+      are_registers = registers_kept ps s.registers h.are_registers (are_next (not s.begun) size (pending s) is (are_dropped s.sent s.patches h.are_patches));
+      are_patches = h.are_patches;
+      sent = omega arith;
+      unsent = λ e. absurd (cc e);
+      picture = picture_is size ps (with_registers v regs)
+          ∙ ap (with_patches client_colors size ps) h.picture
+          ∙ next_picture s.begun size s wide h.unsent
+          ∙ ap (λ all. map Some (with_patches session_colors size all (black_picture size))) (sym (take_all s.patches));
+    }
   where
-  take_all : (xs : List Patch) → take (length xs) xs ≡ xs
-  take_all [] = refl
-  take_all (x ∷ xs) = ap (λ ys. x ∷ ys) (take_all xs)
+    take_all : (xs : List Patch) → take (length xs) xs ≡ xs
+    take_all [] = refl
+    take_all (x ∷ xs) = ap (λ ys. x ∷ ys) (take_all xs)
 
 -- the frame's mark shows all patches
 frame_marks : (size : Size) (s : Solo) (v : View) → IsTrue (is_session_size size.w size.h) → Sees size s v →
     (view_after_frame size v s.registers (next_patches size s)).pictures ≡ v.pictures ++ map Some (whole_picture size s) ∷ []
 frame_marks size s v is h =
-  let ps = next_patches size s in
-  let regs = registers_after_patches s.registers ps in
-  let wide : 0 < size.w = grind (arith, nat_tests, is) in
-  ap (λ pictures. pictures ++ (view_after_patches size (with_registers v regs) ps).client.picture ∷ []) (pictures_stay size ps (with_registers v regs))
-  ∙ ap (λ picture. v.pictures ++ picture ∷ []) (picture_is size ps (with_registers v regs) ∙ ap (with_patches client_colors size ps) h.picture ∙ next_picture s.begun size s wide h.unsent)
+    let ps = next_patches size s in
+    let regs = registers_after_patches s.registers ps in
+    let wide : 0 < size.w = grind (arith, nat_tests, is) in
+    ap (λ pictures. pictures ++ (view_after_patches size (with_registers v regs) ps).client.picture ∷ []) (pictures_stay size ps (with_registers v regs))
+    ∙ ap (λ picture. v.pictures ++ picture ∷ []) (picture_is size ps (with_registers v regs) ∙ ap (with_patches client_colors size ps) h.picture ∙ next_picture s.begun size s wide h.unsent)
 
 -- ---- a fill
 
@@ -183,9 +183,9 @@ no_rule (Some r) rest e = absurd (cc e)
 
 accepted_is_patch : (s : Solo) (p : Patch) → is_drawing_in_range (patch_drawing p) ≡ true → patch_refusal s p ≡ None → IsPatch p
 accepted_is_patch s p range e =
-  let shape = (and_parts (is_rect_in_range p.rect && is_color p.color) true range).0 in
-  let color = (and_parts (is_rect_in_range p.rect) (is_color p.color) shape).1 in
-  record { fits = no_rule (rect_rule p.rect) (unless (nat_lt (length s.patches) most_entries) JournalFull ∷ []) e; colored = grind (arith, nat_tests, color) }
+    let shape = (and_parts (is_rect_in_range p.rect && is_color p.color) true range).0 in
+    let color = (and_parts (is_rect_in_range p.rect) (is_color p.color) shape).1 in
+    record { fits = no_rule (rect_rule p.rect) (unless (nat_lt (length s.patches) most_entries) JournalFull ∷ []) e; colored = grind (arith, nat_tests, color) }
 
 -- ---- all steps
 
@@ -202,9 +202,9 @@ pub record IsRead (size : Size) (v : View) (at : ℕ) (bytes : List ℕ) (number
 
 picture_now : (size : Size) (s : Solo) (more all : List Patch) → all ≡ s.patches ++ more → picture_at size all (1 + length s.patches) ≡ map Some (whole_picture size s)
 picture_now size s more all is =
-  let number : (1 + length s.patches) - 1 ≡ length s.patches = omega arith in
-  ap (λ n. map Some (with_patches session_colors size (take n all) (black_picture size))) number
-  ∙ ap (λ ps. map Some (with_patches session_colors size ps (black_picture size))) (ap (take (length s.patches)) is ∙ take_at s.patches more (length s.patches) refl)
+    let number : (1 + length s.patches) - 1 ≡ length s.patches = omega arith in
+    ap (λ n. map Some (with_patches session_colors size (take n all) (black_picture size))) number
+    ∙ ap (λ ps. map Some (with_patches session_colors size ps (black_picture size))) (ap (take (length s.patches)) is ∙ take_at s.patches more (length s.patches) refl)
 
 -- what is read of the steps after one, from any state and view
 abbrev ReadsOthers : Size → List SoloStep → List Patch → Type 0
@@ -217,24 +217,24 @@ take_read : (size : Size) → IsTrue (is_session_size size.w size.h) → (asked 
     → IsRead size v at (bytes_if b size s ++ solo_bytes size (after_take b size s) asked) (number_if b s ++ solo_numbers size (after_take b size s) asked) all
 take_read size is asked all others s v at sees few false e steps whole = others s v at sees steps whole
 take_read size is asked all others s v at sees few true e steps whole =
-  let ps = next_patches size s in
-  let after = after_take true size s in
-  let seen = view_after_frame size v s.registers ps in
-  let frame = frame_read size v at s.registers ps sees.registers sees.are_registers (are_next (not s.begun) size (pending s) is (are_dropped s.sent s.patches sees.are_patches))
+    let ps = next_patches size s in
+    let after = after_take true size s in
+    let seen = view_after_frame size v s.registers ps in
+    let frame = frame_read size v at s.registers ps sees.registers sees.are_registers (are_next (not s.begun) size (pending s) is (are_dropped s.sent s.patches sees.are_patches))
     (some_patch s.begun size s refl e sees.sent) (few_patches (not s.begun) size (pending s) few) in
-  let rest = others after seen frame.end (sees_frame size s v is sees) steps whole in
-  let bytes = solo_bytes size after asked in
-  let numbers = solo_numbers size after asked in
-  record {
-    end = rest.end;
-    view = rest.view;
-    read = read_joined plain size (reading v (cutting at Between)) (next_bytes size s) bytes
-      ∙ (ap (λ t. bind t (λ q. read_on plain size q bytes)) frame.read ∙ rest.read);
-    pictures = rest.pictures
-      ∙ ap (λ shown. shown ++ map (picture_at size all) numbers) (frame_marks size s v is sees)
-      ∙ append_assoc v.pictures (map Some (whole_picture size s) ∷ []) (map (picture_at size all) numbers)
-      ∙ ap (λ shown. v.pictures ++ shown ∷ map (picture_at size all) numbers) (sym (picture_now size s (solo_patches size after asked) all whole));
-  }
+    let rest = others after seen frame.end (sees_frame size s v is sees) steps whole in
+    let bytes = solo_bytes size after asked in
+    let numbers = solo_numbers size after asked in
+    record {
+      end = rest.end;
+      view = rest.view;
+      read = read_joined plain size (reading v (cutting at Between)) (next_bytes size s) bytes
+          ∙ (ap (λ t. bind t (λ q. read_on plain size q bytes)) frame.read ∙ rest.read);
+      pictures = rest.pictures
+          ∙ ap (λ shown. shown ++ map (picture_at size all) numbers) (frame_marks size s v is sees)
+          ∙ append_assoc v.pictures (map Some (whole_picture size s) ∷ []) (map (picture_at size all) numbers)
+          ∙ ap (λ shown. v.pictures ++ shown ∷ map (picture_at size all) numbers) (sym (picture_now size s (solo_patches size after asked) all whole));
+    }
 
 patches_with : (size : Size) (s : Solo) (p : Patch) (asked : List SoloStep) (refusal : Option Refusal) →
     s.patches ++ (accepted_if refusal p ++ solo_patches size (after_fill refusal s p) asked) ≡ (after_fill refusal s p).patches ++ solo_patches size (after_fill refusal s p) asked
@@ -244,8 +244,8 @@ patches_with size s p asked (Some r) = refl
 pub solo_is_read : (size : Size) → IsTrue (is_session_size size.w size.h) → (asked : List SoloStep) (all : List Patch) → ReadsOthers size asked all
 solo_is_read size is [] all s v at sees steps whole = record { end = at; view = v; read = refl; pictures = sym (append-nil v.pictures) }
 solo_is_read size is (Take ∷ asked) all s v at sees steps whole =
-  take_read size is asked all (solo_is_read size is asked all) s v at sees steps.1 (takes_frame s) refl steps.2 whole
+    take_read size is asked all (solo_is_read size is asked all) s v at sees steps.1 (takes_frame s) refl steps.2 whole
 solo_is_read size is (Fill p ∷ asked) all s v at sees steps whole =
-  let after = sees_fill size s v p (patch_refusal s p) (accepted_is_patch s p steps.0) sees in
-  let rest = solo_is_read size is asked all (after_fill (patch_refusal s p) s p) v at after steps.2 (whole ∙ patches_with size s p asked (patch_refusal s p)) in
-  record { end = rest.end; view = rest.view; read = rest.read; pictures = rest.pictures }
+    let after = sees_fill size s v p (patch_refusal s p) (accepted_is_patch s p steps.0) sees in
+    let rest = solo_is_read size is asked all (after_fill (patch_refusal s p) s p) v at after steps.2 (whole ∙ patches_with size s p asked (patch_refusal s p)) in
+    record { end = rest.end; view = rest.view; read = rest.read; pictures = rest.pictures }

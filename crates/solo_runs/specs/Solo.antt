@@ -1,7 +1,6 @@
 -- Solo scripts of fills and takes: what is kept of a run, what each step writes, and the bytes of its frames.
-use Rattle.std.specs.Prelude.{◌≡◌, ℕ, ◌+◌, ◌^◌, ◌<◌, ◌≤◌, ◌==◌, nat_lt, Bool, true, false, ◌&&◌, not, List, [], ◌∷◌, ◌++◌, map, length, drop, Option, Some, None, option_map, ⊤, codes, IsTrue}
+use Rattle.std.specs.Prelude.{◌≡◌, ℕ, ◌+◌, ◌≤◌, ◌==◌, nat_lt, Bool, true, false, ◌&&◌, not, List, [], ◌∷◌, ◌++◌, map, length, drop, Option, Some, None, option_map, ⊤, codes}
 use Rattle.px_core.specs.declared.surface.Size.{Size}
-use Rattle.rop3_core.specs.Palette.{session_colors}
 use Rattle.draw_ops.specs.Fits.{rect_rule, first_some}
 use Rattle.draw_ops.specs.Ranges.{is_drawing_in_range}
 use Rattle.session_rules.specs.declared.entry.Role.TheVariants.{Owner}
