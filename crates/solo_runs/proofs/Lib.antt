@@ -10,3 +10,4 @@ pub mod Scripts
 pub mod Headline
 pub mod FixedLines
 pub mod Law
+pub mod LineByLine
