@@ -1,6 +1,6 @@
 -- What the words of a line ask for, and lines of ASCII bytes.
-use Rattle.std.proofs.Common.{◌≡◌, ℕ, zero, suc, ◌≤◌, Bool, true, false, List, [], ◌∷◌, Some, None, refl, sym, ap, ◌∙◌, arith}
-use Rattle.std.specs.Prelude.{◌<◌, ◌&&◌, ℤ, pos, Option, slice_index}
+use Rattle.std.proofs.Common.{◌≡◌, ℕ, zero, suc, ◌≤◌, Bool, true, false, List, [], ◌∷◌, Some, None, refl, sym, ap, ◌∙◌, subst, arith}
+use Rattle.std.specs.Prelude.{◌<◌, ◌&&◌, ℤ, pos, Option, IfSome, slice_index}
 use Rattle.std.specs.Bool.{MatchBool}
 use Rattle.std.specs.Option.{option_map, option_and_then}
 use Rattle.std.specs.Str.{IsAscii, IsNotAscii}
@@ -11,12 +11,14 @@ use Rattle.draw_ops.specs.declared.shape.Shape.TheVariants as shape
 use Rattle.script_rules.specs.Fields.{Field, Values, values_of, with_value, fill_by, without_clip}
 use Rattle.script_rules.specs.Fields.Field.{Coordinate, Count, Digits}
 use Rattle.script_rules.specs.Forms.{fill_fields, drawing_by, draw_step}
-use Rattle.script_rules.specs.Script.{all_bytes, is_ascii}
+use Rattle.script_rules.specs.Script.{LineForm, line_form, first_grammar, all_bytes, is_ascii}
+use Rattle.script_rules.specs.Script.LineForm.{InviteForm, JoinForm, StepForm}
 use Rattle.fill_frames.specs.declared.patch.Patch.{Patch}
 use Rattle.solo_runs.specs.declared.step.SoloStep.{SoloStep}
-use Rattle.solo_runs.specs.declared.step.SoloStep.TheVariants.{Fill}
-use Rattle.solo_runs.specs.Solo.{solo_viewer}
-use Rattle.solo_runs.specs.SoloScript.{solo_of}
+use Rattle.solo_runs.specs.declared.step.SoloStep.TheVariants.{Take, Fill}
+use Rattle.solo_runs.specs.Solo.{solo_viewer, step_of, IsInRange}
+use Rattle.solo_runs.specs.SoloScript.{solo_of, solo_of_form, solo_form}
+use Rattle.solo_runs.proofs.Forms.{Found, IsSoloForm, form_found}
 
 -- ---- ASCII
 
@@ -91,3 +93,26 @@ filled x y w h color = let p : Patch = record { rect = boxed x y w h; color = co
 -- the fields and nothing else ask for a fill
 pub fill_some : (x y : ℤ) (w h color : ℕ) (words : List (List ℕ)) → values_of fill_fields words ≡ fill_values x y w h color [] → fill_of words ≡ filled x y w h color
 fill_some x y w h color words e = fill_by_values x y w h color words [] e
+
+-- ---- ranges
+
+solo_again : (a : SoloStep) → solo_of (step_of a) ≡ Some a
+solo_again Take = refl
+solo_again (Fill p) = refl
+
+form_range : (f : LineForm) → IsSoloForm f → Found (solo_of_form f) IsInRange
+form_range (InviteForm name role) is = absurd is
+form_range (JoinForm name words) is = absurd is
+form_range (StepForm v step) is = subst (λ o. Found o IsInRange) (sym (ap solo_of is.1.is ∙ solo_again is.1.solo)) is.1.range
+
+line_range : (o : Option LineForm) → Found o IsSoloForm → Found (option_and_then solo_of_form o) IsInRange
+line_range None is = tt
+line_range (Some f) is = form_range f is
+
+if_found : (o : Option SoloStep) → Found o IsInRange → IfSome o IsInRange
+if_found None h = h
+if_found (Some a) h = h
+
+-- the numbers of the step that a line asks for are in range
+pub solo_form_in_range : (words : List (List ℕ)) (o : Option SoloStep) → o ≡ solo_form words → IfSome o IsInRange
+solo_form_in_range words o e = if_found o (subst (λ p. Found p IsInRange) (sym e) (line_range (line_form first_grammar words) (form_found words)))

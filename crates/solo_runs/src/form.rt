@@ -1,5 +1,5 @@
 //! The forms of the lines of a solo script, and the rule that a line's bytes keep.
-ghost use Rattle.std.specs.Prelude.{◌≡◌, ◌∷◌, [], ◌&&◌, ℕ, pos, List, None, MatchOption, is_some};
+ghost use Rattle.std.specs.Prelude.{◌≡◌, ◌∷◌, [], ◌&&◌, ℕ, pos, List, None, IfSome, MatchOption, is_some};
 ghost use Rattle.std.specs.Option.{option_map, option_and_then};
 ghost use Rattle.line_text.specs.Lines.{is_past_limits};
 ghost use Rattle.line_text.specs.Numbers.{number_up_to};
@@ -10,7 +10,7 @@ ghost use Rattle.script_rules.specs.Fields.{Field, values_of, with_value, fill_b
 ghost use Rattle.script_rules.specs.Fields.Field.{Coordinate, Count, Digits};
 ghost use Rattle.script_rules.specs.Forms.{fill_fields, drawing_by, alone};
 ghost use Rattle.script_rules.specs.Script.{size_with, size_of_words, invite_form, role_named, breaks_text_rule, all_bytes, is_ascii};
-ghost use Rattle.solo_runs.specs.Solo.{solo_viewer};
+ghost use Rattle.solo_runs.specs.Solo.{solo_viewer, IsInRange};
 ghost use Rattle.solo_runs.specs.SoloScript.{solo_form, solo_of};
 
 use crate::SoloStep;
@@ -80,17 +80,10 @@ pub fn is_invite(text: &[u8]) -> bool
 
 /// The step that a line of a solo script asks for, where it is one of fills and takes.
 pub fn solo_step(text: &[u8]) -> Option<SoloStep>
-    ensures { result ≡ solo_form (words_of text.now) }
+    ensures form { result ≡ solo_form (words_of text.now) }
+    ensures range { IfSome result (λ step. IsInRange step) }
 {
-    let mut words = Parts::words(text);
-    let word = words.next_part()?;
-    if is_same(word, TAKE) {
-        take_step(&mut words)
-    } else if is_same(word, FILL) {
-        fill_step(&mut words)
-    } else {
-        None
-    }
+    step_of_words(&mut Parts::words(text))
 }
 
 /// Whether a line that begins at this place of a script, counted in bytes, is past the limits, isn't ended by a line feed or has a
@@ -174,6 +167,20 @@ fn all_ascii(text: &[u8]) -> bool
     ensures { result ≡ all_bytes is_ascii text.now }
 {
     text.is_ascii()
+}
+
+/// The step that the words of a line ask for.
+fn step_of_words(words: &mut Parts<'_>) -> Option<SoloStep>
+    ensures { result ≡ solo_form words.old }
+{
+    let word = words.next_part()?;
+    if is_same(word, TAKE) {
+        take_step(words)
+    } else if is_same(word, FILL) {
+        fill_step(words)
+    } else {
+        None
+    }
 }
 
 /// A take, where no words are left.
