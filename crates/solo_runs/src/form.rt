@@ -1,6 +1,7 @@
 //! The forms of the lines of a solo script, and the rule that a line's bytes keep.
-ghost use Rattle.std.specs.Prelude.{◌≡◌, ◌∷◌, [], ◌&&◌, ℕ, pos, List, None, IfSome, MatchOption, is_some};
+ghost use Rattle.std.specs.Prelude.{◌≡◌, ◌∷◌, [], ◌&&◌, ℕ, pos, List, None, IfSome, IsTrue, MatchOption, is_some};
 ghost use Rattle.std.specs.Option.{option_map, option_and_then};
+ghost use Rattle.px_core.specs.Rectangle.{is_session_size};
 ghost use Rattle.line_text.specs.Lines.{is_past_limits};
 ghost use Rattle.line_text.specs.Numbers.{number_up_to};
 ghost use Rattle.line_text.specs.Words.{words_of};
@@ -59,7 +60,8 @@ const VIEW: &[u8] = b"view";
 
 /// The size of a session's picture that a script's first line gives, where it does.
 pub fn size_of_line(text: &[u8]) -> Option<Size>
-    ensures { result ≡ size_of_words (words_of text.now) }
+    ensures form { result ≡ size_of_words (words_of text.now) }
+    ensures range { IfSome result (λ size. IsTrue (is_session_size size.w size.h)) }
 {
     let (word, width, height) = three_words(text)?;
     if !is_same(word, SIZE) {
@@ -140,7 +142,8 @@ fn read_side(word: &[u8]) -> Option<u32>
 
 /// The size of these sides, where a session may have it.
 fn session_size(w: u32, h: u32) -> Option<Size>
-    ensures { result ≡ size_with w h }
+    ensures size { result ≡ size_with w h }
+    ensures range { IfSome result (λ size. IsTrue (is_session_size size.w size.h)) }
 {
     let is_wide = COLUMN_UNIT <= w && w <= SIDE_LIMIT;
     let is_high = 0 < h && h <= SIDE_LIMIT;
