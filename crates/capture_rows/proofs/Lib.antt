@@ -2,3 +2,5 @@ pub mod FirstScripts
 pub mod Frames
 pub mod Rooms
 pub mod Caches
+pub mod ManyFills
+pub mod Largest
