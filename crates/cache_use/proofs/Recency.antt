@@ -2,7 +2,7 @@
 use Rattle.std.proofs.Common.{◌≡◌, ◌≢◌, ℕ, zero, suc, eqb, nat_lt, nat_le, Bool, true, false, ◌&&◌, ◌||◌, not, List, [], ◌∷◌, length, take, sym, refl, ap, ◌∙◌, subst, ⊎_elim, arith}
 use Rattle.std.proofs.lemmas.Bool.{eq-eqb, false≢true, lt-ltb}
 use Rattle.std.proofs.lemmas.Bool.Decides.{eqb_tells, nat_tests}
-use Rattle.cache_use.specs.CacheUse.{is_used, with_item, other_keys, distinct_keys, since_use, uses_since, misses, held_among, held_keys, last_key, oldest_key}
+use Rattle.cache_use.specs.CacheUse.{is_used, with_item, other_keys, distinct_keys, uses_since, misses, held_among, held_keys}
 
 -- no key stands twice
 abbrev pub NoRepeats : List ℕ → Type 0
@@ -75,9 +75,9 @@ since_among_others k x [] ne = refl
 since_among_others k x (y ∷ ys) ne = let rest = since_among_others k x ys ne in ⊎_elim
     (λ (t : (eqb x y ≡ true) × (x ≡ y)). let e : eqb k y ≡ false = subst (λ z. eqb k z ≡ false) t.1 ne in rw (t.0, e, t.0) rest)
     (λ (t : (eqb x y ≡ false) × (x ≢ y)). ⊎_elim
-        (λ (u : (eqb k y ≡ true) × (k ≡ y)). rw (t.0, u.0) refl)
-        (λ (u : (eqb k y ≡ false) × (k ≢ y)). rw (t.0, u.0, t.0) (ap (λ l. y ∷ l) rest))
-        (eqb_tells k y))
+    (λ (u : (eqb k y ≡ true) × (k ≡ y)). rw (t.0, u.0) refl)
+    (λ (u : (eqb k y ≡ false) × (k ≢ y)). rw (t.0, u.0, t.0) (ap (λ l. y ∷ l) rest))
+    (eqb_tells k y))
     (eqb_tells x y)
 
 pub since_among_distinct : (k : ℕ) (past : List ℕ) → uses_since k (distinct_keys past) ≡ distinct_keys (uses_since k past)
