@@ -1,6 +1,6 @@
 -- Worked bytes.
-use Rattle.std.proofs.Common.{◌≡◌, ℕ, [], ◌∷◌, ◌++◌, Some, refl, true, false, codes}
-use Rattle.line_read.specs.Reading.{LineReading, HandsOut, IsPastLimits, ahead}
+use Rattle.std.proofs.Common.{◌≡◌, [], ◌∷◌, ◌++◌, Some, refl, true, false, codes}
+use Rattle.line_read.specs.Reading.{HandsOut, IsPastLimits, ahead}
 
 -- what is held stands before what the source has left
 held_first : ahead (record { held = codes "ta"; text = []; at = 0 }) (Some (codes "ke")) ≡ Some (codes "take")
