@@ -2,3 +2,4 @@ mod Rows
 pub mod PartLemmas
 pub mod DigitLemmas
 pub mod HexadecimalLemmas
+pub mod NumberLemmas
