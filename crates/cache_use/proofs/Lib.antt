@@ -1,0 +1,3 @@
+pub mod UseFacts
+pub mod Recency
+pub mod Steps

@@ -1,0 +1,37 @@
+//! What a viewer confirmed, as far as frames depend on it ([MS-RDPBCGR] 2.2.7).
+#![tactic(auto)]
+
+use crate::{Caches3, Caches10};
+
+/// What a viewer confirmed, as far as frames depend on it.
+#[derive(Clone, Copy, PartialEq, Eq)]
+pub struct Confirmed {
+    /// DstBlt orders ([MS-RDPBCGR] 2.2.7.1.3).
+    pub dst: bool,
+    /// PatBlt and OpaqueRect orders.
+    pub pat: bool,
+    /// ScrBlt orders.
+    pub scr: bool,
+    /// MemBlt orders.
+    pub mem: bool,
+    /// Mem3Blt orders.
+    pub mem3: bool,
+    /// SaveBitmap orders.
+    pub save: bool,
+    /// GlyphIndex orders.
+    pub glyph: bool,
+    /// Zero bounds deltas in primary orders.
+    pub zero_bounds: bool,
+    /// Frame markers ([MS-RDPBCGR] 2.2.7.1.3, orderSupportExFlags).
+    pub marker: bool,
+    /// Packed bitmaps without the compression header ([MS-RDPBCGR] 2.2.7.1.1).
+    pub no_header: bool,
+    /// Color brushes ([MS-RDPBCGR] 2.2.7.1.7).
+    pub brush: bool,
+    /// The support level of glyphs ([MS-RDPBCGR] 2.2.7.1.8).
+    pub glyph_level: u16,
+    /// The sizes of the bitmap caches.
+    pub bitmaps: Caches3,
+    /// The sizes of the glyph caches.
+    pub glyphs: Caches10,
+}

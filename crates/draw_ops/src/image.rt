@@ -1,0 +1,53 @@
+ghost use Rattle.std.specs.Prelude.{◌≡◌, IfOk, IsTrue};
+ghost use Rattle.draw_ops.specs.Content.{ImageOf};
+ghost use Rattle.draw_ops.specs.Colors.{are_colors};
+
+use crate::fault::OutOfMemory;
+use std::alloc::Global;
+use std::marker::Model;
+
+/// A picture of its own, to be loaded into a slot: its sides in pixels, and its colours row by row from the top.
+#[derive(Debug, Drop)]
+pub struct Image {
+    w: u16,
+    h: u16,
+    pixels: Vec<u32>,
+}
+
+impl Model for Image {
+    ghost Value = { ImageOf };
+
+    ghost view = { λ s. record { w = s.w; h = s.h; pixels = s.pixels.items } };
+}
+
+impl Image {
+    /// Makes an image of these sides and colours, which need not agree with each other.
+    pub fn new(alloc: Global, w: u16, h: u16, pixels: &[u32]) -> Result<Image, OutOfMemory>
+        requires { IsTrue (are_colors pixels.now) }
+        ensures { IfOk result (λ image. image ≡ record { w = w; h = h; pixels = pixels.now }) }
+    {
+        let pixels = Vec::from_slice(alloc, pixels)?;
+        Ok(Image { w, h, pixels })
+    }
+
+    /// The width in pixels.
+    pub fn w(&self) -> u16
+        ensures { result ≡ self.now.w }
+    {
+        self.w
+    }
+
+    /// The height in pixels.
+    pub fn h(&self) -> u16
+        ensures { result ≡ self.now.h }
+    {
+        self.h
+    }
+
+    /// The colours, row by row from the top.
+    pub fn pixels(&self) -> &[u32]
+        ensures { result.now ≡ self.now.pixels }
+    {
+        self.pixels.as_slice()
+    }
+}

@@ -1,0 +1,21 @@
+//! The session's drawings: their shapes, what they hold, what they mean, and which of them are refused (profile).
+//!
+//! A colour is a number below 2^24, `65536 * red + 256 * green + blue`. Every list of pixels goes row by row from the top.
+#![tactic(auto)]
+
+mod brush;
+mod fault;
+mod glyph;
+mod image;
+mod run;
+mod shape;
+
+pub use brush::Brush;
+pub use fault::{BadDrawing, OutOfMemory};
+pub use glyph::Glyph;
+pub use image::Image;
+pub use run::Run;
+pub use shape::{Drawing, Shape};
+
+#[cfg(test)]
+mod tests;

@@ -1,0 +1,9 @@
+pub mod Faults
+pub mod Source
+pub mod Sink
+pub mod Gate
+pub mod Supply
+pub mod Plan
+pub mod PlannedSource
+pub mod PlannedSink
+pub mod PlannedGate

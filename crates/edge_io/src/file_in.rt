@@ -1,0 +1,84 @@
+ghost use Rattle.std.specs.Prelude.{◌≡◌};
+ghost use Rattle.std.specs.declared.option.Option.TheVariants.{None};
+
+use crate::{Got, Source};
+use std::io::Read;
+
+/// Standard input as a source. It tells no content.
+#[derive(Drop)]
+pub struct FileIn<I: Read + Drop> {
+    file: I,
+    faults: u64,
+}
+
+impl<I: Read + Drop> FileIn<I> {
+    /// The runtime's standard input.
+    pub fn new<R: Input<Reader = I>>(rt: &R) -> FileIn<I>
+        ensures { ⟦<FileIn<I> as Source>⟧.faults result ≡ 0 }
+    {
+        FileIn {
+            file: rt.reader(),
+            faults: 0,
+        }
+    }
+}
+
+impl<I: Read + Drop> Source for FileIn<I> {
+    ghost left = { λ _. None };
+
+    ghost faults = { λ s. s.faults };
+
+    fn read(&mut self, buf: &mut [u8]) -> Got {
+        match self.file.read(buf) {
+            Ok(0) => Got::End,
+            Ok(count) => Got::Bytes(count),
+            Err(_) => {
+                self.faults = self.faults.saturating_add(1);
+                Got::Failed
+            }
+        }
+    }
+}
+
+#[cfg(test)]
+mod tests {
+    use super::*;
+    use std::io;
+    use std::io::ErrorKind;
+
+    /// A reader whose second read fails, and whose third finds the end.
+    #[derive(Drop)]
+    struct Torn {
+        reads: u8,
+    }
+
+    impl Read for Torn {
+        fn read(&mut self, buf: &mut [u8]) -> io::Result<usize> {
+            self.reads = self.reads.saturating_add(1);
+            match self.reads {
+                1 if !buf.is_empty() => {
+                    buf[0] = b'a';
+                    Ok(1)
+                }
+                2 => Err(io::Error::from(ErrorKind::BrokenPipe)),
+                _ => Ok(0),
+            }
+        }
+    }
+
+    #[test]
+    fn a_failed_read_is_counted_and_the_next_goes_on(rt: HostRuntime) {
+        let mut input = FileIn {
+            file: Torn { reads: 0 },
+            faults: 0,
+        };
+        let mut buf = [0u8; 4];
+        assert_eq!(rt; input.read(&mut buf), Got::Bytes(1));
+        assert_eq!(rt; buf[0], b'a');
+        assert_eq!(rt; input.faults, 0);
+        assert_eq!(rt; input.read(&mut buf), Got::Failed);
+        assert_eq!(rt; input.faults, 1);
+        assert_eq!(rt; input.read(&mut buf), Got::End);
+        assert_eq!(rt; input.faults, 1);
+    }
+}

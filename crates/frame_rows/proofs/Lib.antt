@@ -1,0 +1,5 @@
+pub mod Takes
+pub mod FillRows
+pub mod CopyRows
+pub mod CacheRows
+pub mod TileRows

@@ -1,0 +1,9 @@
+pub mod Pending
+pub mod Blocks
+pub mod Support
+pub mod Frame
+pub mod FrameOrders
+pub mod FrameBytes
+pub mod Shown
+pub mod Encoder
+pub mod Describes

@@ -1,0 +1,55 @@
+//! Laws of the definitions, each as the contract of a function that does nothing.
+
+ghost use Rattle.std.specs.Prelude.{◌≡◌, ℕ, ◌+◌, ◌*◌, ◌/◌, ◌%◌, ◌≤◌, ◌<◌, List, ◌++◌, length, Bool, true, false, Option, Some, pos};
+ghost use Rattle.px_core.specs.declared.surface.Size.{Size};
+ghost use Rattle.px_core.specs.declared.rectangle.Rect.{Rect};
+ghost use Rattle.px_core.specs.Picture.{Area, Formula, pixel_count, painted};
+ghost use Rattle.px_core.specs.Rectangle.{in_clip, clipped};
+ghost use Rattle.px_core.specs.Tiles.{Tiles, either_tiles, tile_at, tiles_of};
+ghost use Rattle.draw_ops.specs.Formulas.{Painting, painted_area, picture_after};
+ghost use Rattle.caps_sets.specs.declared.confirmed.Confirmed.{Confirmed};
+ghost use Rattle.session_rules.specs.declared.entry.Entry.{Entry};
+ghost use Rattle.session_rules.specs.Steps.{TakeOf};
+ghost use Rattle.order_means.specs.ClientState.{first_client};
+ghost use Rattle.frame_rules.specs.Blocks.{Held};
+ghost use Rattle.frame_rules.specs.Frame.{frame_of};
+ghost use Rattle.frame_rules.specs.Shown.{tile_of_place, ShowsOutside};
+ghost use Rattle.frame_rules.specs.Encoder.{Encoder, first_encoder, take_bytes, encoder_after};
+ghost use Rattle.frame_rules.specs.Describes.{DescribesClient};
+
+/// The frame of a take stays the same, however the journal goes on; so do its bytes and the encoder after it.
+pub fn frame_stays_as_the_journal_goes_on()
+    ensures frame { (size : Size) (c : Confirmed) (j more : List Entry) (held : Held) (t : TakeOf) → t.before ≤ t.number → t.number ≤ length j
+        → frame_of size c (j ++ more) held t ≡ frame_of size c j held t }
+    ensures bytes { (size : Size) (c : Confirmed) (j more : List Entry) (e : Encoder) (t : TakeOf) → t.before ≤ t.number → t.number ≤ length j
+        → take_bytes size c (j ++ more) e t ≡ take_bytes size c j e t }
+    ensures encoder { (size : Size) (c : Confirmed) (j more : List Entry) (e : Encoder) (t : TakeOf) → t.before ≤ t.number → t.number ≤ length j
+        → encoder_after size c (j ++ more) e t ≡ encoder_after size c j e t }
+{}
+
+/// A pixel that a drawing paints lies in a tile that the drawing touches.
+pub fn painted_pixel_is_in_a_touched_tile()
+    ensures { (size : Size) (p : Painting ℕ) (clip : Option Rect) (x y : ℕ) → size.w ≤ 2048 → x < size.w → y < size.h
+        → painted_area (in_clip clip) p (pos x) (pos y) ≡ true → tiles_of size (clipped p.rect clip) (tile_at x y) ≡ true }
+{}
+
+/// A drawing that isn't sent: once the tiles that it touches are dirty, the client's picture still shows the session's outside the dirty tiles.
+pub fn skipped_drawing_keeps_what_is_shown()
+    ensures { (size : Size) (p : Painting ℕ) (clip : Option Rect) (dirty : Tiles) (canvas : List (Option ℕ)) (old : List ℕ) → size.w ≤ 2048
+        → ShowsOutside size dirty canvas old
+        → ShowsOutside size (either_tiles dirty (tiles_of size (clipped p.rect clip))) canvas (picture_after size (in_clip clip) p old) }
+{}
+
+/// A drawing that is sent: where the client paints the same pixels, and each whose tile isn't dirty as the session does, its picture still shows the session's outside the dirty tiles.
+pub fn sent_drawing_keeps_what_is_shown()
+    ensures { (size : Size) (area : Area) (p : Painting ℕ) (clip : Area) (f : Formula (Option ℕ)) (dirty : Tiles) (canvas : List (Option ℕ)) (old : List ℕ)
+        → ((i : ℕ) → area (pos (i % size.w)) (pos (i / size.w)) ≡ painted_area clip p (pos (i % size.w)) (pos (i / size.w)))
+        → ((i d : ℕ) → i < pixel_count size → dirty (tile_of_place size i) ≡ false → painted_area clip p (pos (i % size.w)) (pos (i / size.w)) ≡ true
+        → f (pos (i % size.w)) (pos (i / size.w)) (Some d) ≡ Some (p.formula (pos (i % size.w)) (pos (i / size.w)) d))
+        → ShowsOutside size dirty canvas old → ShowsOutside size dirty (painted size area f canvas) (picture_after size clip p old) }
+{}
+
+/// The encoder of a new viewer describes the client of a new viewer.
+pub fn first_encoder_describes_the_first_client()
+    ensures { (size : Size) (c : Confirmed) (j : List Entry) → DescribesClient size c j 0 first_encoder (first_client c size) }
+{}

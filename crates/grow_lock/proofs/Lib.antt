@@ -1,0 +1,5 @@
+pub mod Lists
+pub mod Moves
+pub mod Passing
+mod Rows
+pub mod Turning

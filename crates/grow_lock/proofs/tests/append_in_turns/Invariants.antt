@@ -1,0 +1,6 @@
+use Rattle.grow_lock.specs.Passes.{IsPassOf}
+use Rattle.grow_lock.proofs.tests.append_in_turns.Given as goal
+
+-- the pass stays one of this lock
+abbrev pub invariant-loop-line : goal.invariant-loop-line
+invariant-loop-line g l = IsPassOf l.lock l.pass

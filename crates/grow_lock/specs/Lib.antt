@@ -1,0 +1,6 @@
+pub mod Journal
+pub mod Lending
+pub mod Notes
+pub mod Passes
+pub mod Rule
+pub mod Steps

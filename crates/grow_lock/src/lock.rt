@@ -1,0 +1,161 @@
+//! The lock.
+ghost use Rattle.std.specs.Prelude.{◌≡◌, ◌++◌, ◌∷◌, [], length, IfOk, Some};
+ghost use Rattle.grow_lock.specs.Journal.{StartsWith, IsDisjoint, added_places, longer};
+ghost use Rattle.grow_lock.specs.Passes.{IsPassOf, pass_of, pass_after_entering};
+ghost use Rattle.grow_lock.specs.Steps.{HasTaken};
+
+use crate::grows::Grows;
+use crate::memory::OutOfMemory;
+use crate::notes::Notes;
+use crate::pass::Pass;
+use crate::rule::{FREE, LENGTH, LockRule, Place, TAKEN, TURN, VALUE};
+use crate::steps::{
+    FreeTurn, JoinSeat, PublishLength, ReadJoined, ReadLength, SplitSeat, TakeTurn,
+};
+use crate::turn::Turn;
+use atomic_table::{Refused, Table};
+use std::alloc::Global;
+use std::marker::Model;
+use std::snapshot::Snapshot;
+use std::sync::Wait;
+use std::thread;
+
+/// A lock round a value that only grows. Threads share it by reference, each with a pass of its own. Contracts see
+/// which lock it is, and the head of its value.
+#[derive(Drop)]
+pub struct GrowLock<T: Grows> {
+    table: Table<Option<T>, Notes<T::Head, T::Entry>, Snapshot<T>, LockRule<T>, Global>,
+}
+
+impl<T: Grows> Model for GrowLock<T> {
+    ghost use Rattle.std.specs.Prelude.{◌≡◌};
+    ghost use Rattle.grow_lock.specs.Passes.{LockModel};
+
+    ghost Value = { LockModel T.Head };
+
+    ghost view = { λ l. record { id = l.table.shared.table_id; head = T.head l.table.shared.key.value } };
+
+    ghost invariant = { λ l. (l.table.shared.table_id.words ≡ 2) × (l.table.shared.table_id.slots ≡ 1) };
+}
+
+impl<T: Grows> GrowLock<T> {
+    /// A lock round the value, whose head is the lock's head from now on, and its first pass, which has seen the whole
+    /// list. After an `Err` the value is dropped.
+    pub fn new(alloc: Global, value: T) -> Result<(GrowLock<T>, Pass<T>), OutOfMemory>
+        ensures head { IfOk result (λ made. made.0.head ≡ T.head value) }
+        ensures pass { IfOk result (λ made. IsPassOf made.0 made.1 × (made.1.seen ≡ T.list value) × (made.1.found ≡ []) × (made.1.mine ≡ [])) }
+    {
+        let about = Snapshot::of(&value);
+        let count = value.ready();
+        let mut slots = Vec::new(alloc);
+        slots.push(Some(value))?;
+        match Table::new(alloc, &[FREE, count], slots, &about) {
+            Ok((table, seat)) => Ok((GrowLock { table }, Pass { seat, count })),
+            Err(Refused { slots: _ }) => Err(OutOfMemory),
+        }
+    }
+
+    /// Waits until no other pass is in turn, and gives the turn. Takes no memory.
+    pub fn enter<R: Wait>(&self, rt: &R, pass: Pass<T>) -> Turn<T>
+        requires { IsPassOf self.now pass }
+        ensures lock { IsPassOf self.now result.pass }
+        ensures head { T.head result.value ≡ self.now.head }
+        ensures list { (result.base ≡ T.list result.value) × StartsWith result.base pass.seen }
+        ensures seen { result.pass.seen ≡ pass.seen }
+        ensures found { result.pass.found ≡ pass.found ++ length result.base ∷ [] }
+        ensures mine { result.pass.mine ≡ pass.mine }
+    {
+        let Pass { mut seat, count: _ } = pass;
+        let shared = &self.table.shared;
+        for _ in rt.forever() {
+            if shared.compare_exchange::<TakeTurn>(&mut seat, TURN, FREE, TAKEN) == FREE {
+                return self.begin(seat);
+            }
+            thread::yield_now();
+        }
+        unreachable!()
+    }
+
+    // Reads the length, and moves the value out.
+    fn begin(&self, mut seat: Place<T>) -> Turn<T>
+        requires lock { seat.table_id ≡ self.now.id }
+        requires taken { HasTaken T.list seat.me }
+        ensures value { seat.me.1 ≡ (0, Some result.value) ∷ [] }
+        ensures base { result.base ≡ T.list result.value }
+        ensures pass { result.pass ≡ pass_after_entering (pass_of seat.table_id seat.me.0) result.base }
+    {
+        let shared = &self.table.shared;
+        shared.load::<ReadLength>(&mut seat, LENGTH);
+        let value = shared.exchange(&mut seat, VALUE, None).unwrap();
+        Turn { value, seat }
+    }
+
+    /// Ends the turn. What the value's list gained is published, and the pass has seen the whole list. Does not wait,
+    /// and takes no memory.
+    pub fn leave(&self, turn: Turn<T>) -> Pass<T>
+        requires lock { IsPassOf self.now turn.pass }
+        requires head { T.head turn.value ≡ self.now.head }
+        requires list { StartsWith (T.list turn.value) turn.base }
+        ensures lock { IsPassOf self.now result }
+        ensures seen { result.seen ≡ T.list turn.value }
+        ensures found { result.found ≡ turn.pass.found }
+        ensures mine { result.mine ≡ turn.pass.mine ++ added_places turn.base (T.list turn.value) }
+    {
+        let Turn { value, mut seat } = turn;
+        let shared = &self.table.shared;
+        let count = value.ready();
+        let None = shared.exchange(&mut seat, VALUE, Some(value)) else {
+            unreachable!()
+        };
+        shared.store::<PublishLength>(&mut seat, LENGTH, count);
+        shared.store::<FreeTurn>(&mut seat, TURN, FREE);
+        Pass { seat, count }
+    }
+
+    /// A further pass of this lock, which has seen the same and has never entered. Does not wait, and takes no memory:
+    /// the number of passes has no bound.
+    pub fn split(&self, pass: &mut Pass<T>) -> Pass<T>
+        requires { IsPassOf self.now pass.old }
+        ensures unchanged { pass.new ≡ pass.old }
+        ensures lock { IsPassOf self.now result }
+        ensures seen { result.seen ≡ pass.old.seen }
+        ensures found { result.found ≡ [] }
+        ensures mine { result.mine ≡ [] }
+    {
+        let count = pass.count;
+        let seat = self.table.shared.split_seat::<SplitSeat>(&mut pass.seat);
+        Pass { seat, count }
+    }
+
+    /// The pass that has seen what both have, with the turns of both. The shorter of what they have seen begins the
+    /// longer, and no place was added by both. Does not wait, and takes no memory.
+    pub fn meet(&self, from: Pass<T>, into: Pass<T>) -> Pass<T>
+        requires from { IsPassOf self.now from }
+        requires into { IsPassOf self.now into }
+        ensures lock { IsPassOf self.now result }
+        ensures seen { (result.seen ≡ longer into.seen from.seen) × StartsWith result.seen into.seen × StartsWith result.seen from.seen }
+        ensures found { result.found ≡ into.found ++ from.found }
+        ensures mine { (result.mine ≡ into.mine ++ from.mine) × IsDisjoint into.mine from.mine }
+    {
+        let Pass {
+            seat: other,
+            count: other_count,
+        } = from;
+        let Pass { mut seat, count } = into;
+        let shared = &self.table.shared;
+        shared.join_seat::<JoinSeat>(&mut seat, other);
+        shared.load::<ReadJoined>(&mut seat, LENGTH);
+        let count = count.max(other_count);
+        Pass { seat, count }
+    }
+
+    /// Enters a last time, and gives the value. Waits as `enter` does.
+    pub fn close<R: Wait>(self, rt: &R, pass: Pass<T>) -> T
+        requires { IsPassOf self pass }
+        ensures head { T.head result ≡ self.head }
+        ensures list { StartsWith (T.list result) pass.seen }
+    {
+        let Turn { value, seat: _ } = self.enter(rt, pass);
+        value
+    }
+}

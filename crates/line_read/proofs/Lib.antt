@@ -1,0 +1,3 @@
+pub mod BufferLemmas
+pub mod LineLemmas
+pub mod FindLemmas

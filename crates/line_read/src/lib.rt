@@ -1,0 +1,7 @@
+//! Lines from a source that gives its bytes in pieces, with a buffer of one size (profile).
+#![tactic(auto)]
+
+mod buffer;
+mod reader;
+
+pub use reader::{Found, LineReader};

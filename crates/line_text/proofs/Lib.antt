@@ -1,0 +1,5 @@
+mod Rows
+pub mod PartLemmas
+pub mod DigitLemmas
+pub mod HexadecimalLemmas
+pub mod NumberLemmas

@@ -1,0 +1,111 @@
+ghost use Rattle.std.specs.Prelude.{◌≡◌, ◌∷◌, [], ◌+◌, ◌*◌, ◌/◌, ◌≤◌, ◌<◌, ◌^◌, ◌++◌, IfSome, IfOk, OnOk, OnErr, Some, None};
+ghost use Rattle.std.specs.Option.{option_map};
+ghost use Rattle.std.specs.Char.{digit_char};
+ghost use Rattle.line_text.specs.Numbers.{digits_behind};
+ghost use Rattle.line_text.specs.Hexadecimal.{hexadecimal_of, hexadecimals_of, hexadecimal_text, HoldsFront};
+
+use crate::OutOfMemory;
+use std::alloc::Global;
+
+/// The radix of hexadecimal numbers.
+const SIXTEEN: u32 = 16;
+
+/// The number that a word of exactly so many hexadecimal digits of either case writes.
+pub fn read_hexadecimal(word: &[u8], digits: usize) -> Option<u32>
+    requires { digits ≤ 8 }
+    ensures value { result ≡ hexadecimal_of digits word.now }
+    ensures bound { IfSome result (λ n. n < 16 ^ digits) }
+{
+    if word.len() != digits {
+        return None;
+    }
+    let mut value = 0;
+    for digit in word {
+        value = with_digit(value, *digit)?;
+    }
+    Some(value)
+}
+
+/// The numbers of so many hexadecimal digits each that a word writes without a space between, or `None` where it writes
+/// anything else.
+pub fn read_hexadecimals(
+    alloc: Global,
+    word: &[u8],
+    digits: usize,
+) -> Result<Option<Vec<u32>>, OutOfMemory>
+    requires some { 1 ≤ digits }
+    requires few { digits ≤ 8 }
+    ensures { IfOk result (λ found. option_map (λ numbers. numbers.items) found ≡ hexadecimals_of digits word.now) }
+{
+    let mut numbers = Vec::new(alloc);
+    let mut rest = word;
+    while rest.len() >= digits {
+        let (first, others) = rest.split_at(digits);
+        match read_hexadecimal(first, digits) {
+            Some(number) => numbers.push(number)?,
+            None => return Ok(None),
+        }
+        rest = others;
+    }
+    if rest.is_empty() {
+        Ok(Some(numbers))
+    } else {
+        Ok(None)
+    }
+}
+
+/// Appends bytes as lower-case hexadecimal digits, two for each byte. After an `Err` a front of the digits was appended.
+pub fn write_hexadecimal(out: &mut Vec<u8>, bytes: &[u8]) -> Result<(), OutOfMemory>
+    ensures ok { OnOk result (out.new.items ≡ out.old.items ++ hexadecimal_text bytes.now) }
+    ensures front { OnErr result (HoldsFront out.old.items out.new.items (hexadecimal_text bytes.now)) }
+{
+    for byte in bytes {
+        out.extend_from_slice(&[digit_char(*byte / 16), digit_char(*byte % 16)])?;
+    }
+    Ok(())
+}
+
+/// The lower-case hexadecimal digit of a number.
+fn digit_char(digit: u8) -> u8
+    requires { digit < 16 }
+    ensures { result ≡ digit_char digit }
+{
+    if digit < 10 {
+        b'0' + digit
+    } else {
+        b'a' + (digit - 10)
+    }
+}
+
+/// A number of at most seven digits with one more digit behind it.
+fn with_digit(value: u32, digit: u8) -> Option<u32>
+    requires { value < 16 ^ 7 }
+    ensures value { result ≡ digits_behind 16 value (digit ∷ []) }
+    ensures bound { IfSome result (λ n. n < 16 * value + 16) }
+{
+    let digit = char::from(digit).to_digit(SIXTEEN)?;
+    Some(SIXTEEN * value + digit)
+}
+
+#[cfg(test)]
+mod tests {
+    use super::*;
+    use std::test::Fail;
+
+    #[test]
+    fn two_colours_are_read_from_a_word(rt: HostRuntime) -> Result<(), Fail> {
+        let colours = read_hexadecimals(rt.alloc(), b"000001FFffFF", 6)?.ok_or(
+            "the word is two colours",
+        )?;
+        assert_eq!(rt; colours.as_slice(), [1, 0xFF_FFFF].as_slice());
+        Ok(())
+    }
+
+    #[test]
+    fn bytes_are_written_in_lower_case(rt: HostRuntime) -> Result<(), Fail> {
+        let mut out = Vec::new(rt.alloc());
+        write_hexadecimal(&mut out, &[0x03, 0xEB])?;
+        assert_eq!(rt; out.as_slice(), b"03eb".as_slice());
+        Ok(())
+    }
+}

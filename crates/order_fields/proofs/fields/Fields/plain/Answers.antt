@@ -1,0 +1,7 @@
+use Rattle.std.proofs.Common.{[]}
+use Rattle.order_fields.specs.OrderTable.{field_list}
+use Rattle.order_fields.proofs.Rows.{few_values}
+use Rattle.order_fields.proofs.fields.Fields.plain.Goals as goal
+
+pub padded-requires : goal.padded-requires
+padded-requires c = few_values (field_list c.args.kind c.args.values.now []) c.requires

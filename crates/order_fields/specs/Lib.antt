@@ -1,0 +1,7 @@
+pub mod Bytes
+pub mod OrderTable
+pub mod Secondary
+pub mod OrderStream
+pub mod OrderDelta
+pub mod Kept
+pub mod OpaqueRect

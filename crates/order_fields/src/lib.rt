@@ -1,0 +1,30 @@
+//! Drawing orders as their fields: the table of the eight primary orders, how orders are read with registers, and how they are written against them ([MS-RDPEGDI] 2.2.2.2.1.1 to 2.2.2.2.1.3).
+//!
+//! A client and a host keep the same registers: the last type, the last fields of each type, and the last bounds.
+//! An order's bytes say only what differs from them.
+#![tactic(auto)]
+
+mod bounds;
+mod change;
+mod delta;
+mod fields;
+mod kind;
+mod lasts;
+mod laws;
+mod number;
+mod opaque;
+mod order;
+mod regs;
+mod table;
+mod write;
+
+pub use fields::Fields;
+pub use kind::Kind;
+pub use laws::written_order_is_read_back;
+pub use opaque::opaque_rect;
+pub use order::{write_bounds, write_order};
+pub use regs::Regs;
+pub use wire_num::OutOfMemory;
+
+#[cfg(test)]
+mod tests;

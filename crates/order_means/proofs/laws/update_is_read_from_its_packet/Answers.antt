@@ -1,0 +1,5 @@
+use Rattle.order_means.proofs.Packet.{update_cut}
+use Rattle.order_means.proofs.laws.update_is_read_from_its_packet.Goals as goal
+
+pub returns : goal.returns
+returns c = update_cut

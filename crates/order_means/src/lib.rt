@@ -1,0 +1,11 @@
+//! What a host's bytes mean: updates, secondary orders, the client that obeys them, and the pictures at the marks ([MS-RDPBCGR] 2.2.9.1.1 and [MS-RDPEGDI] 2.2.2.2.1).
+//!
+//! The definitions stand in specs/. They know nothing of how a host chooses what it sends.
+#![tactic(auto)]
+
+mod laws;
+
+pub use laws::{
+    drawing_is_said_by_its_fields, order_is_read_before_others, pieces_are_read_as_joined,
+    update_is_read_from_its_packet, updates_of_pieces_are_those_joined,
+};

@@ -1,0 +1,12 @@
+pub mod Viewer
+pub mod RefusedPackets
+pub mod RefusedUpdates
+pub mod RefusedOrders
+pub mod RefusedMeaning
+pub mod Captures
+pub mod MarksOfFills
+pub mod MarksOfFrames
+pub mod MarksOfCaches
+pub mod MarksOfOrders
+pub mod Written
+pub mod Accepted

@@ -1,0 +1,13 @@
+//! Rectangles and sizes of pictures, as sets of pixels, and the pictures, rectangles and tiles that every contract speaks of.
+//!
+//! A pixel (x, y) stands in column x, counted from the left, and row y, counted from the top.
+#![tactic(auto)]
+
+mod rectangle;
+mod surface;
+
+pub use rectangle::{Rect, meet};
+pub use surface::Size;
+
+#[cfg(test)]
+mod tests;

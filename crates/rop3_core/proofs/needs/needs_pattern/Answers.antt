@@ -1,0 +1,10 @@
+-- The test on the whole code is that on its pairs of bits, which decides dependence.
+use Rattle.std.proofs.Common.{sym, ◌∙◌}
+use Rattle.rop3_core.proofs.NeedLaws.{pattern_test, pattern_decides}
+use Rattle.rop3_core.proofs.needs.needs_pattern.Goals as goal
+
+pub returns : goal.returns
+returns c =
+    let same = pattern_test c.args.code c.ranges.code.fits in
+    let decides = pattern_decides c.args.code in
+    (λ yes. decides.0 (sym same ∙ yes), λ w. same ∙ decides.1 w)

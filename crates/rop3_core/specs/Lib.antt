@@ -1,0 +1,3 @@
+pub mod Rop3
+pub mod Palette
+pub mod Masks

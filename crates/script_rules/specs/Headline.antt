@@ -1,0 +1,61 @@
+-- The headline: whatever the interleaving of joins, inputs, drawings, refreshes, takes and departures, no viewer's bytes are
+-- ever refused by the protocol's own reading, and at each mark they show the picture after exactly the journal entries that the
+-- frame's take found; each change was made by the holder of control.
+use Rattle.std.specs.Prelude.{◌≡◌, ℕ, List, [], ◌∷◌, map, Ok, ⊤}
+use Rattle.std.specs.declared.option.Option.{Option}
+use Rattle.std.specs.declared.option.Option.TheVariants.{Some}
+use Rattle.px_core.specs.declared.surface.Size.{Size}
+use Rattle.caps_sets.specs.declared.confirmed.Confirmed.{Confirmed}
+use Rattle.session_rules.specs.declared.entry.Entry.{Entry}
+use Rattle.session_rules.specs.Journal.{Head, picture_after_entries, IsLegalJournal, ChangesAreTheHolders}
+use Rattle.session_rules.specs.Steps.{Step, journal_of_steps, frame_numbers}
+use Rattle.order_means.specs.FrameMarks.{pictures_at_marks, EndsBetween}
+use Rattle.script_rules.specs.Script.{Grammar, Asked, Script, Opening, opening_of, steps_of_script}
+use Rattle.script_rules.specs.Script.Opening.{NoSize, Unended, Opened}
+use Rattle.script_rules.specs.Capture.{viewer_bytes}
+use Rattle.frame_rules.specs.Encoder.{Encoder, first_encoder, take_bytes, encoder_after}
+use Rattle.script_rules.specs.CaptureText.{FrameText, run_at_first, run_after_all}
+
+-- a picture of which each pixel is known
+abbrev pub known_picture : List ℕ → List (Option ℕ)
+known_picture picture = map Some picture
+
+-- the pictures after these numbers of a journal's entries
+abbrev pub pictures_after : Size → List Entry → List ℕ → List (List (Option ℕ))
+pictures_after size j numbers = map (λ n. known_picture (picture_after_entries size j n)) numbers
+
+-- a viewer's bytes aren't refused and leave no rest after their last whole packet; their marks, one for each of these takes, show
+-- the pictures after exactly as many entries of the journal as the takes found
+pub record SeesJournal (size : Size) (confirmed : Confirmed) (j : List Entry) (numbers : List ℕ) (bytes : List ℕ) : Type 0 where
+  pub marks_show_journal : pictures_at_marks confirmed size bytes ≡ Ok (pictures_after size j numbers)
+  pub ends_between_packets : EndsBetween bytes
+
+abbrev pub steps_of : List Asked → List Step
+steps_of asked = map (λ a. a.step) asked
+
+-- the bytes of frames, by the encoder
+abbrev pub encoder_frames : FrameText Encoder
+encoder_frames = record { first = first_encoder; bytes = take_bytes; after = encoder_after }
+
+-- what a viewer confirmed by its join among these steps
+abbrev pub confirmed_in : Head → List Asked → ℕ → Confirmed
+confirmed_in head asked v = (run_after_all encoder_frames head (run_at_first encoder_frames head.size) asked).confirmed v
+
+-- for a list of steps, and the bytes that each viewer is sent
+pub record EveryViewerSeesTheJournal (head : Head) (asked : List Asked) (bytes : ℕ → List ℕ) : Type 0 where
+  pub viewers : (v : ℕ) → SeesJournal head.size (confirmed_in head asked v) (journal_of_steps head (steps_of asked)) (frame_numbers head (steps_of asked) v) (bytes v)
+  pub journal_is_legal : IsLegalJournal head (journal_of_steps head (steps_of asked))
+  pub changes_are_the_holders : ChangesAreTheHolders head.size (journal_of_steps head (steps_of asked))
+
+-- for a script and its capture
+abbrev pub EveryViewerOfScript : Script → List ℕ → Type 0
+EveryViewerOfScript s capture = EveryViewerSeesTheJournal s.head s.asked (λ v. viewer_bytes v capture)
+
+abbrev pub EveryViewerOfOpening : Opening → List ℕ → Type 0
+EveryViewerOfOpening NoSize capture = ⊤
+EveryViewerOfOpening Unended capture = ⊤
+EveryViewerOfOpening (Opened s) capture = EveryViewerOfScript s capture
+
+-- for a script's bytes and its capture
+abbrev pub EveryViewerOfCapture : Grammar → List ℕ → List ℕ → Type 0
+EveryViewerOfCapture g bytes capture = EveryViewerOfOpening (opening_of g bytes) capture

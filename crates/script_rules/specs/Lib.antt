@@ -1,0 +1,7 @@
+pub mod Fields
+pub mod Forms
+pub mod Presets
+pub mod Script
+pub mod Capture
+pub mod CaptureText
+pub mod Headline

@@ -1,0 +1,62 @@
+-- The words that say what a script's viewer confirmed: a preset, and then the sizes of single caches (profile).
+use Rattle.std.specs.Prelude.{ℕ, ◌-◌, ◌==◌, nat_le, ◌&&◌, List, [], ◌∷◌, if◌then◌else◌, codes}
+use Rattle.std.specs.declared.option.Option.{Option}
+use Rattle.std.specs.declared.option.Option.TheVariants.{Some, None}
+use Rattle.std.specs.Option.{option_map, option_and_then}
+use Rattle.std.specs.Char.{is_ascii_digit}
+use Rattle.caps_sets.specs.declared.cache_size.CacheSize.{CacheSize}
+use Rattle.caps_sets.specs.declared.confirmed.Confirmed.{Confirmed}
+use Rattle.caps_sets.specs.Confirmed.{sized, plain, full, marked, bare, with_bitmap_cache, with_glyph_cache}
+use Rattle.line_text.specs.Words.{parts_at}
+use Rattle.line_text.specs.Numbers.{number_up_to}
+use Rattle.session_rules.specs.Steps.{is_same_name}
+
+-- a preset's name, and what it confirms
+pub record Preset : Type 0 where
+  pub word : List ℕ
+  pub confirmed : Confirmed
+
+abbrev pub preset : List ℕ → Confirmed → Preset
+preset word c = record { word = word; confirmed = c }
+
+abbrev pub presets : List Preset
+presets = preset (codes "plain") plain ∷ preset (codes "full") full ∷ preset (codes "marked") marked ∷ preset (codes "bare") bare ∷ []
+
+-- the presets that the program reads today
+abbrev pub first_presets : List Preset
+first_presets = preset (codes "plain") plain ∷ []
+
+abbrev pub preset_named : List Preset → List ℕ → Option Confirmed
+preset_named [] word = None
+preset_named (p ∷ ps) word = if is_same_name word p.word then Some p.confirmed else preset_named ps word
+
+-- the greatest number of entries, and the greatest cell in bytes
+abbrev pub cache_limit : ℕ
+cache_limit = 65535
+
+-- entries and cell, with a comma between
+abbrev pub size_by : List (List ℕ) → Option CacheSize
+size_by (entries ∷ cell ∷ []) = option_and_then (λ e. option_map (sized e) (number_up_to cache_limit cell)) (number_up_to cache_limit entries)
+size_by parts = None
+
+-- the same but for one cache, by its kind's two letters and its number
+abbrev pub with_cache : Confirmed → List ℕ → ℕ → CacheSize → Option Confirmed
+with_cache c kind cache size =
+    if is_same_name kind (codes "bc") && nat_le cache 2 then Some (with_bitmap_cache cache size c)
+    else (if is_same_name kind (codes "gc") && nat_le cache 9 then Some (with_glyph_cache cache size c) else None)
+
+-- `bcK=E,C` and `gcK=E,C`
+abbrev pub overridden : Confirmed → List ℕ → Option Confirmed
+overridden c (a ∷ b ∷ k ∷ sign ∷ rest) = if is_ascii_digit k && (sign == 61)
+    then option_and_then (with_cache c (a ∷ b ∷ []) (k - 48)) (size_by (parts_at 44 rest)) else None
+overridden c word = None
+
+-- the overrides one after the other; later ones count
+abbrev pub overridden_by : Confirmed → List (List ℕ) → Option Confirmed
+overridden_by c [] = Some c
+overridden_by c (word ∷ words) = option_and_then (λ d. overridden_by d words) (overridden c word)
+
+-- what preset words confirm
+abbrev pub confirmed_by : List Preset → List (List ℕ) → Option Confirmed
+confirmed_by ps [] = None
+confirmed_by ps (word ∷ words) = option_and_then (λ c. overridden_by c words) (preset_named ps word)

@@ -1,0 +1,4 @@
+pub mod Journals
+pub mod Takes
+pub mod OwnSteps
+pub mod Changes

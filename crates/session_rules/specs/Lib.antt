@@ -1,0 +1,4 @@
+pub mod Board
+pub mod Journal
+pub mod Steps
+pub mod Agreement

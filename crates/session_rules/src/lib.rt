@@ -1,0 +1,11 @@
+//! The rules of a session (profile): the board, the journal, who holds control, and what every step is answered.
+//!
+//! The types of input events are those of [MS-RDPBCGR] 2.2.8.1.1.3.1.1; everything else here is this project's own.
+#![tactic(auto)]
+
+mod entry;
+mod event;
+pub mod laws;
+
+pub use entry::{Entry, Role};
+pub use event::Event;
