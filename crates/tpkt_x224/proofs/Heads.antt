@@ -9,8 +9,8 @@ use Rattle.tpkt_x224.specs.declared.tpkt.Packet.TheVariants.{Whole, Part, NotTpk
 use Rattle.tpkt_x224.specs.Tpkt.{IsPacket, packet_of_length, after_version, packet_at}
 
 -- a whole packet of n bytes stands at the head
-abbrev pub StandsWhole : List ℕ → ℕ → Type 0
-StandsWhole bytes n = (n ≤ length bytes) × IsPacket (take n bytes)
+abbrev pub BeginsWithPacket : List ℕ → ℕ → Type 0
+BeginsWithPacket bytes n = (n ≤ length bytes) × IsPacket (take n bytes)
 
 chosen : (a b : Bool) (n m : ℕ) → cond a BadLength (cond b Part (Whole n)) ≡ Whole m → (a ≡ false) × (b ≡ false) × (n ≡ m)
 chosen true b n m e = absurd (let h : ⊥ = cc in h)
@@ -109,21 +109,21 @@ front_of v r h l carried (suc (suc (suc (suc m)))) ev en low high =
     let size : length (take m carried) ≡ m = length-take-le m carried few in
     (ev, omega (arith, en, size), omega (arith, low, size))
 
-after_stands : (v : ℕ) (bs : List ℕ) (n : ℕ) → v ≡ 3 → after_version bs ≡ Whole n → StandsWhole (v ∷ bs) n
-after_stands v [] n ev e = absurd (let h : ⊥ = cc in h)
-after_stands v (r ∷ []) n ev e = absurd (let h : ⊥ = cc in h)
-after_stands v (r ∷ h ∷ []) n ev e = absurd (let h : ⊥ = cc in h)
-after_stands v (r ∷ h ∷ l ∷ carried) n ev e =
+after_begins : (v : ℕ) (bs : List ℕ) (n : ℕ) → v ≡ 3 → after_version bs ≡ Whole n → BeginsWithPacket (v ∷ bs) n
+after_begins v [] n ev e = absurd (let h : ⊥ = cc in h)
+after_begins v (r ∷ []) n ev e = absurd (let h : ⊥ = cc in h)
+after_begins v (r ∷ h ∷ []) n ev e = absurd (let h : ⊥ = cc in h)
+after_begins v (r ∷ h ∷ l ∷ carried) n ev e =
     let f = of_length_whole (256 * h + l) (length carried) n e in
     let low : 7 ≤ n = omega (arith, f.0, f.1) in
     let high : n ≤ 4 + length carried = omega (arith, f.0, f.2) in
     (omega (arith, high), front_of v r h l carried n ev f.0 low high)
 
-whole_stands : (bytes : List ℕ) (n : ℕ) → packet_at bytes ≡ Whole n → StandsWhole bytes n
-whole_stands [] n e = absurd (let h : ⊥ = cc in h)
-whole_stands (v ∷ bs) n e =
+whole_begins : (bytes : List ℕ) (n : ℕ) → packet_at bytes ≡ Whole n → BeginsWithPacket bytes n
+whole_begins [] n e = absurd (let h : ⊥ = cc in h)
+whole_begins (v ∷ bs) n e =
     let s = right_version v (after_version bs) (Whole n) (not_whole n) e in
-    after_stands v bs n s.0 s.1
+    after_begins v bs n s.0 s.1
 
 -- a packet has seven bytes, so fewer hold none
 too_few : (bytes : List ℕ) (n : ℕ) → n ≤ length bytes → length bytes < 7 → IsPacket (take n bytes) → ⊥
@@ -132,16 +132,16 @@ too_few bytes n h few p =
     let same = length-take-le n bytes h in
     omega (arith, h, few, size, same)
 
-stands_whole : (bytes : List ℕ) (n : ℕ) → n ≤ length bytes → IsPacket (take n bytes) → packet_at bytes ≡ Whole n
-stands_whole [] n h p = absurd (too_few [] n h (omega arith) p)
-stands_whole (v ∷ []) n h p = absurd (too_few (v ∷ []) n h (omega arith) p)
-stands_whole (v ∷ r ∷ []) n h p = absurd (too_few (v ∷ r ∷ []) n h (omega arith) p)
-stands_whole (v ∷ r ∷ g ∷ []) n h p = absurd (too_few (v ∷ r ∷ g ∷ []) n h (omega arith) p)
-stands_whole (v ∷ r ∷ g ∷ l ∷ carried) zero h p = absurd p
-stands_whole (v ∷ r ∷ g ∷ l ∷ carried) (suc zero) h p = absurd p
-stands_whole (v ∷ r ∷ g ∷ l ∷ carried) (suc (suc zero)) h p = absurd p
-stands_whole (v ∷ r ∷ g ∷ l ∷ carried) (suc (suc (suc zero))) h p = absurd p
-stands_whole (v ∷ r ∷ g ∷ l ∷ carried) (suc (suc (suc (suc m)))) h p =
+begins_whole : (bytes : List ℕ) (n : ℕ) → n ≤ length bytes → IsPacket (take n bytes) → packet_at bytes ≡ Whole n
+begins_whole [] n h p = absurd (too_few [] n h (omega arith) p)
+begins_whole (v ∷ []) n h p = absurd (too_few (v ∷ []) n h (omega arith) p)
+begins_whole (v ∷ r ∷ []) n h p = absurd (too_few (v ∷ r ∷ []) n h (omega arith) p)
+begins_whole (v ∷ r ∷ g ∷ []) n h p = absurd (too_few (v ∷ r ∷ g ∷ []) n h (omega arith) p)
+begins_whole (v ∷ r ∷ g ∷ l ∷ carried) zero h p = absurd p
+begins_whole (v ∷ r ∷ g ∷ l ∷ carried) (suc zero) h p = absurd p
+begins_whole (v ∷ r ∷ g ∷ l ∷ carried) (suc (suc zero)) h p = absurd p
+begins_whole (v ∷ r ∷ g ∷ l ∷ carried) (suc (suc (suc zero))) h p = absurd p
+begins_whole (v ∷ r ∷ g ∷ l ∷ carried) (suc (suc (suc (suc m)))) h p =
     let few : m ≤ length carried = omega (arith, h) in
     let size : length (take m carried) ≡ m = length-take-le m carried few in
     let ev : v ≡ 3 = p.0 in
@@ -149,7 +149,7 @@ stands_whole (v ∷ r ∷ g ∷ l ∷ carried) (suc (suc (suc (suc m)))) h p =
     rw ev (length_fits (256 * g + l) (length carried) (omega (arith, p.1, p.2)) (omega (arith, n, few)) ∙ ap Whole n)
 
 pub whole_head : (bytes : List ℕ) (n : ℕ) → (packet_at bytes ≡ Whole n) ↔ ((n ≤ length bytes) × IsPacket (take n bytes))
-whole_head bytes n = (whole_stands bytes n, λ p. stands_whole bytes n p.0 p.1)
+whole_head bytes n = (whole_begins bytes n, λ p. begins_whole bytes n p.0 p.1)
 
 -- ---- parts
 
