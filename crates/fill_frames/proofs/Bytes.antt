@@ -1,10 +1,10 @@
 -- The bytes of a patch's order are bytes.
-use Rattle.std.proofs.Common.{◌≡◌, ℕ, zero, suc, ◌+◌, ◌-◌, ◌*◌, ◌/◌, ◌%◌, ◌^◌, ◌<◌, ◌≤◌, List, [], ◌∷◌, ◌++◌, length, map, refl, ap, sym, ◌∙◌, arith, Some, None, Bool, true, false}
-use Rattle.std.specs.Prelude.{Option, ℤ, ◌-ℤ◌, All}
+use Rattle.std.proofs.Common.{ℕ, zero, suc, ◌/◌, ◌%◌, ◌<◌, ◌≤◌, List, [], ◌∷◌, ◌++◌, arith, None, Bool, true, false}
+use Rattle.std.specs.Prelude.{ℤ, ◌-ℤ◌, All}
 use Rattle.std.proofs.lemmas.List.Elements.{All-nil, All-cons, All-append}
 use Rattle.order_fields.specs.declared.kind.Kind.{Kind}
 use Rattle.order_fields.specs.declared.kind.Kind.TheVariants.{Coordinate, Number, Signed, Color}
-use Rattle.order_fields.specs.Bytes.{low_bytes, low_signed, unsigned}
+use Rattle.order_fields.specs.Bytes.{low_bytes, unsigned}
 use Rattle.order_fields.specs.OrderTable.{Registers, opaque_rect, last_values}
 use Rattle.order_fields.specs.OrderDelta.{Field, fields_of, is_same, value_bytes, unless_same, field_bytes, present_bytes, shown, type_bytes, order_bytes, flags_of, fields_in, takes_deltas, is_typed, bit, control_byte, omitted_in, color_bytes}
 use Rattle.fill_frames.specs.declared.patch.Patch.{Patch}
@@ -28,8 +28,8 @@ low_are_bytes (suc n) x = bytes_cons (x % 256) (low_bytes n (x / 256)) (omega ar
 
 color_are_bytes : (c : ℕ) → AreBytes (color_bytes c)
 color_are_bytes c =
-  bytes_cons ((c / 65536) % 256) ((c / 256) % 256 ∷ c % 256 ∷ []) (omega arith)
-  (bytes_cons ((c / 256) % 256) (c % 256 ∷ []) (omega arith) (bytes_cons (c % 256) [] (omega arith) bytes_nil))
+    bytes_cons ((c / 65536) % 256) ((c / 256) % 256 ∷ c % 256 ∷ []) (omega arith)
+    (bytes_cons ((c / 256) % 256) (c % 256 ∷ []) (omega arith) (bytes_cons (c % 256) [] (omega arith) bytes_nil))
 
 value_are_bytes : (k : Kind) (delta : Bool) (last z : ℤ) → AreBytes (value_bytes k delta last z)
 value_are_bytes Coordinate true last z = low_are_bytes 1 (unsigned 1 (z -ℤ last))
@@ -47,8 +47,8 @@ present_are_bytes [] ls zs delta = bytes_nil
 present_are_bytes (k ∷ ks) [] zs delta = bytes_nil
 present_are_bytes (k ∷ ks) (l ∷ ls) [] delta = bytes_nil
 present_are_bytes (k ∷ ks) (l ∷ ls) (z ∷ zs) delta =
-  let f : Field = record { kind = k; last = l; value = z } in
-  bytes_append (field_bytes delta f) (present_bytes (fields_of ks ls zs) delta true [])
+    let f : Field = record { kind = k; last = l; value = z } in
+    bytes_append (field_bytes delta f) (present_bytes (fields_of ks ls zs) delta true [])
     (unless_are_bytes (is_same f) (value_bytes k delta l z) (value_are_bytes k delta l z)) (present_are_bytes ks ls zs delta)
 
 type_are_bytes : (b : Bool) → AreBytes (type_bytes b 10)
@@ -64,11 +64,11 @@ control_is_byte typed delta omitted h = omega (arith, bit_most typed, bit_most d
 
 pub patch_order_is_bytes : (regs : Registers) (p : Patch) → AreBytes (order_bytes regs false (patch_fields p) None)
 patch_order_is_bytes regs p =
-  let vs = (patch_fields p).values in
-  let fs = fields_in opaque_rect regs vs in
-  let flags = flags_of fs true in
-  let a = type_bytes (is_typed opaque_rect regs) 10 in
-  let b = low_bytes (shown flags) flags in
-  let c = present_bytes fs (takes_deltas fs) true [] in
-  let tail = bytes_append a (b ++ c) (type_are_bytes (is_typed opaque_rect regs)) (bytes_append b c (low_are_bytes (shown flags) flags) (present_are_bytes opaque_rect.kinds (last_values regs 10).numbers vs.numbers (takes_deltas fs))) in
-  bytes_cons (control_byte false (is_typed opaque_rect regs) (takes_deltas fs) false (omitted_in opaque_rect regs vs)) (a ++ (b ++ c)) (control_is_byte (is_typed opaque_rect regs) (takes_deltas fs) (omitted_in opaque_rect regs vs) (omega arith)) tail
+    let vs = (patch_fields p).values in
+    let fs = fields_in opaque_rect regs vs in
+    let flags = flags_of fs true in
+    let a = type_bytes (is_typed opaque_rect regs) 10 in
+    let b = low_bytes (shown flags) flags in
+    let c = present_bytes fs (takes_deltas fs) true [] in
+    let tail = bytes_append a (b ++ c) (type_are_bytes (is_typed opaque_rect regs)) (bytes_append b c (low_are_bytes (shown flags) flags) (present_are_bytes opaque_rect.kinds (last_values regs 10).numbers vs.numbers (takes_deltas fs))) in
+    bytes_cons (control_byte false (is_typed opaque_rect regs) (takes_deltas fs) false (omitted_in opaque_rect regs vs)) (a ++ (b ++ c)) (control_is_byte (is_typed opaque_rect regs) (takes_deltas fs) (omitted_in opaque_rect regs vs) (omega arith)) tail

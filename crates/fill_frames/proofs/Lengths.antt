@@ -1,12 +1,12 @@
 -- A patch's order has at most sixteen bytes.
-use Rattle.std.proofs.Common.{◌≡◌, ℕ, zero, suc, ◌+◌, ◌-◌, ◌*◌, ◌/◌, ◌%◌, ◌^◌, ◌<◌, ◌≤◌, List, [], ◌∷◌, ◌++◌, length, map, refl, ap, sym, ◌∙◌, arith, Some, None, Bool, true, false, length-append}
-use Rattle.std.specs.Prelude.{Option, ℤ, ◌-ℤ◌, ◌==◌, nat_lt, if◌then◌else◌}
+use Rattle.std.proofs.Common.{◌≡◌, ℕ, zero, suc, ◌+◌, ◌/◌, ◌≤◌, List, [], ◌∷◌, ◌++◌, length, refl, ap, arith, None, Bool, true, false, length-append}
+use Rattle.std.specs.Prelude.{ℤ}
 use Rattle.std.proofs.lemmas.Bool.Decides.{nat_tests}
 use Rattle.order_fields.specs.declared.kind.Kind.{Kind}
 use Rattle.order_fields.specs.declared.kind.Kind.TheVariants.{Coordinate, Number, Signed, Color}
 use Rattle.order_fields.specs.Bytes.{low_bytes}
 use Rattle.order_fields.specs.OrderTable.{Registers, opaque_rect, last_values}
-use Rattle.order_fields.specs.OrderDelta.{Field, fields_of, is_same, value_bytes, unless_same, field_bytes, counted_bytes, present_bytes, shown, type_bytes, order_bytes, flags_of, fields_in, keeps_bytes_in, takes_deltas, is_typed}
+use Rattle.order_fields.specs.OrderDelta.{Field, fields_of, is_same, value_bytes, unless_same, field_bytes, present_bytes, shown, type_bytes, order_bytes, flags_of, fields_in, takes_deltas, is_typed}
 use Rattle.fill_frames.specs.declared.patch.Patch.{Patch}
 use Rattle.fill_frames.specs.Patches.{patch_fields}
 
@@ -41,9 +41,9 @@ present_short [] ls zs delta = omega arith
 present_short (k ∷ ks) [] zs delta = omega arith
 present_short (k ∷ ks) (l ∷ ls) [] delta = omega arith
 present_short (k ∷ ks) (l ∷ ls) (z ∷ zs) delta =
-  let f : Field = record { kind = k; last = l; value = z } in
-  let head = unless_short (is_same f) (value_bytes k delta l z) (width k) (value_short k delta l z) in
-  omega (arith, head, present_short ks ls zs delta, length-append (field_bytes delta f) (present_bytes (fields_of ks ls zs) delta true []))
+    let f : Field = record { kind = k; last = l; value = z } in
+    let head = unless_short (is_same f) (value_bytes k delta l z) (width k) (value_short k delta l z) in
+    omega (arith, head, present_short ks ls zs delta, length-append (field_bytes delta f) (present_bytes (fields_of ks ls zs) delta true []))
 
 shown_short : (n : ℕ) → shown n ≤ 3
 shown_short n = grind (arith, nat_tests)
@@ -54,11 +54,18 @@ type_short false code = omega arith
 
 pub patch_order_short : (regs : Registers) (p : Patch) → length (order_bytes regs false (patch_fields p) None) ≤ 16
 patch_order_short regs p =
-  let vs = (patch_fields p).values in
-  let fs = fields_in opaque_rect regs vs in
-  let flags = flags_of fs true in
-  let a = type_bytes (is_typed opaque_rect regs) 10 in
-  let b = low_bytes (shown flags) flags in
-  let c = present_bytes fs (takes_deltas fs) true [] in
-  omega (arith, length-append a (b ++ c), length-append b c, type_short (is_typed opaque_rect regs) 10, length-low (shown flags) flags, shown_short flags,
-    present_short opaque_rect.kinds (last_values regs 10).numbers vs.numbers (takes_deltas fs))
+    let vs = (patch_fields p).values in
+    let fs = fields_in opaque_rect regs vs in
+    let flags = flags_of fs true in
+    let a = type_bytes (is_typed opaque_rect regs) 10 in
+    let b = low_bytes (shown flags) flags in
+    let c = present_bytes fs (takes_deltas fs) true [] in
+    omega (
+      arith,
+      length-append a (b ++ c),
+      length-append b c,
+      type_short (is_typed opaque_rect regs) 10,
+      length-low (shown flags) flags,
+      shown_short flags,
+      present_short opaque_rect.kinds (last_values regs 10).numbers vs.numbers (takes_deltas fs),
+    )

@@ -1,13 +1,13 @@
 -- Patches as orders: their fields fit, and their bytes are few.
-use Rattle.std.proofs.Common.{◌≡◌, ℕ, zero, suc, ◌+◌, ◌-◌, ◌*◌, ◌/◌, ◌%◌, ◌^◌, ◌<◌, ◌≤◌, List, [], ◌∷◌, ◌++◌, length, map, refl, ap, sym, ◌∙◌, arith, Some, None, Bool, true, false, length-append}
-use Rattle.std.specs.Prelude.{Option, ℤ, pos, negsuc, ◌-ℤ◌, not, ◌&&◌, ◌==◌, nat_le, nat_lt, int_le, if◌then◌else◌}
+use Rattle.std.proofs.Common.{◌≡◌, ℕ, refl, arith, None, Bool, true, false}
+use Rattle.std.specs.Prelude.{ℤ, pos, not, ◌&&◌}
 use Rattle.std.proofs.lemmas.Int.{ints}
 use Rattle.std.proofs.lemmas.Bool.{and_parts}
 use Rattle.std.proofs.lemmas.Bool.Decides.{nat_tests}
-use Rattle.draw_ops.specs.Fits.{broken_if, is_side, is_corner, rect_rule}
+use Rattle.draw_ops.specs.Fits.{broken_if, is_side, is_corner}
 use Rattle.px_core.specs.Rectangle.{has_pixel}
 use Rattle.px_core.specs.declared.rectangle.Rect.{Rect}
-use Rattle.order_fields.specs.OrderTable.{IsFieldList, FieldList, Registers, fits_coordinate, IsBelow}
+use Rattle.order_fields.specs.OrderTable.{IsFieldList, fits_coordinate}
 use Rattle.fill_frames.specs.declared.patch.Patch.{Patch}
 use Rattle.fill_frames.specs.Patches.{IsPatch, patch_fields}
 
@@ -24,10 +24,10 @@ pub record IsRect (r : Rect) : Type 0 where
 
 pub rect_of_patch : (p : Patch) → IsPatch p → IsRect p.rect
 rect_of_patch p is =
-  let all = and_parts (is_side p.rect.w && is_side p.rect.h) (is_corner p.rect.x && is_corner p.rect.y) (unbroken ((is_side p.rect.w && is_side p.rect.h) && (is_corner p.rect.x && is_corner p.rect.y)) is.fits) in
-  let sides = and_parts (is_side p.rect.w) (is_side p.rect.h) all.0 in
-  let corners = and_parts (is_corner p.rect.x) (is_corner p.rect.y) all.1 in
-  record { wide = sides.0; high = sides.1; column = corners.0; row = corners.1 }
+    let all = and_parts (is_side p.rect.w && is_side p.rect.h) (is_corner p.rect.x && is_corner p.rect.y) (unbroken ((is_side p.rect.w && is_side p.rect.h) && (is_corner p.rect.x && is_corner p.rect.y)) is.fits) in
+    let sides = and_parts (is_side p.rect.w) (is_side p.rect.h) all.0 in
+    let corners = and_parts (is_corner p.rect.x) (is_corner p.rect.y) all.1 in
+    record { wide = sides.0; high = sides.1; column = corners.0; row = corners.1 }
 
 corner_fits : (z : ℤ) → is_corner z ≡ true → fits_coordinate z ≡ true
 corner_fits z h = grind (arith, ints, nat_tests, h)

@@ -1,8 +1,8 @@
 -- Registers stay registers after an order.
-use Rattle.std.proofs.Common.{◌≡◌, ℕ, List, [], ◌∷◌, refl, ap, sym, ◌∙◌, subst, arith, Bool, true, false}
-use Rattle.std.specs.Prelude.{⊤, ◌==◌, Some, Option}
+use Rattle.std.proofs.Common.{◌≡◌, ℕ, List, [], ◌∷◌, refl, sym, ◌∙◌, subst, arith, Bool, true, false}
+use Rattle.std.specs.Prelude.{⊤, ◌==◌}
 use Rattle.std.proofs.lemmas.Bool.Decides.{nat_tests}
-use Rattle.order_fields.specs.OrderTable.{Row, row_of, table, FieldList, Registers, FitRow, FitsRow, IsFieldList, AreLasts, AreRegisters, FitEdges, chosen_fields, lasts_after, registers_after}
+use Rattle.order_fields.specs.OrderTable.{Row, row_of, table, FieldList, Registers, FitRow, FitsRow, IsFieldList, AreLasts, AreRegisters, chosen_fields, lasts_after, registers_after}
 use Rattle.std.specs.Prelude.{None}
 
 -- the values fit each row of that code

@@ -1,16 +1,14 @@
 -- Rectangles in one colour: as drawings of a session, as orders, and as what they make of a picture.
-use Rattle.std.specs.Prelude.{◌≡◌, ℕ, ◌<◌, ◌+◌, ◌^◌, Bool, true, false, List, [], ◌∷◌, ◌++◌, map, length, Option, Some, None, IsTrue, ⊤}
+use Rattle.std.specs.Prelude.{◌≡◌, ◌<◌, ◌^◌, Bool, true, false, List, [], ◌∷◌, None, ⊤}
 use Rattle.px_core.specs.declared.surface.Size.{Size}
-use Rattle.px_core.specs.declared.rectangle.Rect.{Rect}
 use Rattle.px_core.specs.Picture.{everywhere}
 use Rattle.px_core.specs.Rectangle.{whole}
-use Rattle.rop3_core.specs.Palette.{Palette, session_colors, client_colors}
+use Rattle.rop3_core.specs.Palette.{Palette}
 use Rattle.draw_ops.specs.declared.shape.Drawing.{Drawing}
-use Rattle.draw_ops.specs.declared.shape.Shape.{Shape}
 use Rattle.draw_ops.specs.declared.shape.Shape.TheVariants.{Fill}
 use Rattle.draw_ops.specs.Formulas.{over_rect, solid, picture_after}
 use Rattle.draw_ops.specs.Fits.{rect_rule}
-use Rattle.order_fields.specs.OrderTable.{FieldList, Registers}
+use Rattle.order_fields.specs.OrderTable.{FieldList}
 use Rattle.order_fields.specs.OrderStream.Order.{Primary}
 use Rattle.order_fields.specs.OrderStream.{Order}
 use Rattle.order_means.specs.NamedDrawing.{fields_of}

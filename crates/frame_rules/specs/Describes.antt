@@ -1,7 +1,8 @@
 -- That an encoder describes its client, and the promise of one frame.
-use Rattle.std.specs.Prelude.{◌≡◌, ℕ, zero, suc, ◌+◌, ◌≤◌, ◌<◌, false, List, [], ◌∷◌, ◌++◌, map, length, slice_get, Option, Some, None, option_and_then, Ok}
+use Rattle.std.specs.Prelude.{◌≡◌, ℕ, zero, suc, ◌+◌, ◌≤◌, ◌<◌, true, false, List, [], ◌∷◌, ◌++◌, map, length, slice_get, Option, Some, None, option_and_then, Ok}
 use Rattle.px_core.specs.declared.surface.Size.{Size}
 use Rattle.px_core.specs.Picture.{pixel_count}
+use Rattle.px_core.specs.Rectangle.{is_session_size}
 use Rattle.draw_ops.specs.declared.shape.Drawing.{Drawing}
 use Rattle.draw_ops.specs.declared.shape.Shape.{Shape}
 use Rattle.draw_ops.specs.declared.shape.Shape.TheVariants.{Fill, Dst, Pat, Copy, Blit, Blit3, Text, Line, Save, Restore, LoadImage, LoadBrush, LoadGlyph}
@@ -147,8 +148,13 @@ pub record ShowsFrame (size : Size) (c : Confirmed) (j : List Entry) (e : Encode
   pub mark : after.pictures ≡ view.pictures ++ map Some (state_after size j t.number).surface.picture ∷ []
   pub describes : DescribesClient size c j t.number (encoder_after size c j e t) after.client
 
--- the promise of one frame, for every legal journal, every take and every client that the encoder describes
+-- three bitmap caches and ten glyph caches, which the type of what a viewer confirmed always has
+pub record HasAllCaches (c : Confirmed) : Type 0 where
+  pub bitmaps : length c.bitmaps ≡ 3
+  pub glyphs : length c.glyphs ≡ 10
+
+-- the promise of one frame, for every session size, every legal journal, every take and every client that the encoder describes
 abbrev pub FrameShowsJournal : Head → Confirmed → Type 0
-FrameShowsJournal head c = (j : List Entry) (e : Encoder) (t : TakeOf) (view : View) (place : ℕ)
+FrameShowsJournal head c = (j : List Entry) (e : Encoder) (t : TakeOf) (view : View) (place : ℕ) → is_session_size head.size.w head.size.h ≡ true → HasAllCaches c
     → IsLegalJournal head j → t.before ≤ t.number → t.number ≤ length j → DescribesClient head.size c j t.before e view.client
     → ShowsFrame head.size c j e t view place

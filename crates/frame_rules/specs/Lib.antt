@@ -5,5 +5,6 @@ pub mod Frame
 pub mod FrameOrders
 pub mod FrameBytes
 pub mod Shown
+pub mod FrameRead
 pub mod Encoder
 pub mod Describes

@@ -1,8 +1,12 @@
 -- A client's picture in the course of a frame: it shows the session's picture but for the dirty tiles.
-use Rattle.std.specs.Prelude.{◌≡◌, ℕ, ◌<◌, ◌/◌, ◌%◌, false, List, length, Option, Some, None}
+use Rattle.std.specs.Prelude.{◌≡◌, ℕ, ◌<◌, ◌/◌, ◌%◌, false, pos, List, [], ◌∷◌, length, Option, Some, None}
 use Rattle.px_core.specs.declared.surface.Size.{Size}
-use Rattle.px_core.specs.Picture.{pixel_count, item}
-use Rattle.px_core.specs.Tiles.{Tiles, tile_at}
+use Rattle.px_core.specs.declared.rectangle.Rect.{Rect}
+use Rattle.px_core.specs.Picture.{pixel_count, item, rows_of, painted}
+use Rattle.px_core.specs.Rectangle.{in_rect, cut_out}
+use Rattle.px_core.specs.Tiles.{Tiles, tile_at, tile_on}
+use Rattle.rop3_core.specs.Palette.{client_colors}
+use Rattle.draw_ops.specs.Formulas.{replaced, imaged}
 
 -- the tile of the pixel at a place of a picture
 abbrev pub tile_of_place : Size → ℕ → ℕ
@@ -13,3 +17,12 @@ pub record ShowsOutside (size : Size) (dirty : Tiles) (canvas : List (Option ℕ
   pub canvas_length : length canvas ≡ pixel_count size
   pub picture_length : length picture ≡ pixel_count size
   pub pixels : (i : ℕ) → i < pixel_count size → dirty (tile_of_place size i) ≡ false → item canvas i None ≡ Some (item picture i 0)
+
+-- a client's picture after a rectangle that is cut out of the session's
+abbrev pub canvas_after_cut : Size → List ℕ → Rect → List (Option ℕ) → List (Option ℕ)
+canvas_after_cut size picture r canvas = painted size (in_rect r) (replaced (imaged client_colors (rows_of r.w r.h (cut_out size picture 0 r)) r (pos 0) (pos 0))) canvas
+
+-- a client's picture after tiles, one after the other
+abbrev pub canvas_after_tiles : Size → List ℕ → List ℕ → List (Option ℕ) → List (Option ℕ)
+canvas_after_tiles size picture [] canvas = canvas
+canvas_after_tiles size picture (t ∷ ts) canvas = canvas_after_tiles size picture ts (canvas_after_cut size picture (tile_on size t) canvas)

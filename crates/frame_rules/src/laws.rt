@@ -1,21 +1,35 @@
 //! Laws of the definitions, each as the contract of a function that does nothing.
 
-ghost use Rattle.std.specs.Prelude.{◌≡◌, ℕ, ◌+◌, ◌*◌, ◌/◌, ◌%◌, ◌≤◌, ◌<◌, List, ◌++◌, length, Bool, true, false, Option, Some, pos};
+ghost use Rattle.std.specs.Prelude.{◌≡◌, ℕ, [], ◌∷◌, ◌+◌, ◌*◌, ◌/◌, ◌%◌, ◌^◌, ◌≤◌, ◌<◌, List, ◌++◌, length, map, Bool, true, false, Option, Some, None, Ok, pos};
 ghost use Rattle.px_core.specs.declared.surface.Size.{Size};
 ghost use Rattle.px_core.specs.declared.rectangle.Rect.{Rect};
 ghost use Rattle.px_core.specs.Picture.{Area, Formula, pixel_count, painted};
 ghost use Rattle.px_core.specs.Rectangle.{in_clip, clipped};
-ghost use Rattle.px_core.specs.Tiles.{Tiles, either_tiles, tile_at, tiles_of};
+ghost use Rattle.px_core.specs.Tiles.{Tiles, either_tiles, tile_at, tiles_of, tiles_in};
 ghost use Rattle.draw_ops.specs.Formulas.{Painting, painted_area, picture_after};
 ghost use Rattle.caps_sets.specs.declared.confirmed.Confirmed.{Confirmed};
 ghost use Rattle.session_rules.specs.declared.entry.Entry.{Entry};
 ghost use Rattle.session_rules.specs.Steps.{TakeOf};
+ghost use Rattle.order_fields.specs.OrderTable.{Registers, AreRegisters};
+ghost use Rattle.order_fields.specs.OrderStream.{order_at, orders_in, seen};
 ghost use Rattle.order_means.specs.ClientState.{first_client};
+ghost use Rattle.order_means.specs.FrameMarks.{View, view_after_orders, with_registers, marked_if};
 ghost use Rattle.frame_rules.specs.Blocks.{Held};
 ghost use Rattle.frame_rules.specs.Frame.{frame_of};
-ghost use Rattle.frame_rules.specs.Shown.{tile_of_place, ShowsOutside};
+ghost use Rattle.frame_rules.specs.Shown.{tile_of_place, ShowsOutside, canvas_after_tiles};
 ghost use Rattle.frame_rules.specs.Encoder.{Encoder, first_encoder, take_bytes, encoder_after};
 ghost use Rattle.frame_rules.specs.Describes.{DescribesClient};
+ghost use Rattle.frame_rules.specs.FrameOrders.{SentOrder};
+ghost use Rattle.frame_rules.specs.FrameBytes.{
+  bytes_of_order,
+  registers_after_order,
+  bytes_of_orders,
+  registers_after_orders,
+  joined_bytes,
+  updates_of,
+  mark_bytes,
+};
+ghost use Rattle.frame_rules.specs.FrameRead.{as_read, FitsOrder, FitOrders, AreShort, Reads};
 
 /// The frame of a take stays the same, however the journal goes on; so do its bytes and the encoder after it.
 pub fn frame_stays_as_the_journal_goes_on()
@@ -49,7 +63,38 @@ pub fn sent_drawing_keeps_what_is_shown()
         → ShowsOutside size dirty canvas old → ShowsOutside size dirty (painted size area f canvas) (picture_after size clip p old) }
 {}
 
+/// Once the dirty tiles that lie on the picture were sent, with pixels cut out of the session's picture, the client's picture is the session's, and every pixel of it is known.
+pub fn dirty_tiles_complete_the_picture()
+    ensures { (size : Size) (dirty : Tiles) (canvas : List (Option ℕ)) (picture : List ℕ) → size.w ≤ 2048 → ShowsOutside size dirty canvas picture
+        → canvas_after_tiles size picture (tiles_in size dirty) canvas ≡ map Some picture }
+{}
+
 /// The encoder of a new viewer describes the client of a new viewer.
 pub fn first_encoder_describes_the_first_client()
     ensures { (size : Size) (c : Confirmed) (j : List Entry) → DescribesClient size c j 0 first_encoder (first_client c size) }
+{}
+
+/// An order that was sent is read from the front of its bytes as it was sent, whatever follows: drawings of all types, cached images packed or raw, cached glyphs and brushes, and markers.
+pub fn sent_order_is_read()
+    ensures { (c : Confirmed) (regs : Registers) (o : SentOrder) (rest : List ℕ) → AreRegisters regs → FitsOrder c o
+        → order_at regs (bytes_of_order c regs o ++ rest) ≡ Ok (seen (as_read c o ∷ []) (registers_after_order regs o), rest) }
+{}
+
+/// The orders of an update are read as they were sent, each with the registers that the ones before it leave.
+pub fn sent_orders_are_read()
+    ensures { (c : Confirmed) (regs : Registers) (os : List SentOrder) → AreRegisters regs → FitOrders c os
+        → orders_in (joined_bytes (bytes_of_orders c regs os)) (length os) regs
+        ≡ record { orders = map (as_read c) os; after = registers_after_orders regs os; refused = None } }
+{}
+
+/// Reading the updates that orders are gathered into is obeying these orders one by one, however they are gathered; the registers are then those after the last one.
+pub fn gathered_orders_are_obeyed_one_by_one()
+    ensures { (c : Confirmed) (size : Size) (os : List SentOrder) (v w : View) (place : ℕ) → AreRegisters v.client.registers → FitOrders c os → AreShort c v.client.registers os
+        → length os < 2 ^ 16 → view_after_orders c size v (map (as_read c) os) ≡ Ok w
+        → Reads c size v place (updates_of (bytes_of_orders c v.client.registers os)) (with_registers w (registers_after_orders v.client.registers os)) }
+{}
+
+/// The mark's update is a mark, with frame markers or without, and changes nothing else.
+pub fn mark_shows_the_picture()
+    ensures { (c : Confirmed) (size : Size) (v : View) (place : ℕ) → AreRegisters v.client.registers → Reads c size v place (mark_bytes c.marker) (marked_if true v) }
 {}

@@ -1,0 +1,13 @@
+pub mod Views
+pub mod TakeBytes
+pub mod Reached
+pub mod Simulation
+pub mod Runs
+pub mod LineBytes
+pub mod CaptureBytes
+pub mod Forms
+pub mod Scripts
+pub mod Headline
+pub mod FixedLines
+pub mod Law
+pub mod LineByLine

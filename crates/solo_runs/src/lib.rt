@@ -1,0 +1,8 @@
+//! Solo scripts of fills and takes: what a run of one writes and what its viewer sees, as laws of the definitions.
+#![tactic(auto)]
+
+mod laws;
+mod step;
+
+pub use laws::first_scripts_show_the_journal;
+pub use step::SoloStep;
