@@ -6,7 +6,7 @@ use Rattle.std.proofs.lemmas.Bool.{eqb-true}
 use Rattle.std.proofs.lemmas.List.{length-take-le, length-replicate}
 use Rattle.tpkt_x224.specs.declared.tpkt.Packet.{Packet}
 use Rattle.tpkt_x224.specs.declared.tpkt.Packet.TheVariants.{Whole, Part, NotTpkt, BadLength}
-use Rattle.tpkt_x224.specs.Tpkt.{IsPacket, packet_of_length, after_version, packet_at}
+use Rattle.tpkt_x224.specs.Tpkt.{IsPacket, HasWrongVersion, HasBadLength, packet_of_length, after_version, packet_at}
 
 -- a whole packet of n bytes stands at the head
 abbrev pub BeginsWithPacket : List ℕ → ℕ → Type 0
@@ -195,3 +195,70 @@ grows_part (v ∷ r ∷ h ∷ l ∷ carried) more some p =
 
 pub part_head : (bytes : List ℕ) → (packet_at bytes ≡ Part) ↔ CanGrow bytes
 part_head bytes = (part_grows bytes, λ g. grows_part bytes g.0 g.1 g.2)
+
+-- ---- faults
+
+never_other : (a b : Bool) (n : ℕ) → cond a BadLength (cond b Part (Whole n)) ≡ NotTpkt → ⊥
+never_other true b n e = cc
+never_other false true n e = cc
+never_other false false n e = cc
+
+after_never : (bs : List ℕ) → after_version bs ≡ NotTpkt → ⊥
+after_never [] e = cc
+after_never (r ∷ []) e = cc
+after_never (r ∷ h ∷ []) e = cc
+after_never (r ∷ h ∷ l ∷ carried) e = never_other (nat_lt (256 * h + l) 7) (nat_lt (4 + length carried) (256 * h + l)) (256 * h + l) e
+
+at_three : (v : ℕ) (bs : List ℕ) → v ≡ 3 → packet_at (v ∷ bs) ≡ after_version bs
+at_three v bs ev = rw ev refl
+
+is_wrong : (v : ℕ) (bs : List ℕ) → packet_at (v ∷ bs) ≡ NotTpkt → v ≡ 3 → ⊥
+is_wrong v bs e ev = after_never bs (sym (at_three v bs ev) ∙ e)
+
+wrong_version : (bytes : List ℕ) → packet_at bytes ≡ NotTpkt → HasWrongVersion bytes
+wrong_version [] e = absurd (not_part e)
+wrong_version (v ∷ bs) e = is_wrong v bs e
+
+refused_version : (bytes : List ℕ) → HasWrongVersion bytes → packet_at bytes ≡ NotTpkt
+refused_version [] p = absurd p
+refused_version (v ∷ bs) p =
+    let other : (v == 3) ≡ false = grind (arith, nat_tests, p) in
+    rw other refl
+
+pub version_head : (bytes : List ℕ) → (packet_at bytes ≡ NotTpkt) ↔ HasWrongVersion bytes
+version_head bytes = (wrong_version bytes, refused_version bytes)
+
+too_low : (a b : Bool) (n : ℕ) → cond a BadLength (cond b Part (Whole n)) ≡ BadLength → a ≡ true
+too_low true b n e = refl
+too_low false true n e = absurd (let h : ⊥ = cc in h)
+too_low false false n e = absurd (let h : ⊥ = cc in h)
+
+not_bad : BadLength ≡ NotTpkt → ⊥
+not_bad e = cc
+
+after_bad : (v : ℕ) (bs : List ℕ) → v ≡ 3 → after_version bs ≡ BadLength → HasBadLength (v ∷ bs)
+after_bad v [] ev e = absurd (let h : ⊥ = cc in h)
+after_bad v (r ∷ []) ev e = absurd (let h : ⊥ = cc in h)
+after_bad v (r ∷ h ∷ []) ev e = absurd (let h : ⊥ = cc in h)
+after_bad v (r ∷ h ∷ l ∷ carried) ev e =
+    let low = too_low (nat_lt (256 * h + l) 7) (nat_lt (4 + length carried) (256 * h + l)) (256 * h + l) e in
+    (ev, grind (arith, nat_tests, low))
+
+bad_length : (bytes : List ℕ) → packet_at bytes ≡ BadLength → HasBadLength bytes
+bad_length [] e = absurd (let h : ⊥ = cc in h)
+bad_length (v ∷ bs) e =
+    let s = right_version v (after_version bs) BadLength not_bad e in
+    after_bad v bs s.0 s.1
+
+refused_length : (bytes : List ℕ) → HasBadLength bytes → packet_at bytes ≡ BadLength
+refused_length [] p = absurd p
+refused_length (v ∷ []) p = absurd p
+refused_length (v ∷ r ∷ []) p = absurd p
+refused_length (v ∷ r ∷ h ∷ []) p = absurd p
+refused_length (v ∷ r ∷ h ∷ l ∷ carried) p =
+    let low = p.1 in
+    let few : nat_lt (256 * h + l) 7 ≡ true = grind (arith, nat_tests, low) in
+    at_three v (r ∷ h ∷ l ∷ carried) p.0 ∙ ap (λ b. cond b BadLength (cond (nat_lt (4 + length carried) (256 * h + l)) Part (Whole (256 * h + l)))) few
+
+pub length_head : (bytes : List ℕ) → (packet_at bytes ≡ BadLength) ↔ HasBadLength bytes
+length_head bytes = (bad_length bytes, refused_length bytes)
