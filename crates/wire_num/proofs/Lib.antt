@@ -1,4 +1,5 @@
 pub mod Fronts
+pub mod Content
 pub mod Steps
 pub mod ReadIsText
 pub mod TextIsRead

@@ -59,6 +59,14 @@ impl<'a> Cursor<'a> {
         &self.bytes[self.at..]
     }
 
+    /// Goes to another offset in the slice, as that at which a cursor over a part of it was refused.
+    pub fn go_to(&mut self, at: usize)
+        requires { at ≤ length self.old.bytes }
+        ensures { self.new ≡ record { bytes = self.old.bytes; at = at } }
+    {
+        self.at = at;
+    }
+
     /// `n` bytes of any value.
     #[tactic(auto, unfolding(crate::specs::Field::bytes_at))]
     pub fn bytes(&mut self, n: usize) -> Result<&'a [u8], Short>
