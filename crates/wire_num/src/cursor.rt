@@ -266,6 +266,7 @@ impl<'a> Cursor<'a> {
     #[tactic(auto, unfolding(crate::specs::Field::bytes_at))]
     pub fn within(&mut self, n: usize) -> Result<Cursor<'a>, Short>
         ensures field { ReadsFieldAs (λ content. rest content) (bytes_at n) result self.old self.new }
+        ensures fits { OnOk result (self.old.at + n ≤ length self.old.bytes) }
         ensures offsets { IfOk result (λ content. content ≡ record { bytes = take (self.old.at + n) self.old.bytes; at = self.old.at }) }
     {
         if self.bytes.len() - self.at < n {
