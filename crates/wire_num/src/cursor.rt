@@ -267,6 +267,7 @@ impl<'a> Cursor<'a> {
     pub fn within(&mut self, n: usize) -> Result<Cursor<'a>, Short>
         ensures field { ReadsFieldAs (λ content. rest content) (bytes_at n) result self.old self.new }
         ensures fits { OnOk result (self.old.at + n ≤ length self.old.bytes) }
+        ensures behind { OnOk result (self.new ≡ record { bytes = self.old.bytes; at = self.old.at + n }) }
         ensures offsets { IfOk result (λ content. content ≡ record { bytes = take (self.old.at + n) self.old.bytes; at = self.old.at }) }
     {
         if self.bytes.len() - self.at < n {
