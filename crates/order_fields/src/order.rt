@@ -13,7 +13,7 @@ use wire_num::OutOfMemory;
 /// Writes an order at the end, with only what differs from the registers, which are then those after it ([MS-RDPEGDI] 2.2.2.2.1.1.2).
 ///
 /// `bounds` are the order's, in pixels, and `zero_bounds` says whether the viewer confirmed zero bounds deltas. Each edge of the bounds must have two bytes, signed.
-/// An `Err` leaves a front of the order's bytes there, and registers of which nothing is said.
+/// An `Err` leaves a front of the order's bytes there, and registers that no clause describes.
 pub fn write_order(
     out: &mut Vec<u8>,
     regs: &mut Regs,
@@ -46,7 +46,7 @@ pub fn write_order(
 
 /// Writes the bounds of an order at the end, which are then the last ones: nothing where they are the last ones and the viewer confirmed zero bounds deltas ([MS-RDPEGDI] 2.2.2.2.1.1.1.1).
 ///
-/// Each edge must have two bytes, signed. An `Err` leaves a front of the bytes there, and registers of which nothing is said.
+/// Each edge must have two bytes, signed. An `Err` leaves a front of the bytes there, and registers that no clause describes.
 pub fn write_bounds(
     out: &mut Vec<u8>,
     regs: &mut Regs,

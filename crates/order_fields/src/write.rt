@@ -157,43 +157,6 @@ fn put_head(out: &mut Vec<u8>, control: u8, typed: bool, kind: u8) -> Result<(),
     Ok(())
 }
 
-/// Writes the parts of an order one after the other.
-fn put_parts(
-    out: &mut Vec<u8>,
-    control: u8,
-    typed: bool,
-    kind: u8,
-    flags: u32,
-    keeps_edges: bool,
-    old: Bounds,
-    new: Option<Bounds>,
-    kinds: &[Kind],
-    delta: bool,
-    last: &[i64],
-    values: &[i64],
-    keeps: bool,
-    bytes: &[u8],
-) -> Result<(), OutOfMemory>
-    requires old { FitEdges (edges_in old) }
-    requires new { FitBounds (optional_edges new) }
-    requires lasts { length last.now ≡ length kinds.now }
-    requires count { length values.now ≡ length kinds.now }
-    requires sized { AreSized kinds.now }
-    requires last { FitKinds kinds.now last.now }
-    requires values { FitKinds kinds.now values.now }
-    requires near { delta ≡ true → all_near (fields_of kinds.now last.now values.now) ≡ true }
-    requires bytes { length bytes.now < 256 }
-    ensures ok { OnOk result (out.new.items ≡ out.old.items ++ ((control ∷ type_bytes typed kind) ++ (low_bytes (shown_of flags) flags
-        ++ (bounds_bytes keeps_edges (edges_in old) (optional_edges new) ++ present_bytes (fields_of kinds.now last.now values.now) delta keeps bytes.now)))) }
-    ensures memory { OnErr result (AppendsFront out.old.items ((control ∷ type_bytes typed kind) ++ (low_bytes (shown_of flags) flags
-        ++ (bounds_bytes keeps_edges (edges_in old) (optional_edges new) ++ present_bytes (fields_of kinds.now last.now values.now) delta keeps bytes.now))) out.new.items) }
-{
-    put_head(out, control, typed, kind)?;
-    put_low(out, usize::from(shown(flags)), u64::from(flags))?;
-    put_bounds(out, keeps_edges, old, new)?;
-    put_fields(out, kinds, delta, last, values, keeps, bytes)
-}
-
 /// Whether the type of an order must stand there.
 fn is_typed(last: u8, kind: u8) -> bool
     ensures { result ≡ not (last == kind) }
@@ -244,20 +207,8 @@ pub fn put_order(
     let some = shown(flags);
     let bounded = is_bounded(new);
     let control = control_byte(bounded, typed, delta, keeps_edges, all - some);
-    put_parts(
-        out,
-        control,
-        typed,
-        kind,
-        flags,
-        keeps_edges,
-        old,
-        new,
-        kinds,
-        delta,
-        last,
-        values,
-        keeps,
-        bytes,
-    )
+    put_head(out, control, typed, kind)?;
+    put_low(out, usize::from(some), u64::from(flags))?;
+    put_bounds(out, keeps_edges, old, new)?;
+    put_fields(out, kinds, delta, last, values, keeps, bytes)
 }

@@ -100,7 +100,7 @@ script_shows size head asked refusal steps is ok small eh ea =
     subst (λ h. EveryViewerOfScript (script_of h (solo_join ∷ asked) refusal) (capture_of_script encoder_frames (script_of h (solo_join ∷ asked) refusal))) (sym eh)
     (subst (λ a. EveryViewerOfScript (script_of (solo_head size) (solo_join ∷ a) refusal) (capture_of_script encoder_frames (script_of (solo_head size) (solo_join ∷ a) refusal))) (sym ea) (run_shows size steps refusal is ok small))
 
-solo_follows : (size : Size) → Follows size solo_at_first (joined_run size) (after_step (opened_reading size solo_rows) solo_join.step)
+pub solo_follows : (size : Size) → Follows size solo_at_first (joined_run size) (after_step (opened_reading size solo_rows) solo_join.step)
 solo_follows size = record { head = refl; play = refl; found = refl }
 
 solo_shows : (at : ℕ) (size : Size) (lines : List Line) → IsTrue (is_session_size size.w size.h) → IsSmall (solo_script first_grammar at size lines).refusal →
@@ -121,7 +121,7 @@ same_word (a ∷ as1) (b ∷ bs) e =
     let head : a ≡ b = grind (arith, nat_tests, p.0) in
     ap (λ x. x ∷ as1) head ∙ ap (λ xs. b ∷ xs) (same_word as1 bs p.1)
 
-invite_is_no_form : (words : List (List ℕ)) → is_some (invite_form words) ≡ true → line_form first_grammar words ≡ None
+pub invite_is_no_form : (words : List (List ℕ)) → is_some (invite_form words) ≡ true → line_form first_grammar words ≡ None
 invite_is_no_form [] e = absurd (cc e)
 invite_is_no_form (word ∷ []) e = absurd (cc e)
 invite_is_no_form (word ∷ name ∷ []) e = absurd (cc e)

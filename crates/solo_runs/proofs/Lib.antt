@@ -11,3 +11,4 @@ pub mod Headline
 pub mod FixedLines
 pub mod Law
 pub mod LineByLine
+pub mod FormWords

@@ -37,7 +37,7 @@ pub record AsksSolo (s : Solo) (a : Asked) : Type 0 where
   pub range : IsInRange solo
   pub few : FindsFew s solo
 
-abbrev SoloOutcome : Solo → LineOutcome → Type 0
+abbrev pub SoloOutcome : Solo → LineOutcome → Type 0
 SoloOutcome s (Breaks rule) = ⊤
 SoloOutcome s (Invites row) = ⊥
 SoloOutcome s (Asks a) = AsksSolo s a
@@ -65,7 +65,7 @@ form_is_solo size s run r h f (Some (JoinForm name words)) k = absurd k
 form_is_solo size s run r h f (Some (StepForm v step)) k =
     step_outcome size s run r step h f k.1 (not (is_present v r.play.reached.viewers)) (finds_too_many first_grammar r step) refl
 
-line_is_solo : (size : Size) (s : Solo) (run : Run Encoder) (r : Reading) → Stands size s run → Follows size s run r → (at : ℕ) (line : Line) → SoloOutcome s (line_outcome first_grammar at r line)
+pub line_is_solo : (size : Size) (s : Solo) (run : Run Encoder) (r : Reading) → Stands size s run → Follows size s run r → (at : ℕ) (line : Line) → SoloOutcome s (line_outcome first_grammar at r line)
 line_is_solo size s run r h f at line = by (breaks_text_rule at line) (form_is_solo size s run r h f (line_form first_grammar (words_of line.text)) (form_found (words_of line.text)))
   where
     by : (b : Bool) → SoloOutcome s (form_outcome first_grammar r (line_form first_grammar (words_of line.text))) → SoloOutcome s (unless_broken (broken_if b text_rule) (form_outcome first_grammar r (line_form first_grammar (words_of line.text))))
@@ -92,7 +92,7 @@ found_is size s run r Take h f =
     ∙ found_by s size run.play r (takes_frame s) count f.found
 found_is size s run r (Fill p) h f = f.found ∙ sym (fill_sent s p (patch_refusal s p))
 
-follows_on : (size : Size) (s : Solo) (run : Run Encoder) (r : Reading) (a : SoloStep) → Stands size s run → Follows size s run r → Follows size (solo_after size s a) (run_after encoder_frames (solo_head size) run (asked_of a)) (after_step r (step_of a))
+pub follows_on : (size : Size) (s : Solo) (run : Run Encoder) (r : Reading) (a : SoloStep) → Stands size s run → Follows size s run r → Follows size (solo_after size s a) (run_after encoder_frames (solo_head size) run (asked_of a)) (after_step r (step_of a))
 follows_on size s run r a h f = record {
   head = f.head;
   play = ap (λ p. (outcome r.head p (step_of a)).play) f.play ∙ ap (λ head. (outcome head run.play (step_of a)).play) f.head;

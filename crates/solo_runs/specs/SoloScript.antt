@@ -1,5 +1,5 @@
 -- Scripts of fills and takes, line by line: what each line asks for or breaks, what is written, and which line is refused.
-use Rattle.std.specs.Prelude.{ℕ, ◌+◌, ◌==◌, nat_lt, Bool, true, false, ◌&&◌, ◌||◌, not, List, [], ◌∷◌, ◌++◌, length, codes, if◌then◌else◌, is_some}
+use Rattle.std.specs.Prelude.{ℕ, ◌+◌, nat_lt, Bool, true, false, List, [], ◌∷◌, ◌++◌, length, codes, if◌then◌else◌}
 use Rattle.std.specs.declared.option.Option.{Option}
 use Rattle.std.specs.declared.option.Option.TheVariants.{Some, None}
 use Rattle.std.specs.Option.{option_and_then}
@@ -8,11 +8,11 @@ use Rattle.draw_ops.specs.declared.shape.Shape.{Shape}
 use Rattle.draw_ops.specs.declared.shape.Shape.TheVariants as shape
 use Rattle.session_rules.specs.Steps.{Step}
 use Rattle.session_rules.specs.Steps.Step.{JoinStep, LeaveStep, InputStep, DrawStep, RefreshStep, SuppressStep, TakeStep}
-use Rattle.line_text.specs.Lines.{Line, line_bytes, lines_of}
+use Rattle.line_text.specs.Lines.{Line, line_bytes}
 use Rattle.line_text.specs.Words.{words_of}
-use Rattle.fill_frames.specs.declared.patch.Patch.{Patch}
-use Rattle.script_rules.specs.Script.{LineForm, LineRefusal, line_form, first_grammar, breaks_text_rule, size_rule, text_rule, form_rule, pending_rule, size_of_words, begins_with_invite, invite_form}
+use Rattle.script_rules.specs.Script.{Opening, LineForm, LineRefusal, line_form, first_grammar, breaks_text_rule, size_rule, text_rule, form_rule, pending_rule, size_of_words, begins_with_invite}
 use Rattle.script_rules.specs.Script.LineForm.{InviteForm, JoinForm, StepForm}
+use Rattle.script_rules.specs.Script.Opening.{NoSize, Unended, Opened}
 use Rattle.script_rules.specs.Capture.{broken_line, joined_line}
 use Rattle.solo_runs.specs.declared.step.SoloStep.{SoloStep}
 use Rattle.solo_runs.specs.declared.step.SoloStep.TheVariants.{Take, Fill}
@@ -139,3 +139,9 @@ written_of (line ∷ lines) = written_with line lines (size_of_words (words_of l
 abbrev pub refused_of : List Line → Option LineRefusal
 refused_of [] = refusal_at 1 size_rule
 refused_of (line ∷ lines) = refused_with line lines (size_of_words (words_of line.text))
+
+-- the line that a script refuses, by the definitions of scripts
+abbrev pub refusal_of : Opening → Option LineRefusal
+refusal_of NoSize = refusal_at 1 size_rule
+refusal_of Unended = refusal_at 1 text_rule
+refusal_of (Opened script) = script.refusal

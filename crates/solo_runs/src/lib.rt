@@ -1,8 +1,10 @@
 //! Solo scripts of fills and takes: what a run of one writes and what its viewer sees, as laws of the definitions.
 #![tactic(auto)]
 
+mod form;
 mod laws;
 mod step;
 
+pub use form::{breaks_text, is_invite, is_text_line, size_of_line, solo_step};
 pub use laws::first_scripts_show_the_journal;
 pub use step::SoloStep;
