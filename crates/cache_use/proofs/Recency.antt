@@ -2,7 +2,7 @@
 use Rattle.std.proofs.Common.{◌≡◌, ◌≢◌, ℕ, zero, suc, eqb, nat_lt, nat_le, Bool, true, false, ◌&&◌, ◌||◌, not, List, [], ◌∷◌, length, take, sym, refl, ap, ◌∙◌, subst, ⊎_elim, arith}
 use Rattle.std.proofs.lemmas.Bool.{eq-eqb, false≢true, lt-ltb}
 use Rattle.std.proofs.lemmas.Bool.Decides.{eqb_tells, nat_tests}
-use Rattle.cache_use.specs.CacheUse.{is_used, with_item, other_keys, distinct_keys, since_use, uses_since, misses, held_among, held_keys, last_key, oldest_key}
+use Rattle.cache_use.specs.CacheUse.{is_used, with_item, other_keys, distinct_keys, uses_since, misses, held_among, held_keys}
 
 -- no key stands twice
 abbrev pub NoRepeats : List ℕ → Type 0

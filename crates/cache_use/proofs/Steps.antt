@@ -1,7 +1,7 @@
 -- What one more use does to the keys held and to their indices.
-use Rattle.std.proofs.Common.{◌≡◌, ◌≢◌, ℕ, zero, suc, ◌<◌, eqb, Bool, true, false, ◌&&◌, ◌||◌, not, List, [], ◌∷◌, take, sym, refl, ap, ◌∙◌, subst, ⊎_elim, arith}
+use Rattle.std.proofs.Common.{◌≡◌, ◌≢◌, ℕ, zero, suc, eqb, Bool, true, false, ◌&&◌, not, List, [], ◌∷◌, take, sym, refl, ap, ◌∙◌, subst, ⊎_elim}
 use Rattle.std.proofs.lemmas.Bool.Decides.{eqb_tells}
-use Rattle.cache_use.specs.CacheUse.{is_used, with_item, other_keys, distinct_keys, since_use, misses, held_keys, index_after, miss_index, last_index}
+use Rattle.cache_use.specs.CacheUse.{is_used, other_keys, distinct_keys, misses, held_keys, index_after, miss_index, last_index}
 use Rattle.cache_use.proofs.Recency.{NoRepeats, not_both, same_as_itself, no_repeats, others_of_unused, hit_is_among_first, held_are_first}
 
 abbrev pub removed_if : Bool → ℕ → List ℕ → List ℕ → List ℕ

@@ -15,21 +15,21 @@ use Rattle.draw_ops.specs.Formulas.{Painting, painted_area, picture_after}
 use Rattle.frame_rules.specs.Shown.{tile_of_place, ShowsOutside}
 use Rattle.frame_rules.proofs.Paint.{painted_at, item-painted_from, length-painted_from}
 
-true_is_not_false : true ≡ false → ⊥
+pub true_is_not_false : true ≡ false → ⊥
 true_is_not_false e = cc e
 
 pub pos-nat_of : (z : ℤ) → pos 0 ≤ℤ z → pos (nat_of z) ≡ z
 pos-nat_of (pos n) h = refl
 pos-nat_of (negsuc n) h = absurd (omega (arith, ints, h))
 
-int_le_from : (a b : ℤ) → a ≤ℤ b → int_le a b ≡ true
+pub int_le_from : (a b : ℤ) → a ≤ℤ b → int_le a b ≡ true
 int_le_from a b h = by (int_le a b) refl
   where
     by : (t : Bool) → int_le a b ≡ t → t ≡ true
     by true e = refl
     by false e = absurd (omega (arith, ints, h))
 
-int_lt_from : (a b : ℤ) → a <ℤ b → int_lt a b ≡ true
+pub int_lt_from : (a b : ℤ) → a <ℤ b → int_lt a b ≡ true
 int_lt_from a b h = by (int_lt a b) refl
   where
     by : (t : Bool) → int_lt a b ≡ t → t ≡ true
@@ -75,7 +75,7 @@ side_from a m z h = by (nat_le 1 m) refl one_le
 pub has_pixel-in_rect : (r : Rect) (x y : ℤ) → in_rect r x y ≡ true → has_pixel r ≡ true
 has_pixel-in_rect r x y h = let k = and_parts (within r.x r.w x) (within r.y r.h y) h in and_from _ _ (side_from r.x r.w x k.0) (side_from r.y r.h y k.1)
 
-within_from : (n m x : ℕ) → n ≤ x → x < n + m → within (pos n) m (pos x) ≡ true
+pub within_from : (n m x : ℕ) → n ≤ x → x < n + m → within (pos n) m (pos x) ≡ true
 within_from n m x h k = and_from _ _ (int_le_from (pos n) (pos x) (omega (arith, ints))) (int_lt_from (pos x) (pos n +ℤ pos m) (omega (arith, ints)))
 
 pub in_rect-tile_rect : (x y : ℕ) → x < 2048 → in_rect (tile_rect (tile_at x y)) (pos x) (pos y) ≡ true
@@ -115,7 +115,7 @@ row_below size i h = by size.w h
 
 -- ---- the client's picture
 
-or_false : (a b : Bool) → (a || b) ≡ false → (a ≡ false) × (b ≡ false)
+pub or_false : (a b : Bool) → (a || b) ≡ false → (a ≡ false) × (b ≡ false)
 or_false true b h = absurd (true_is_not_false h)
 or_false false b h = (refl, h)
 

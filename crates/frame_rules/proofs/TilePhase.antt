@@ -11,7 +11,7 @@ use Rattle.frame_rules.proofs.TileLaws.{column_below, row_below, in_rect-common,
 use Rattle.frame_rules.proofs.TileShown.{ShowsOutside-cut}
 
 -- a tile of a list
-abbrev is_among : List ℕ → Tiles
+abbrev pub is_among : List ℕ → Tiles
 is_among [] t = false
 is_among (x ∷ xs) t = (t == x) || is_among xs t
 
@@ -43,7 +43,7 @@ among_listed (suc n) i t h k = by (t == i) refl (λ ne. among_listed n (i + 1) t
     by false e rest = let ne : t ≢ i = grind (arith, nat_tests, e) in ap (λ b. b || is_among (listed n (i + 1) (λ k. k)) t) e ∙ rest ne
 
 -- the tile of a pixel is one of the picture's
-tile_is_there : (size : Size) (i : ℕ) → size.w ≤ 2048 → i < pixel_count size → is_among (picture_tiles size) (tile_of_place size i) ≡ true
+pub tile_is_there : (size : Size) (i : ℕ) → size.w ≤ 2048 → i < pixel_count size → is_among (picture_tiles size) (tile_of_place size i) ≡ true
 tile_is_there size i w below =
     let x = i % size.w in
     let y = i / size.w in
@@ -53,7 +53,7 @@ tile_is_there size i w below =
     (among_listed (32 * ((size.h + 63) / 64)) 0 (tile_at x y) (omega arith) (omega arith))
     (tiles_of-in_rect size (whole size) x y w hx hy (in_rect-whole size x y hx hy))
 
-not_true : (b : Bool) → (b ≡ true → ⊥) → b ≡ false
+pub not_true : (b : Bool) → (b ≡ true → ⊥) → b ≡ false
 not_true true h = absurd (h refl)
 not_true false h = refl
 

@@ -84,7 +84,7 @@ place_again size i h = by size.w h
     by (suc w) k = omega arith
 
 -- the pixel that the cut out rectangle puts at a place is the picture's
-cut_shows : (size : Size) (picture : List ℕ) (r : Rect) (i : ℕ) (old : Option ℕ) → i < pixel_count size → in_rect r (pos (i % size.w)) (pos (i / size.w)) ≡ true
+pub cut_shows : (size : Size) (picture : List ℕ) (r : Rect) (i : ℕ) (old : Option ℕ) → i < pixel_count size → in_rect r (pos (i % size.w)) (pos (i / size.w)) ≡ true
     → replaced (imaged client_colors (rows_of r.w r.h (cut_out size picture 0 r)) r (pos 0) (pos 0)) (pos (i % size.w)) (pos (i / size.w)) old ≡ Some (item picture i 0)
 cut_shows size picture r i old below inside =
     let parts = and_parts (within r.x r.w (pos (i % size.w))) (within r.y r.h (pos (i / size.w))) inside in

@@ -11,7 +11,7 @@ use Rattle.grow_lock.specs.declared.notes.Stage.TheVariants.{Out, Taken, Measure
 abbrev pub Holder : Type 0 → Type 0 → Type 0 → Type 0
 Holder T H E = Me (Option T) (Notes H E)
 
--- the seat is in turn and holds the slot, with a value that stands for the list of its stage
+-- the seat is in turn and holds the slot, with a value whose list is that of its stage
 abbrev pub HasTaken : {T H E : Type 0} → (T → List E) → Holder T H E → Type 0
 HasTaken {T} list seat = (value : T) × (seat.1 ≡ (0, Some value) ∷ []) × (seat.0.stage ≡ Taken (list value))
 

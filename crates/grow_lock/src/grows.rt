@@ -1,7 +1,7 @@
 //! The values that a lock may guard.
 ghost use Rattle.std.specs.Prelude.{◌≡◌, List, length};
 
-/// A value that stands for a head, which never changes, and for a list of entries, which only grows.
+/// A value that has a head, which never changes, and a list of entries, which only grows.
 pub trait Grows: Drop {
     /// What never changes, as a session's size and its rows. No value of it is made.
     type Head;

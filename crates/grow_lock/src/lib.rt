@@ -3,18 +3,18 @@
 //! `docs/threads.md` says what the lock promises and what it does not.
 #![tactic(auto)]
 
-mod error;
 mod grows;
 mod lock;
+mod memory;
 mod notes;
 mod pass;
 mod rule;
 mod steps;
 mod turn;
 
-pub use error::OutOfMemory;
 pub use grows::Grows;
 pub use lock::GrowLock;
+pub use memory::OutOfMemory;
 pub use pass::Pass;
 pub use turn::Turn;
 

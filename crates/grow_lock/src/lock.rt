@@ -4,8 +4,8 @@ ghost use Rattle.grow_lock.specs.Journal.{StartsWith, IsDisjoint, added_places, 
 ghost use Rattle.grow_lock.specs.Passes.{IsPassOf, pass_of, pass_after_entering};
 ghost use Rattle.grow_lock.specs.Steps.{HasTaken};
 
-use crate::error::OutOfMemory;
 use crate::grows::Grows;
+use crate::memory::OutOfMemory;
 use crate::notes::Notes;
 use crate::pass::Pass;
 use crate::rule::{FREE, LENGTH, LockRule, Place, TAKEN, TURN, VALUE};
@@ -48,9 +48,7 @@ impl<T: Grows> GrowLock<T> {
         let about = Snapshot::of(&value);
         let count = value.ready();
         let mut slots = Vec::new(alloc);
-        let Ok(()) = slots.push(Some(value)) else {
-            return Err(OutOfMemory);
-        };
+        slots.push(Some(value))?;
         match Table::new(alloc, &[FREE, count], slots, &about) {
             Ok((table, seat)) => Ok((GrowLock { table }, Pass { seat, count })),
             Err(Refused { slots: _ }) => Err(OutOfMemory),

@@ -5,7 +5,7 @@ use std::collections::LinkedList;
 pub enum Stage<E> {
     /// It is not in turn.
     Out,
-    /// It is in turn, with a value that stands for this list.
+    /// It is in turn, with a value that has this list.
     Taken(LinkedList<E>),
     /// It has read the length of that list too.
     Measured(LinkedList<E>),

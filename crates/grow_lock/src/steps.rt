@@ -39,7 +39,7 @@ impl<T: Grows> Play<Option<T>, Notes<T::Head, T::Entry>> for ReadJoined {
     ghost then = { ReadsJoined };
 }
 
-/// Kind 4: the seat in turn publishes the length of the list that its value stands for.
+/// Kind 4: the seat in turn publishes the length of its value's list.
 pub struct PublishLength;
 
 impl<T: Grows> Play<Option<T>, Notes<T::Head, T::Entry>> for PublishLength {

@@ -1,5 +1,6 @@
 //! Two threads over one lock, and passes that split and meet, over a small value of the tests' own.
-ghost use Rattle.std.specs.Prelude.{◌≡◌};
+ghost use Rattle.std.specs.Prelude.{◌≡◌, [], ◌∷◌, ◌++◌, Some, IfSome, slice_get};
+ghost use Rattle.grow_lock.specs.Journal.{StartsWith};
 ghost use Rattle.grow_lock.specs.Passes.{IsPassOf};
 
 use crate::{GrowLock, Grows, Pass};
@@ -32,7 +33,27 @@ impl Grows for Log {
     }
 }
 
-/// Enters so many times, and appends one entry in each turn.
+/// Appends one entry in a turn of its own. Where there was memory for it, it is at the length that the turn found.
+fn append<R: Wait>(
+    rt: &R,
+    lock: &GrowLock<Log>,
+    pass: Pass<Log>,
+    line: u64,
+) -> (Pass<Log>, Option<u64>)
+    requires { IsPassOf lock.now pass }
+    ensures lock { IsPassOf lock.now result.0 }
+    ensures grows { StartsWith result.0.seen pass.seen }
+    ensures place { IfSome result.1 (λ place. (slice_get result.0.seen place ≡ Some line) × (result.0.found ≡ pass.found ++ place ∷ []) × (result.0.mine ≡ pass.mine ++ place ∷ [])) }
+{
+    let mut turn = lock.enter(rt, pass);
+    let log = turn.value();
+    let place = log.ready();
+    let appended = log.lines.push(line).is_ok();
+    let pass = lock.leave(turn);
+    (pass, if appended { Some(place) } else { None })
+}
+
+/// Appends so many entries, each in a turn of its own.
 fn append_in_turns<R: Wait>(
     rt: &R,
     lock: &GrowLock<Log>,
@@ -43,9 +64,7 @@ fn append_in_turns<R: Wait>(
     ensures { IsPassOf lock.now result }
 {
     for line in 0..turns {
-        let mut turn = lock.enter(rt, pass);
-        let _ = turn.value().lines.push(line);
-        pass = lock.leave(turn);
+        (pass, _) = append(rt, lock, pass, line);
     }
     pass
 }
@@ -87,9 +106,8 @@ fn a_pass_finds_what_another_appended_and_the_two_meet(rt: HostRuntime) -> Resul
     let second = lock.split(&mut first);
     assert_eq!(rt; (first.seen(), second.seen()), (0, 0));
 
-    let mut turn = lock.enter(&rt, first);
-    turn.value().lines.push(1)?;
-    let first = lock.leave(turn);
+    let (first, place) = append(&rt, &lock, first, 1);
+    assert_eq!(rt; place, Some(0));
     assert_eq!(rt; (first.seen(), second.seen()), (1, 0));
 
     let mut turn = lock.enter(&rt, second);

@@ -7,8 +7,9 @@ use Rattle.std.proofs.lemmas.Bool.{false≢true}
 use Rattle.order_fields.specs.Bytes.{map_read}
 use Rattle.order_fields.specs.OrderTable.{Edges, FitEdges, FitBounds, fits_coordinate}
 use Rattle.order_fields.specs.OrderStream.{edge_at, edges_at, bounds_at}
-use Rattle.order_fields.specs.OrderDelta.{Change, change, change_by, is_anew, is_moved, is_byte, edge_bytes, edges_bytes, flags_between, same_edges, keeps_bounds, bounds_bytes, has_bounds}
-use Rattle.order_fields.specs.OrderDelta.Change.{Same, Moved, Anew}
+use Rattle.order_fields.specs.OrderDelta.{change, change_by, is_anew, is_moved, is_byte, edge_bytes, edges_bytes, flags_between, same_edges, keeps_bounds, bounds_bytes, has_bounds}
+use Rattle.order_fields.specs.declared.change.Change.{Change}
+use Rattle.order_fields.specs.declared.change.Change.TheVariants.{Same, Moved, Anew}
 use Rattle.order_fields.proofs.Numbers.{signed_back, moved_back}
 
 edge_by : (l z : ℤ) (same near : Bool) (rest : List ℕ) → int_eq l z ≡ same → is_byte (z -ℤ l) ≡ near → fits_coordinate z ≡ true →

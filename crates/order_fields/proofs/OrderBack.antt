@@ -8,7 +8,7 @@ use Rattle.order_fields.specs.OrderTable.{Row, row_of, Values, FieldList, Edges,
 use Rattle.order_fields.specs.OrderStream.{has_bit, type_at, bounds_at, values_at, body_at, typed_at, primary_at, form_of, order_by, order_at, seen_primary}
 use Rattle.order_fields.specs.OrderStream.Form.{PrimaryForm}
 use Rattle.order_fields.specs.OrderDelta.{Field, takes_deltas, all_near, any_coordinate, flags_of, present_bytes, shown, keeps_bounds, bounds_bytes, has_bounds, bit, control_byte, type_bytes, tail_bytes, fields_in, keeps_bytes_in, is_typed, omitted_in, row_bytes, bytes_by_row, order_bytes}
-use Rattle.order_fields.proofs.Table.{sound_row, code_of_row, last_fits}
+use Rattle.order_fields.proofs.Rows.{sound_row, code_of_row, last_fits}
 use Rattle.order_fields.proofs.Numbers.{number_back}
 use Rattle.order_fields.proofs.FieldsBack.{values_back, flags_below, fields_length}
 use Rattle.order_fields.proofs.BoundsBack.{bounds_back}
@@ -58,7 +58,7 @@ type_back false last code rest h = ap (λ m. Ok (m, rest)) (h refl)
 
 -- ---- the flag bytes
 
-shown_most : (n m : ℕ) → n < 256 ^ m → m ≤ 3 → shown n ≤ m
+pub shown_most : (n m : ℕ) → n < 256 ^ m → m ≤ 3 → shown n ≤ m
 shown_most n zero h k = grind (arith, nat_tests)
 shown_most n (suc zero) h k = grind (arith, nat_tests)
 shown_most n (suc (suc zero)) h k = grind (arith, nat_tests)

@@ -4,3 +4,4 @@ pub mod Secondary
 pub mod OrderStream
 pub mod OrderDelta
 pub mod Kept
+pub mod OpaqueRect

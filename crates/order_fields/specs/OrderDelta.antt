@@ -3,6 +3,8 @@ use Rattle.std.specs.Prelude.{◌≡◌, ℕ, ◌+◌, ◌-◌, ◌*◌, ◌/◌
 use Rattle.std.specs.Ordering.{int_eq}
 use Rattle.px_core.specs.declared.rectangle.Rect.{Rect}
 use Rattle.px_core.specs.Picture.{nat_of}
+use Rattle.order_fields.specs.declared.change.Change.{Change}
+use Rattle.order_fields.specs.declared.change.Change.TheVariants.{Same, Moved, Anew}
 use Rattle.order_fields.specs.declared.kind.Kind.{Kind}
 use Rattle.order_fields.specs.declared.kind.Kind.TheVariants.{Coordinate, Number, Signed, Color}
 use Rattle.order_fields.specs.Bytes.{low_bytes, low_signed}
@@ -110,11 +112,6 @@ shown flags = if flags == 0 then 0 else (if nat_lt flags 256 then 1 else (if nat
 -- ---- bounds
 
 -- an edge that is equal is omitted, one that differs by -128 to 127 is one byte, and another one two bytes
-pub data Change : Type 0 where
-  Same : Change
-  Moved : Change
-  Anew : Change
-
 abbrev pub change_by : Bool → Bool → Change
 change_by true near = Same
 change_by false true = Moved
@@ -144,10 +141,15 @@ edge_flags l t r b = is_anew l + 2 * is_anew t + 4 * is_anew r + 8 * is_anew b +
 abbrev pub flags_between : Edges → Edges → ℕ
 flags_between old new = edge_flags (change old.left new.left) (change old.top new.top) (change old.right new.right) (change old.bottom new.bottom)
 
+-- the right edge and the bottom one, and before them the top one
+abbrev pub far_edges : Edges → Edges → List ℕ
+far_edges old new = edge_bytes (change old.right new.right) old.right new.right ++ edge_bytes (change old.bottom new.bottom) old.bottom new.bottom
+
+abbrev pub later_edges : Edges → Edges → List ℕ
+later_edges old new = edge_bytes (change old.top new.top) old.top new.top ++ far_edges old new
+
 abbrev pub edges_bytes : Edges → Edges → List ℕ
-edges_bytes old new =
-    edge_bytes (change old.left new.left) old.left new.left ++ (edge_bytes (change old.top new.top) old.top new.top
-    ++ (edge_bytes (change old.right new.right) old.right new.right ++ edge_bytes (change old.bottom new.bottom) old.bottom new.bottom))
+edges_bytes old new = edge_bytes (change old.left new.left) old.left new.left ++ later_edges old new
 
 abbrev pub same_edges : Edges → Edges → Bool
 same_edges a b = (int_eq a.left b.left && int_eq a.top b.top) && (int_eq a.right b.right && int_eq a.bottom b.bottom)

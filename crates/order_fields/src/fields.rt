@@ -2,9 +2,9 @@ ghost use Rattle.std.specs.Prelude.{◌≡◌, ◌≤◌, ◌<◌, length, take,
 ghost use Rattle.order_fields.specs.OrderTable.{FieldList, field_list, IsFieldList};
 ghost use Rattle.order_fields.specs.Kept.{optional_bytes};
 
-use crate::OutOfMemory;
 use std::alloc::Global;
 use std::marker::Model;
+use wire_num::OutOfMemory;
 
 /// The most values that an order has: those of GlyphIndex.
 const MOST_VALUES: usize = 21;
@@ -71,6 +71,14 @@ impl Fields {
         ensures { result ≡ get_or self.now.values.numbers place (pos 0) }
     {
         item(&self.values, place)
+    }
+
+    /// All values, in the table's order.
+    pub(crate) fn values(&self) -> &[i64]
+        ensures value { result.now ≡ self.now.values.numbers }
+        ensures fits { IsFieldList self.now }
+    {
+        &self.values[..self.count]
     }
 
     /// The counted bytes; none where the type has no such field.

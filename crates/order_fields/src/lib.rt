@@ -4,14 +4,27 @@
 //! An order's bytes say only what differs from them.
 #![tactic(auto)]
 
+mod bounds;
+mod change;
+mod delta;
 mod fields;
 mod kind;
+mod lasts;
 mod laws;
-mod memory;
+mod number;
+mod opaque;
+mod order;
 mod regs;
+mod table;
+mod write;
 
 pub use fields::Fields;
 pub use kind::Kind;
 pub use laws::written_order_is_read_back;
-pub use memory::OutOfMemory;
+pub use opaque::opaque_rect;
+pub use order::{write_bounds, write_order};
 pub use regs::Regs;
+pub use wire_num::OutOfMemory;
+
+#[cfg(test)]
+mod tests;

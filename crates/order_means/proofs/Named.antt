@@ -1,4 +1,4 @@
--- The fields of a drawing say that drawing again.
+-- The fields of a drawing give that drawing back.
 use Rattle.std.proofs.Common.{◌≡◌, ℕ, ◌+◌, ◌*◌, ◌/◌, ◌%◌, ℤ, pos, refl, ap, arith, Some}
 use Rattle.std.specs.Prelude.{◌-ℤ◌, ◌+ℤ◌}
 use Rattle.std.proofs.lemmas.Int.{ints}

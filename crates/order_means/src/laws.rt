@@ -30,8 +30,8 @@ pub fn update_is_read_from_its_packet()
         ≡ before_updates (record { place = (at + length (update_packet body)) - length body; bytes = body } ∷ []) (updates_from (cutting (at + length (update_packet body)) Between) more) }
 {}
 
-/// The fields of a drawing say that drawing again: all eight orders, with both operations of SaveBitmap.
-pub fn drawing_is_said_by_its_fields()
+/// The fields of a drawing give that drawing back: all eight orders, with both operations of SaveBitmap.
+pub fn fields_give_their_drawing_back()
     ensures { (area : Rect) (d : NamedDrawing) → HasPixel d → drawing_of (fields_of area d) ≡ Some d }
 {}
 

@@ -1,4 +1,4 @@
--- Bytes that are accepted, and what is said of them beside the pictures: counts, unread bytes, and registers after a refusal.
+-- Bytes that are accepted, and what they mean beside the pictures: counts, unread bytes, and registers after a refusal.
 use Rattle.std.proofs.Common.{◌≡◌, ℕ, List, [], ◌∷◌, refl, Some, None, replicate, pos, false}
 use Rattle.std.specs.Prelude.{Ok, Result, length}
 use Rattle.order_fields.specs.Bytes.{bind}

@@ -1,13 +1,12 @@
-// A library with one function.
+//! Reads run-length bitmaps: the pixels of a stream of orders ([MS-RDPBCGR] 2.2.9.1.1.3.1.2.4 and 3.1.9).
 #![tactic(auto)]
 
-ghost use Rattle.std.specs.Prelude.{◌≡◌};
-ghost use Rattle.rle_dec.specs.Echo.{echo_of};
+mod bitmap;
+mod codes;
+mod draw;
+mod fault;
+mod orders;
+mod reads;
 
-// The `ensures` clause is the contract: what `echo` returns is `echo_of` of its argument, a definition
-// in `specs/Echo.antt`, which a caller's clause can cite too.
-pub fn echo(x: usize) -> usize
-    ensures { result ≡ echo_of x }
-{
-    x
-}
+pub use bitmap::unpack;
+pub use fault::RleFault;

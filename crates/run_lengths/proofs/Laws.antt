@@ -10,9 +10,10 @@ use Rattle.run_lengths.specs.declared.codes.Length.{Length}
 use Rattle.run_lengths.specs.declared.codes.Row.{Row}
 use Rattle.run_lengths.specs.declared.codes.Kind.TheVariants.{BackgroundRun, ForegroundRun, MaskImage, ColorRun, ColorImage, DitheredRun, FixedMask, FixedColor}
 use Rattle.run_lengths.specs.declared.codes.Length.TheVariants.{InCode, TwoBytes, Fixed}
-use Rattle.run_lengths.specs.RunLength.{Run, Order, run_size, bits_of, mask_bits, greatest_length, length_if, length_at, foreground_at, run_at, pixel_at, order_in_row, order_at, onto_orders, orders_after, orders_within, orders_in, Stroke, drawn_pixel, ground, figure, background_strokes, dithered_strokes, run_strokes, Drawn, drawn_after, follows_background, is_first_row, foreground_of, order_strokes, strokes_from, strokes_of, nothing_drawn, drawn_over, AreDrawn, Decompresses, rows_from, pixels_drawn, pixels_of_orders, unrle, refused_place, first_bad_run}
+use Rattle.run_lengths.specs.declared.strokes.Stroke.{Stroke}
+use Rattle.run_lengths.specs.RunLength.{Run, Order, run_size, bits_of, mask_bits, greatest_length, length_if, length_at, foreground_at, run_at, pixel_at, order_in_row, order_at, onto_orders, orders_after, orders_within, orders_in, drawn_pixel, background_stroke, foreground_stroke, background_strokes, dithered_strokes, run_strokes, Drawn, drawn_after, follows_background, is_first_row, foreground_of, order_strokes, strokes_from, strokes_of, nothing_drawn, drawn_over, AreDrawn, Decompresses, rows_from, pixels_drawn, pixels_of_orders, unrle, refused_place, first_bad_run}
 use Rattle.run_lengths.specs.RunLength.Run.{Background, Foreground, Mask, Color, Image, Dithered}
-use Rattle.run_lengths.specs.RunLength.Stroke.{Plain, Above}
+use Rattle.run_lengths.specs.declared.strokes.Stroke.TheVariants.{Plain, Above}
 
 -- ---- drawing over the row before
 
@@ -249,7 +250,7 @@ length-run_strokes (Dithered n a b) follows g f = length-dithered_strokes n a b
 pub length-strokes_from : (w : ℕ) (d : Drawn) (os : List Order) → length (strokes_from w d os) ≡ drawn_size os
 length-strokes_from w d [] = refl
 length-strokes_from w d (o ∷ os) =
-    let here = length-run_strokes o.run (follows_background d.before (is_first_row w d)) (ground (is_first_row w d)) (figure (is_first_row w d) (foreground_of o d)) in
+    let here = length-run_strokes o.run (follows_background d.before (is_first_row w d)) (background_stroke (is_first_row w d)) (foreground_stroke (is_first_row w d) (foreground_of o d)) in
     length-append (order_strokes w d o) (strokes_from w (drawn_after w d o) os) ∙ omega (arith, here, length-strokes_from w (drawn_after w d o) os)
 
 -- ---- the function and the relation

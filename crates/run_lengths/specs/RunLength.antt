@@ -5,6 +5,8 @@ use Rattle.run_lengths.specs.Codes.{row_of, white}
 use Rattle.run_lengths.specs.declared.codes.Kind.{Kind}
 use Rattle.run_lengths.specs.declared.codes.Length.{Length}
 use Rattle.run_lengths.specs.declared.codes.Row.{Row}
+use Rattle.run_lengths.specs.declared.strokes.Stroke.{Stroke}
+use Rattle.run_lengths.specs.declared.strokes.Stroke.TheVariants.{Plain, Above, Crossed}
 use Rattle.run_lengths.specs.declared.codes.Before.{Before}
 use Rattle.run_lengths.specs.declared.codes.Before.TheVariants.{Other, FirstRowBackground, LaterBackground}
 use Rattle.run_lengths.specs.declared.codes.Kind.TheVariants.{BackgroundRun, ForegroundRun, MaskImage, ColorRun, ColorImage, DitheredRun, FixedMask, FixedColor}
@@ -122,12 +124,6 @@ orders_in count bytes = orders_within (length bytes) count bytes
 
 -- ---- pixels
 
--- how one pixel is drawn: in a colour, as the pixel one row earlier, or as that one exclusive-or a foreground
-pub data Stroke : Type 0 where
-  Plain : ℕ → Stroke
-  Above : Stroke
-  Crossed : ℕ → Stroke
-
 -- the pixel that a stroke draws, by the pixel one row earlier
 abbrev pub drawn_pixel : Stroke → ℕ → ℕ
 drawn_pixel (Plain c) above = c
@@ -135,13 +131,13 @@ drawn_pixel Above above = above
 drawn_pixel (Crossed foreground) above = bit_xor foreground above
 
 -- a background pixel, and one of the foreground, of an order that begins in the first row or later
-abbrev pub ground : Bool → Stroke
-ground true = Plain 0
-ground false = Above
+abbrev pub background_stroke : Bool → Stroke
+background_stroke true = Plain 0
+background_stroke false = Above
 
-abbrev pub figure : Bool → ℕ → Stroke
-figure true foreground = Plain foreground
-figure false foreground = Crossed foreground
+abbrev pub foreground_stroke : Bool → ℕ → Stroke
+foreground_stroke true foreground = Plain foreground
+foreground_stroke false foreground = Crossed foreground
 
 -- a background run, of which the first pixel is a foreground pixel where the test holds
 abbrev pub background_strokes : Bool → ℕ → Stroke → Stroke → List Stroke
@@ -198,7 +194,7 @@ abbrev pub drawn_after : ℕ → Drawn → Order → Drawn
 drawn_after w d o = record { count = d.count + run_size o.run; foreground = foreground_of o d; before = before_next o.run (is_first_row w d) }
 
 abbrev pub order_strokes : ℕ → Drawn → Order → List Stroke
-order_strokes w d o = run_strokes o.run (follows_background d.before (is_first_row w d)) (ground (is_first_row w d)) (figure (is_first_row w d) (foreground_of o d))
+order_strokes w d o = run_strokes o.run (follows_background d.before (is_first_row w d)) (background_stroke (is_first_row w d)) (foreground_stroke (is_first_row w d) (foreground_of o d))
 
 -- the strokes of orders one after the other, in rows of w
 abbrev pub strokes_from : ℕ → Drawn → List Order → List Stroke

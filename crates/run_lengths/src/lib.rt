@@ -18,5 +18,7 @@
 #![tactic(auto)]
 
 mod codes;
+mod strokes;
 
 pub use codes::{Before, Kind, Length, Row};
+pub use strokes::Stroke;

@@ -42,9 +42,17 @@ abbrev pub AreGlyphsKept : SurfaceState → List ℕ → Type 0
 AreGlyphsKept st [] = Unit {0}
 AreGlyphsKept st (code ∷ codes) = IsTrue (is_some (lookup (glyph_slot board_font code) st.glyphs)) × AreGlyphsKept st codes
 
+-- a surface of a size: it has the pixels of that size, and all its slots, which are lists
+pub record IsSurfaceOf (size : Size) (st : SurfaceState) : Type 0 where
+  pub pixels : length st.picture ≡ pixel_count size
+  pub images : length st.images ≡ 256
+  pub brushes : length st.brushes ≡ 64
+  pub glyphs : length st.glyphs ≡ 1024
+  pub blocks : length st.blocks ≡ 16
+
 -- a surface agrees with a board: it has the size; the pen and the last point lie on it; an open popup is kept; and what the board counts as loaded is in its slot
 pub record BoardAgrees (size : Size) (st : SurfaceState) (b : Board) : Type 0 where
-  pub sized : length st.picture ≡ pixel_count size
+  pub sized : IsSurfaceOf size st
   pub pen : IsPointOn size b.pen
   pub last : IsPointOn size (Some b.last)
   pub popup : IsPopupKept size st b.popup

@@ -1,5 +1,5 @@
 -- The X.224 Connection Confirm (X.224, 13.4; MS-RDPBCGR, 2.2.1.2).
-use Rattle.std.specs.Prelude.{ℕ, ◌+◌, List, [], ◌∷◌, ◌++◌, length, Option, Some, None}
+use Rattle.std.specs.Prelude.{ℕ, List, [], ◌∷◌, ◌++◌, length, Option, Some, None}
 use Rattle.byteorder.specs.Endian.{big_bytes}
 use Rattle.tpkt_x224.specs.declared.request.Request.{Request}
 use Rattle.tpkt_x224.specs.Tpkt.{packet_of}

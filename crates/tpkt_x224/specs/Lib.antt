@@ -1,4 +1,5 @@
 pub mod Tpkt
+pub mod Pieces
 pub mod Request
 pub mod Confirm
 pub mod Data

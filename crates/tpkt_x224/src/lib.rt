@@ -4,12 +4,14 @@
 mod bad_tpdu;
 mod confirm;
 mod data;
+mod pieces;
 mod request;
 mod tpkt;
 
 pub use bad_tpdu::BadTpdu;
 pub use confirm::write_confirm;
 pub use data::data_header;
+pub use pieces::{heads_of_streams, packets_in_any_pieces};
 pub use request::{Request, read_request};
 pub use tpkt::{Packet, next_packet};
 

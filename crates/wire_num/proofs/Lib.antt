@@ -1,1 +1,4 @@
 pub mod Fronts
+pub mod Steps
+pub mod ReadIsText
+pub mod TextIsRead

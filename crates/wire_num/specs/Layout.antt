@@ -33,6 +33,8 @@ pub data Layout : Type 0 where
   AtLeast : ℕ → Layout → Layout
   -- a count, whose value isn't compared
   Length : Count → Layout → Layout
+  -- a count, and so many bytes of any value
+  Counted : Count → Layout → Layout
   -- a count, and fields in exactly so many bytes; too few are refused at their first byte
   Within : Count → Layout → Layout → Layout
 
@@ -74,6 +76,8 @@ fields_at (Little n test next) bs =
 fields_at (CountsRest next) bs = then_read (rest_count_at bs) (λ _ rest. fields_at next rest)
 fields_at (AtLeast n next) bs = then_read (at_least n bs) (λ _ rest. fields_at next rest)
 fields_at (Length form next) bs = then_read (count_at form bs) (λ _ rest. fields_at next rest)
+fields_at (Counted form next) bs =
+    then_read (count_at form bs) (λ n rest. then_read (bytes_at n rest) (λ _ after. fields_at next after))
 fields_at (Within form inner next) bs =
     then_read (count_at form bs) (λ n rest.
     then_read (bytes_at n rest) (λ content after.

@@ -3,3 +3,4 @@ pub mod Length
 pub mod Layout
 pub mod Cursor
 pub mod Written
+pub mod Grammar

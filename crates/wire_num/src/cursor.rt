@@ -1,6 +1,6 @@
 //! A place in a slice, from which fields are read one after the other.
 
-ghost use Rattle.std.specs.Prelude.{◌≡◌, ℕ, ◌+◌, ◌-◌, ◌≤◌, ◌<◌, ◌↔◌, length, drop, take, IsTrue, IfOk, List, []};
+ghost use Rattle.std.specs.Prelude.{◌≡◌, ℕ, ◌+◌, ◌-◌, ◌≤◌, ◌<◌, ◌↔◌, length, drop, take, IfOk, OnOk, List, []};
 ghost use Rattle.byteorder.specs.Endian.{big_number, little_number};
 ghost use Rattle.wire_num.specs.Cursor.{Reading, rest, ReadsField, ReadsFieldAs, ReadsFieldsAs};
 ghost use Rattle.wire_num.specs.Field.{big_at, little_at, bytes_at, end_at, at_least, rest_count_at, passing_at, has_bits, is_at_most};
@@ -229,7 +229,9 @@ impl<'a> Cursor<'a> {
     /// Exactly `n` bytes are left, and the cursor goes behind them; else the refusal is at the first of them.
     #[tactic(auto, unfolding(crate::specs::Layout::exactly_at))]
     pub fn exactly(&mut self, n: usize) -> Result<&'a [u8], Short>
-        ensures { ReadsFieldAs (λ part. part.now) (exactly_at n) result self.old self.new }
+        ensures field { ReadsFieldAs (λ part. part.now) (exactly_at n) result self.old self.new }
+        ensures fits { OnOk result (self.old.at + n ≡ length self.old.bytes) }
+        ensures end { OnOk result (self.new.at ≡ length self.old.bytes) }
     {
         let left = &self.bytes[self.at..];
         if left.len() != n {

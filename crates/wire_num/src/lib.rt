@@ -2,6 +2,7 @@
 #![tactic(auto)]
 
 mod cursor;
+mod layout;
 mod length;
 mod memory;
 mod number;
@@ -9,6 +10,7 @@ mod range;
 mod short;
 
 pub use cursor::Cursor;
+pub use layout::layouts_are_read_exactly;
 pub use length::{put_ber_len, put_per_len};
 pub use memory::OutOfMemory;
 pub use number::{put_u16_be, put_u16_le, put_u32_le};

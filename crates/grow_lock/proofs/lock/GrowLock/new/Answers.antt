@@ -9,6 +9,6 @@ pub new-requires : goal.new-requires
 new-requires g c = let head = g.T.Grows.head in let list = g.T.Grows.list in let key = c.of-about.result.value in let x = c.args.value in
     let is : key ≡ x = c.of-about.ensures in
     let long : length (list key) ≡ c.ready-count.result = ap (λ v. length (list v)) is ∙ sym c.ready-count.ensures in
-    let slots : Some key ∷ [] ≡ c.push.new.self.items = ap (λ v. Some v ∷ []) is ∙ sym (c.in-Ok.ensures.items ∙ ap (λ l. l ++ Some x ∷ []) c.new-slots.ensures.items) in
+    let slots : Some key ∷ [] ≡ c.push.new.self.items = ap (λ v. Some v ∷ []) is ∙ sym (c.in_ok-push.ensures.items ∙ ap (λ l. l ++ Some x ∷ []) c.new-slots.ensures.items) in
     subst (λ ws. IsKept head list (head key) (opening ws c.push.new.self.items (fresh_notes (Some (head key)) (list key)))) (ap (λ n. 0 ∷ n ∷ []) long)
     (subst (λ xs. IsKept head list (head key) (opening (0 ∷ length (list key) ∷ []) xs (fresh_notes (Some (head key)) (list key)))) slots (opens head list (head key) key refl))

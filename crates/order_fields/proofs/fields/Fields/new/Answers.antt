@@ -1,5 +1,5 @@
 use Rattle.order_fields.specs.OrderTable.{field_list}
-use Rattle.order_fields.proofs.Table.{few_values}
+use Rattle.order_fields.proofs.Rows.{few_values}
 use Rattle.order_fields.proofs.fields.Fields.new.Goals as goal
 
 pub padded-requires : goal.padded-requires

@@ -1,6 +1,6 @@
 use Rattle.std.proofs.Common.{[]}
 use Rattle.order_fields.specs.OrderTable.{field_list}
-use Rattle.order_fields.proofs.Table.{few_values}
+use Rattle.order_fields.proofs.Rows.{few_values}
 use Rattle.order_fields.proofs.fields.Fields.plain.Goals as goal
 
 pub padded-requires : goal.padded-requires

@@ -1,0 +1,5 @@
+pub mod Slots
+pub mod Agrees
+pub mod Fitting
+pub mod Reactions
+pub mod Few

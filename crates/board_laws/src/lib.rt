@@ -1,0 +1,4 @@
+//! Laws of the board: when a surface agrees with it, and what keeps the agreement.
+#![tactic(auto)]
+
+pub mod laws;

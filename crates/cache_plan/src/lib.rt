@@ -1,0 +1,13 @@
+//! The entries of a client's cache: which uses of a key miss, and at which index ([MS-RDPEGDI]
+//! 2.2.2.2.1.2, cache orders).
+#![tactic(auto)]
+
+mod cache;
+mod fault;
+#[cfg(test)]
+mod tests;
+mod uses;
+
+pub use cache::Cache;
+pub use fault::{CacheFault, OutOfMemory};
+pub use uses::Use;

@@ -1,0 +1,29 @@
+-- The agreement of session and client within a frame, from drawing to drawing.
+use Rattle.std.specs.Prelude.{◌≡◌, Option, Ok}
+use Rattle.px_core.specs.declared.surface.Size.{Size}
+use Rattle.px_core.specs.declared.rectangle.Rect.{Rect}
+use Rattle.caps_sets.specs.declared.confirmed.Confirmed.{Confirmed}
+use Rattle.draw_ops.specs.declared.shape.Drawing.{Drawing}
+use Rattle.draw_ops.specs.declared.shape.Shape.{Shape}
+use Rattle.draw_ops.specs.Slots.{SurfaceState}
+use Rattle.order_means.specs.ClientState.{ClientState, client_after_order}
+use Rattle.frame_rules.specs.Frame.{Walk}
+use Rattle.frame_rules.specs.FrameOrders.{SentOrder}
+use Rattle.frame_rules.specs.FrameRead.{as_read}
+use Rattle.frame_rules.specs.Shown.{ShowsOutside}
+use Rattle.frame_rules.specs.Describes.{BlocksAgree}
+
+-- outside the dirty tiles the client's picture is the session's, and each held block has the pixels of its slot
+pub record Agrees (size : Size) (st : SurfaceState) (w : Walk) (client : ClientState) : Type 0 where
+  pub shown : ShowsOutside size w.dirty client.picture st.picture
+  pub blocks : BlocksAgree st w.held client
+
+-- a shape in a clip
+abbrev pub drawn : Shape → Option Rect → Drawing
+drawn s clip = record { shape = s; clip = clip }
+
+-- an order that the client obeys, after which it agrees with a state of the session
+pub record ObeyedAndAgrees (c : Confirmed) (size : Size) (st : SurfaceState) (w : Walk) (client : ClientState) (o : SentOrder) : Type 0 where
+  pub after : ClientState
+  pub obeys : client_after_order c size client (as_read c o) ≡ Ok after
+  pub agrees : Agrees size st w after

@@ -1,5 +1,0 @@
-//! The one error of the crate.
-
-/// There was no memory.
-#[derive(Clone, Copy, Debug, PartialEq, Eq)]
-pub struct OutOfMemory;

@@ -1,0 +1,2 @@
+pub mod Indication
+pub mod SampleClient

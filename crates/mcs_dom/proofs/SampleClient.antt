@@ -1,0 +1,52 @@
+-- The definitions on a sample client's packets, and on texts that break a rule.
+use Rattle.std.proofs.Common.{◌≡◌, List, [], ◌∷◌, refl}
+use Rattle.std.specs.Prelude.{Ok, Err}
+use Rattle.wire_num.specs.Field.{bytes_at, big_at, passing_at, end_at}
+use Rattle.wire_num.specs.Length.{per_len_at}
+use Rattle.wire_num.specs.Layout.{wanted_at, exactly_at}
+use Rattle.mcs_dom.specs.declared.domain_pdu.DomainPdu.TheVariants.{Erect, Attach, Join, Data, Bye}
+use Rattle.mcs_dom.specs.ErectDomain.{erect_domain_request}
+use Rattle.mcs_dom.specs.AttachUser.{attach_user_request}
+use Rattle.mcs_dom.specs.ChannelJoin.{channel_join_request}
+use Rattle.mcs_dom.specs.SendData.{send_data_request, send_data_indication}
+use Rattle.mcs_dom.specs.Ultimatum.{ultimatum, ultimatum_packet}
+use Rattle.mcs_dom.specs.DomainPdu.{domain_pdu_of}
+
+erects : domain_pdu_of (4 ∷ 1 ∷ 0 ∷ 1 ∷ 0 ∷ []) ≡ Ok Erect
+unfolding erect_domain_request wanted_at big_at bytes_at end_at
+erects = refl
+
+attaches : domain_pdu_of (40 ∷ []) ≡ Ok Attach
+unfolding attach_user_request wanted_at end_at
+attaches = refl
+
+joins : domain_pdu_of (56 ∷ 0 ∷ 6 ∷ 3 ∷ 239 ∷ []) ≡ Ok (Join 1007 1007)
+unfolding channel_join_request wanted_at passing_at big_at end_at
+joins = refl
+
+sends : domain_pdu_of (100 ∷ 0 ∷ 6 ∷ 3 ∷ 235 ∷ 112 ∷ 2 ∷ 7 ∷ 8 ∷ []) ≡ Ok (Data 1007 1003 (record { from = 7; to = 9 }))
+unfolding send_data_request wanted_at passing_at big_at per_len_at exactly_at
+sends = refl
+
+leaves : domain_pdu_of (33 ∷ 128 ∷ []) ≡ Ok (Bye 3)
+unfolding ultimatum wanted_at passing_at big_at end_at
+leaves = refl
+
+left_over : domain_pdu_of (40 ∷ 0 ∷ []) ≡ Err (record { at = 1 })
+unfolding attach_user_request wanted_at end_at
+left_over = refl
+
+no_body : domain_pdu_of (100 ∷ 0 ∷ 6 ∷ 3 ∷ 235 ∷ 112 ∷ 129 ∷ 0 ∷ []) ≡ Err (record { at = 8 })
+unfolding send_data_request wanted_at passing_at big_at per_len_at exactly_at
+no_body = refl
+
+fifth_reason : domain_pdu_of (34 ∷ 128 ∷ []) ≡ Err (record { at = 1 })
+unfolding ultimatum wanted_at passing_at big_at end_at
+fifth_reason = refl
+
+indicated : send_data_indication (7 ∷ 8 ∷ []) ≡ 3 ∷ 0 ∷ 0 ∷ 16 ∷ 2 ∷ 240 ∷ 128 ∷ 104 ∷ 0 ∷ 1 ∷ 3 ∷ 235 ∷ 112 ∷ 2 ∷ 7 ∷ 8 ∷ []
+unfolding send_data_indication
+indicated = refl
+
+ended : ultimatum_packet 1 ≡ 3 ∷ 0 ∷ 0 ∷ 9 ∷ 2 ∷ 240 ∷ 128 ∷ 32 ∷ 128 ∷ []
+ended = refl

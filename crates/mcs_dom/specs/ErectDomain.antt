@@ -1,0 +1,11 @@
+-- The Erect Domain Request (T.125, 7, ErectDomainRequest; MS-RDPBCGR, 2.2.1.5).
+use Rattle.std.specs.Prelude.{[], ◌∷◌}
+use Rattle.wire_num.specs.Layout.{Layout, End, Bytes, Counted, OneByte, ◌▸◌}
+
+-- choice; subHeight; subInterval
+unfoldable pub erect_domain_request : Layout
+erect_domain_request =
+    Bytes (4 ∷ [])
+    ▸ Counted OneByte
+    ▸ Counted OneByte
+    ▸ End

@@ -1,0 +1,69 @@
+-- The fields of an order from a place on.
+use Rattle.std.proofs.Common.{◌≡◌, ℕ, zero, suc, ◌/◌, ◌^◌, ◌<◌, ℤ, List, [], ◌∷◌, length, get_or, drop, refl, ap, sym, ◌∙◌, ◌%◌, arith}
+use Rattle.std.specs.Prelude.{Bool, true, false, ◌&&◌}
+use Rattle.std.specs.Int.{bytes_low_first}
+use Rattle.std.proofs.lemmas.Bool.{false≢true}
+use Rattle.std.proofs.Math.Nat.{div-div-eq-div-mul}
+use Rattle.order_fields.specs.declared.kind.Kind.{Kind}
+use Rattle.order_fields.specs.Bytes.{low_bytes}
+use Rattle.order_fields.specs.OrderTable.{FitKinds, FitsKind}
+use Rattle.order_fields.specs.OrderDelta.{fields_of, is_near, all_near}
+use Rattle.order_fields.specs.Kept.{IsSized, AreSized}
+
+-- the first of the fields from place i on, and the others
+pub fields_drop : (i : ℕ) (ks : List Kind) (ls zs : List ℤ) (k : Kind) (d e : ℤ) → i < length ks → length ls ≡ length ks → length zs ≡ length ks →
+    fields_of (drop i ks) (drop i ls) (drop i zs) ≡ (record { kind = get_or ks i k; last = get_or ls i d; value = get_or zs i e } ∷ fields_of (drop (suc i) ks) (drop (suc i) ls) (drop (suc i) zs))
+fields_drop i [] ls zs k d e h p q = absurd (omega arith)
+fields_drop i (x ∷ ks) [] zs k d e h p q = absurd (omega arith)
+fields_drop i (x ∷ ks) (l ∷ ls) [] k d e h p q = absurd (omega arith)
+fields_drop zero (x ∷ ks) (l ∷ ls) (z ∷ zs) k d e h p q = refl
+fields_drop (suc i) (x ∷ ks) (l ∷ ls) (z ∷ zs) k d e h p q =
+    let a : i < length ks = omega arith in
+    let b : length ls ≡ length ks = omega arith in
+    let c : length zs ≡ length ks = omega arith in
+    fields_drop i ks ls zs k d e a b c
+
+-- a value of the list fits its field
+pub fit_at : (i : ℕ) (ks : List Kind) (zs : List ℤ) (k : Kind) (d : ℤ) → FitKinds ks zs → i < length ks → FitsKind (get_or ks i k) (get_or zs i d)
+fit_at i [] zs k d fits h = absurd (omega arith)
+fit_at i (x ∷ ks) [] k d fits h = absurd fits
+fit_at zero (x ∷ ks) (z ∷ zs) k d fits h = fits.0
+fit_at (suc i) (x ∷ ks) (z ∷ zs) k d fits h = let a : i < length ks = omega arith in fit_at i ks zs k d fits.1 a
+
+-- the bytes of a number, as std cuts them
+pub low_first : (i n x y : ℕ) → y ≡ x / 256 ^ i → bytes_low_first i n x ≡ low_bytes n y
+low_first i zero x y e = refl
+low_first zero (suc n) x y e =
+    let same : y ≡ x = omega (arith, e) in
+    let next : y / 256 ≡ x / 256 ^ 1 = omega (arith, same) in
+    rw (low_first 1 n x (y / 256) next) (ap (λ z. z ∷ low_bytes n (y / 256)) (ap (λ z. z % 256) (sym same)))
+low_first (suc i) (suc n) x y e =
+    let next : y / 256 ≡ x / 256 ^ suc (suc i) = ap (λ z. z / 256) e ∙ div-div-eq-div-mul x (256 ^ suc i) 256 ∙ ap (λ z. x / z) (grind arith) in
+    rw (low_first (suc (suc i)) n x (y / 256) next) (ap (λ z. z % 256 ∷ low_bytes n (y / 256)) (sym e))
+
+-- a field of the list is sized
+pub sized_at : (i : ℕ) (ks : List Kind) (k : Kind) → AreSized ks → i < length ks → IsSized (get_or ks i k)
+sized_at i [] k sized h = absurd (omega arith)
+sized_at zero (x ∷ ks) k sized h = sized.0
+sized_at (suc i) (x ∷ ks) k sized h = let a : i < length ks = omega arith in sized_at i ks k sized.1 a
+
+and_first : (a b : Bool) → (a && b) ≡ true → a ≡ true
+and_first true b h = refl
+and_first false b h = absurd (false≢true h)
+
+and_second : (a b : Bool) → (a && b) ≡ true → b ≡ true
+and_second true b h = h
+and_second false b h = absurd (false≢true h)
+
+-- where all fields are near, so is each of them
+pub near_at : (i : ℕ) (ks : List Kind) (ls zs : List ℤ) (k : Kind) (d e : ℤ) → all_near (fields_of ks ls zs) ≡ true → i < length ks → length ls ≡ length ks → length zs ≡ length ks →
+    is_near (record { kind = get_or ks i k; last = get_or ls i d; value = get_or zs i e }) ≡ true
+near_at i [] ls zs k d e near h p q = absurd (omega arith)
+near_at i (x ∷ ks) [] zs k d e near h p q = absurd (omega arith)
+near_at i (x ∷ ks) (l ∷ ls) [] k d e near h p q = absurd (omega arith)
+near_at zero (x ∷ ks) (l ∷ ls) (z ∷ zs) k d e near h p q = and_first (is_near (record { kind = x; last = l; value = z })) (all_near (fields_of ks ls zs)) near
+near_at (suc i) (x ∷ ks) (l ∷ ls) (z ∷ zs) k d e near h p q =
+    let a : i < length ks = omega arith in
+    let b : length ls ≡ length ks = omega arith in
+    let c : length zs ≡ length ks = omega arith in
+    near_at i ks ls zs k d e (and_second (is_near (record { kind = x; last = l; value = z })) (all_near (fields_of ks ls zs)) near) a b c

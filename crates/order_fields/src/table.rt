@@ -1,0 +1,172 @@
+//! The eight primary orders: their types, their fields, and how many flag bytes they have.
+//!
+//! | type | order | flag bytes | fields | section of [MS-RDPEGDI] |
+//! |---|---|---|---|---|
+//! | 00 | DstBlt | 1 | box, bRop | 2.2.2.2.1.1.2.1 |
+//! | 01 | PatBlt | 2 | box, bRop, backColor, foreColor, brush | 2.2.2.2.1.1.2.3 |
+//! | 02 | ScrBlt | 1 | box, bRop, nXSrc, nYSrc | 2.2.2.2.1.1.2.7 |
+//! | 0A | OpaqueRect | 1 | box, red, green, blue | 2.2.2.2.1.1.2.5 |
+//! | 0B | SaveBitmap | 1 | savedBitmapPosition, edges, operation | 2.2.2.2.1.1.2.12 |
+//! | 0D | MemBlt | 2 | cacheId, box, bRop, nXSrc, nYSrc, cacheIndex | 2.2.2.2.1.1.2.9 |
+//! | 0E | Mem3Blt | 3 | cacheId, box, bRop, nXSrc, nYSrc, backColor, foreColor, brush, cacheIndex | 2.2.2.2.1.1.2.10 |
+//! | 1B | GlyphIndex | 3 | cacheId, flAccel, ulCharInc, fOpRedundant, backColor, foreColor, edges bk, edges op, brush, x, y, counted bytes | 2.2.2.2.1.1.2.13 |
+
+ghost use Rattle.std.specs.Prelude.{◌≡◌, length};
+ghost use Rattle.order_fields.specs.OrderTable.{row_of};
+ghost use Rattle.order_fields.specs.Kept.{row_kinds, row_flags, is_row_counted};
+
+use crate::Kind;
+use crate::Kind::{Color, Coordinate, Number, Signed};
+
+pub const DST_BLT: u8 = 0x00;
+
+pub const PAT_BLT: u8 = 0x01;
+
+pub const SCR_BLT: u8 = 0x02;
+
+pub const OPAQUE_RECT: u8 = 0x0A;
+
+pub const SAVE_BITMAP: u8 = 0x0B;
+
+pub const MEM_BLT: u8 = 0x0D;
+
+pub const MEM3_BLT: u8 = 0x0E;
+
+pub const GLYPH_INDEX: u8 = 0x1B;
+
+const DST_BLT_KINDS: [Kind; 5] = [Coordinate, Coordinate, Coordinate, Coordinate, Number(1)];
+
+const PAT_BLT_KINDS: [Kind; 12] = [
+    Coordinate,
+    Coordinate,
+    Coordinate,
+    Coordinate,
+    Number(1),
+    Color,
+    Color,
+    Number(1),
+    Number(1),
+    Number(1),
+    Number(1),
+    Number(7),
+];
+
+const SCR_BLT_KINDS: [Kind; 7] = [
+    Coordinate,
+    Coordinate,
+    Coordinate,
+    Coordinate,
+    Number(1),
+    Coordinate,
+    Coordinate,
+];
+
+const OPAQUE_RECT_KINDS: [Kind; 7] = [
+    Coordinate,
+    Coordinate,
+    Coordinate,
+    Coordinate,
+    Number(1),
+    Number(1),
+    Number(1),
+];
+
+const SAVE_BITMAP_KINDS: [Kind; 6] = [
+    Number(4),
+    Coordinate,
+    Coordinate,
+    Coordinate,
+    Coordinate,
+    Number(1),
+];
+
+const MEM_BLT_KINDS: [Kind; 9] = [
+    Number(2),
+    Coordinate,
+    Coordinate,
+    Coordinate,
+    Coordinate,
+    Number(1),
+    Coordinate,
+    Coordinate,
+    Number(2),
+];
+
+const MEM3_BLT_KINDS: [Kind; 16] = [
+    Number(2),
+    Coordinate,
+    Coordinate,
+    Coordinate,
+    Coordinate,
+    Number(1),
+    Coordinate,
+    Coordinate,
+    Color,
+    Color,
+    Number(1),
+    Number(1),
+    Number(1),
+    Number(1),
+    Number(7),
+    Number(2),
+];
+
+const GLYPH_INDEX_KINDS: [Kind; 21] = [
+    Number(1),
+    Number(1),
+    Number(1),
+    Number(1),
+    Color,
+    Color,
+    Signed,
+    Signed,
+    Signed,
+    Signed,
+    Signed,
+    Signed,
+    Signed,
+    Signed,
+    Number(1),
+    Number(1),
+    Number(1),
+    Number(1),
+    Number(7),
+    Signed,
+    Signed,
+];
+
+/// The fields of a type; none of another type.
+pub fn kinds_of(kind: u8) -> &'static [Kind]
+    ensures { result.now ≡ row_kinds (row_of kind) }
+{
+    match kind {
+        DST_BLT => &DST_BLT_KINDS,
+        PAT_BLT => &PAT_BLT_KINDS,
+        SCR_BLT => &SCR_BLT_KINDS,
+        OPAQUE_RECT => &OPAQUE_RECT_KINDS,
+        SAVE_BITMAP => &SAVE_BITMAP_KINDS,
+        MEM_BLT => &MEM_BLT_KINDS,
+        MEM3_BLT => &MEM3_BLT_KINDS,
+        GLYPH_INDEX => &GLYPH_INDEX_KINDS,
+        _ => &[],
+    }
+}
+
+/// How many flag bytes a type has; none has another type.
+pub fn flag_bytes_of(kind: u8) -> u8
+    ensures { result ≡ row_flags (row_of kind) }
+{
+    match kind {
+        DST_BLT | SCR_BLT | OPAQUE_RECT | SAVE_BITMAP => 1,
+        PAT_BLT | MEM_BLT => 2,
+        MEM3_BLT | GLYPH_INDEX => 3,
+        _ => 0,
+    }
+}
+
+/// Whether a type has a field of counted bytes.
+pub fn is_counted(kind: u8) -> bool
+    ensures { result ≡ is_row_counted (row_of kind) }
+{
+    kind == GLYPH_INDEX
+}

@@ -1,0 +1,3 @@
+pub mod Fields
+pub mod Drawn
+pub mod Progress

@@ -1,0 +1,8 @@
+use Rattle.std.proofs.Common.{◌≡◌, ◌-◌}
+use Rattle.run_lengths.specs.RunLength.{dithered_strokes}
+use Rattle.rle_dec.specs.Drawing.{drawn_onto}
+use Rattle.rle_dec.proofs.draw.draw_dithered.Given as goal
+
+abbrev pub invariant-loop : goal.invariant-loop
+invariant-loop l =
+    drawn_onto l.w (dithered_strokes (l.n - l.counter) l.first l.second) l.out.items ≡ drawn_onto l.w (dithered_strokes l.n l.first l.second) l.fn.out.items

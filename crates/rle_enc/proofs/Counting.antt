@@ -1,0 +1,109 @@
+-- Counting from the front, one place at a time.
+use Rattle.std.proofs.Common.{◌≡◌, ℕ, suc, ◌+◌, ◌<◌, ◌≤◌, ◌≢◌, true, false, cond, List, [], ◌∷◌, ◌++◌, length, take, drop, replicate, get_or, refl, ap, sym, ◌∙◌, arith, append_assoc, append-nil}
+use Rattle.std.specs.Prelude.{◌==◌, zip, flat_map, nat_le, ◌&&◌, Option, Some, None}
+use Rattle.std.proofs.lemmas.Bool.Decides.{nat_tests}
+use Rattle.std.proofs.lemmas.List.{drop_more, drop_all, take_more, take_all, length-replicate}
+use Rattle.run_lengths.specs.Packer.{Spot, background_count, color_count, chosen_run}
+use Rattle.run_lengths.specs.RunLength.Run.{Background, Color, Image}
+use Rattle.rle_enc.specs.Stretch.{leading, HasItems, spots_in}
+use Rattle.rle_enc.proofs.Runs.{pixels}
+use Rattle.rle_enc.proofs.Stretches.{pixels-zip}
+
+same_test : (a b : ℕ) → a ≡ b → (a == b) ≡ true
+same_test a b e = grind (arith, nat_tests, e)
+
+other_test : (a b : ℕ) → a ≢ b → (a == b) ≡ false
+other_test a b e = grind (arith, nat_tests, e)
+
+pub leading_more : (c i x : ℕ) (xs : List ℕ) → i < length xs → get_or xs i 0 ≡ x → x ≡ c → leading c xs ≡ i + leading c (drop i xs) → leading c xs ≡ (i + 1) + leading c (drop (i + 1) xs)
+leading_more c i x xs lt at e h =
+    let here : leading c (drop i xs) ≡ suc (leading c (drop (i + 1) xs)) = ap (leading c) (drop_more xs i 0 lt) ∙ ap (λ t. cond t (suc (leading c (drop (i + 1) xs))) 0) (same_test (get_or xs i 0) c (at ∙ e)) in
+    omega (arith, h, here)
+
+pub leading_stops : (c i x : ℕ) (xs : List ℕ) → i < length xs → get_or xs i 0 ≡ x → x ≢ c → leading c xs ≡ i + leading c (drop i xs) → leading c xs ≡ i
+leading_stops c i x xs lt at e h =
+    let here : leading c (drop i xs) ≡ 0 = ap (leading c) (drop_more xs i 0 lt) ∙ ap (λ t. cond t (suc (leading c (drop (i + 1) xs))) 0) (other_test (get_or xs i 0) c (λ f. e (sym at ∙ f))) in
+    omega (arith, h, here)
+
+pub leading_ends : (c i : ℕ) (xs : List ℕ) → length xs ≤ i → leading c xs ≡ i + leading c (drop i xs) → leading c xs ≡ i
+leading_ends c i xs le h = omega (arith, h, ap (leading c) (drop_all i xs le))
+
+pub same_more : (i : ℕ) (xs ys : List ℕ) → i < length xs → i < length ys → get_or xs i 0 ≡ get_or ys i 0 → background_count (zip xs ys) ≡ i + background_count (zip (drop i xs) (drop i ys)) → background_count (zip xs ys) ≡ (i + 1) + background_count (zip (drop (i + 1) xs) (drop (i + 1) ys))
+same_more i xs ys l k e h =
+    let rest : ℕ = background_count (zip (drop (i + 1) xs) (drop (i + 1) ys)) in
+    let here : background_count (zip (drop i xs) (drop i ys)) ≡ suc rest = ap (λ us. background_count (zip us (drop i ys))) (drop_more xs i 0 l) ∙ ap (λ us. background_count (zip (get_or xs i 0 ∷ drop (i + 1) xs) us)) (drop_more ys i 0 k) ∙ ap (λ t. cond t (suc rest) 0) (same_test (get_or xs i 0) (get_or ys i 0) e) in
+    omega (arith, h, here)
+
+pub same_stops : (i : ℕ) (xs ys : List ℕ) → i < length xs → i < length ys → get_or xs i 0 ≢ get_or ys i 0 → background_count (zip xs ys) ≡ i + background_count (zip (drop i xs) (drop i ys)) → background_count (zip xs ys) ≡ i
+same_stops i xs ys l k e h =
+    let rest : ℕ = background_count (zip (drop (i + 1) xs) (drop (i + 1) ys)) in
+    let here : background_count (zip (drop i xs) (drop i ys)) ≡ 0 = ap (λ us. background_count (zip us (drop i ys))) (drop_more xs i 0 l) ∙ ap (λ us. background_count (zip (get_or xs i 0 ∷ drop (i + 1) xs) us)) (drop_more ys i 0 k) ∙ ap (λ t. cond t (suc rest) 0) (other_test (get_or xs i 0) (get_or ys i 0) e) in
+    omega (arith, h, here)
+
+none_left : (xs : List ℕ) → background_count (zip xs []) ≡ 0
+none_left [] = refl
+none_left (x ∷ xs) = refl
+
+pub same_ends : (i : ℕ) (xs ys : List ℕ) → length xs ≤ i → background_count (zip xs ys) ≡ i + background_count (zip (drop i xs) (drop i ys)) → background_count (zip xs ys) ≡ i
+same_ends i xs ys le h = omega (arith, h, ap (λ us. background_count (zip us (drop i ys))) (drop_all i xs le))
+
+pub same_ends_above : (i : ℕ) (xs ys : List ℕ) → length ys ≤ i → background_count (zip xs ys) ≡ i + background_count (zip (drop i xs) (drop i ys)) → background_count (zip xs ys) ≡ i
+same_ends_above i xs ys le h = omega (arith, h, ap (λ us. background_count (zip (drop i xs) us)) (drop_all i ys le), none_left (drop i xs))
+
+-- the counts of spots by those of lists
+pub color_count_leading : (c : ℕ) (spots : List Spot) → color_count c spots ≡ leading c (pixels spots)
+color_count_leading c [] = refl
+color_count_leading c (s ∷ spots) = ap (λ n. cond (s.0 == c) (suc n) 0) (color_count_leading c spots)
+
+pub black_count_leading : (xs : List ℕ) → background_count (zip xs (replicate (length xs) 0)) ≡ leading 0 xs
+black_count_leading [] = refl
+black_count_leading (x ∷ xs) = ap (λ n. cond (x == 0) (suc n) 0) (black_count_leading xs)
+
+flat_map_last : (f : ℕ → List ℕ) (zs : List ℕ) (y : ℕ) → flat_map f zs ++ f y ≡ flat_map f (zs ++ y ∷ [])
+flat_map_last f [] y = sym (append-nil (f y))
+flat_map_last f (z ∷ zs) y = append_assoc (f z) (flat_map f zs) (f y) ∙ ap (λ us. f z ++ us) (flat_map_last f zs y)
+
+pub flat_map_push : (f : ℕ → List ℕ) (p q xs : List ℕ) (i x : ℕ) → i < length xs → x ≡ get_or xs i 0 → q ≡ (p ++ flat_map f (take i xs)) ++ f x → q ≡ p ++ flat_map f (take (i + 1) xs)
+flat_map_push f p q xs i x lt at e = e ∙ append_assoc p (flat_map f (take i xs)) (f x) ∙ ap (λ zs. p ++ zs) (ap (λ y. flat_map f (take i xs) ++ f y) at ∙ flat_map_last f (take i xs) (get_or xs i 0) ∙ ap (flat_map f) (sym (take_more xs i 0 lt)))
+
+-- ---- the piece that is packed first
+
+-- the first item counts itself
+pub leading_some : (ps : List ℕ) → 0 < length ps → 1 ≤ leading (get_or ps 0 0) ps
+leading_some [] h = absurd (omega (arith, h))
+leading_some (p ∷ ps) h = let e : leading p (p ∷ ps) ≡ suc (leading p ps) = ap (λ t. cond t (suc (leading p ps)) 0) (same_test p p refl) in omega (arith, e)
+
+pub pixels_of_spots : (row : Option (List ℕ)) (ps : List ℕ) → HasItems (length ps) row → pixels (spots_in row ps) ≡ ps
+pixels_of_spots None ps h = pixels-zip ps (replicate (length ps) 0) ∙ take_all (length (replicate {A = ℕ} (length ps) 0)) ps (let e : length (replicate {A = ℕ} (length ps) 0) ≡ length ps = length-replicate (length ps) 0 in omega (arith, e))
+pixels_of_spots (Some row) ps h = pixels-zip ps row ∙ take_all (length row) ps h
+
+pub color_of_spots : (row : Option (List ℕ)) (ps : List ℕ) (x : ℕ) → HasItems (length ps) row → color_count x (spots_in row ps) ≡ leading x ps
+color_of_spots row ps x h = color_count_leading x (spots_in row ps) ∙ ap (leading x) (pixels_of_spots row ps h)
+
+chosen_background : (b c x : ℕ) → 1 ≤ b → c ≤ b → chosen_run b c x ≡ Background b
+chosen_background b c x l h = let e : (nat_le 1 b && nat_le c b) ≡ true = grind (arith, nat_tests, l, h) in ap (λ t. cond t (Background b) (cond (nat_le 2 c) (Color c x) (Image (x ∷ [])))) e
+
+chosen_color : (b c x : ℕ) → b < c → 2 ≤ c → chosen_run b c x ≡ Color c x
+chosen_color b c x l h =
+    let e : (nat_le 1 b && nat_le c b) ≡ false = grind (arith, nat_tests, l) in
+    let f : nat_le 2 c ≡ true = grind (arith, nat_tests, h) in
+    ap (λ t. cond t (Background b) (cond (nat_le 2 c) (Color c x) (Image (x ∷ [])))) e ∙ ap (λ t. cond t (Color c x) (Image (x ∷ []))) f
+
+chosen_literal : (b c x : ℕ) → b < 1 → c < 2 → chosen_run b c x ≡ Image (x ∷ [])
+chosen_literal b c x l h =
+    let e : (nat_le 1 b && nat_le c b) ≡ false = grind (arith, nat_tests, l) in
+    let f : nat_le 2 c ≡ false = grind (arith, nat_tests, h) in
+    ap (λ t. cond t (Background b) (cond (nat_le 2 c) (Color c x) (Image (x ∷ [])))) e ∙ ap (λ t. cond t (Color c x) (Image (x ∷ []))) f
+
+-- the counts in a choice may be those of the lists
+pub chosen_same : (row : Option (List ℕ)) (ps : List ℕ) (b c x : ℕ) → HasItems (length ps) row → b ≡ background_count (spots_in row ps) → c ≡ leading x ps → chosen_run b c x ≡ chosen_run (background_count (spots_in row ps)) (color_count x (spots_in row ps)) x
+chosen_same row ps b c x h e f = ap (λ n. chosen_run n c x) e ∙ ap (λ n. chosen_run (background_count (spots_in row ps)) n x) (f ∙ sym (color_of_spots row ps x h))
+
+pub piece_background : (row : Option (List ℕ)) (ps : List ℕ) (b c x : ℕ) → HasItems (length ps) row → b ≡ background_count (spots_in row ps) → c ≡ leading x ps → 1 ≤ b → c ≤ b → Background b ≡ chosen_run (background_count (spots_in row ps)) (color_count x (spots_in row ps)) x
+piece_background row ps b c x h e f l m = sym (chosen_background b c x l m) ∙ chosen_same row ps b c x h e f
+
+pub piece_color : (row : Option (List ℕ)) (ps : List ℕ) (b c x : ℕ) → HasItems (length ps) row → b ≡ background_count (spots_in row ps) → c ≡ leading x ps → b < c → 2 ≤ c → Color c x ≡ chosen_run (background_count (spots_in row ps)) (color_count x (spots_in row ps)) x
+piece_color row ps b c x h e f l m = sym (chosen_color b c x l m) ∙ chosen_same row ps b c x h e f
+
+pub piece_literal : (row : Option (List ℕ)) (ps : List ℕ) (b c x : ℕ) → HasItems (length ps) row → b ≡ background_count (spots_in row ps) → c ≡ leading x ps → b < 1 → c < 2 → Image (x ∷ []) ≡ chosen_run (background_count (spots_in row ps)) (color_count x (spots_in row ps)) x
+piece_literal row ps b c x h e f l m = sym (chosen_literal b c x l m) ∙ chosen_same row ps b c x h e f

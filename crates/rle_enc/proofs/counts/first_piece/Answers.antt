@@ -1,0 +1,17 @@
+use Rattle.std.proofs.Common.{◌≤◌, get_or, arith}
+use Rattle.rle_enc.specs.Stretch.{leading, row_of}
+use Rattle.rle_enc.proofs.Counting.{leading_some, piece_background, piece_color, piece_literal}
+use Rattle.rle_enc.proofs.counts.first_piece.Goals as goal
+
+pub returns-then-background-color-clause-is : goal.returns-then-background-color-clause-is
+returns-then-background-color-clause-is c =
+    let some : 1 ≤ leading (get_or c.args.pixels.now 0 0) c.args.pixels.now = leading_some c.args.pixels.now c.requires.some in
+    piece_background (row_of c.args.aboves) c.args.pixels.now c.count_background-background.result c.count_color-color.result (get_or c.args.pixels.now 0 0) c.requires.row c.count_background-background.ensures.is c.count_color-color.ensures.is (omega (arith, some, c.if-background-color.true, c.count_color-color.ensures.is)) (omega (arith, c.if-background-color.true))
+
+pub returns-then-color-ge2-clause-is : goal.returns-then-color-ge2-clause-is
+returns-then-color-ge2-clause-is c =
+    piece_color (row_of c.args.aboves) c.args.pixels.now c.count_background-background.result c.count_color-color.result (get_or c.args.pixels.now 0 0) c.requires.row c.count_background-background.ensures.is c.count_color-color.ensures.is (omega (arith, c.if-background-color.false)) (omega (arith, c.if-color-ge2.true))
+
+pub returns-else-color-ge2-clause-is : goal.returns-else-color-ge2-clause-is
+returns-else-color-ge2-clause-is c =
+    piece_literal (row_of c.args.aboves) c.args.pixels.now c.count_background-background.result c.count_color-color.result (get_or c.args.pixels.now 0 0) c.requires.row c.count_background-background.ensures.is c.count_color-color.ensures.is (omega (arith, c.if-background-color.false, c.if-color-ge2.false)) (omega (arith, c.if-color-ge2.false))

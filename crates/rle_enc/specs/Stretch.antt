@@ -1,0 +1,57 @@
+-- A stretch of pixels and the row before it, as the packer's code has them.
+use Rattle.std.specs.Prelude.{ℕ, suc, ◌≤◌, ◌==◌, List, [], ◌∷◌, length, drop, replicate, zip, Option, Some, None, if◌then◌else◌}
+use denote.Ref.{Bor}
+use Rattle.run_lengths.specs.RunLength as runs
+use Rattle.run_lengths.specs.Packer.{Spot, run_bytes}
+use Rattle.rle_enc.specs.declared.counts.Piece.{Piece}
+use Rattle.rle_enc.specs.declared.counts.Piece.TheVariants.{Background, Color, Literal}
+
+-- how many items at the front are this number
+abbrev pub leading : ℕ → List ℕ → ℕ
+leading x [] = 0
+leading x (y ∷ ys) = if y == x then suc (leading x ys) else 0
+
+-- the pixels one row earlier, if there are any
+abbrev pub row_of : Option (Bor (List ℕ)) → Option (List ℕ)
+row_of None = None
+row_of (Some row) = Some row.now
+
+-- the pixels with those one row earlier, black where there are none
+abbrev pub spots_in : Option (List ℕ) → List ℕ → List Spot
+spots_in None pixels = zip pixels (replicate (length pixels) 0)
+spots_in (Some row) pixels = zip pixels row
+
+abbrev pub spots_of : Option (Bor (List ℕ)) → List ℕ → List Spot
+spots_of row pixels = spots_in (row_of row) pixels
+
+-- at least so many pixels stand one row earlier, where any do
+abbrev pub HasItems : ℕ → Option (List ℕ) → Type 0
+HasItems n None = Unit {0}
+HasItems n (Some row) = n ≤ length row
+
+abbrev pub HasRow : Option (Bor (List ℕ)) → List ℕ → Type 0
+HasRow row pixels = HasItems (length pixels) (row_of row)
+
+abbrev pub StandsIn : ℕ → Option (Bor (List ℕ)) → Type 0
+StandsIn at row = HasItems at (row_of row)
+
+abbrev pub dropped : ℕ → Option (List ℕ) → Option (List ℕ)
+dropped at None = None
+dropped at (Some row) = Some (drop at row)
+
+-- the run of a piece that begins with a colour
+abbrev pub run_of : Piece → ℕ → runs.Run
+run_of (Background n) color = runs.Run.Background n
+run_of (Color n) color = runs.Run.Color n color
+run_of Literal color = runs.Run.Image (color ∷ [])
+
+-- the bytes of pixels that stand for themselves
+abbrev pub literal_bytes : List ℕ → List ℕ
+literal_bytes [] = []
+literal_bytes (c ∷ cs) = run_bytes (runs.Run.Image (c ∷ cs))
+
+-- how many pixels a piece is
+abbrev pub piece_size : Piece → ℕ
+piece_size (Background n) = n
+piece_size (Color n) = n
+piece_size Literal = 1

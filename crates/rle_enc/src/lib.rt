@@ -1,0 +1,11 @@
+//! Packs pixels as run-length bitmaps ([MS-RDPBCGR] 2.2.9.1.1.3.1.2.4 and 3.1.9; which orders are written is this project's profile).
+#![tactic(auto)]
+
+mod bitmap;
+mod counts;
+mod fault;
+mod orders;
+mod stretch;
+
+pub use bitmap::{Packed, pack};
+pub use fault::OutOfMemory;

@@ -1,0 +1,54 @@
+//! Packs one stretch of pixels: the first row, or the rest.
+ghost use Rattle.std.specs.Prelude.{◌≡◌, ◌<◌, ◌≤◌, ◌++◌, OnOk, flat_map, length};
+ghost use Rattle.run_lengths.specs.Packer.{packed_runs, run_bytes};
+ghost use Rattle.rle_enc.specs.Stretch.{HasRow, StandsIn, dropped, row_of, spots_of};
+
+use crate::counts::{Piece, first_piece};
+use crate::orders::{write_background, write_color, write_literals};
+use std::alloc::AllocError;
+
+/// Appends the orders of a stretch, by the pixels one row earlier, or over black.
+pub fn pack_stretch(
+    out: &mut Vec<u8>,
+    pixels: &[u32],
+    aboves: Option<&[u32]>,
+) -> Result<(), AllocError>
+    requires few { length pixels.now < 65536 }
+    requires row { HasRow aboves pixels.now }
+    ensures { OnOk result (out.new.items ≡ out.old.items ++ flat_map run_bytes (packed_runs (spots_of aboves.entry pixels.now))) }
+{
+    let mut at = 0;
+    let mut literals = 0;
+    while at < pixels.len() {
+        match first_piece(&pixels[at..], rows_from(aboves, at)) {
+            Piece::Background(n) => {
+                write_literals(out, &pixels[at - literals..at])?;
+                write_background(out, n)?;
+                literals = 0;
+                at += n;
+            }
+            Piece::Color(n) => {
+                write_literals(out, &pixels[at - literals..at])?;
+                write_color(out, n, pixels[at])?;
+                literals = 0;
+                at += n;
+            }
+            Piece::Literal => {
+                literals += 1;
+                at += 1;
+            }
+        }
+    }
+    write_literals(out, &pixels[at - literals..])
+}
+
+/// The pixels one row earlier from a place on.
+fn rows_from(aboves: Option<&[u32]>, at: usize) -> Option<&[u32]>
+    requires { StandsIn at aboves }
+    ensures { row_of result ≡ dropped at (row_of aboves.entry) }
+{
+    match aboves {
+        Some(row) => Some(&row[at..]),
+        None => None,
+    }
+}

@@ -1,0 +1,10 @@
+//! Where the host has a client keep saved blocks: the least free position, and no two blocks in
+//! common (profile, over the positions of [MS-RDPEGDI] 2.2.2.2.1.1.2.12, SaveBitmap).
+#![tactic(auto)]
+
+mod blocks;
+mod room;
+#[cfg(test)]
+mod tests;
+
+pub use blocks::{Blocks, PlaceFault};

@@ -1,0 +1,8 @@
+use Rattle.tpkt_x224.proofs.Heads.{whole_head, part_head}
+use Rattle.tpkt_x224.proofs.pieces.heads_of_streams.Goals as goal
+
+pub returns-clause-whole : goal.returns-clause-whole
+returns-clause-whole c = whole_head
+
+pub returns-clause-part : goal.returns-clause-part
+returns-clause-part c = part_head
