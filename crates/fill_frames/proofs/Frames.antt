@@ -66,7 +66,7 @@ length_of_patches regs [] = refl
 length_of_patches regs (p ∷ ps) = ap suc (length_of_patches (registers_after regs (patch_fields p) None) ps)
 
 -- the bytes of a frame with at least one patch
-bytes_are : (regs : Registers) (p : Patch) (ps : List Patch) → length (p ∷ ps) ≤ 257 →
+pub bytes_are : (regs : Registers) (p : Patch) (ps : List Patch) → length (p ∷ ps) ≤ 257 →
     patches_bytes regs (p ∷ ps) ≡ update_packet (orders_body (length (p ∷ ps)) (joined_bytes (bytes_of_patches regs (p ∷ ps)))) ++ update_packet synchronize_body
 bytes_are regs p ps few =
     let next = registers_after regs (patch_fields p) None in

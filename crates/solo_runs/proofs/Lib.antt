@@ -12,3 +12,6 @@ pub mod FixedLines
 pub mod Law
 pub mod LineByLine
 pub mod FormWords
+pub mod Kept
+pub mod Packets
+pub mod FrameParts

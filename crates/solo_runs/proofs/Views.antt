@@ -51,12 +51,12 @@ patches_after : (size : Size) (xs ys : List Patch) (picture : List ℕ) → with
 patches_after size [] ys picture = refl
 patches_after size (p ∷ xs) ys picture = patches_after size xs ys (with_patch session_colors size p picture)
 
-are_dropped : (n : ℕ) (ps : List Patch) → ArePatches ps → ArePatches (drop n ps)
+pub are_dropped : (n : ℕ) (ps : List Patch) → ArePatches ps → ArePatches (drop n ps)
 are_dropped zero ps h = h
 are_dropped (suc n) [] h = h
 are_dropped (suc n) (p ∷ ps) h = are_dropped n ps h.1
 
-are_more : (ps : List Patch) (p : Patch) → ArePatches ps → IsPatch p → ArePatches (ps ++ p ∷ [])
+pub are_more : (ps : List Patch) (p : Patch) → ArePatches ps → IsPatch p → ArePatches (ps ++ p ∷ [])
 are_more [] p h is = (is, tt)
 are_more (q ∷ ps) p h is = (h.0, are_more ps p h.1 is)
 
@@ -181,7 +181,7 @@ no_rule : (o : Option ℕ) (rest : List (Option Refusal)) → first_some (option
 no_rule None rest e = refl
 no_rule (Some r) rest e = absurd (cc e)
 
-accepted_is_patch : (s : Solo) (p : Patch) → is_drawing_in_range (patch_drawing p) ≡ true → patch_refusal s p ≡ None → IsPatch p
+pub accepted_is_patch : (s : Solo) (p : Patch) → is_drawing_in_range (patch_drawing p) ≡ true → patch_refusal s p ≡ None → IsPatch p
 accepted_is_patch s p range e =
     let shape = (and_parts (is_rect_in_range p.rect && is_color p.color) true range).0 in
     let color = (and_parts (is_rect_in_range p.rect) (is_color p.color) shape).1 in

@@ -1,3 +1,4 @@
 pub mod Solo
 pub mod Small
 pub mod SoloScript
+pub mod Headers

@@ -17,6 +17,8 @@ use Rattle.fill_frames.specs.Views.{patches_bytes, registers_after_patches}
 use Rattle.script_rules.specs.Script.{Asked, without_preset, solo_rows}
 use Rattle.script_rules.specs.Capture.{of_viewer, refusal_line}
 use Rattle.line_text.specs.Hexadecimal.{hexadecimal_text}
+use Rattle.solo_runs.specs.declared.refusal.FillRefusal.{FillRefusal}
+use Rattle.solo_runs.specs.declared.refusal.FillRefusal.TheVariants as refusal
 use Rattle.solo_runs.specs.declared.step.SoloStep.{SoloStep}
 use Rattle.solo_runs.specs.declared.step.SoloStep.TheVariants.{Take, Fill}
 
@@ -70,6 +72,11 @@ journal_of_patches ps = Join solo_viewer Owner ∷ map (λ p. Draw solo_viewer (
 -- why a patch is refused
 abbrev pub patch_refusal : Solo → Patch → Option Refusal
 patch_refusal s p = first_some (option_map BadDrawing (rect_rule p.rect) ∷ unless (nat_lt (length s.patches) most_entries) JournalFull ∷ [])
+
+-- a refusal of a fill, as the journal's refusal
+abbrev pub refusal_of_fill : FillRefusal → Refusal
+refusal_of_fill (refusal.BadDrawing rule) = BadDrawing rule
+refusal_of_fill refusal.JournalFull = JournalFull
 
 abbrev pub fill_line : Option Refusal → List ℕ
 fill_line None = []

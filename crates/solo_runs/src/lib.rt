@@ -2,9 +2,14 @@
 #![tactic(auto)]
 
 mod form;
+mod frame;
 mod laws;
+mod refusal;
+mod solo;
 mod step;
 
 pub use form::{breaks_text, is_invite, is_text_line, size_of_line, solo_step};
 pub use laws::first_scripts_show_the_journal;
+pub use refusal::FillRefusal;
+pub use solo::SoloRun;
 pub use step::SoloStep;
