@@ -12,3 +12,4 @@ pub mod FixedLines
 pub mod Law
 pub mod LineByLine
 pub mod FormWords
+pub mod Pieces
