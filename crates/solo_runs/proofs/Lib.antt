@@ -15,3 +15,4 @@ pub mod FormWords
 pub mod Kept
 pub mod Packets
 pub mod FrameParts
+pub mod Pieces
