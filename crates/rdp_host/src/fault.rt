@@ -1,0 +1,44 @@
+ghost use Rattle.std.specs.Prelude.{◌≡◌};
+ghost use Rattle.rdp_host.specs.declared.fault.ScriptFault.TheVariants.{OutOfMemory};
+
+/// Why a script ended early.
+#[derive(Clone, Copy, Debug, PartialEq, Eq)]
+pub enum ScriptFault {
+    /// The first line that breaks a rule, counted from 1, and the least rule that it breaks.
+    Line {
+        /// The line.
+        k: u32,
+        /// Its rule.
+        rule: u8,
+    },
+    /// The script couldn't be read further.
+    ReadFault,
+    /// The capture couldn't be written further.
+    WriteFault,
+    /// No memory was left.
+    OutOfMemory,
+}
+
+impl From<edge_io::OutOfMemory> for ScriptFault {
+    ghost from_gives = { λ _ fault. fault ≡ OutOfMemory };
+
+    fn from(_: edge_io::OutOfMemory) -> ScriptFault {
+        ScriptFault::OutOfMemory
+    }
+}
+
+impl From<line_text::OutOfMemory> for ScriptFault {
+    ghost from_gives = { λ _ fault. fault ≡ OutOfMemory };
+
+    fn from(_: line_text::OutOfMemory) -> ScriptFault {
+        ScriptFault::OutOfMemory
+    }
+}
+
+impl From<wire_num::OutOfMemory> for ScriptFault {
+    ghost from_gives = { λ _ fault. fault ≡ OutOfMemory };
+
+    fn from(_: wire_num::OutOfMemory) -> ScriptFault {
+        ScriptFault::OutOfMemory
+    }
+}

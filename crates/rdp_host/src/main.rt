@@ -1,0 +1,12 @@
+//! A Remote Desktop session host: its mode `script` runs a script and prints what the viewer is sent.
+#![tactic(auto)]
+
+mod fault;
+mod step;
+
+use std::process::ExitCode;
+use std::io;
+
+fn main(rt: HostRuntime) -> io::Result<ExitCode> {
+    Ok(ExitCode::from(0))
+}
