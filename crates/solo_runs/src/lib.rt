@@ -13,3 +13,6 @@ pub use laws::first_scripts_show_the_journal;
 pub use refusal::FillRefusal;
 pub use solo::SoloRun;
 pub use step::SoloStep;
+
+#[cfg(test)]
+mod tests;
