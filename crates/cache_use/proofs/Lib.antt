@@ -1,3 +1,4 @@
 pub mod UseFacts
 pub mod Recency
 pub mod Steps
+pub mod Indices

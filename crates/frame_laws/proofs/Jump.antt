@@ -36,9 +36,9 @@ module _ (size : Size) (narrow : size.w ≤ 2048) (client : ClientState) where
   one_jumped st w (Line x0 y0 x1 y1 color) clip a = skipped_agrees size st w client (drawn (Line x0 y0 x1 y1 color) clip) narrow (record { touched = refl; blocks = refl }) a
   one_jumped st w (Save slot r) clip a = save_skipped size narrow st clip client slot r w a
   one_jumped st w (Restore slot x y) clip a = skipped_agrees size st w client (drawn (Restore slot x y) clip) narrow (record { touched = refl; blocks = refl }) a
-  one_jumped st w (LoadImage slot image) clip a = record { shown = unpainted_more st w (LoadImage slot image) clip a; blocks = a.blocks }
-  one_jumped st w (LoadBrush slot brush) clip a = record { shown = unpainted_more st w (LoadBrush slot brush) clip a; blocks = a.blocks }
-  one_jumped st w (LoadGlyph font code glyph) clip a = record { shown = unpainted_more st w (LoadGlyph font code glyph) clip a; blocks = a.blocks }
+  one_jumped st w (LoadImage slot image) clip a = record { shown = unpainted_more st w (LoadImage slot image) clip a; blocks = a.blocks; filled = a.filled }
+  one_jumped st w (LoadBrush slot brush) clip a = record { shown = unpainted_more st w (LoadBrush slot brush) clip a; blocks = a.blocks; filled = a.filled }
+  one_jumped st w (LoadGlyph font code glyph) clip a = record { shown = unpainted_more st w (LoadGlyph font code glyph) clip a; blocks = a.blocks; filled = a.filled }
 
   pub jumped_agrees : (ds : List Drawing) (st : SurfaceState) (w : Walk) → Agrees size st w client
       → Agrees size (state_after_drawings size st ds) (jumped size w (pending_drawings size st ds)) client

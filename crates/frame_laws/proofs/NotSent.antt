@@ -64,6 +64,7 @@ pub skipped_agrees : (size : Size) (st : SurfaceState) (w : Walk) (client : Clie
 skipped_agrees size st w client d narrow is a = record {
   shown = rw is.touched (ShowsOutside-skipped size (painting_of size st d.shape) d.clip w.dirty client.picture st.picture narrow a.shown);
   blocks = λ slot place h. rw is.blocks (a.blocks slot place h);
+  filled = a.filled;
 }
 
 -- ---- a save that isn't sent gives up its slot's block

@@ -50,6 +50,7 @@ painting_agrees size st w client s clip q kept same a = let p = painting_of size
   shown = ShowsOutside-sent size (painted_area (in_bounds (edges_of_optional (bounds_of p.rect clip))) q) p (in_clip clip) q.formula w.dirty client.picture st.picture
       (λ i. painted_area-bounds p q clip (pos (i % size.w)) (pos (i / size.w)) same.rects (same.areas (pos (i % size.w)) (pos (i / size.w)))) same.formulas a.shown;
   blocks = λ slot place h. rw kept (a.blocks slot place h);
+  filled = a.filled;
 }
 
 -- ---- an order that is obeyed, and the agreement after it

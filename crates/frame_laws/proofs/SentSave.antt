@@ -18,16 +18,16 @@ use Rattle.caps_sets.specs.declared.confirmed.Confirmed.{Confirmed}
 use Rattle.order_means.specs.NamedDrawing.NamedDrawing.{SaveBlock}
 use Rattle.order_means.specs.ClientState.{ClientState, Block, needs, with_block as client_with_block, block_of, block_at, chosen_block, are_apart, apart_from, positions}
 use Rattle.order_means.specs.ClientState.Fault.{Broken}
-use Rattle.frame_rules.specs.Blocks.{Place, placed, positions_of, is_free, least_free, place_of, without_slot}
+use Rattle.frame_rules.specs.Blocks.{Place, placed, positions_of, has_room, least_free, place_of, without_slot}
 use Rattle.frame_rules.specs.Frame.{Walk, with_block, given_up}
 use Rattle.frame_rules.specs.FrameOrders.SentOrder.{Drawn}
 use Rattle.frame_rules.specs.Shown.{ShowsOutside}
 use Rattle.frame_rules.specs.Describes.{block_shown}
 use Rattle.frame_rules.proofs.TileLaws.{pos-nat_of, int_le_from, int_lt_from}
 use Rattle.frame_laws.specs.Agreement.{Agrees, ObeyedAndAgrees, drawn}
-use Rattle.frame_laws.proofs.NotSent.{ShowsOutside-unpainted, blocks_of_others}
+use Rattle.frame_laws.proofs.NotSent.{place-without, ShowsOutside-unpainted, blocks_of_others}
 use Rattle.frame_laws.proofs.Sent.{obeyed_as, copy_source, source_clean, same_number}
-use Rattle.frame_laws.proofs.SavedBlocks.{least_free-free, free_fits, free_apart, blocks_kept}
+use Rattle.frame_laws.proofs.SavedBlocks.{least_free-room, room_fits, free_apart, blocks_kept}
 
 -- ---- the pixels
 
@@ -138,14 +138,14 @@ module _ (size : Size) (st : SurfaceState) (w : Walk) (client : ClientState) (sl
             ∙ ap (λ ps. let b : Option Block = Some (record { position = position; w = r.w; h = r.h; pixels = ps }) in b) pixels,
       )
 
-  other_is_kept : has_pixel r ≡ true → is_free (positions_of r.w r.h) (without_slot slot w.held) position ≡ true → Agrees size st w client
+  other_is_kept : has_pixel r ≡ true → has_room (positions_of r.w r.h) (without_slot slot w.held) position ≡ true → Agrees size st w client
       → (k : ℕ) (place : Place) → place_of k (without_slot slot w.held) ≡ Some place → IsKept k place
   other_is_kept some free a k place h =
       let b = blocks_of_others st w.held client slot (session_block size st r) later refl a.blocks k place h in
-      let apart : are_apart new (block_shown place b.0) ≡ true = free_apart (positions_of r.w r.h) (without_slot slot w.held) position k place free h in
       let sides = and_parts (nat_le 1 r.w) (nat_le 1 r.h) some in
       let wide : 0 < r.w = let s = sides.0 in grind (arith, nat_tests, s) in
       let high : 0 < r.h = let s = sides.1 in grind (arith, nat_tests, s) in
+      let apart : are_apart new (block_shown place b.0) ≡ true = free_apart (positions_of r.w r.h) (without_slot slot w.held) position k place (some_positions r.w r.h wide high) (a.filled k place (place-without slot k w.held place h).stays) free h in
       let elsewhere : ((position == place.position) && ((r.w == place.w) && (r.h == place.h))) ≡ false =
       false_where _ (λ e. not_same_place position (positions r.w r.h) place.position place.w place.h (some_positions r.w r.h wide high) apart ((r.w == place.w) && (r.h == place.h)) e
       (λ s. let p = and_parts (r.w == place.w) (r.h == place.h) s in ap (λ v. positions v r.h) (same_number r.w place.w p.0) ∙ ap (positions place.w) (same_number r.h place.h p.1))) in
@@ -159,13 +159,23 @@ module _ (size : Size) (st : SurfaceState) (w : Walk) (client : ClientState) (sl
       subst (λ p. IsKept k p) same (subst (λ n. IsKept n (placed position r.w r.h)) (same_number slot k e) own)
   kept_by k place false e own other h = other (rw e at h)
 
+  filled_by : has_pixel r ≡ true → Agrees size st w client → (k : ℕ) (place : Place) (s : Bool) → (slot == k) ≡ s
+      → place_of k ((slot, placed position r.w r.h) ∷ without_slot slot w.held) ≡ Some place → 0 < positions_of place.w place.h
+  filled_by some a k place true e h =
+      let sides = and_parts (nat_le 1 r.w) (nat_le 1 r.h) some in
+      let wide : 0 < r.w = let s = sides.0 in grind (arith, nat_tests, s) in
+      let high : 0 < r.h = let s = sides.1 in grind (arith, nat_tests, s) in
+      let same : placed position r.w r.h ≡ place = cc (rw e at h) in
+      subst (λ p. 0 < positions_of p.w p.h) same (some_positions r.w r.h wide high)
+  filled_by some a k place false e h = a.filled k place (place-without slot k w.held place (rw e at h)).stays
+
   -- the order of a save to the least free position, of tiles that aren't dirty
   pub save_agrees : (c : Confirmed) → size.w ≤ 2048 → has_pixel r ≡ true → is_inside size r ≡ true → slot < length st.blocks
       → share_tile size w.dirty (tiles_of size r) ≡ false → least_free (positions_of r.w r.h) (without_slot slot w.held) ≡ Some position → Agrees size st w client
       → ObeyedAndAgrees c size later (with_block slot (placed position r.w r.h) (given_up slot w)) client (Drawn r (SaveBlock position r) None)
   save_agrees c narrow some whole there apart least a =
-      let free = least_free-free (positions_of r.w r.h) (without_slot slot w.held) position least in
-      let fits = free_fits (positions_of r.w r.h) (without_slot slot w.held) position free in
+      let free = least_free-room (positions_of r.w r.h) (without_slot slot w.held) position least in
+      let fits = room_fits (positions_of r.w r.h) (without_slot slot w.held) position free in
       record {
         after = client_with_block new client;
         obeys = obeyed_as c size client r (SaveBlock position r) None (Ok (client_with_block new client)) some
@@ -173,5 +183,6 @@ module _ (size : Size) (st : SurfaceState) (w : Walk) (client : ClientState) (sl
         agrees = record {
           shown = ShowsOutside-unpainted size clip w.dirty client.picture st.picture a.shown;
           blocks = λ k place h. kept_by k place (slot == k) refl (new_is_kept narrow whole apart there a) (other_is_kept some free a k place) h;
+          filled = λ k place h. filled_by some a k place (slot == k) refl h;
         };
       }

@@ -1,8 +1,7 @@
 -- Cache orders and markers that are written are read back.
 use Rattle.std.proofs.Common.{◌≡◌, ℕ, suc, ◌+◌, ◌-◌, ◌*◌, ◌/◌, ◌%◌, ◌^◌, ◌<◌, ◌≤◌, List, [], ◌∷◌, ◌++◌, length, refl, ap, ◌∙◌, arith, Bool, true}
 use Rattle.std.specs.Prelude.{Ok, Err, ℤ, pos, All}
-use Rattle.byteorder.specs.Endian.{twos_complement}
-use Rattle.order_fields.specs.Bytes.{Read, then_read, map_read, taken, number_at, low_bytes, low_number, low_signed, colors}
+use Rattle.order_fields.specs.Bytes.{signed_at, Read, then_read, map_read, taken, number_at, low_bytes, low_signed, colors}
 use Rattle.order_fields.specs.OrderTable.{Registers, fits_coordinate}
 use Rattle.order_fields.specs.OrderStream.{seen_others, order_at}
 use Rattle.order_fields.specs.Secondary.{Cached, secondary_kind, secondary_body, within_total, bitmap_at, glyph_at, glyph_length, glyphs_at, glyph_order_at, brush_at}
@@ -58,7 +57,7 @@ abbrev value_of : Read ℤ → ℤ
 value_of (Ok v) = v.0
 value_of (Err left) = pos 0
 
-signed_value : (z : ℤ) → fits_coordinate z ≡ true → twos_complement 2 (low_number (low_signed 2 z)) ≡ z
+signed_value : (z : ℤ) → fits_coordinate z ≡ true → value_of (signed_at 2 (low_signed 2 z ++ [])) ≡ z
 signed_value z h = ap value_of (signed_back z [] h)
 
 pub glyph_back : (cache index : ℕ) (x y : ℤ) (cx cy : ℕ) (bits : List ℕ) → index < 2 ^ 16 → fits_coordinate x ≡ true → fits_coordinate y ≡ true → cx < 2 ^ 16 → cy < 2 ^ 16

@@ -1,6 +1,6 @@
 -- What a line reader finds at the front of the bytes ahead.
 use Rattle.std.proofs.Common.{◌≡◌, ℕ, suc, ◌+◌, ◌<◌, true, false, List, [], ◌∷◌, ◌++◌, length, take, drop, Some, None, sym, ap, ◌∙◌, refl, arith, append_assoc, append-nil, position, length-append}
-use Rattle.std.specs.Prelude.{⊤, IfSome}
+use Rattle.std.specs.Prelude.{⊤}
 use Rattle.std.specs.declared.option.Option.{Option}
 use Rattle.std.specs.Io.KnownBytes.{Keeps, IsAtEnd, prepend_known}
 use Rattle.std.proofs.lemmas.List.{length-take, length-drop}
@@ -8,7 +8,7 @@ use Rattle.std.proofs.Math.Seq.{take-length, drop-length}
 use Rattle.line_text.specs.Lines.{Line, line_bytes, lines_of, is_past_limits}
 use Rattle.line_read.specs.declared.reader.Found.{Found}
 use Rattle.line_read.specs.declared.reader.Found.TheVariants as found
-use Rattle.line_read.specs.Reading.{LineReading, ahead, TakesLine, HandsOut, IsPastLimits, first_is_past}
+use Rattle.line_read.specs.Reading.{LineReading, ahead, TakesLine, HandsOut, AreAllLines, IsPastLimits, first_is_past}
 use Rattle.line_read.specs.Finding.{Finds, FindsNone, HandsLine}
 use Rattle.line_read.proofs.BufferLemmas.{keeps_held, keeps_trans}
 use Rattle.line_read.proofs.LineLemmas.{is_feed, IsPlain, FeedAt, feed_found, feed_missing, line_ended, line_unended, line_too_long}
@@ -169,7 +169,7 @@ HandsOut-kept (Some bytes) (Some rest) None lines handed kept = absurd kept
 HandsOut-kept (Some bytes) (Some rest) (Some last) lines handed kept = handed ∙ ap (λ bs. lines ++ lines_of bs) (sym kept)
 
 -- at the end all lines were handed out
-pub HandsOut-all : (before now : Option (List ℕ)) (lines : List Line) → HandsOut before now lines → IsAtEnd now → IfSome before (λ bytes. lines_of bytes ≡ lines)
+pub HandsOut-all : (before now : Option (List ℕ)) (lines : List Line) → HandsOut before now lines → IsAtEnd now → AreAllLines before lines
 HandsOut-all None now lines handed end = tt
 HandsOut-all (Some bytes) None lines handed end = absurd handed
 HandsOut-all (Some bytes) (Some rest) lines handed end = handed ∙ ap (λ bs. lines ++ lines_of bs) end ∙ append-nil lines

@@ -1,3 +1,4 @@
+mod Rows
 pub mod BufferLemmas
 pub mod LineLemmas
 pub mod FindLemmas

@@ -25,6 +25,11 @@ HandsOut None now lines = ⊤
 HandsOut (Some bytes) None lines = ⊥
 HandsOut (Some bytes) (Some rest) lines = lines_of bytes ≡ lines ++ lines_of rest
 
+-- these are all lines of the bytes
+abbrev pub AreAllLines : Option (List ℕ) → List Line → Type 0
+AreAllLines None lines = ⊤
+AreAllLines (Some bytes) lines = lines_of bytes ≡ lines
+
 -- a line was taken from the front of the bytes ahead
 pub record TakesLine (before now : Option (List ℕ)) (line : Line) : Type 0 where
   pub consumes : Consumes before now (line_bytes line)

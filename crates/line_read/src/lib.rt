@@ -2,6 +2,7 @@
 #![tactic(auto)]
 
 mod buffer;
+pub mod laws;
 mod reader;
 
 pub use reader::{Found, LineReader};

@@ -8,22 +8,23 @@ use edge_io::{Got, OutOfMemory, Source};
 use std::alloc::Global;
 use std::marker::Model;
 
-/// The most bytes of a line, its line feed not counted.
+/// The most bytes of a line, its line feed not counted (profile).
 const LINE_LIMIT: usize = 32_768;
 
-/// The most bytes of a script.
+/// The most bytes of a script (profile).
 const SCRIPT_LIMIT: usize = 268_435_456;
 
-/// The size of the buffer in bytes, which has room for more than a line.
+/// The size of the buffer in bytes, which has room for more than a line (profile).
 const ROOM: usize = 65_536;
 
+/// What ends a line.
 const LINE_FEED: u8 = b'\n';
 
 /// What a call of a line reader found.
 #[derive(Clone, Copy, Debug, PartialEq, Eq)]
 pub enum Found {
     /// The next line, which `text` shows, and whether a line feed ended it.
-    Line(bool),
+    Line { ended: bool },
     /// The next line is longer than 32,768 bytes, or has a byte past the script's 268,435,456 bytes.
     PastLimits,
     /// No byte is left.
@@ -141,7 +142,7 @@ impl LineReader {
         self.text_to = self.from + count;
         self.from += whole;
         self.at += whole;
-        Found::Line(ended)
+        Found::Line { ended }
     }
 
     /// Reads once more behind the bytes held, which are no more than those of a line.
@@ -190,10 +191,10 @@ mod tests {
         let mut input = PlanSource::new(bytes, vec![in rt.alloc(); 2]?, vec![in rt.alloc(); 3]?);
         let mut reader = LineReader::new(rt.alloc())?;
         let wanted: [(Found, &[u8]); 6] = [
-            (Found::Line(true), b"ab"),
-            (Found::Line(true), b""),
+            (Found::Line { ended: true }, b"ab"),
+            (Found::Line { ended: true }, b""),
             (Found::Failed, b""),
-            (Found::Line(false), b"cd"),
+            (Found::Line { ended: false }, b"cd"),
             (Found::End, b""),
             (Found::End, b""),
         ];

@@ -2,6 +2,7 @@
 use Rattle.std.proofs.Common.{◌≡◌, ℕ, List, [], ◌∷◌, refl, replicate}
 use Rattle.std.specs.Prelude.{Ok}
 use Rattle.caps_sets.specs.Confirmed.{full, marked}
+use Rattle.rop3_core.specs.Rop3.{ternary_raster}
 use Rattle.order_means.specs.FrameMarks.{pictures_at_marks}
 use Rattle.order_rows.proofs.Viewer.{size_of, known}
 use Rattle.order_rows.proofs.Captures.{overlapping_copy_in_a_clip, save_and_restore, marker_support, one_take}
@@ -10,6 +11,7 @@ abbrev black : List ℕ
 black = replicate 3072 0
 
 pub copy_in_a_clip_shows : pictures_at_marks full (size_of 64 48) overlapping_copy_in_a_clip ≡ Ok (known black ∷ known black ∷ known black ∷ [])
+unfolding ternary_raster
 copy_in_a_clip_shows = refl
 
 pub save_and_restore_shows : pictures_at_marks full (size_of 64 48) save_and_restore ≡ Ok (known black ∷ known black ∷ known black ∷ [])

@@ -29,9 +29,9 @@ before_others text (part ∷ parts) h = refl
 -- an ended line at the front of a text
 pub lines_of-ended : (text more : List ℕ) → Lacks line_feed text → lines_of (ended text ++ more) ≡ record { text = text; ended = true } ∷ lines_of more
 lines_of-ended text more clean =
-  ap lines_of (append_assoc text (line_feed ∷ []) more)
-  ∙ ap lines_of_parts (slice_split_at (λ b. b == line_feed) text line_feed more clean refl)
-  ∙ before_others text (slice_split (λ b. b == line_feed) more) (omega (arith, length-slice_split (λ b. b == line_feed) more))
+    ap lines_of (append_assoc text (line_feed ∷ []) more)
+    ∙ ap lines_of_parts (slice_split_at (λ b. b == line_feed) text line_feed more clean refl)
+    ∙ before_others text (slice_split (λ b. b == line_feed) more) (omega (arith, length-slice_split (λ b. b == line_feed) more))
 
 -- ---- words
 
@@ -60,14 +60,14 @@ digit_is_digit d h = rw (digit_value-digit_char d (omega arith)) (grind (arith, 
 
 two_digits : (b : ℕ) → b < 256 → hexadecimal_of 2 (digit_char (b / 16) ∷ digit_char (b % 16) ∷ []) ≡ Some b
 two_digits b h =
-  let sum : 16 * (16 * 0 + b / 16) + b % 16 ≡ b = omega arith in
-  rw (digit_is_digit (b / 16) (high_half b h), digit_value-digit_char (b / 16) (omega (arith, high_half b h)), digit_is_digit (b % 16) (low_half b), digit_value-digit_char (b % 16) (omega (arith, low_half b))) (ap Some sum)
+    let sum : 16 * (16 * 0 + b / 16) + b % 16 ≡ b = omega arith in
+    rw (digit_is_digit (b / 16) (high_half b h), digit_value-digit_char (b / 16) (omega (arith, high_half b h)), digit_is_digit (b % 16) (low_half b), digit_value-digit_char (b % 16) (omega (arith, low_half b))) (ap Some sum)
 
 hexadecimals-text : (bs : List ℕ) → All (λ b. b < 256) bs → hexadecimals (length bs) 2 (hexadecimal_text bs) ≡ Some bs
 hexadecimals-text [] h = refl
 hexadecimals-text (b ∷ bs) h =
-  ap (λ o. with_first o (hexadecimals (length bs) 2 (hexadecimal_text bs))) (two_digits b (All-head (λ x. x < 256) b bs h))
-  ∙ ap (with_first (Some b)) (hexadecimals-text bs (All-tail (λ x. x < 256) b bs h))
+    ap (λ o. with_first o (hexadecimals (length bs) 2 (hexadecimal_text bs))) (two_digits b (All-head (λ x. x < 256) b bs h))
+    ∙ ap (with_first (Some b)) (hexadecimals-text bs (All-tail (λ x. x < 256) b bs h))
 
 length-text : (bs : List ℕ) → length (hexadecimal_text bs) ≡ 2 * length bs
 length-text [] = refl
@@ -76,19 +76,19 @@ length-text (b ∷ bs) = omega (arith, length-text bs)
 text_is_lower : (bs : List ℕ) → All (λ b. b < 256) bs → all_bytes is_lower_digit (hexadecimal_text bs) ≡ true
 text_is_lower [] h = refl
 text_is_lower (b ∷ bs) h =
-  rw (digit_is_lower (b / 16) (high_half b (All-head (λ x. x < 256) b bs h)), digit_is_lower (b % 16) (low_half b), text_is_lower bs (All-tail (λ x. x < 256) b bs h)) refl
+    rw (digit_is_lower (b / 16) (high_half b (All-head (λ x. x < 256) b bs h)), digit_is_lower (b % 16) (low_half b), text_is_lower bs (All-tail (λ x. x < 256) b bs h)) refl
 
 pub text_lacks : (byte : ℕ) (bs : List ℕ) → byte < 48 → All (λ b. b < 256) bs → Lacks byte (hexadecimal_text bs)
 text_lacks byte [] low h = All-nil (λ b. (b == byte) ≡ false)
 text_lacks byte (b ∷ bs) low h =
-  All-cons (λ c. (c == byte) ≡ false) (digit_char (b / 16)) (digit_char (b % 16) ∷ hexadecimal_text bs) (digit_is_other byte (b / 16) low (high_half b (All-head (λ x. x < 256) b bs h)))
-  (All-cons (λ c. (c == byte) ≡ false) (digit_char (b % 16)) (hexadecimal_text bs) (digit_is_other byte (b % 16) low (low_half b)) (text_lacks byte bs low (All-tail (λ x. x < 256) b bs h)))
+    All-cons (λ c. (c == byte) ≡ false) (digit_char (b / 16)) (digit_char (b % 16) ∷ hexadecimal_text bs) (digit_is_other byte (b / 16) low (high_half b (All-head (λ x. x < 256) b bs h)))
+    (All-cons (λ c. (c == byte) ≡ false) (digit_char (b % 16)) (hexadecimal_text bs) (digit_is_other byte (b % 16) low (low_half b)) (text_lacks byte bs low (All-tail (λ x. x < 256) b bs h)))
 
 -- the bytes that a hexadecimal word writes
 pub bytes_word-text : (bs : List ℕ) → 0 < length bs → All (λ b. b < 256) bs → bytes_word (hexadecimal_text bs) ≡ Some bs
 bytes_word-text bs some h =
-  let n = length-text bs in
-  let even : (length (hexadecimal_text bs) % 2 == 0) ≡ true = grind (arith, nat_tests) in
-  let long : nat_lt 0 (length (hexadecimal_text bs)) ≡ true = grind (arith, nat_tests) in
-  let half : length (hexadecimal_text bs) / 2 ≡ length bs = omega (arith, n) in
-  rw (long, even, text_is_lower bs h, half, hexadecimals-text bs h) refl
+    let n = length-text bs in
+    let even : (length (hexadecimal_text bs) % 2 == 0) ≡ true = grind (arith, nat_tests) in
+    let long : nat_lt 0 (length (hexadecimal_text bs)) ≡ true = grind (arith, nat_tests) in
+    let half : length (hexadecimal_text bs) / 2 ≡ length bs = omega (arith, n) in
+    rw (long, even, text_is_lower bs h, half, hexadecimals-text bs h) refl

@@ -1,0 +1,4 @@
+pub mod FirstScripts
+pub mod Frames
+pub mod Rooms
+pub mod Caches

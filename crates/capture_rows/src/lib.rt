@@ -1,0 +1,2 @@
+//! Worked scripts, whole: the capture of each, to the byte, by the definitions alone. Proofs alone.
+#![tactic(auto)]
