@@ -1,5 +1,5 @@
 -- The bytes of a frame of patches: its update, and its mark.
-use Rattle.std.proofs.Common.{◌≡◌, ℕ, zero, suc, ◌*◌, ◌<◌, ◌≤◌, List, [], ◌∷◌, ◌++◌, length, take, drop, refl, sym, ap, ◌∙◌, subst, arith}
+use Rattle.std.proofs.Common.{◌≡◌, ℕ, zero, suc, ◌<◌, ◌≤◌, List, [], ◌∷◌, ◌++◌, length, take, drop, sym, ap, ◌∙◌, subst, arith}
 use Rattle.order_fields.specs.OrderTable.{Registers}
 use Rattle.order_means.specs.HostBytes.{orders_packet, synchronize_packet}
 use Rattle.frame_rules.specs.FrameBytes.{joined_bytes}

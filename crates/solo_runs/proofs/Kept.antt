@@ -1,14 +1,14 @@
 -- What a run keeps after a fill that is accepted.
-use Rattle.std.proofs.Common.{◌≡◌, ℕ, ◌+◌, ◌≤◌, ◌<◌, List, [], ◌∷◌, ◌++◌, length, refl, sym, ap, ◌∙◌, arith, None, Some, Bool, true, false, length-append}
+use Rattle.std.proofs.Common.{◌≡◌, ℕ, ◌≤◌, ◌<◌, List, [], ◌∷◌, ◌++◌, length, refl, sym, ap, ◌∙◌, arith, None, Some, Bool, true, false, length-append}
 use Rattle.std.specs.Prelude.{Option, option_map, is_some, not, nat_lt}
 use Rattle.std.proofs.lemmas.Bool.Decides.{nat_tests}
 use Rattle.draw_ops.specs.Fits.{rect_rule, first_some}
 use Rattle.draw_ops.specs.Ranges.{is_drawing_in_range}
-use Rattle.session_rules.specs.Journal.{Refusal, unless, most_entries}
+use Rattle.session_rules.specs.Journal.{unless, most_entries}
 use Rattle.session_rules.specs.Journal.Refusal.{BadDrawing, JournalFull}
 use Rattle.order_fields.specs.OrderTable.{first_registers}
 use Rattle.fill_frames.specs.declared.patch.Patch.{Patch}
-use Rattle.fill_frames.specs.Patches.{ArePatches, IsPatch, patch_drawing}
+use Rattle.fill_frames.specs.Patches.{ArePatches, patch_drawing}
 use Rattle.solo_runs.specs.declared.refusal.FillRefusal.{FillRefusal}
 use Rattle.solo_runs.specs.Solo.{Solo, patch_refusal, refusal_of_fill}
 use Rattle.solo_runs.proofs.Views.{are_more, accepted_is_patch}

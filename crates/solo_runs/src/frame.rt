@@ -41,6 +41,15 @@ const HEADERS: u16 = 26;
 /// How many of them stand before pduType2.
 const BEFORE_TYPE: u16 = 14;
 
+/// pduType, pduSource, shareId, pad1 and streamId.
+const SHARE: [u8; 10] = [0x17, 0, 0xEA, 3, 0xEA, 3, 1, 0, 0, 1];
+
+/// pduType2, compressedType and compressedLength, updateType and its padding.
+const UPDATE: [u8; 8] = [2, 0, 0, 0, 0, 0, 0, 0];
+
+/// What stands between the number of orders and the orders.
+const PAD: [u8; 2] = [0, 0];
+
 /// The user data of a Synchronize update.
 const SYNCHRONIZE: [u8; 22] = [
     22, 0, 0x17, 0, 0xEA, 3, 0xEA, 3, 1, 0, 0, 1, 8, 0, 2, 0, 0, 0, 3, 0, 0, 0,
@@ -90,13 +99,12 @@ fn put_headers(out: &mut Vec<u8>, count: u16, length: u16) -> Result<(), OutOfMe
     requires { length ≤ 16357 }
     ensures { OnOk result (out.new.items ≡ out.old.items ++ orders_headers count length) }
 {
-    let [whole_low, whole_high] = (HEADERS + length).to_le_bytes();
-    let [part_low, part_high] = (HEADERS - BEFORE_TYPE + length).to_le_bytes();
-    let [count_low, count_high] = count.to_le_bytes();
-    out.extend_from_slice(&[
-        whole_low, whole_high, 0x17, 0, 0xEA, 3, 0xEA, 3, 1, 0, 0, 1, part_low, part_high, 2, 0, 0,
-        0, 0, 0, 0, 0, count_low, count_high, 0, 0,
-    ])?;
+    out.extend_from_slice(&(HEADERS + length).to_le_bytes())?;
+    out.extend_from_slice(&SHARE)?;
+    out.extend_from_slice(&(HEADERS - BEFORE_TYPE + length).to_le_bytes())?;
+    out.extend_from_slice(&UPDATE)?;
+    out.extend_from_slice(&count.to_le_bytes())?;
+    out.extend_from_slice(&PAD)?;
     Ok(())
 }
 

@@ -17,3 +17,6 @@ pub use lines::{
     write_bad_drawing, write_broken, write_frame, write_joined, write_journal_full, write_nothing,
 };
 pub use step::SoloStep;
+
+#[cfg(test)]
+mod tests;

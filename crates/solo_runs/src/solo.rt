@@ -97,14 +97,7 @@ impl SoloRun {
         ensures begun { OnErr result (self.new.begun ≡ self.old.begun) }
     {
         let pending = &self.patches[self.sent..];
-        write_frame(
-            alloc,
-            out,
-            &mut self.registers,
-            size,
-            !self.begun,
-            pending,
-        )?;
+        write_frame(alloc, out, &mut self.registers, size, !self.begun, pending)?;
         self.sent = self.patches.len();
         self.begun = true;
         Ok(())
