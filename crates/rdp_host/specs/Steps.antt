@@ -1,14 +1,23 @@
 -- What one line of a script does.
-use Rattle.std.specs.Prelude.{◌≡◌, ℕ, List, ◌++◌, Bool, ◌&&◌, not, ⊤}
-use Rattle.std.specs.Char.{is_ascii}
+use Rattle.std.specs.Prelude.{◌≡◌, ℕ, List, ◌++◌, Bool, true, false, ◌&&◌, not, ⊤}
+use Rattle.std.specs.Io.KnownBytes.{Appends}
 use Rattle.std.specs.declared.option.Option.{Option}
 use Rattle.std.specs.declared.option.Option.TheVariants.{Some, None}
+use Rattle.std.specs.declared.result.Result.{Result}
+use Rattle.std.specs.declared.result.Result.TheVariants.{Ok, Err}
 use Rattle.px_core.specs.declared.surface.Size.{Size}
+use Rattle.edge_io.specs.Faults.{Rose}
 use Rattle.line_text.specs.Words.{words_of}
-use Rattle.script_rules.specs.Script.{all_bytes}
+use Rattle.line_read.specs.declared.reader.Found.{Found}
+use Rattle.line_read.specs.declared.reader.Found.TheVariants as found
+use Rattle.script_rules.specs.Script.{all_bytes, is_ascii, text_rule}
+use Rattle.script_rules.specs.Capture.{broken_line}
 use Rattle.solo_runs.specs.Solo.{Solo, solo_line, solo_after}
+use Rattle.solo_runs.specs.declared.step.SoloStep.{SoloStep}
 use Rattle.solo_runs.specs.SoloScript.{SoloLine, unless_text, asks_for, solo_form}
 use Rattle.solo_runs.specs.SoloScript.SoloLine.{BreaksRule, AsksFor}
+use Rattle.rdp_host.specs.declared.fault.ScriptFault.{ScriptFault}
+use Rattle.rdp_host.specs.declared.fault.ScriptFault.TheVariants as fault
 
 -- what a line within the limits asks for, or the rule that it breaks
 abbrev pub line_within : Solo → List ℕ → Bool → SoloLine
@@ -20,3 +29,51 @@ DoesLine (BreaksRule rule) None size before now old new = ⊥
 DoesLine (BreaksRule rule) (Some broken) size before now old new = (broken ≡ rule) × (now ≡ before) × (new ≡ old)
 DoesLine (AsksFor step) None size before now old new = (now ≡ solo_after size before step) × (new ≡ old ++ solo_line size before step)
 DoesLine (AsksFor step) (Some broken) size before now old new = ⊥
+
+-- what was found asks for a step, or breaks a rule
+abbrev pub found_line : Found → Solo → List ℕ → Option SoloLine
+found_line (found.Line ended) s text = Some (line_within s text ended)
+found_line found.PastLimits s text = Some (BreaksRule text_rule)
+found_line found.End s text = None
+found_line found.Failed s text = None
+
+-- a step was done
+pub record DoesStep (line : Option SoloLine) (size : Size) (before now : Solo) (old new : Option (List ℕ)) : Type 0 where
+  pub step : SoloStep
+  pub asks : line ≡ Some (AsksFor step)
+  pub after : now ≡ solo_after size before step
+  pub written : Appends old new (solo_line size before step)
+
+-- what was done where a line was found, as the k-th: its step; nothing, since there is none; or its refusal was written
+abbrev pub DoesFound : Result Bool ScriptFault → Found → ℕ → Size → Solo → Solo → List ℕ → Option (List ℕ) → Option (List ℕ) → Type 0
+DoesFound (Ok true) f k size before now text old new = DoesStep (found_line f before text) size before now old new
+DoesFound (Ok false) f k size before now text old new = (f ≡ found.End) × (new ≡ old)
+DoesFound (Err (fault.Line line rule)) f k size before now text old new = (line ≡ k) × (found_line f before text ≡ Some (BreaksRule rule)) × Appends old new (broken_line k rule)
+DoesFound (Err fault.ReadFault) f k size before now text old new = f ≡ found.Failed
+DoesFound (Err fault.WriteFault) f k size before now text old new = ⊤
+DoesFound (Err fault.OutOfMemory) f k size before now text old new = ⊤
+
+-- the causes of a write's answer
+abbrev pub WritesCause : {T : Type 0} → Result T ScriptFault → ℕ → ℕ → Type 0
+WritesCause (Ok x) before now = now ≡ before
+WritesCause (Err (fault.Line line rule)) before now = now ≡ before
+WritesCause (Err fault.ReadFault) before now = now ≡ before
+WritesCause (Err fault.WriteFault) before now = Rose before now
+WritesCause (Err fault.OutOfMemory) before now = ⊤
+
+abbrev pub FaultCause : ScriptFault → ℕ → ℕ → Type 0
+FaultCause f before now = WritesCause {T = Unit {0}} (Err f) before now
+
+-- a fault of a write
+abbrev pub IsWriteFault : ScriptFault → Type 0
+IsWriteFault (fault.Line line rule) = ⊥
+IsWriteFault fault.ReadFault = ⊥
+IsWriteFault fault.WriteFault = ⊤
+IsWriteFault fault.OutOfMemory = ⊤
+
+-- a refusal was written, or a fault of the write is answered
+abbrev pub Refuses : ScriptFault → ℕ → ℕ → Option (List ℕ) → Option (List ℕ) → Type 0
+Refuses (fault.Line line broken) k rule old new = (line ≡ k) × (broken ≡ rule) × Appends old new (broken_line k rule)
+Refuses fault.ReadFault k rule old new = ⊥
+Refuses fault.WriteFault k rule old new = ⊤
+Refuses fault.OutOfMemory k rule old new = ⊤
