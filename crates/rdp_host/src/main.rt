@@ -3,6 +3,7 @@
 
 mod fault;
 mod found;
+mod script;
 mod step;
 
 use std::process::ExitCode;
