@@ -3,8 +3,8 @@ ghost use Rattle.px_core.specs.Rectangle.{is_session_size};
 ghost use Rattle.solo_runs.specs.Solo.{solo_line, solo_after, IsInRange};
 ghost use Rattle.solo_runs.specs.SoloScript.{unless_many, finds_many};
 ghost use Rattle.solo_runs.specs.declared.step.SoloStep.TheVariants.{Take, Fill};
-ghost use Rattle.rdp_host.specs.declared.fault.ScriptFault.TheVariants.{OutOfMemory};
-ghost use Rattle.rdp_host.specs.Steps.{line_within, DoesLine};
+ghost use Rattle.solo_script.specs.declared.fault.ScriptFault.TheVariants.{OutOfMemory};
+ghost use Rattle.solo_script.specs.Steps.{line_within, DoesLine};
 
 use crate::fault::ScriptFault;
 use fill_frames::Patch;
@@ -16,16 +16,16 @@ use solo_runs::{
 use std::alloc::Global;
 
 /// The rule of a line's bytes: it is ended, and each byte is ASCII.
-pub(crate) const TEXT_RULE: u8 = 2;
+pub const TEXT_RULE: u8 = 2;
 
 /// The rule of a line's form.
-pub(crate) const FORM_RULE: u8 = 3;
+pub const FORM_RULE: u8 = 3;
 
 /// The rule of the most fills that a take may find.
-pub(crate) const PENDING_RULE: u8 = 8;
+pub const PENDING_RULE: u8 = 8;
 
 /// Does what a line asks for, and writes its line of the capture, or answers the rule that it breaks.
-pub(crate) fn do_line(
+pub fn do_line(
     alloc: Global,
     out: &mut Vec<u8>,
     run: &mut SoloRun,

@@ -1,9 +1,8 @@
 ghost use Rattle.std.specs.Prelude.{◌≡◌, ◌++◌, OnOk, IfErr, IsTrue};
 ghost use Rattle.std.specs.Io.KnownBytes.{Appends};
 ghost use Rattle.px_core.specs.Rectangle.{is_session_size};
-
 ghost use Rattle.script_rules.specs.Capture.{broken_line};
-ghost use Rattle.rdp_host.specs.Steps.{DoesFound, WritesCause, FaultCause, IsWriteFault, Refuses};
+ghost use Rattle.solo_script.specs.Steps.{DoesFound, WritesCause, FaultCause, IsWriteFault, Refuses};
 
 use crate::fault::ScriptFault;
 use crate::step::{TEXT_RULE, do_line};
@@ -14,7 +13,7 @@ use solo_runs::{SoloRun, write_broken};
 use std::alloc::Global;
 
 /// Does what was found asks for, as line `k`, and writes its line of the capture; says whether there was a line.
-pub(crate) fn do_found<K: Sink>(
+pub fn do_found<K: Sink>(
     alloc: Global,
     output: &mut K,
     run: &mut SoloRun,
@@ -44,7 +43,7 @@ pub(crate) fn do_found<K: Sink>(
 }
 
 /// Writes that line `k` breaks a rule, and answers so.
-pub(crate) fn refuse<K: Sink>(alloc: Global, output: &mut K, k: u32, rule: u8) -> ScriptFault
+pub fn refuse<K: Sink>(alloc: Global, output: &mut K, k: u32, rule: u8) -> ScriptFault
     ensures done { Refuses result k rule (K.told output.old) (K.told output.new) }
     ensures cause { FaultCause result (K.faults output.old) (K.faults output.new) }
 {
@@ -71,7 +70,7 @@ fn write_refusal<K: Sink>(
 }
 
 /// Writes bytes.
-pub(crate) fn put<K: Sink>(output: &mut K, bytes: &[u8]) -> Result<(), ScriptFault>
+pub fn put<K: Sink>(output: &mut K, bytes: &[u8]) -> Result<(), ScriptFault>
     ensures written { OnOk result (Appends (K.told output.old) (K.told output.new) bytes.now) }
     ensures fault { IfErr result IsWriteFault }
     ensures cause { WritesCause result (K.faults output.old) (K.faults output.new) }

@@ -1,14 +1,14 @@
 -- What is done where a line was found.
-use Rattle.std.proofs.Common.{◌≡◌, ℕ, List, [], ◌∷◌, ◌++◌, refl, ap, sym, ◌∙◌, subst, Some, None, Bool, true, false}
+use Rattle.std.proofs.Common.{◌≡◌, ℕ, List, [], ◌++◌, refl, ap, sym, ◌∙◌, subst, Some, None, Bool}
 use Rattle.std.specs.Prelude.{Option}
 use Rattle.std.specs.Io.KnownBytes.{Appends}
 use Rattle.px_core.specs.declared.surface.Size.{Size}
-use Rattle.solo_runs.specs.Solo.{Solo, solo_line, solo_after}
+use Rattle.solo_runs.specs.Solo.{Solo, solo_line}
 use Rattle.solo_runs.specs.SoloScript.{SoloLine}
 use Rattle.solo_runs.specs.SoloScript.SoloLine.{BreaksRule, AsksFor}
 use Rattle.line_read.specs.declared.reader.Found.{Found}
 use Rattle.line_read.specs.declared.reader.Found.TheVariants as found
-use Rattle.rdp_host.specs.Steps.{DoesLine, DoesStep, line_within, found_line}
+use Rattle.solo_script.specs.Steps.{DoesLine, DoesStep, line_within, found_line}
 
 -- a line that breaks no rule has its step done
 pub step_done : (line : SoloLine) (broken : Option ℕ) (size : Size) (before now : Solo) (old new : List ℕ) (told telling : Option (List ℕ)) →
@@ -27,6 +27,6 @@ pub line_done : (f : Found) (ended : Bool) (text : List ℕ) (broken answer : Op
     f ≡ found.Line ended → DoesLine (line_within before text ended) broken size before done old new → answer ≡ broken → answer ≡ None → now ≡ done → line ≡ new → old ≡ [] →
     Appends told telling line → DoesStep (found_line f before text) size before now told telling
 line_done f ended text broken answer size before done now old new line told telling is does same none run same_line empty written =
-  subst (λ x. DoesStep (found_line x before text) size before now told telling) (sym is)
-  (subst (λ s. DoesStep (Some (line_within before text ended)) size before s told telling) (sym run)
-  (step_done (line_within before text ended) broken size before done old new told telling does (sym same ∙ none) empty (subst (Appends told telling) same_line written)))
+    subst (λ x. DoesStep (found_line x before text) size before now told telling) (sym is)
+    (subst (λ s. DoesStep (Some (line_within before text ended)) size before s told telling) (sym run)
+    (step_done (line_within before text ended) broken size before done old new told telling does (sym same ∙ none) empty (subst (Appends told telling) same_line written)))

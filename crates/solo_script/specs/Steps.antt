@@ -16,8 +16,8 @@ use Rattle.solo_runs.specs.Solo.{Solo, solo_line, solo_after}
 use Rattle.solo_runs.specs.declared.step.SoloStep.{SoloStep}
 use Rattle.solo_runs.specs.SoloScript.{SoloLine, unless_text, asks_for, solo_form}
 use Rattle.solo_runs.specs.SoloScript.SoloLine.{BreaksRule, AsksFor}
-use Rattle.rdp_host.specs.declared.fault.ScriptFault.{ScriptFault}
-use Rattle.rdp_host.specs.declared.fault.ScriptFault.TheVariants as fault
+use Rattle.solo_script.specs.declared.fault.ScriptFault.{ScriptFault}
+use Rattle.solo_script.specs.declared.fault.ScriptFault.TheVariants as fault
 
 -- what a line within the limits asks for, or the rule that it breaks
 abbrev pub line_within : Solo → List ℕ → Bool → SoloLine

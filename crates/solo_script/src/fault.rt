@@ -1,5 +1,5 @@
 ghost use Rattle.std.specs.Prelude.{◌≡◌};
-ghost use Rattle.rdp_host.specs.declared.fault.ScriptFault.TheVariants.{OutOfMemory};
+ghost use Rattle.solo_script.specs.declared.fault.ScriptFault.TheVariants.{OutOfMemory};
 
 /// Why a script ended early.
 #[derive(Clone, Copy, Debug, PartialEq, Eq)]

@@ -1,3 +1,0 @@
-pub mod Run
-pub mod Steps
-pub mod Reading
