@@ -1,5 +1,5 @@
 -- The definitions on a sample client's packets, and on texts that break a rule.
-use Rattle.std.proofs.Common.{◌≡◌, List, [], ◌∷◌, refl}
+use Rattle.std.proofs.Common.{◌≡◌, [], ◌∷◌, refl}
 use Rattle.std.specs.Prelude.{Ok, Err}
 use Rattle.wire_num.specs.Field.{bytes_at, big_at, passing_at, end_at}
 use Rattle.wire_num.specs.Length.{per_len_at}

@@ -51,7 +51,7 @@ fn first_missing(length: usize) -> usize {
 }
 
 #[test]
-fn data_say_where_their_body_stands(rt: HostRuntime) {
+fn data_say_where_their_body_is(rt: HostRuntime) {
     // choice; initiator; channel; flags; length; body
     let data = [0x64, 0, 6, 3, 0xEB, 0x70, 3, 0xA, 0xB, 0xC];
     let body = Range { from: 7, to: 10 };

@@ -6,11 +6,11 @@ use Rattle.std.proofs.lemmas.Bool.{eqb-true}
 use Rattle.std.proofs.lemmas.List.{length-take-le, length-replicate}
 use Rattle.tpkt_x224.specs.declared.tpkt.Packet.{Packet}
 use Rattle.tpkt_x224.specs.declared.tpkt.Packet.TheVariants.{Whole, Part, NotTpkt, BadLength}
-use Rattle.tpkt_x224.specs.Tpkt.{IsPacket, packet_of_length, after_version, packet_at}
+use Rattle.tpkt_x224.specs.Tpkt.{IsPacket, HasWrongVersion, HasBadLength, packet_of_length, after_version, packet_at}
 
 -- a whole packet of n bytes stands at the head
-abbrev pub StandsWhole : List ℕ → ℕ → Type 0
-StandsWhole bytes n = (n ≤ length bytes) × IsPacket (take n bytes)
+abbrev pub BeginsWithPacket : List ℕ → ℕ → Type 0
+BeginsWithPacket bytes n = (n ≤ length bytes) × IsPacket (take n bytes)
 
 chosen : (a b : Bool) (n m : ℕ) → cond a BadLength (cond b Part (Whole n)) ≡ Whole m → (a ≡ false) × (b ≡ false) × (n ≡ m)
 chosen true b n m e = absurd (let h : ⊥ = cc in h)
@@ -109,21 +109,21 @@ front_of v r h l carried (suc (suc (suc (suc m)))) ev en low high =
     let size : length (take m carried) ≡ m = length-take-le m carried few in
     (ev, omega (arith, en, size), omega (arith, low, size))
 
-after_stands : (v : ℕ) (bs : List ℕ) (n : ℕ) → v ≡ 3 → after_version bs ≡ Whole n → StandsWhole (v ∷ bs) n
-after_stands v [] n ev e = absurd (let h : ⊥ = cc in h)
-after_stands v (r ∷ []) n ev e = absurd (let h : ⊥ = cc in h)
-after_stands v (r ∷ h ∷ []) n ev e = absurd (let h : ⊥ = cc in h)
-after_stands v (r ∷ h ∷ l ∷ carried) n ev e =
+after_begins : (v : ℕ) (bs : List ℕ) (n : ℕ) → v ≡ 3 → after_version bs ≡ Whole n → BeginsWithPacket (v ∷ bs) n
+after_begins v [] n ev e = absurd (let h : ⊥ = cc in h)
+after_begins v (r ∷ []) n ev e = absurd (let h : ⊥ = cc in h)
+after_begins v (r ∷ h ∷ []) n ev e = absurd (let h : ⊥ = cc in h)
+after_begins v (r ∷ h ∷ l ∷ carried) n ev e =
     let f = of_length_whole (256 * h + l) (length carried) n e in
     let low : 7 ≤ n = omega (arith, f.0, f.1) in
     let high : n ≤ 4 + length carried = omega (arith, f.0, f.2) in
     (omega (arith, high), front_of v r h l carried n ev f.0 low high)
 
-whole_stands : (bytes : List ℕ) (n : ℕ) → packet_at bytes ≡ Whole n → StandsWhole bytes n
-whole_stands [] n e = absurd (let h : ⊥ = cc in h)
-whole_stands (v ∷ bs) n e =
+whole_begins : (bytes : List ℕ) (n : ℕ) → packet_at bytes ≡ Whole n → BeginsWithPacket bytes n
+whole_begins [] n e = absurd (let h : ⊥ = cc in h)
+whole_begins (v ∷ bs) n e =
     let s = right_version v (after_version bs) (Whole n) (not_whole n) e in
-    after_stands v bs n s.0 s.1
+    after_begins v bs n s.0 s.1
 
 -- a packet has seven bytes, so fewer hold none
 too_few : (bytes : List ℕ) (n : ℕ) → n ≤ length bytes → length bytes < 7 → IsPacket (take n bytes) → ⊥
@@ -132,16 +132,16 @@ too_few bytes n h few p =
     let same = length-take-le n bytes h in
     omega (arith, h, few, size, same)
 
-stands_whole : (bytes : List ℕ) (n : ℕ) → n ≤ length bytes → IsPacket (take n bytes) → packet_at bytes ≡ Whole n
-stands_whole [] n h p = absurd (too_few [] n h (omega arith) p)
-stands_whole (v ∷ []) n h p = absurd (too_few (v ∷ []) n h (omega arith) p)
-stands_whole (v ∷ r ∷ []) n h p = absurd (too_few (v ∷ r ∷ []) n h (omega arith) p)
-stands_whole (v ∷ r ∷ g ∷ []) n h p = absurd (too_few (v ∷ r ∷ g ∷ []) n h (omega arith) p)
-stands_whole (v ∷ r ∷ g ∷ l ∷ carried) zero h p = absurd p
-stands_whole (v ∷ r ∷ g ∷ l ∷ carried) (suc zero) h p = absurd p
-stands_whole (v ∷ r ∷ g ∷ l ∷ carried) (suc (suc zero)) h p = absurd p
-stands_whole (v ∷ r ∷ g ∷ l ∷ carried) (suc (suc (suc zero))) h p = absurd p
-stands_whole (v ∷ r ∷ g ∷ l ∷ carried) (suc (suc (suc (suc m)))) h p =
+begins_whole : (bytes : List ℕ) (n : ℕ) → n ≤ length bytes → IsPacket (take n bytes) → packet_at bytes ≡ Whole n
+begins_whole [] n h p = absurd (too_few [] n h (omega arith) p)
+begins_whole (v ∷ []) n h p = absurd (too_few (v ∷ []) n h (omega arith) p)
+begins_whole (v ∷ r ∷ []) n h p = absurd (too_few (v ∷ r ∷ []) n h (omega arith) p)
+begins_whole (v ∷ r ∷ g ∷ []) n h p = absurd (too_few (v ∷ r ∷ g ∷ []) n h (omega arith) p)
+begins_whole (v ∷ r ∷ g ∷ l ∷ carried) zero h p = absurd p
+begins_whole (v ∷ r ∷ g ∷ l ∷ carried) (suc zero) h p = absurd p
+begins_whole (v ∷ r ∷ g ∷ l ∷ carried) (suc (suc zero)) h p = absurd p
+begins_whole (v ∷ r ∷ g ∷ l ∷ carried) (suc (suc (suc zero))) h p = absurd p
+begins_whole (v ∷ r ∷ g ∷ l ∷ carried) (suc (suc (suc (suc m)))) h p =
     let few : m ≤ length carried = omega (arith, h) in
     let size : length (take m carried) ≡ m = length-take-le m carried few in
     let ev : v ≡ 3 = p.0 in
@@ -149,7 +149,7 @@ stands_whole (v ∷ r ∷ g ∷ l ∷ carried) (suc (suc (suc (suc m)))) h p =
     rw ev (length_fits (256 * g + l) (length carried) (omega (arith, p.1, p.2)) (omega (arith, n, few)) ∙ ap Whole n)
 
 pub whole_head : (bytes : List ℕ) (n : ℕ) → (packet_at bytes ≡ Whole n) ↔ ((n ≤ length bytes) × IsPacket (take n bytes))
-whole_head bytes n = (whole_stands bytes n, λ p. stands_whole bytes n p.0 p.1)
+whole_head bytes n = (whole_begins bytes n, λ p. begins_whole bytes n p.0 p.1)
 
 -- ---- parts
 
@@ -195,3 +195,70 @@ grows_part (v ∷ r ∷ h ∷ l ∷ carried) more some p =
 
 pub part_head : (bytes : List ℕ) → (packet_at bytes ≡ Part) ↔ CanGrow bytes
 part_head bytes = (part_grows bytes, λ g. grows_part bytes g.0 g.1 g.2)
+
+-- ---- faults
+
+never_other : (a b : Bool) (n : ℕ) → cond a BadLength (cond b Part (Whole n)) ≡ NotTpkt → ⊥
+never_other true b n e = cc
+never_other false true n e = cc
+never_other false false n e = cc
+
+after_never : (bs : List ℕ) → after_version bs ≡ NotTpkt → ⊥
+after_never [] e = cc
+after_never (r ∷ []) e = cc
+after_never (r ∷ h ∷ []) e = cc
+after_never (r ∷ h ∷ l ∷ carried) e = never_other (nat_lt (256 * h + l) 7) (nat_lt (4 + length carried) (256 * h + l)) (256 * h + l) e
+
+at_three : (v : ℕ) (bs : List ℕ) → v ≡ 3 → packet_at (v ∷ bs) ≡ after_version bs
+at_three v bs ev = rw ev refl
+
+is_wrong : (v : ℕ) (bs : List ℕ) → packet_at (v ∷ bs) ≡ NotTpkt → v ≡ 3 → ⊥
+is_wrong v bs e ev = after_never bs (sym (at_three v bs ev) ∙ e)
+
+wrong_version : (bytes : List ℕ) → packet_at bytes ≡ NotTpkt → HasWrongVersion bytes
+wrong_version [] e = absurd (not_part e)
+wrong_version (v ∷ bs) e = is_wrong v bs e
+
+refused_version : (bytes : List ℕ) → HasWrongVersion bytes → packet_at bytes ≡ NotTpkt
+refused_version [] p = absurd p
+refused_version (v ∷ bs) p =
+    let other : (v == 3) ≡ false = grind (arith, nat_tests, p) in
+    rw other refl
+
+pub version_head : (bytes : List ℕ) → (packet_at bytes ≡ NotTpkt) ↔ HasWrongVersion bytes
+version_head bytes = (wrong_version bytes, refused_version bytes)
+
+too_low : (a b : Bool) (n : ℕ) → cond a BadLength (cond b Part (Whole n)) ≡ BadLength → a ≡ true
+too_low true b n e = refl
+too_low false true n e = absurd (let h : ⊥ = cc in h)
+too_low false false n e = absurd (let h : ⊥ = cc in h)
+
+not_bad : BadLength ≡ NotTpkt → ⊥
+not_bad e = cc
+
+after_bad : (v : ℕ) (bs : List ℕ) → v ≡ 3 → after_version bs ≡ BadLength → HasBadLength (v ∷ bs)
+after_bad v [] ev e = absurd (let h : ⊥ = cc in h)
+after_bad v (r ∷ []) ev e = absurd (let h : ⊥ = cc in h)
+after_bad v (r ∷ h ∷ []) ev e = absurd (let h : ⊥ = cc in h)
+after_bad v (r ∷ h ∷ l ∷ carried) ev e =
+    let low = too_low (nat_lt (256 * h + l) 7) (nat_lt (4 + length carried) (256 * h + l)) (256 * h + l) e in
+    (ev, grind (arith, nat_tests, low))
+
+bad_length : (bytes : List ℕ) → packet_at bytes ≡ BadLength → HasBadLength bytes
+bad_length [] e = absurd (let h : ⊥ = cc in h)
+bad_length (v ∷ bs) e =
+    let s = right_version v (after_version bs) BadLength not_bad e in
+    after_bad v bs s.0 s.1
+
+refused_length : (bytes : List ℕ) → HasBadLength bytes → packet_at bytes ≡ BadLength
+refused_length [] p = absurd p
+refused_length (v ∷ []) p = absurd p
+refused_length (v ∷ r ∷ []) p = absurd p
+refused_length (v ∷ r ∷ h ∷ []) p = absurd p
+refused_length (v ∷ r ∷ h ∷ l ∷ carried) p =
+    let low = p.1 in
+    let few : nat_lt (256 * h + l) 7 ≡ true = grind (arith, nat_tests, low) in
+    at_three v (r ∷ h ∷ l ∷ carried) p.0 ∙ ap (λ b. cond b BadLength (cond (nat_lt (4 + length carried) (256 * h + l)) Part (Whole (256 * h + l)))) few
+
+pub length_head : (bytes : List ℕ) → (packet_at bytes ≡ BadLength) ↔ HasBadLength bytes
+length_head bytes = (bad_length bytes, refused_length bytes)

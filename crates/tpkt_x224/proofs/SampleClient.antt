@@ -1,15 +1,15 @@
 -- The definitions on a sample client's first packet, and on requests that break a rule.
-use Rattle.std.proofs.Common.{◌≡◌, List, [], ◌∷◌, refl}
+use Rattle.std.proofs.Common.{◌≡◌, [], ◌∷◌, refl}
 use Rattle.std.specs.Prelude.{Ok, Err, Some, None}
 use Rattle.wire_num.specs.Field.{bytes_at, big_at, passing_at, at_least, rest_count_at}
 use Rattle.wire_num.specs.Layout.{wanted_at}
-use Rattle.tpkt_x224.specs.declared.tpkt.Packet.TheVariants.{Whole, Part, NotTpkt, BadLength}
+use Rattle.tpkt_x224.specs.declared.tpkt.Packet.TheVariants.{Whole}
 use Rattle.tpkt_x224.specs.Tpkt.{packet_at}
 use Rattle.tpkt_x224.specs.Request.{references, request_header, after_cookie, asked_protocols, request_of}
 use Rattle.tpkt_x224.specs.Confirm.{confirm_of}
 
-stands : packet_at (3 ∷ 0 ∷ 0 ∷ 7 ∷ 2 ∷ 240 ∷ 128 ∷ 3 ∷ []) ≡ Whole 7
-stands = refl
+is_whole : packet_at (3 ∷ 0 ∷ 0 ∷ 7 ∷ 2 ∷ 240 ∷ 128 ∷ 3 ∷ []) ≡ Whole 7
+is_whole = refl
 
 asks : request_of (3 ∷ 0 ∷ 0 ∷ 19 ∷ 14 ∷ 224 ∷ 0 ∷ 0 ∷ 0 ∷ 0 ∷ 0 ∷ 1 ∷ 0 ∷ 8 ∷ 0 ∷ 0 ∷ 0 ∷ 0 ∷ 0 ∷ []) ≡ Ok (record { reference = 0; asked = Some 0 })
 unfolding references request_header after_cookie asked_protocols bytes_at big_at passing_at at_least rest_count_at wanted_at

@@ -1,5 +1,5 @@
 -- TPKT packets (RFC 1006, section 6).
-use Rattle.std.specs.Prelude.{◌≡◌, ◌≤◌, ℕ, ◌+◌, ◌*◌, ◌==◌, nat_lt, List, [], ◌∷◌, ◌++◌, length, if◌then◌else◌}
+use Rattle.std.specs.Prelude.{◌<◌, ◌≢◌, ◌≡◌, ◌≤◌, ℕ, ◌+◌, ◌*◌, ◌==◌, nat_lt, List, [], ◌∷◌, ◌++◌, length, if◌then◌else◌}
 use Rattle.byteorder.specs.Endian.{big_bytes}
 use Rattle.tpkt_x224.specs.declared.tpkt.Packet.{Packet}
 use Rattle.tpkt_x224.specs.declared.tpkt.Packet.TheVariants.{Whole, Part, NotTpkt, BadLength}
@@ -12,6 +12,19 @@ IsPacket (v ∷ r ∷ h ∷ []) = ⊥
 IsPacket (v ∷ r ∷ []) = ⊥
 IsPacket (v ∷ []) = ⊥
 IsPacket [] = ⊥
+
+-- another version stands at the head
+abbrev pub HasWrongVersion : List ℕ → Type 0
+HasWrongVersion [] = ⊥
+HasWrongVersion (v ∷ bs) = v ≢ 3
+
+-- the right version, and a length that is no packet's
+abbrev pub HasBadLength : List ℕ → Type 0
+HasBadLength (v ∷ r ∷ h ∷ l ∷ carried) = (v ≡ 3) × (256 * h + l < 7)
+HasBadLength (v ∷ r ∷ h ∷ []) = ⊥
+HasBadLength (v ∷ r ∷ []) = ⊥
+HasBadLength (v ∷ []) = ⊥
+HasBadLength [] = ⊥
 
 -- the packet that carries these bytes
 abbrev pub packet_of : List ℕ → List ℕ

@@ -1,16 +1,18 @@
 //! The law of any pieces: the packets of a stream are the same in whatever pieces it comes.
 
 ghost use Rattle.std.specs.Prelude.{◌≡◌, ◌≤◌, ◌<◌, ◌↔◌, ℕ, List, [], ◌++◌, length, take, flat_map};
-ghost use Rattle.tpkt_x224.specs.Tpkt.{IsPacket, packet_at};
+ghost use Rattle.tpkt_x224.specs.Tpkt.{IsPacket, HasWrongVersion, HasBadLength, packet_at};
 ghost use Rattle.tpkt_x224.specs.declared.tpkt.Packet.{Packet};
-ghost use Rattle.tpkt_x224.specs.declared.tpkt.Packet.TheVariants.{Whole, Part};
+ghost use Rattle.tpkt_x224.specs.declared.tpkt.Packet.TheVariants.{Whole, Part, NotTpkt, BadLength};
 ghost use Rattle.tpkt_x224.specs.Pieces.{packets_of, packets_of_pieces, after_packets};
 
 /// `next_packet` answers `Whole` exactly where a whole packet stands at the head, and `Part` exactly where more bytes may
-/// complete one.
+/// complete one. So `Part` is answered exactly where neither a whole packet nor a fault is at the head.
 pub fn heads_of_streams()
     ensures whole { (bytes : List ℕ) (n : ℕ) → (packet_at bytes ≡ Whole n) ↔ ((n ≤ length bytes) × IsPacket (take n bytes)) }
     ensures part { (bytes : List ℕ) → (packet_at bytes ≡ Part) ↔ ((more : List ℕ) × (0 < length more) × IsPacket (bytes ++ more)) }
+    ensures not_tpkt { (bytes : List ℕ) → (packet_at bytes ≡ NotTpkt) ↔ HasWrongVersion bytes }
+    ensures bad_length { (bytes : List ℕ) → (packet_at bytes ≡ BadLength) ↔ HasBadLength bytes }
 {}
 
 /// Cutting off packets again and again gives one list of packets and one rest, in whatever pieces the stream comes.

@@ -14,25 +14,25 @@ use Rattle.wire_num.proofs.Steps.{then_ok, map_ok, short_ok, passed_ok, one_ok, 
 
 -- ---- fields that were read
 
-bytes_ok : (n : ℕ) (bs : List ℕ) (y : List ℕ × List ℕ) → bytes_at n bs ≡ Ok y → (n ≤ length bs) × (take n bs ≡ y.0) × (drop n bs ≡ y.1)
+pub bytes_ok : (n : ℕ) (bs : List ℕ) (y : List ℕ × List ℕ) → bytes_at n bs ≡ Ok y → (n ≤ length bs) × (take n bs ≡ y.0) × (drop n bs ≡ y.1)
 unfolding bytes_at
 bytes_ok n bs y e =
     let s = short_ok (nat_lt (length bs) n) bs (take n bs, drop n bs) y e in
     (fits n (length bs) s.0, ap (λ p. p.0) s.1, ap (λ p. p.1) s.1)
 
-big_ok : (n : ℕ) (bs : List ℕ) (y : ℕ × List ℕ) → big_at n bs ≡ Ok y → (n ≤ length bs) × (big_number n bs ≡ y.0) × (drop n bs ≡ y.1)
+pub big_ok : (n : ℕ) (bs : List ℕ) (y : ℕ × List ℕ) → big_at n bs ≡ Ok y → (n ≤ length bs) × (big_number n bs ≡ y.0) × (drop n bs ≡ y.1)
 unfolding big_at
 big_ok n bs y e =
     let s = short_ok (nat_lt (length bs) n) bs (big_number n bs, drop n bs) y e in
     (fits n (length bs) s.0, ap (λ p. p.0) s.1, ap (λ p. p.1) s.1)
 
-little_ok : (n : ℕ) (bs : List ℕ) (y : ℕ × List ℕ) → little_at n bs ≡ Ok y → (n ≤ length bs) × (little_number n bs ≡ y.0) × (drop n bs ≡ y.1)
+pub little_ok : (n : ℕ) (bs : List ℕ) (y : ℕ × List ℕ) → little_at n bs ≡ Ok y → (n ≤ length bs) × (little_number n bs ≡ y.0) × (drop n bs ≡ y.1)
 unfolding little_at
 little_ok n bs y e =
     let s = short_ok (nat_lt (length bs) n) bs (little_number n bs, drop n bs) y e in
     (fits n (length bs) s.0, ap (λ p. p.0) s.1, ap (λ p. p.1) s.1)
 
-passing_ok : (test : ℕ → Bool) (read : List ℕ → Read ℕ) (bs : List ℕ) (y : ℕ × List ℕ) → passing_at test read bs ≡ Ok y → (read bs ≡ Ok y) × (test y.0 ≡ true)
+pub passing_ok : (test : ℕ → Bool) (read : List ℕ → Read ℕ) (bs : List ℕ) (y : ℕ × List ℕ) → passing_at test read bs ≡ Ok y → (read bs ≡ Ok y) × (test y.0 ≡ true)
 unfolding passing_at
 passing_ok test read bs y e =
     let s = then_ok (read bs) (λ v rest. cond (test v) (Ok (v, rest)) (Err bs)) y e in
@@ -41,7 +41,7 @@ passing_ok test read bs y e =
     let same : v ≡ y = t.1 in
     (s.1 ∙ ap Ok same, sym (ap (λ p. test p.0) same) ∙ t.0)
 
-wanted_ok : (ws bs : List ℕ) (y : List ℕ × List ℕ) → wanted_at ws bs ≡ Ok y → bs ≡ ws ++ y.1
+pub wanted_ok : (ws bs : List ℕ) (y : List ℕ × List ℕ) → wanted_at ws bs ≡ Ok y → bs ≡ ws ++ y.1
 unfolding wanted_at
 wanted_ok ws bs y e =
     let s = passed_ok (starts_with nat_eq bs ws) bs ([], drop (length ws) bs) y e in
@@ -70,7 +70,7 @@ exactly_ok n bs y e =
     let s = passed_ok (length bs == n) bs (bs, []) y e in
     (same_count (length bs) n s.0, ap (λ p. p.1) s.1)
 
-at_least_ok : (n : ℕ) (bs : List ℕ) (y : List ℕ × List ℕ) → at_least n bs ≡ Ok y → (n ≤ length bs) × (bs ≡ y.1)
+pub at_least_ok : (n : ℕ) (bs : List ℕ) (y : List ℕ × List ℕ) → at_least n bs ≡ Ok y → (n ≤ length bs) × (bs ≡ y.1)
 unfolding at_least
 at_least_ok n bs y e =
     let s = short_ok (nat_lt (length bs) n) [] ([], bs) y e in
@@ -83,7 +83,7 @@ first_byte (b ∷ bs) y e =
     let value : b ≡ y.0 = omega (arith, o.1) in
     ap (λ x. x ∷ bs) value ∙ ap (λ xs. y.0 ∷ xs) o.2
 
-rest_count_ok : (bs : List ℕ) (y : ℕ × List ℕ) → rest_count_at bs ≡ Ok y → bs ≡ length y.1 ∷ y.1
+pub rest_count_ok : (bs : List ℕ) (y : ℕ × List ℕ) → rest_count_at bs ≡ Ok y → bs ≡ length y.1 ∷ y.1
 unfolding rest_count_at
 rest_count_ok bs y e =
     let s = then_ok (big_at 1 bs) (λ n rest. cond (length rest == n) (Ok (n, rest)) (Err bs)) y e in
@@ -146,16 +146,16 @@ unfolding ber_len_at
 basic_ok [] y e = absurd (let h : ⊥ = cc in h)
 basic_ok (b ∷ bs) y e = basic_first (nat_lt b 128) b bs y refl e
 
-count_ok : (form : Count) (bs : List ℕ) (y : ℕ × List ℕ) → count_at form bs ≡ Ok y → (count : List ℕ) × IsCount form count y.0 × (bs ≡ count ++ y.1)
+pub count_ok : (form : Count) (bs : List ℕ) (y : ℕ × List ℕ) → count_at form bs ≡ Ok y → (count : List ℕ) × IsCount form count y.0 × (bs ≡ count ++ y.1)
 count_ok OneByte bs y e = (y.0 ∷ [], refl, first_byte bs y e)
 count_ok Packed bs y e = packed_ok bs y e
 count_ok Basic bs y e = basic_ok bs y e
 
-before_ok : {A : Type 0} (after : List ℕ) (r : Read A) (y : A × List ℕ) → before after r ≡ Ok y → (v : A × List ℕ) × (r ≡ Ok v) × (v.0 ≡ y.0) × (after ≡ y.1)
+pub before_ok : {A : Type 0} (after : List ℕ) (r : Read A) (y : A × List ℕ) → before after r ≡ Ok y → (v : A × List ℕ) × (r ≡ Ok v) × (v.0 ≡ y.0) × (after ≡ y.1)
 before_ok after (Ok v) y e = let h = ok_same (v.0, after) y e in (v, refl, ap (λ p. p.0) h, ap (λ p. p.1) h)
 before_ok after (Err left) y e = absurd (let h : ⊥ = cc in h)
 
-regroup : (n : ℕ) (bs after : List ℕ) → drop n bs ≡ after → bs ≡ take n bs ++ after
+pub regroup : (n : ℕ) (bs after : List ℕ) → drop n bs ≡ after → bs ≡ take n bs ++ after
 regroup n bs after e = sym (take-append-drop n bs) ∙ ap (λ xs. take n bs ++ xs) e
 
 -- what was read is a text

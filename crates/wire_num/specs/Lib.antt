@@ -4,3 +4,4 @@ pub mod Layout
 pub mod Cursor
 pub mod Written
 pub mod Grammar
+pub mod Refusal

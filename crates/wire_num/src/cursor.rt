@@ -59,6 +59,14 @@ impl<'a> Cursor<'a> {
         &self.bytes[self.at..]
     }
 
+    /// Goes to another offset in the slice, as that at which a cursor over a part of it was refused.
+    pub fn go_to(&mut self, at: usize)
+        requires { at ≤ length self.old.bytes }
+        ensures { self.new ≡ record { bytes = self.old.bytes; at = at } }
+    {
+        self.at = at;
+    }
+
     /// `n` bytes of any value.
     #[tactic(auto, unfolding(crate::specs::Field::bytes_at))]
     pub fn bytes(&mut self, n: usize) -> Result<&'a [u8], Short>
@@ -258,6 +266,8 @@ impl<'a> Cursor<'a> {
     #[tactic(auto, unfolding(crate::specs::Field::bytes_at))]
     pub fn within(&mut self, n: usize) -> Result<Cursor<'a>, Short>
         ensures field { ReadsFieldAs (λ content. rest content) (bytes_at n) result self.old self.new }
+        ensures fits { OnOk result (self.old.at + n ≤ length self.old.bytes) }
+        ensures behind { OnOk result (self.new ≡ record { bytes = self.old.bytes; at = self.old.at + n }) }
         ensures offsets { IfOk result (λ content. content ≡ record { bytes = take (self.old.at + n) self.old.bytes; at = self.old.at }) }
     {
         if self.bytes.len() - self.at < n {

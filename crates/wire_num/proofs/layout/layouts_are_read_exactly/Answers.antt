@@ -1,6 +1,10 @@
 use Rattle.wire_num.proofs.ReadIsText.{read_is_text}
 use Rattle.wire_num.proofs.TextIsRead.{text_is_read}
+use Rattle.wire_num.proofs.Refused.{refused}
 use Rattle.wire_num.proofs.layout.layouts_are_read_exactly.Goals as goal
 
-pub returns : goal.returns
-returns c = λ layout bytes values left. (read_is_text layout bytes values left, text_is_read layout bytes values left)
+pub returns-clause-exact : goal.returns-clause-exact
+returns-clause-exact c = λ layout bytes values left. (read_is_text layout bytes values left, text_is_read layout bytes values left)
+
+pub returns-clause-refused : goal.returns-clause-refused
+returns-clause-refused c = refused
