@@ -13,7 +13,7 @@ use Rattle.mcs_dom.specs.Ultimatum.{ultimatum, ultimatum_packet}
 use Rattle.mcs_dom.specs.DomainPdu.{domain_pdu_of}
 
 erects : domain_pdu_of (4 ∷ 1 ∷ 0 ∷ 1 ∷ 0 ∷ []) ≡ Ok Erect
-unfolding erect_domain_request wanted_at big_at bytes_at end_at
+unfolding erect_domain_request wanted_at passing_at big_at bytes_at end_at
 erects = refl
 
 attaches : domain_pdu_of (40 ∷ []) ≡ Ok Attach

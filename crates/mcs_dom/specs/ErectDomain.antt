@@ -1,11 +1,12 @@
 -- The Erect Domain Request (T.125, 7, ErectDomainRequest; MS-RDPBCGR, 2.2.1.5).
 use Rattle.std.specs.Prelude.{[], ◌∷◌}
+use Rattle.wire_num.specs.Field.{is_any}
 use Rattle.wire_num.specs.Layout.{Layout, End, Bytes, Counted, OneByte, ◌▸◌}
 
 -- choice; subHeight; subInterval
 unfoldable pub erect_domain_request : Layout
 erect_domain_request =
     Bytes (4 ∷ [])
-    ▸ Counted OneByte
-    ▸ Counted OneByte
+    ▸ Counted OneByte is_any
+    ▸ Counted OneByte is_any
     ▸ End

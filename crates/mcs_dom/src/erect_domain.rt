@@ -19,7 +19,7 @@ use wire_num::{Cursor, Short};
 pub const ERECT_DOMAIN_REQUEST: u8 = 0x04;
 
 /// Reads an Erect Domain Request.
-#[tactic(auto, unfolding(crate::specs::ErectDomain::erect_domain_request))]
+#[tactic(auto, unfolding(crate::specs::ErectDomain::erect_domain_request, wire_num::specs::Field::passing_at))]
 pub fn read_erect_domain(cursor: &mut Cursor<'_>) -> Result<DomainPdu, Short>
     ensures { ReadsFields (λ bs. map_read (λ _. DomainPdu.Erect) (fields_at erect_domain_request bs)) result cursor.old cursor.new }
 {

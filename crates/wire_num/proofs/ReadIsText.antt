@@ -1,5 +1,5 @@
 -- What was read is a text: each field that was read stands there.
-use Rattle.std.proofs.Common.{◌≡◌, ℕ, ◌+◌, ◌-◌, ◌*◌, ◌≤◌, Bool, true, false, cond, List, [], ◌∷◌, ◌++◌, length, take, drop, refl, ap, sym, ◌∙◌, arith, subst}
+use Rattle.std.proofs.Common.{◌≡◌, ℕ, ◌+◌, ◌-◌, ◌*◌, ◌≤◌, Bool, true, false, cond, List, [], ◌∷◌, ◌++◌, length, take, drop, refl, ap, sym, ◌∙◌, arith, length-drop, subst}
 use Rattle.std.specs.Prelude.{nat_lt, nat_eq, ◌==◌, Ok, Err}
 use Rattle.std.specs.List.{starts_with}
 use Rattle.std.specs.Cmp.Lexicographic.{same_text}
@@ -8,7 +8,7 @@ use Rattle.std.proofs.lemmas.List.{take-append-drop, length-take-le}
 use Rattle.byteorder.specs.Endian.{big_number, little_number}
 use Rattle.wire_num.specs.Field.{Read, then_read, map_read, as_one_field, passing_at, bytes_at, big_at, little_at, end_at, at_least, rest_count_at}
 use Rattle.wire_num.specs.Length.{per_len_at, long_per_at, ber_len_at}
-use Rattle.wire_num.specs.Layout.{Layout, Open, End, Rest, Body, Bytes, Any, Big, Little, CountsRest, AtLeast, Length, Counted, Within, Count, OneByte, Packed, Basic, count_at, wanted_at, exactly_at, before, fields_at}
+use Rattle.wire_num.specs.Layout.{Layout, Open, End, Rest, Body, Content, Bytes, Any, Big, Little, CountsRest, AtLeast, Length, Counted, Within, Count, OneByte, Packed, Basic, count_at, wanted_at, exactly_at, before, fields_at}
 use Rattle.wire_num.specs.Grammar.{IsPacked, IsBasic, IsCount, IsText}
 use Rattle.wire_num.proofs.Steps.{then_ok, map_ok, short_ok, passed_ok, one_ok, fits, same_count, big_taken, little_taken}
 
@@ -177,6 +177,19 @@ read_is_text (Body form) bytes values left e =
     let c = count_ok form bytes v s.1 in
     let P : ℕ → Type 0 = λ n. IsCount form c.0 n in
     (c.0, v.1, subst P (sym x.0) c.1, c.2, sym m.2 ∙ ap (λ n. n ∷ []) (sym x.0), sym m.3 ∙ sym x.1)
+read_is_text (Content form) bytes values left e =
+    let s = then_ok (count_at form bytes) (λ n rest. then_read (bytes_at n rest) (λ _ after. map_read (λ _. n ∷ []) (end_at after))) (values, left) e in
+    let v = s.0 in
+    let c = count_ok form bytes v s.1 in
+    let t = then_ok (bytes_at v.0 v.1) (λ _ after. map_read (λ _. v.0 ∷ []) (end_at after)) (values, left) s.2 in
+    let w = t.0 in
+    let o = bytes_ok v.0 v.1 w t.1 in
+    let m = map_ok (λ _. v.0 ∷ []) (end_at w.1) (values, left) t.2 in
+    let h = end_ok w.1 m.0 m.1 in
+    let none : length (drop v.0 v.1) ≡ 0 = ap length (o.2 ∙ h.0) in
+    let size : length v.1 ≡ v.0 = omega (arith, o.0, length-drop v.0 v.1, none) in
+    let P : ℕ → Type 0 = λ n. IsCount form c.0 n in
+    (c.0, v.1, subst P (sym size) c.1, c.2, sym m.2 ∙ ap (λ n. n ∷ []) (sym size), sym m.3 ∙ sym h.2 ∙ h.0)
 read_is_text (Bytes ws next) bytes values left e =
     let s = then_ok (wanted_at ws bytes) (λ _ rest. fields_at next rest) (values, left) e in
     (s.0.1, wanted_ok ws bytes s.0 s.1, read_is_text next s.0.1 values left s.2)
@@ -227,17 +240,20 @@ read_is_text (Length form next) bytes values left e =
     let s = then_ok (count_at form bytes) (λ _ rest. fields_at next rest) (values, left) e in
     let c = count_ok form bytes s.0 s.1 in
     (c.0, s.0.0, s.0.1, c.1, c.2, read_is_text next s.0.1 values left s.2)
-read_is_text (Counted form next) bytes values left e =
-    let s = then_ok (count_at form bytes) (λ n rest. then_read (bytes_at n rest) (λ _ after. fields_at next after)) (values, left) e in
+read_is_text (Counted form test next) bytes values left e =
+    let s = then_ok (passing_at test (count_at form) bytes) (λ n rest. then_read (bytes_at n rest) (λ _ after. fields_at next after)) (values, left) e in
     let v = s.0 in
-    let c = count_ok form bytes v s.1 in
+    let u = passing_ok test (count_at form) bytes v s.1 in
+    let c = count_ok form bytes v u.0 in
     let t = then_ok (bytes_at v.0 v.1) (λ _ after. fields_at next after) (values, left) s.2 in
     let o = bytes_ok v.0 v.1 t.0 t.1 in
-    let P : ℕ → Type 0 = λ n. IsCount form c.0 n in (
+    let P : ℕ → Type 0 = λ n. IsCount form c.0 n in
+    let size : length (take v.0 v.1) ≡ v.0 = length-take-le v.0 v.1 o.0 in (
       c.0,
       take v.0 v.1,
       t.0.1,
-      subst P (sym (length-take-le v.0 v.1 o.0)) c.1,
+      subst P (sym size) c.1,
+      ap test size ∙ u.1,
       c.2 ∙ ap (λ xs. c.0 ++ xs) (regroup v.0 v.1 t.0.1 o.2),
       read_is_text next t.0.1 values left t.2,
     )

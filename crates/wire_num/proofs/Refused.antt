@@ -5,7 +5,7 @@ use Rattle.std.specs.List.{starts_with}
 use Rattle.byteorder.specs.Endian.{big_number, little_number}
 use Rattle.wire_num.specs.Field.{Read, then_read, map_read, as_one_field, passing_at, bytes_at, big_at, little_at, end_at, at_least, rest_count_at}
 use Rattle.wire_num.specs.Length.{per_len_at, long_per_at, ber_len_at}
-use Rattle.wire_num.specs.Layout.{Layout, Open, End, Rest, Body, Bytes, Any, Big, Little, CountsRest, AtLeast, Length, Counted, Within, Count, OneByte, Packed, Basic, count_at, wanted_at, exactly_at, before, fields_at}
+use Rattle.wire_num.specs.Layout.{Layout, Open, End, Rest, Body, Content, Bytes, Any, Big, Little, CountsRest, AtLeast, Length, Counted, Within, Count, OneByte, Packed, Basic, count_at, wanted_at, exactly_at, before, fields_at}
 use Rattle.wire_num.specs.Grammar.{IsText}
 use Rattle.wire_num.specs.Refusal.{first_fields, RefusedAtFirst}
 use Rattle.wire_num.proofs.ReadIsText.{bytes_ok, big_ok, little_ok, passing_ok, wanted_ok, at_least_ok, rest_count_ok, count_ok, regroup, before_ok, read_is_text}
@@ -151,6 +151,7 @@ text_end Open bytes values left p = ([], p.1)
 text_end End bytes values left p = ([], p.1 ∙ sym p.2)
 text_end Rest bytes values left p = (bytes, all_read bytes left p.1)
 text_end (Body form) bytes values left p = (bytes, all_read bytes left p.5)
+text_end (Content form) bytes values left p = (bytes, all_read bytes left p.5)
 text_end (Bytes ws next) bytes values left p =
     let ih = text_end next p.0 values left p.2 in (ws ++ ih.0, moved bytes ws p.0 ih.0 left p.1 ih.1)
 text_end (Any n next) bytes values left p =
@@ -164,9 +165,9 @@ text_end (CountsRest next) bytes values left p =
 text_end (AtLeast n next) bytes values left p = text_end next bytes values left p.1
 text_end (Length form next) bytes values left p =
     let ih = text_end next p.2 values left p.5 in (p.0 ++ ih.0, moved bytes p.0 p.2 ih.0 left p.4 ih.1)
-text_end (Counted form next) bytes values left p =
-    let ih = text_end next p.2 values left p.5 in
-    ((p.0 ++ p.1) ++ ih.0, moved bytes (p.0 ++ p.1) p.2 ih.0 left (p.4 ∙ sym (append_assoc p.0 p.1 p.2)) ih.1)
+text_end (Counted form test next) bytes values left p =
+    let ih = text_end next p.2 values left p.6 in
+    ((p.0 ++ p.1) ++ ih.0, moved bytes (p.0 ++ p.1) p.2 ih.0 left (p.5 ∙ sym (append_assoc p.0 p.1 p.2)) ih.1)
 text_end (Within form inner next) bytes values left p =
     let ih = text_end next p.2 p.4 left p.9 in
     ((p.0 ++ p.1) ++ ih.0, moved bytes (p.0 ++ p.1) p.2 ih.0 left (p.7 ∙ sym (append_assoc p.0 p.1 p.2)) ih.1)
@@ -213,6 +214,22 @@ refused (Body form) bytes left e =
           let c = count_ok form bytes v p.1 in
           let l = exactly_err v.0 v.1 left (map_err (λ _. v.0 ∷ []) (exactly_at v.0 v.1) left p.2) in
           at_first (Body form) bytes c.0 left e (c.2 ∙ ap (λ xs. c.0 ++ xs) l)
+    ]
+refused (Content form) bytes left e =
+    elim (step (count_at form bytes) (λ n rest. then_read (bytes_at n rest) (λ _ after. map_read (λ _. n ∷ []) (end_at after))) left e) [
+      | inl h ↦ at_first (Content form) bytes [] left e (count_err form bytes left h)
+      | inr p ↦
+          let v = p.0 in
+          let c = count_ok form bytes v p.1 in
+          elim (step (bytes_at v.0 v.1) (λ _ after. map_read (λ _. v.0 ∷ []) (end_at after)) left p.2) [
+            | inl h ↦ at_first (Content form) bytes c.0 left e (c.2 ∙ ap (λ xs. c.0 ++ xs) (bytes_err v.0 v.1 left h))
+            | inr q ↦
+                let w = q.0 in
+                let o = bytes_ok v.0 v.1 w q.1 in
+                let l = end_err w.1 left (map_err (λ _. v.0 ∷ []) (end_at w.1) left q.2) in
+                at_first (Content form) bytes (c.0 ++ take v.0 v.1) left e
+                (moved bytes c.0 v.1 (take v.0 v.1) left c.2 (regroup v.0 v.1 w.1 o.2 ∙ ap (λ xs. take v.0 v.1 ++ xs) l))
+          ]
     ]
 refused (Bytes ws next) bytes left e =
     elim (step (wanted_at ws bytes) (λ _ rest. fields_at next rest) left e) [
@@ -279,21 +296,22 @@ refused (Length form next) bytes left e =
           (λ k. later (count_at form bytes) p.0 (λ _ rest. fields_at (first_fields k next) rest) (fields_at (first_fields k next) p.0.1) p.1 refl ∙ sym (map_same (fields_at (first_fields k next) p.0.1)))
           (refused next p.0.1 left p.2)
     ]
-refused (Counted form next) bytes left e =
-    elim (step (count_at form bytes) (λ n rest. then_read (bytes_at n rest) (λ _ after. fields_at next after)) left e) [
-      | inl h ↦ at_first (Counted form next) bytes [] left (ap (λ r. then_read r (λ n rest. then_read (bytes_at n rest) (λ _ after. fields_at Open after))) h) (count_err form bytes left h)
+refused (Counted form test next) bytes left e =
+    elim (step (passing_at test (count_at form) bytes) (λ n rest. then_read (bytes_at n rest) (λ _ after. fields_at next after)) left e) [
+      | inl h ↦ at_first (Counted form test next) bytes [] left (ap (λ r. then_read r (λ n rest. then_read (bytes_at n rest) (λ _ after. fields_at Open after))) h) (passing_err test (count_at form) bytes left (λ l g. count_err form bytes l g) h)
       | inr p ↦
           let v = p.0 in
-          let c = count_ok form bytes v p.1 in
+          let t = passing_ok test (count_at form) bytes v p.1 in
+          let c = count_ok form bytes v t.0 in
           elim (step (bytes_at v.0 v.1) (λ _ after. fields_at next after) left p.2) [
-            | inl h ↦ at_first (Counted form next) bytes c.0 left
-                (later (count_at form bytes) v (λ n rest. then_read (bytes_at n rest) (λ _ after. fields_at Open after)) (Err left) p.1 (ap (λ r. then_read r (λ _ after. fields_at Open after)) h))
+            | inl h ↦ at_first (Counted form test next) bytes c.0 left
+                (later (passing_at test (count_at form) bytes) v (λ n rest. then_read (bytes_at n rest) (λ _ after. fields_at Open after)) (Err left) p.1 (ap (λ r. then_read r (λ _ after. fields_at Open after)) h))
                 (c.2 ∙ ap (λ xs. c.0 ++ xs) (bytes_err v.0 v.1 left h))
             | inr q ↦
                 let w = q.0 in
                 let o = bytes_ok v.0 v.1 w q.1 in
-                onward (Counted form next) next (λ vs. vs) bytes (c.0 ++ take v.0 v.1) w.1 left (moved bytes c.0 v.1 (take v.0 v.1) w.1 c.2 (regroup v.0 v.1 w.1 o.2))
-                (λ k. later (count_at form bytes) v (λ n rest. then_read (bytes_at n rest) (λ _ after. fields_at (first_fields k next) after)) (fields_at (first_fields k next) w.1) p.1
+                onward (Counted form test next) next (λ vs. vs) bytes (c.0 ++ take v.0 v.1) w.1 left (moved bytes c.0 v.1 (take v.0 v.1) w.1 c.2 (regroup v.0 v.1 w.1 o.2))
+                (λ k. later (passing_at test (count_at form) bytes) v (λ n rest. then_read (bytes_at n rest) (λ _ after. fields_at (first_fields k next) after)) (fields_at (first_fields k next) w.1) p.1
                 (later (bytes_at v.0 v.1) w (λ _ after. fields_at (first_fields k next) after) (fields_at (first_fields k next) w.1) q.1 refl) ∙ sym (map_same (fields_at (first_fields k next) w.1)))
                 (refused next w.1 left q.2)
           ]

@@ -1,5 +1,5 @@
 -- A text is read: each field that stands there is read.
-use Rattle.std.proofs.Common.{◌≡◌, ℕ, ◌≤◌, Bool, true, false, cond, List, [], ◌∷◌, ◌++◌, length, take, drop, refl, ap, sym, ◌∙◌, arith, length-append, subst}
+use Rattle.std.proofs.Common.{◌≡◌, ℕ, ◌≤◌, Bool, true, false, cond, List, [], ◌∷◌, ◌++◌, length, take, drop, refl, ap, sym, ◌∙◌, arith, length-append, append-nil, subst}
 use Rattle.std.specs.Prelude.{nat_lt, nat_eq, ◌==◌, Ok, Err}
 use Rattle.std.specs.List.{starts_with}
 use lib.Pointwise.{pointwise}
@@ -9,7 +9,7 @@ use Rattle.std.proofs.Math.Seq.{take-append_seam, drop-append_seam}
 use Rattle.byteorder.specs.Endian.{big_number, little_number}
 use Rattle.wire_num.specs.Field.{Read, then_read, map_read, as_one_field, passing_at, bytes_at, big_at, little_at, end_at, at_least, rest_count_at}
 use Rattle.wire_num.specs.Length.{per_len_at, ber_len_at}
-use Rattle.wire_num.specs.Layout.{Layout, Open, End, Rest, Body, Bytes, Any, Big, Little, CountsRest, AtLeast, Length, Counted, Within, Count, OneByte, Packed, Basic, count_at, wanted_at, exactly_at, before, fields_at}
+use Rattle.wire_num.specs.Layout.{Layout, Open, End, Rest, Body, Content, Bytes, Any, Big, Little, CountsRest, AtLeast, Length, Counted, Within, Count, OneByte, Packed, Basic, count_at, wanted_at, exactly_at, before, fields_at}
 use Rattle.wire_num.specs.Grammar.{IsOneByte, IsPacked, IsBasic, IsCount, IsText}
 use Rattle.wire_num.proofs.Steps.{not_short, counts, big_front, little_front}
 
@@ -29,6 +29,9 @@ unfolding bytes_at
 bytes_again text more =
     let short : nat_lt (length (text ++ more)) (length text) ≡ false = not_short (length text) (length (text ++ more)) (omega (arith, length-append text more)) in
     rw short (ap (λ xs. Ok (xs, drop (length text) (text ++ more))) (take-append_seam text more) ∙ ap (λ xs. Ok (text, xs)) (drop-append_seam text more))
+
+bytes_all : (bs : List ℕ) → bytes_at (length bs) bs ≡ Ok (bs, [])
+bytes_all bs = ap (bytes_at (length bs)) (sym (append-nil bs)) ∙ bytes_again bs []
 
 bytes_there : (n : ℕ) (text more : List ℕ) → length text ≡ n → bytes_at n (text ++ more) ≡ Ok (text, more)
 bytes_there n text more h =
@@ -148,6 +151,14 @@ text_is_read (Body form) bytes values left p =
     ∙ then_again (count_at form (count ++ body)) (length body) body (λ n rest. map_read (λ _. n ∷ []) (exactly_at n rest)) (got (length body ∷ []) [])
     (count_again form count (length body) body p.2) (ap (map_read (λ _. length body ∷ [])) (exactly_again body))
     ∙ same_answer (length body ∷ []) values [] left (sym p.4) (sym p.5)
+text_is_read (Content form) bytes values left p =
+    let count = p.0 in let content = p.1 in
+    let size = length content in
+    ap (fields_at (Content form)) p.3
+    ∙ then_again (count_at form (count ++ content)) size content (λ n rest. then_read (bytes_at n rest) (λ _ after. map_read (λ _. n ∷ []) (end_at after))) (got (size ∷ []) [])
+    (count_again form count size content p.2)
+    (then_again (bytes_at size content) content [] (λ _ after. map_read (λ _. size ∷ []) (end_at after)) (got (size ∷ []) []) (bytes_all content) (ap (map_read (λ _. size ∷ [])) end_again))
+    ∙ same_answer (size ∷ []) values [] left (sym p.4) (sym p.5)
 text_is_read (Bytes ws next) bytes values left p =
     ap (fields_at (Bytes ws next)) p.1
     ∙ then_again (wanted_at ws (ws ++ p.0)) [] p.0 (λ _ rest. fields_at next rest) (got values left) (wanted_again ws p.0) (text_is_read next p.0 values left p.2)
@@ -178,13 +189,13 @@ text_is_read (AtLeast n next) bytes values left p =
 text_is_read (Length form next) bytes values left p =
     ap (fields_at (Length form next)) p.4
     ∙ then_again (count_at form (p.0 ++ p.2)) p.1 p.2 (λ _ rest. fields_at next rest) (got values left) (count_again form p.0 p.1 p.2 p.3) (text_is_read next p.2 values left p.5)
-text_is_read (Counted form next) bytes values left p =
+text_is_read (Counted form test next) bytes values left p =
     let count = p.0 in let content = p.1 in let more = p.2 in
-    ap (fields_at (Counted form next)) p.4
-    ∙ then_again (count_at form (count ++ (content ++ more))) (length content) (content ++ more) (λ n rest. then_read (bytes_at n rest) (λ _ after. fields_at next after)) (got values left)
-    (count_again form count (length content) (content ++ more) p.3)
+    ap (fields_at (Counted form test next)) p.5
+    ∙ then_again (passing_at test (count_at form) (count ++ (content ++ more))) (length content) (content ++ more) (λ n rest. then_read (bytes_at n rest) (λ _ after. fields_at next after)) (got values left)
+    (passing_again test (count_at form) (count ++ (content ++ more)) (length content) (content ++ more) (count_again form count (length content) (content ++ more) p.3) p.4)
     (then_again (bytes_at (length content) (content ++ more)) content more (λ _ after. fields_at next after) (got values left)
-    (bytes_again content more) (text_is_read next more values left p.5))
+    (bytes_again content more) (text_is_read next more values left p.6))
 text_is_read (Within form inner next) bytes values left p =
     let count = p.0 in let content = p.1 in let more = p.2 in let own = p.3 in let others = p.4 in
     let after_all : List ℕ → List ℕ → Read (List ℕ) = λ vs after. map_read (λ ws. vs ++ ws) (fields_at next after) in

@@ -2,6 +2,7 @@
 use Rattle.std.specs.Prelude.{◌≡◌, ℕ, List, drop, Result, Ok, Err}
 use Rattle.wire_num.specs.declared.short.Short.{Short}
 use Rattle.wire_num.specs.Field.{Read}
+use Rattle.wire_num.specs.Layout.{Layout, fields_at}
 
 pub record Reading : Type 0 where
   pub bytes : List ℕ
@@ -28,3 +29,11 @@ ReadsFieldAs view read (Err short) old new = (read (rest old) ≡ Err (rest old)
 
 abbrev pub ReadsField : {A : Type 0} → (List ℕ → Read A) → Result A Short → Reading → Reading → Type 0
 ReadsField read result old new = ReadsFieldAs (λ v. v) read result old new
+
+-- The call read rows of a table that have no values, whatever the rows after them; or it came to a field of these rows that is
+-- refused, and the cursor stands there.
+abbrev pub ReadsRows : {X : Type 0} → (Layout → Layout) → Result X Short → Reading → Reading → Type 0
+ReadsRows rows (Ok v) old new =
+    ((next : Layout) → fields_at (rows next) (rest old) ≡ fields_at next (rest new)) × (new.bytes ≡ old.bytes)
+ReadsRows rows (Err short) old new =
+    ((next : Layout) → fields_at (rows next) (rest old) ≡ Err (rest new)) × (new.bytes ≡ old.bytes) × (short.at ≡ new.at)

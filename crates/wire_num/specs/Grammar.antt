@@ -1,7 +1,7 @@
 -- What the texts of a layout are, apart from reading: field by field, which bytes stand there and which value they have.
 use Rattle.std.specs.Prelude.{◌≡◌, ◌≤◌, ◌<◌, ℕ, ◌+◌, ◌-◌, ◌*◌, true, List, [], ◌∷◌, ◌++◌, length}
 use Rattle.byteorder.specs.Endian.{big_number, little_number}
-use Rattle.wire_num.specs.Layout.{Layout, Open, End, Rest, Body, Bytes, Any, Big, Little, CountsRest, AtLeast, Length, Counted, Within, Count, OneByte, Packed, Basic}
+use Rattle.wire_num.specs.Layout.{Layout, Open, End, Rest, Body, Content, Bytes, Any, Big, Little, CountsRest, AtLeast, Length, Counted, Within, Count, OneByte, Packed, Basic}
 
 -- these bytes are a packed length of n (X.691, 10.9.3.6 and 10.9.3.7)
 abbrev pub IsPacked : List ℕ → ℕ → Type 0
@@ -36,6 +36,9 @@ IsText Rest bytes values left = (values ≡ []) × (left ≡ [])
 IsText (Body form) bytes values left =
     (count : List ℕ) × (body : List ℕ) × IsCount form count (length body)
     × (bytes ≡ count ++ body) × (values ≡ length body ∷ []) × (left ≡ [])
+IsText (Content form) bytes values left =
+    (count : List ℕ) × (content : List ℕ) × IsCount form count (length content)
+    × (bytes ≡ count ++ content) × (values ≡ length content ∷ []) × (left ≡ [])
 IsText (Bytes ws next) bytes values left =
     (more : List ℕ) × (bytes ≡ ws ++ more) × IsText next more values left
 IsText (Any n next) bytes values left =
@@ -51,8 +54,8 @@ IsText (CountsRest next) bytes values left =
 IsText (AtLeast n next) bytes values left = (n ≤ length bytes) × IsText next bytes values left
 IsText (Length form next) bytes values left =
     (count : List ℕ) × (n : ℕ) × (more : List ℕ) × IsCount form count n × (bytes ≡ count ++ more) × IsText next more values left
-IsText (Counted form next) bytes values left =
-    (count : List ℕ) × (content : List ℕ) × (more : List ℕ) × IsCount form count (length content)
+IsText (Counted form test next) bytes values left =
+    (count : List ℕ) × (content : List ℕ) × (more : List ℕ) × IsCount form count (length content) × (test (length content) ≡ true)
     × (bytes ≡ count ++ (content ++ more)) × IsText next more values left
 IsText (Within form inner next) bytes values left =
     (count : List ℕ) × (content : List ℕ) × (more : List ℕ) × (own : List ℕ) × (others : List ℕ)

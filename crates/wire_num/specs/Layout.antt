@@ -20,6 +20,8 @@ pub data Layout : Type 0 where
   Rest : Layout
   -- a count of the bytes to the end; another count is refused at their first byte
   Body : Count → Layout
+  -- a count of the bytes to the end; fewer are refused at their first byte, more at the first one left over
+  Content : Count → Layout
   -- exactly these bytes
   Bytes : List ℕ → Layout → Layout
   -- so many bytes of any value
@@ -33,8 +35,8 @@ pub data Layout : Type 0 where
   AtLeast : ℕ → Layout → Layout
   -- a count, whose value isn't compared
   Length : Count → Layout → Layout
-  -- a count, and so many bytes of any value
-  Counted : Count → Layout → Layout
+  -- a count that passes the test, and so many bytes of any value
+  Counted : Count → (ℕ → Bool) → Layout → Layout
   -- a count, and fields in exactly so many bytes; too few are refused at their first byte
   Within : Count → Layout → Layout → Layout
 
@@ -67,6 +69,8 @@ fields_at End bs = end_at bs
 fields_at Rest bs = Ok ([], [])
 fields_at (Body form) bs =
     then_read (count_at form bs) (λ n rest. map_read (λ _. n ∷ []) (exactly_at n rest))
+fields_at (Content form) bs =
+    then_read (count_at form bs) (λ n rest. then_read (bytes_at n rest) (λ _ after. map_read (λ _. n ∷ []) (end_at after)))
 fields_at (Bytes ws next) bs = then_read (wanted_at ws bs) (λ _ rest. fields_at next rest)
 fields_at (Any n next) bs = then_read (bytes_at n bs) (λ _ rest. fields_at next rest)
 fields_at (Big n test next) bs =
@@ -76,8 +80,8 @@ fields_at (Little n test next) bs =
 fields_at (CountsRest next) bs = then_read (rest_count_at bs) (λ _ rest. fields_at next rest)
 fields_at (AtLeast n next) bs = then_read (at_least n bs) (λ _ rest. fields_at next rest)
 fields_at (Length form next) bs = then_read (count_at form bs) (λ _ rest. fields_at next rest)
-fields_at (Counted form next) bs =
-    then_read (count_at form bs) (λ n rest. then_read (bytes_at n rest) (λ _ after. fields_at next after))
+fields_at (Counted form test next) bs =
+    then_read (passing_at test (count_at form) bs) (λ n rest. then_read (bytes_at n rest) (λ _ after. fields_at next after))
 fields_at (Within form inner next) bs =
     then_read (count_at form bs) (λ n rest.
     then_read (bytes_at n rest) (λ content after.

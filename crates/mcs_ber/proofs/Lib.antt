@@ -1,0 +1,5 @@
+pub mod Within
+pub mod Parameters
+pub mod Initial
+pub mod Response
+pub mod SampleClient

@@ -1,0 +1,3 @@
+pub mod DomainParameters
+pub mod ConnectInitial
+pub mod ConnectResponse
