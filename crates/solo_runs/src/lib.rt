@@ -4,18 +4,18 @@
 mod form;
 mod frame;
 mod laws;
+mod lines;
 mod refusal;
 mod solo;
-mod lines;
 mod step;
 
 pub use form::{breaks_text, is_invite, is_text_line, size_of_line, solo_step};
 pub use laws::first_scripts_show_the_journal;
-pub use refusal::FillRefusal;
-pub use solo::SoloRun;
 pub use lines::{
     write_bad_drawing, write_broken, write_frame, write_joined, write_journal_full, write_nothing,
 };
+pub use refusal::FillRefusal;
+pub use solo::SoloRun;
 pub use step::SoloStep;
 
 #[cfg(test)]
