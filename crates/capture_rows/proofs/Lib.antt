@@ -4,3 +4,4 @@ pub mod Rooms
 pub mod Caches
 pub mod ManyFills
 pub mod Largest
+pub mod Headlines
