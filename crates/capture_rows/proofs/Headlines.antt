@@ -21,6 +21,44 @@ ShowsOpening v capture (Opened s) = pictures_at_marks (confirmed_in s.head s.ask
 abbrev Shows : ℕ → List ℕ → Type 0
 Shows v script = ShowsOpening v (capture_of encoder_frames whole_grammar script) (opening_of whole_grammar script)
 
+one_fill_shows_1 : Shows 1 (ended (codes "size 64 48")
+    ++ ended (codes "take")
+    ++ ended (codes "fill 10 20 5 5 FF0000")
+    ++ ended (codes "take"))
+unfolding digits ternary_raster
+one_fill_shows_1 = refl
+
+same_fill_again_shows_1 : Shows 1 (ended (codes "size 64 48")
+    ++ ended (codes "take")
+    ++ ended (codes "fill 10 20 5 5 FF0000")
+    ++ ended (codes "take")
+    ++ ended (codes "fill 10 20 5 5 FF0000")
+    ++ ended (codes "take"))
+unfolding digits ternary_raster
+same_fill_again_shows_1 = refl
+
+far_delta_is_absolute_shows_1 : Shows 1 (ended (codes "size 64 48")
+    ++ ended (codes "take")
+    ++ ended (codes "fill 10 20 5 5 FF0000")
+    ++ ended (codes "take")
+    ++ ended (codes "fill 10 20 5 5 FF0000")
+    ++ ended (codes "take")
+    ++ ended (codes "fill 138 21 5 5 FF0000")
+    ++ ended (codes "take"))
+unfolding digits ternary_raster
+far_delta_is_absolute_shows_1 = refl
+
+overlapping_copy_in_a_clip_shows_1 : Shows 1 (ended (codes "size 64 48")
+    ++ ended (codes "invite ann owner")
+    ++ ended (codes "join ann full")
+    ++ ended (codes "take")
+    ++ ended (codes "copy 0 1 64 47 CC 0 0 clip 8 8 16 16")
+    ++ ended (codes "take")
+    ++ ended (codes "copy 0 1 64 47 CC 0 0 clip 8 8 16 16")
+    ++ ended (codes "take"))
+unfolding digits ternary_raster
+overlapping_copy_in_a_clip_shows_1 = refl
+
 save_and_restore_shows_1 : Shows 1 (ended (codes "size 64 48")
     ++ ended (codes "invite ann owner")
     ++ ended (codes "join ann full")
@@ -32,16 +70,43 @@ save_and_restore_shows_1 : Shows 1 (ended (codes "size 64 48")
 unfolding digits ternary_raster
 save_and_restore_shows_1 = refl
 
-control_is_handed_on_shows_2 : Shows 2 (ended (codes "size 64 48")
+marker_support_shows_1 : Shows 1 (ended (codes "size 64 48")
     ++ ended (codes "invite ann owner")
-    ++ ended (codes "invite bob view")
-    ++ ended (codes "invite cy control")
-    ++ ended (codes "join ann full")
-    ++ ended (codes "join bob full")
-    ++ ended (codes "join cy full")
-    ++ ended (codes "@2 mouse 9000 20 20")
-    ++ ended (codes "key 58 down")
-    ++ ended (codes "@3 mouse 9000 20 20")
-    ++ ended (codes "@2 take"))
+    ++ ended (codes "join ann marked")
+    ++ ended (codes "take"))
 unfolding digits ternary_raster
-control_is_handed_on_shows_2 = refl
+marker_support_shows_1 = refl
+
+refused_drawings_shows_1 : Shows 1 (ended (codes "size 64 48")
+    ++ ended (codes "copy 0 0 64 48 CC 0 1")
+    ++ ended (codes "dst 0 0 4 4 CC")
+    ++ ended (codes "line 0 0 9 0 FFFFFF")
+    ++ ended (codes "restore 3 0 0")
+    ++ ended (codes "image 0 16 16 FF0000")
+    ++ ended (codes "blit 0 0 16 16 CC 0 1 0")
+    ++ ended (codes "take"))
+unfolding digits ternary_raster
+refused_drawings_shows_1 = refl
+
+three_glyphs_shows_1 : Shows 1 (ended (codes "size 64 48")
+    ++ ended (codes "invite ann owner")
+    ++ ended (codes "join ann bare gc0=3,4")
+    ++ ended (codes "take")
+    ++ ended (codes "glyph 0 65 0 0 8 1 FF")
+    ++ ended (codes "glyph 0 66 0 0 8 1 0F")
+    ++ ended (codes "glyph 0 67 0 0 8 1 F0")
+    ++ ended (codes "text 4 5 FFFFFF 0 65:0 66:8 67:8")
+    ++ ended (codes "take"))
+unfolding digits ternary_raster
+three_glyphs_shows_1 = refl
+
+copy_from_a_dirty_tile_shows_1 : Shows 1 (ended (codes "size 192 64")
+    ++ ended (codes "invite ann owner")
+    ++ ended (codes "join ann full")
+    ++ ended (codes "take")
+    ++ ended (codes "line 0 0 63 10 00FF00")
+    ++ ended (codes "copy 128 0 64 64 CC 0 0")
+    ++ ended (codes "fill 64 0 64 64 0000FF")
+    ++ ended (codes "take"))
+unfolding digits ternary_raster
+copy_from_a_dirty_tile_shows_1 = refl

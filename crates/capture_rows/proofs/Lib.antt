@@ -5,3 +5,4 @@ pub mod Caches
 pub mod ManyFills
 pub mod Largest
 pub mod Headlines
+pub mod HeadlinesOfRooms
