@@ -6,3 +6,4 @@ pub mod ManyFills
 pub mod Largest
 pub mod Headlines
 pub mod HeadlinesOfRooms
+pub mod SmallPictures
