@@ -47,9 +47,9 @@ pub record DoesStep (line : Option SoloLine) (size : Size) (before now : Solo) (
 -- what was done where a line was found, as the k-th: its step; nothing, since there is none; or its refusal was written
 abbrev pub DoesFound : Result Bool ScriptFault → Found → ℕ → Size → Solo → Solo → List ℕ → Option (List ℕ) → Option (List ℕ) → Type 0
 DoesFound (Ok true) f k size before now text old new = DoesStep (found_line f before text) size before now old new
-DoesFound (Ok false) f k size before now text old new = (f ≡ found.End) × (new ≡ old)
-DoesFound (Err (fault.Line line rule)) f k size before now text old new = (line ≡ k) × (found_line f before text ≡ Some (BreaksRule rule)) × Appends old new (broken_line k rule)
-DoesFound (Err fault.ReadFault) f k size before now text old new = f ≡ found.Failed
+DoesFound (Ok false) f k size before now text old new = (f ≡ found.End) × (now ≡ before) × (new ≡ old)
+DoesFound (Err (fault.Line line rule)) f k size before now text old new = (line ≡ k) × (found_line f before text ≡ Some (BreaksRule rule)) × (now ≡ before) × Appends old new (broken_line k rule)
+DoesFound (Err fault.ReadFault) f k size before now text old new = (f ≡ found.Failed) × (now ≡ before) × (new ≡ old)
 DoesFound (Err fault.WriteFault) f k size before now text old new = ⊤
 DoesFound (Err fault.OutOfMemory) f k size before now text old new = ⊤
 
@@ -59,8 +59,9 @@ WritesCause (Ok x) before now = now ≡ before
 WritesCause (Err (fault.Line line rule)) before now = now ≡ before
 WritesCause (Err fault.ReadFault) before now = now ≡ before
 WritesCause (Err fault.WriteFault) before now = Rose before now
-WritesCause (Err fault.OutOfMemory) before now = ⊤
+WritesCause (Err fault.OutOfMemory) before now = now ≡ before
 
+-- the causes of a fault
 abbrev pub FaultCause : ScriptFault → ℕ → ℕ → Type 0
 FaultCause f before now = WritesCause {T = Unit {0}} (Err f) before now
 

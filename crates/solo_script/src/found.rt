@@ -13,6 +13,8 @@ use solo_runs::{SoloRun, write_broken};
 use std::alloc::Global;
 
 /// Does what was found asks for, as line `k`, and writes its line of the capture; says whether there was a line.
+///
+/// A `Line` leaves the run as it was, its refusal written; a `ReadFault` leaves run and output. A `WriteFault`, or want of memory, may leave a front of the line in the output.
 pub fn do_found<K: Sink>(
     alloc: Global,
     output: &mut K,
@@ -42,7 +44,7 @@ pub fn do_found<K: Sink>(
     }
 }
 
-/// Writes that line `k` breaks a rule, and answers so.
+/// Writes that line `k` breaks a rule, and answers so. After another answer a front of that text may stand in the output.
 pub fn refuse<K: Sink>(alloc: Global, output: &mut K, k: u32, rule: u8) -> ScriptFault
     ensures done { Refuses result k rule (K.told output.old) (K.told output.new) }
     ensures cause { FaultCause result (K.faults output.old) (K.faults output.new) }

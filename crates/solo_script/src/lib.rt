@@ -8,3 +8,6 @@ mod step;
 pub use fault::ScriptFault;
 pub use found::{do_found, put, refuse};
 pub use step::{FORM_RULE, PENDING_RULE, TEXT_RULE, do_line};
+
+#[cfg(test)]
+mod tests;
