@@ -14,7 +14,7 @@ use Rattle.run_lengths.specs.declared.codes.Length.TheVariants.{InCode, TwoBytes
 
 -- ---- orders
 
--- what an order draws: so many pixels, a pixel for each bit, so many of one colour, the colours themselves, two colours in turn so many times
+-- what an order draws: so many pixels, a pixel for each bit, so many of one colour, the colours themselves, two colours in turn so many times; one definition has a clause for all others than an image: onto_runs of Packer (only images join)
 pub data Run : Type 0 where
   Background : ℕ → Run
   Foreground : ℕ → Run
