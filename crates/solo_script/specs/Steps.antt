@@ -44,14 +44,21 @@ pub record DoesStep (line : Option SoloLine) (size : Size) (before now : Solo) (
   pub after : now ≡ solo_after size before step
   pub written : Appends old new (solo_line size before step)
 
--- what was done where a line was found, as the k-th: its step; nothing, since there is none; or its refusal was written
+-- a line was found, within the limits or past them
+abbrev pub FoundLine : Found → Type 0
+FoundLine (found.Line ended) = ⊤
+FoundLine found.PastLimits = ⊤
+FoundLine found.End = ⊥
+FoundLine found.Failed = ⊥
+
+-- what was done where a line was found, as the k-th: its step; nothing, since there is none; or its refusal was written; writing fails only of a line
 abbrev pub DoesFound : Result Bool ScriptFault → Found → ℕ → Size → Solo → Solo → List ℕ → Option (List ℕ) → Option (List ℕ) → Type 0
 DoesFound (Ok true) f k size before now text old new = DoesStep (found_line f before text) size before now old new
 DoesFound (Ok false) f k size before now text old new = (f ≡ found.End) × (now ≡ before) × (new ≡ old)
 DoesFound (Err (fault.Line line rule)) f k size before now text old new = (line ≡ k) × (found_line f before text ≡ Some (BreaksRule rule)) × (now ≡ before) × Appends old new (broken_line k rule)
 DoesFound (Err fault.ReadFault) f k size before now text old new = (f ≡ found.Failed) × (now ≡ before) × (new ≡ old)
-DoesFound (Err fault.WriteFault) f k size before now text old new = ⊤
-DoesFound (Err fault.OutOfMemory) f k size before now text old new = ⊤
+DoesFound (Err fault.WriteFault) f k size before now text old new = FoundLine f
+DoesFound (Err fault.OutOfMemory) f k size before now text old new = FoundLine f
 
 -- the causes of a write's answer
 abbrev pub WritesCause : {T : Type 0} → Result T ScriptFault → ℕ → ℕ → Type 0
