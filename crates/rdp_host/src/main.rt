@@ -9,20 +9,30 @@ mod top;
 use edge_io::{FileIn, FileOut, PlanGate};
 pub use script::run_script;
 pub use solo_script::ScriptFault;
+use std::alloc::Global;
+use std::env::{self, Env};
+use std::io;
 use std::process::ExitCode;
-use std::{env, io};
+use top::OUT_OF_MEMORY;
 pub use top::top;
 
-fn main(rt: HostRuntime) -> io::Result<ExitCode> {
+fn main(rt: HostRuntime) -> ExitCode {
     let alloc = rt.alloc();
-    let words = env::args(&rt)?.collect::<Vec<String>>(alloc)?;
+    // What fails before `top` wants memory.
+    let Ok(words) = words(&rt, alloc) else {
+        return ExitCode::from(OUT_OF_MEMORY);
+    };
+    let Ok(mut gate) = PlanGate::new(alloc, Vec::new(alloc), Vec::new(alloc)) else {
+        return ExitCode::from(OUT_OF_MEMORY);
+    };
     let mut input = FileIn::new(&rt);
     let mut output = FileOut::new(&rt);
-    let mut gate = match PlanGate::new(alloc, Vec::new(alloc), Vec::new(alloc)) {
-        Ok(gate) => gate,
-        Err(_) => return Ok(ExitCode::from(6)),
-    };
-    Ok(ExitCode::from(top::top(&rt, alloc, &words, &mut input, &mut output, &mut gate)))
+    ExitCode::from(top(&rt, alloc, &words, &mut input, &mut output, &mut gate))
+}
+
+/// The words that the program was run with, its name first.
+fn words<R: Env + Alloc<A = Global>>(rt: &R, alloc: Global) -> io::Result<Vec<String>> {
+    Ok(env::args(rt)?.collect::<Vec<String>>(alloc)?)
 }
 
 #[cfg(test)]

@@ -31,7 +31,7 @@ const READ_FAULT: u8 = 4;
 const WRITE_FAULT: u8 = 5;
 
 /// The exit status where no memory was left.
-const OUT_OF_MEMORY: u8 = 6;
+pub(crate) const OUT_OF_MEMORY: u8 = 6;
 
 /// The whole program, over any input, output and gate; the answer is its exit status. The words begin with the program's name.
 ///

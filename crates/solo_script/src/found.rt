@@ -71,12 +71,15 @@ fn write_refusal<K: Sink>(
     put(output, &line)
 }
 
-/// Writes bytes.
+/// Writes bytes; where there are none the output isn't called.
 pub fn put<K: Sink>(output: &mut K, bytes: &[u8]) -> Result<(), ScriptFault>
     ensures written { OnOk result (Appends (K.told output.old) (K.told output.new) bytes.now) }
     ensures fault { IfErr result IsWriteFault }
     ensures cause { WritesCause result (K.faults output.old) (K.faults output.new) }
 {
+    if bytes.is_empty() {
+        return Ok(());
+    }
     match output.write_all(bytes) {
         Wrote::All => Ok(()),
         Wrote::Failed => Err(ScriptFault::WriteFault),
