@@ -2,7 +2,8 @@
 use Rattle.std.proofs.Common.{◌≡◌, ℕ, suc, ◌+◌, ◌-◌, ◌^◌, ◌<◌, List, [], ◌∷◌, ◌++◌, refl, ap, sym, ◌∙◌, subst, Some, None, Bool, true, false, append_assoc, arith}
 use Rattle.std.specs.Prelude.{Option, Result, Ok, Err, ⊤, if◌then◌else◌}
 use Rattle.std.specs.Io.KnownBytes.{Appends, Keeps, IsAtEnd}
-use Rattle.std.proofs.KnownBytes.{Appends-trans}
+use Rattle.std.proofs.KnownBytes.{Appends-trans, Appends-nil}
+use Rattle.edge_io.specs.Sink.{AppendsFront}
 use Rattle.px_core.specs.declared.surface.Size.{Size}
 use Rattle.line_text.specs.Lines.{Line, lines_of, script_limit}
 use Rattle.script_rules.specs.Script.{LineRefusal}
@@ -13,7 +14,7 @@ use Rattle.solo_script.specs.declared.fault.ScriptFault.{ScriptFault}
 use Rattle.solo_script.specs.declared.fault.ScriptFault.TheVariants as fault
 use Rattle.solo_script.specs.Steps.{WritesCause}
 use Rattle.rdp_host.specs.Run.{Tells, EndsWhereTold, ReadsCause}
-use Rattle.rdp_host.specs.Reading.{Sense, of_lines, Continues, Goes, Comes, Stops, Stands, DoesNext, DoesAll}
+use Rattle.rdp_host.specs.Reading.{Sense, of_lines, Continues, Goes, Comes, Stops, Fronts, Stands, DoesNext, DoesAll}
 
 abbrev pub AddsText : Option (List ℕ) → Sense → List ℕ → Sense → Type 0
 AddsText before whole text rest = Tells before (λ bytes. (whole.writes (lines_of bytes) ≡ text ++ rest.writes (lines_of bytes)) × (whole.refuses (lines_of bytes) ≡ rest.refuses (lines_of bytes)))
@@ -44,15 +45,63 @@ goes_added before now whole rest last text told mid telling adds w g = record {
   continues = continues_added before now whole rest last text g.text adds g.continues;
 }
 
+-- ---- fronts
+
+pub front_none : (told : Option (List ℕ)) (text : List ℕ) → AppendsFront told told text
+front_none told text = record { front = []; rest = text; whole = refl; written = Appends-nil told }
+
+pub front_extends : (told telling : Option (List ℕ)) (text more whole : List ℕ) → whole ≡ text ++ more → AppendsFront told telling text → AppendsFront told telling whole
+front_extends told telling text more whole is f = record {
+  front = f.front;
+  rest = f.rest ++ more;
+  whole = is ∙ ap (λ t. t ++ more) f.whole ∙ append_assoc f.front f.rest more;
+  written = f.written;
+}
+
+front_after : (told mid telling : Option (List ℕ)) (text more whole : List ℕ) → Appends told mid text → whole ≡ text ++ more → AppendsFront mid telling more → AppendsFront told telling whole
+front_after told mid telling text more whole w is f = record {
+  front = text ++ f.front;
+  rest = f.rest;
+  whole = is ∙ ap (λ t. text ++ t) f.whole ∙ sym (append_assoc text f.front f.rest);
+  written = Appends-trans told mid telling text f.front w f.written;
+}
+
+-- said of all bytes
+pub tells_of_all : (before : Option (List ℕ)) (says : List ℕ → Type 0) → ((bytes : List ℕ) → says bytes) → Tells before says
+tells_of_all None says all = tt
+tells_of_all (Some bytes) says all = all bytes
+
+fronts_added : (before : Option (List ℕ)) (whole rest : Sense) (text : List ℕ) (told mid telling : Option (List ℕ)) → AddsText before whole text rest → Appends told mid text → Fronts before rest mid telling → Fronts before whole told telling
+fronts_added None whole rest text told mid telling adds w f = tt
+fronts_added (Some bytes) whole rest text told mid telling adds w f = front_after told mid telling text (rest.writes (lines_of bytes)) (whole.writes (lines_of bytes)) w adds.0 f
+
+-- a front of the text that stands first
+pub fronts_first : (before : Option (List ℕ)) (whole rest : Sense) (text : List ℕ) (told telling : Option (List ℕ)) → AddsText before whole text rest → AppendsFront told telling text → Fronts before whole told telling
+fronts_first None whole rest text told telling adds f = tt
+fronts_first (Some bytes) whole rest text told telling adds f = front_extends told telling text (rest.writes (lines_of bytes)) (whole.writes (lines_of bytes)) adds.0 f
+
+-- a front of all that the lines come to
+pub fronts_all : (before : Option (List ℕ)) (whole : Sense) (text : List ℕ) (refused : Option LineRefusal) (told telling : Option (List ℕ)) → Comes before whole text refused → AppendsFront told telling text → Fronts before whole told telling
+fronts_all None whole text refused told telling comes f = tt
+fronts_all (Some bytes) whole text refused told telling comes f = subst (AppendsFront told telling) (sym comes.0) f
+
+fronts_by : (before between : Option (List ℕ)) (whole rest : Sense) (text : List ℕ) (told mid telling : Option (List ℕ)) → Continues before between whole text rest → Appends told mid text → Fronts between rest mid telling → Fronts before whole told telling
+fronts_by None between whole rest text told mid telling c w f = tt
+fronts_by (Some bytes) None whole rest text told mid telling c w f = absurd c
+fronts_by (Some bytes) (Some left) whole rest text told mid telling c w f = front_after told mid telling text (rest.writes (lines_of left)) (whole.writes (lines_of bytes)) w c.0 f
+
+pub fronts_later : (before between : Option (List ℕ)) (whole rest : Sense) (told mid telling : Option (List ℕ)) → Goes before between whole rest told mid → Fronts between rest mid telling → Fronts before whole told telling
+fronts_later before between whole rest told mid telling g f = fronts_by before between whole rest g.text told mid telling g.continues g.written f
+
 -- what is done of the next line, after text that was written before it
 pub next_added : (result : Result Bool ScriptFault) (whole rest : Sense) (size : Size) (k at next_at : ℕ) (s : Solo) (before now told mid telling : Option (List ℕ)) (text : List ℕ) →
     AddsText before whole text rest → Appends told mid text → DoesNext result rest size k at next_at s before now mid telling → DoesNext result whole size k at next_at s before now told telling
 next_added (Ok true) whole rest size k at next_at s before now told mid telling text adds w d = (d.0, d.1, goes_added before now whole rest _ text told mid telling adds w d.2)
 next_added (Ok false) whole rest size k at next_at s before now told mid telling text adds w d = (d.0, stops_added before whole rest text None told mid telling adds w d.1)
 next_added (Err (fault.Line line rule)) whole rest size k at next_at s before now told mid telling text adds w d = (d.0, d.1, stops_added before whole rest text _ told mid telling adds w d.2)
-next_added (Err fault.ReadFault) whole rest size k at next_at s before now told mid telling text adds w d = tt
-next_added (Err fault.WriteFault) whole rest size k at next_at s before now told mid telling text adds w d = tt
-next_added (Err fault.OutOfMemory) whole rest size k at next_at s before now told mid telling text adds w d = tt
+next_added (Err fault.ReadFault) whole rest size k at next_at s before now told mid telling text adds w d = fronts_added before whole rest text told mid telling adds w d
+next_added (Err fault.WriteFault) whole rest size k at next_at s before now told mid telling text adds w d = fronts_added before whole rest text told mid telling adds w d
+next_added (Err fault.OutOfMemory) whole rest size k at next_at s before now told mid telling text adds w d = fronts_added before whole rest text told mid telling adds w d
 
 -- ---- over some lines, and then more
 
@@ -112,17 +161,17 @@ small_line line k rule is few low = (omega (arith, is, few), omega (arith, low))
 pub stands_last : (answer : ScriptFault) (whole : Sense) (size : Size) (k at next_at : ℕ) (s t : Solo) (before between now told mid telling : Option (List ℕ)) → k + 1 < 2 ^ 32 →
     Stands true whole size k at s before between told mid → DoesNext (Err answer) (of_lines size (k + 1) at s) size (k + 1) at next_at t between now mid telling → DoesAll (Err answer) whole before now told telling
 stands_last (fault.Line line rule) whole size k at next_at s t before between now told mid telling few stands d = (small_line line (k + 1) rule d.0 few d.1, goes_stops before between whole _ _ told mid telling stands.2 d.2)
-stands_last fault.ReadFault whole size k at next_at s t before between now told mid telling few stands d = tt
-stands_last fault.WriteFault whole size k at next_at s t before between now told mid telling few stands d = tt
-stands_last fault.OutOfMemory whole size k at next_at s t before between now told mid telling few stands d = tt
+stands_last fault.ReadFault whole size k at next_at s t before between now told mid telling few stands d = fronts_later before between whole _ told mid telling stands.2 d
+stands_last fault.WriteFault whole size k at next_at s t before between now told mid telling few stands d = fronts_later before between whole _ told mid telling stands.2 d
+stands_last fault.OutOfMemory whole size k at next_at s t before between now told mid telling few stands d = fronts_later before between whole _ told mid telling stands.2 d
 
 -- the first of these lines ended the run
 pub ends_at_first : (answer : ScriptFault) (whole : Sense) (size : Size) (at next_at : ℕ) (t : Solo) (before now told telling : Option (List ℕ)) →
     DoesNext (Err answer) whole size 2 at next_at t before now told telling → DoesAll (Err answer) whole before now told telling
 ends_at_first (fault.Line line rule) whole size at next_at t before now told telling d = (small_line line 2 rule d.0 (omega arith) d.1, d.2)
-ends_at_first fault.ReadFault whole size at next_at t before now told telling d = tt
-ends_at_first fault.WriteFault whole size at next_at t before now told telling d = tt
-ends_at_first fault.OutOfMemory whole size at next_at t before now told telling d = tt
+ends_at_first fault.ReadFault whole size at next_at t before now told telling d = d
+ends_at_first fault.WriteFault whole size at next_at t before now told telling d = d
+ends_at_first fault.OutOfMemory whole size at next_at t before now told telling d = d
 
 -- ---- the loop over the lines
 
@@ -153,3 +202,9 @@ writes_on (fault.Line line rule) before now cause = cause
 writes_on fault.ReadFault before now cause = cause
 writes_on fault.WriteFault before now cause = cause
 writes_on fault.OutOfMemory before now cause = cause
+
+pub written_writes : (answer : ScriptFault) (before now : ℕ) → WritesCause {T = Unit {0}} (Err answer) before now → WritesCause {T = Bool} (Err answer) before now
+written_writes (fault.Line line rule) before now cause = cause
+written_writes fault.ReadFault before now cause = cause
+written_writes fault.WriteFault before now cause = cause
+written_writes fault.OutOfMemory before now cause = cause

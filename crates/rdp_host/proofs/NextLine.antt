@@ -12,18 +12,19 @@ use Rattle.line_read.specs.Finding.{Finds, FindsLine, FindsNone, FindCause}
 use Rattle.line_read.specs.declared.reader.Found.{Found}
 use Rattle.line_read.specs.declared.reader.Found.TheVariants as found
 use Rattle.edge_io.specs.Faults.{Rose}
+use Rattle.edge_io.specs.Sink.{AppendsFront}
 use Rattle.script_rules.specs.Script.{LineRefusal, text_rule, form_rule, breaks_text_rule, all_bytes, is_ascii, begins_with_invite, invite_form}
 use Rattle.script_rules.specs.Capture.{broken_line}
 use Rattle.solo_runs.specs.Solo.{Solo, solo_line, solo_after, solo_at_first}
 use Rattle.solo_runs.specs.declared.step.SoloStep.{SoloStep}
 use Rattle.solo_runs.specs.SoloScript.{SoloLine, unless_text, unless_many, finds_many, asks_for, solo_form, solo_outcome, written_by, written_from, refused_by, refused_from, refusal_at, invite_rule, joined, written_after, refused_after}
 use Rattle.solo_runs.specs.SoloScript.SoloLine.{BreaksRule, AsksFor}
-use Rattle.solo_script.specs.Steps.{line_within, found_line, DoesStep, DoesFound, Refuses}
+use Rattle.solo_script.specs.Steps.{line_within, found_line, line_writes, WritesFront, DoesStep, DoesFound, IsWriteFault, Refuses}
 use Rattle.solo_script.specs.declared.fault.ScriptFault.{ScriptFault}
 use Rattle.solo_script.specs.declared.fault.ScriptFault.TheVariants as fault
 use Rattle.rdp_host.specs.Run.{Tells, EndsWhereTold, ReadsCause}
-use Rattle.rdp_host.specs.Reading.{Sense, of_lines, of_rest, Continues, Goes, Comes, Stops, DoesNext, invite_found}
-use Rattle.rdp_host.proofs.Continued.{AddsText, next_added}
+use Rattle.rdp_host.specs.Reading.{Sense, of_lines, of_rest, Continues, Goes, Comes, Stops, Fronts, DoesNext, invite_found}
+use Rattle.rdp_host.proofs.Continued.{AddsText, next_added, front_none, front_extends, fronts_all, fronts_first, tells_of_all}
 
 -- ---- a line
 
@@ -155,6 +156,31 @@ end_stops f old new before now size k s told telling finds is same =
       },
     )
 
+-- ---- what wasn't written whole
+
+line_front : (line : SoloLine) (size : Size) (k : ℕ) (s : Solo) (others : Solo → List ℕ) (told telling : Option (List ℕ)) → AppendsFront told telling (line_writes size k s line) → AppendsFront told telling (written_by size k s line others)
+line_front (BreaksRule rule) size k s others told telling f = f
+line_front (AsksFor step) size k s others told telling f = front_extends told telling (solo_line size s step) (others (solo_after size s step)) (solo_line size s step ++ others (solo_after size s step)) refl f
+
+line_fronts : (before now : Option (List ℕ)) (line : Line) (asks : SoloLine) (size : Size) (k at : ℕ) (s : Solo) (told telling : Option (List ℕ)) → HandsOut before now (line ∷ []) → solo_outcome at s line ≡ asks →
+    AppendsFront told telling (line_writes size k s asks) → Fronts before (of_lines size k at s) told telling
+line_fronts None now line asks size k at s told telling hands is f = tt
+line_fronts (Some bytes) None line asks size k at s told telling hands is f = absurd hands
+line_fronts (Some bytes) (Some left) line asks size k at s told telling hands is f =
+    subst (AppendsFront told telling) (sym (ap (written_from size k at s) hands ∙ ap (λ o. written_by size k s o (λ u. written_from size (k + 1) (at + length (line_bytes line)) u (lines_of left))) is))
+    (line_front asks size k s (λ u. written_from size (k + 1) (at + length (line_bytes line)) u (lines_of left)) told telling f)
+
+found_fronts : (f : Found) (old new : LineReading) (before now : Option (List ℕ)) (size : Size) (k : ℕ) (s : Solo) (told telling : Option (List ℕ)) →
+    Finds f old new before now → WritesFront (found_line f s new.text) size k s told telling → Fronts before (of_lines size k old.at s) told telling
+found_fronts (found.Line ended) old new before now size k s told telling finds w =
+    line_fronts before now (record { text = new.text; ended = ended }) w.found size k old.at s told telling finds.takes.hands_out (outcome_is old.at s new.text ended finds.within ∙ cc w.is) w.front
+found_fronts found.PastLimits old new before now size k s told telling finds w =
+    let same : BreaksRule text_rule ≡ w.found = cc w.is in
+    fronts_all before (of_lines size k old.at s) (broken_line k text_rule) (refusal_at k text_rule) told telling (past_breaks before size k old.at s finds.1)
+    (subst (λ line. AppendsFront told telling (line_writes size k s line)) (sym same) w.front)
+found_fronts found.End old new before now size k s told telling finds w = absurd (cc w.is)
+found_fronts found.Failed old new before now size k s told telling finds w = absurd (cc w.is)
+
 -- what was done where the k-th line was found
 pub next_done : (result : Result Bool ScriptFault) (f : Found) (old new : LineReading) (before now : Option (List ℕ)) (size : Size) (k : ℕ) (s t : Solo) (told telling : Option (List ℕ)) →
     Finds f old new before now → DoesFound result f k size s t new.text told telling → DoesNext result (of_lines size k old.at s) size k old.at new.at t before now told telling
@@ -169,9 +195,10 @@ next_done (Err (fault.Line line rule)) f old new before now size k s t told tell
     comes = subst (λ l. Comes before (of_lines size k old.at s) (broken_line k rule) (refusal_at l rule)) (sym d.0) (broken_comes f old new before now size k rule s finds d.1);
   },
 )
-next_done (Err fault.ReadFault) f old new before now size k s t told telling finds d = tt
-next_done (Err fault.WriteFault) f old new before now size k s t told telling finds d = tt
-next_done (Err fault.OutOfMemory) f old new before now size k s t told telling finds d = tt
+next_done (Err fault.ReadFault) f old new before now size k s t told telling finds d =
+    tells_of_all before (λ bytes. AppendsFront told telling (written_from size k old.at s (lines_of bytes))) (λ bytes. subst (λ n. AppendsFront told n (written_from size k old.at s (lines_of bytes))) (sym d.2) (front_none told (written_from size k old.at s (lines_of bytes))))
+next_done (Err fault.WriteFault) f old new before now size k s t told telling finds d = found_fronts f old new before now size k s told telling finds d
+next_done (Err fault.OutOfMemory) f old new before now size k s t told telling finds d = found_fronts f old new before now size k s told telling finds d
 
 -- ---- the second line
 
@@ -210,31 +237,31 @@ adds_joined (Some bytes) size at none = (
   ap (λ b. if b then refusal_at 2 (invite_rule at (lines_of bytes)) else refused_from size 2 at solo_at_first (lines_of bytes)) none,
 )
 
-failed_next : (result : Result Bool ScriptFault) (whole : Sense) (size : Size) (k at next_at : ℕ) (s t : Solo) (text : List ℕ) (before now told mid telling : Option (List ℕ)) →
-    DoesFound result found.Failed k size s t text mid telling → DoesNext result whole size k at next_at t before now told telling
-failed_next (Ok true) whole size k at next_at s t text before now told mid telling d = absurd (cc d.asks)
-failed_next (Ok false) whole size k at next_at s t text before now told mid telling d = absurd (cc d.0)
-failed_next (Err (fault.Line line rule)) whole size k at next_at s t text before now told mid telling d = absurd (cc d.1)
-failed_next (Err fault.ReadFault) whole size k at next_at s t text before now told mid telling d = tt
-failed_next (Err fault.WriteFault) whole size k at next_at s t text before now told mid telling d = tt
-failed_next (Err fault.OutOfMemory) whole size k at next_at s t text before now told mid telling d = tt
+is_solo : (f : Found) (old new : LineReading) (before now : Option (List ℕ)) → Finds f old new before now → (f ≡ found.Failed → ⊥) → invite_found f new.text ≡ None → Tells before (λ bytes. begins_with_invite old.at (lines_of bytes) ≡ false)
+is_solo (found.Line ended) old new before now finds read none =
+    no_invite_told before now old.at (record { text = new.text; ended = ended }) finds.takes.hands_out (is_no_invite (is_some (invite_form (words_of new.text))) _ none)
+is_solo found.PastLimits old new before now finds read none = past_told before old.at finds.1
+is_solo found.End old new before now finds read none = end_told before old.at finds.1
+is_solo found.Failed old new before now finds read none = absurd (read refl)
 
 -- what was done where the second line was found, and is no invite
 pub second_done : (result : Result Bool ScriptFault) (f : Found) (old new : LineReading) (before now : Option (List ℕ)) (size : Size) (t : Solo) (told mid telling : Option (List ℕ)) →
-    Finds f old new before now → invite_found f new.text ≡ None → Appends told mid (joined size) → DoesFound result f 2 size solo_at_first t new.text mid telling →
+    Finds f old new before now → (f ≡ found.Failed → ⊥) → invite_found f new.text ≡ None → Appends told mid (joined size) → DoesFound result f 2 size solo_at_first t new.text mid telling →
     DoesNext result (of_rest size old.at) size 2 old.at new.at t before now told telling
-second_done result (found.Line ended) old new before now size t told mid telling finds none joins d =
+second_done result f old new before now size t told mid telling finds read none joins d =
     next_added result (of_rest size old.at) (of_lines size 2 old.at solo_at_first) size 2 old.at new.at t before now told mid telling (joined size)
-    (adds_joined before size old.at (no_invite_told before now old.at (record { text = new.text; ended = ended }) finds.takes.hands_out (is_no_invite (is_some (invite_form (words_of new.text))) _ none)))
-    joins (next_done result (found.Line ended) old new before now size 2 solo_at_first t mid telling finds d)
-second_done result found.PastLimits old new before now size t told mid telling finds none joins d =
-    next_added result (of_rest size old.at) (of_lines size 2 old.at solo_at_first) size 2 old.at new.at t before now told mid telling (joined size)
-    (adds_joined before size old.at (past_told before old.at finds.1)) joins (next_done result found.PastLimits old new before now size 2 solo_at_first t mid telling finds d)
-second_done result found.End old new before now size t told mid telling finds none joins d =
-    next_added result (of_rest size old.at) (of_lines size 2 old.at solo_at_first) size 2 old.at new.at t before now told mid telling (joined size)
-    (adds_joined before size old.at (end_told before old.at finds.1)) joins (next_done result found.End old new before now size 2 solo_at_first t mid telling finds d)
-second_done result found.Failed old new before now size t told mid telling finds none joins d =
-    failed_next result (of_rest size old.at) size 2 old.at new.at solo_at_first t new.text before now told mid telling d
+    (adds_joined before size old.at (is_solo f old new before now finds read none)) joins (next_done result f old new before now size 2 solo_at_first t mid telling finds d)
+
+-- the line that says that the viewer joined wasn't written whole
+pub not_joined : (answer : ScriptFault) (f : Found) (old new : LineReading) (before now : Option (List ℕ)) (size : Size) (k next_at : ℕ) (t : Solo) (told telling : Option (List ℕ)) →
+    Finds f old new before now → (f ≡ found.Failed → ⊥) → invite_found f new.text ≡ None → AppendsFront told telling (joined size) → IsWriteFault answer →
+    DoesNext (Err answer) (of_rest size old.at) size k old.at next_at t before now told telling
+not_joined (fault.Line line rule) f old new before now size k next_at t told telling finds read none front w = absurd w
+not_joined fault.ReadFault f old new before now size k next_at t told telling finds read none front w = absurd w
+not_joined fault.WriteFault f old new before now size k next_at t told telling finds read none front w =
+    fronts_first before (of_rest size old.at) (of_lines size 2 old.at solo_at_first) (joined size) told telling (adds_joined before size old.at (is_solo f old new before now finds read none)) front
+not_joined fault.OutOfMemory f old new before now size k next_at t told telling finds read none front w =
+    fronts_first before (of_rest size old.at) (of_lines size 2 old.at solo_at_first) (joined size) told telling (adds_joined before size old.at (is_solo f old new before now finds read none)) front
 
 invite_is_some : (invites : Bool) (rule broken : ℕ) → (if invites then Some rule else None) ≡ Some broken → (invites ≡ true) × (rule ≡ broken)
 invite_is_some true rule broken e = (refl, cc e)
@@ -296,9 +323,9 @@ refusal_stops (fault.Line line broken) whole k rule size at next_at t before now
     comes = subst (λ l. Comes before whole (broken_line k rule) (refusal_at l broken)) (sym d.0) (subst (λ r. Comes before whole (broken_line k rule) (refusal_at k r)) (sym d.1) comes);
   },
 )
-refusal_stops fault.ReadFault whole k rule size at next_at t before now told telling low comes d = tt
-refusal_stops fault.WriteFault whole k rule size at next_at t before now told telling low comes d = tt
-refusal_stops fault.OutOfMemory whole k rule size at next_at t before now told telling low comes d = tt
+refusal_stops fault.ReadFault whole k rule size at next_at t before now told telling low comes d = absurd d
+refusal_stops fault.WriteFault whole k rule size at next_at t before now told telling low comes d = fronts_all before whole (broken_line k rule) (refusal_at k rule) told telling comes d
+refusal_stops fault.OutOfMemory whole k rule size at next_at t before now told telling low comes d = fronts_all before whole (broken_line k rule) (refusal_at k rule) told telling comes d
 
 -- what was done where the second line was found, and is an invite
 pub second_refused : (answer : ScriptFault) (f : Found) (old new : LineReading) (before now : Option (List ℕ)) (size : Size) (rule : ℕ) (t : Solo) (told telling : Option (List ℕ)) →
@@ -322,8 +349,8 @@ failing (Ok true) k size s t text told telling reads read rose d = absurd (cc d.
 failing (Ok false) k size s t text told telling reads read rose d = absurd (cc d.0)
 failing (Err (fault.Line line rule)) k size s t text told telling reads read rose d = absurd (cc d.1)
 failing (Err fault.ReadFault) k size s t text told telling reads read rose d = rose
-failing (Err fault.WriteFault) k size s t text told telling reads read rose d = absurd d
-failing (Err fault.OutOfMemory) k size s t text told telling reads read rose d = absurd d
+failing (Err fault.WriteFault) k size s t text told telling reads read rose d = absurd (cc d.is)
+failing (Err fault.OutOfMemory) k size s t text told telling reads read rose d = absurd (cc d.is)
 
 pub found_reads : (result : Result Bool ScriptFault) (f : Found) (k : ℕ) (size : Size) (s t : Solo) (text : List ℕ) (told telling : Option (List ℕ)) (reads read : ℕ) →
     FindCause f reads read → DoesFound result f k size s t text told telling → ReadsCause result reads read
@@ -331,3 +358,16 @@ found_reads result (found.Line ended) k size s t text told telling reads read ca
 found_reads result found.PastLimits k size s t text told telling reads read cause d = not_failing result found.PastLimits k size s t text told telling reads read (λ e. cc e) cause d
 found_reads result found.End k size s t text told telling reads read cause d = not_failing result found.End k size s t text told telling reads read (λ e. cc e) cause d
 found_reads result found.Failed k size s t text told telling reads read cause d = failing result k size s t text told telling reads read cause d
+
+cause_is_same : (f : Found) (reads read : ℕ) → (f ≡ found.Failed → ⊥) → FindCause f reads read → read ≡ reads
+cause_is_same (found.Line ended) reads read other cause = cause
+cause_is_same found.PastLimits reads read other cause = cause
+cause_is_same found.End reads read other cause = cause
+cause_is_same found.Failed reads read other cause = absurd (other refl)
+
+-- a write failed behind a read that didn't
+pub written_reads : (answer : ScriptFault) (f : Found) (reads read : ℕ) → (f ≡ found.Failed → ⊥) → IsWriteFault answer → FindCause f reads read → ReadsCause {T = Bool} (Err answer) reads read
+written_reads (fault.Line line rule) f reads read other w cause = absurd w
+written_reads fault.ReadFault f reads read other w cause = absurd w
+written_reads fault.WriteFault f reads read other w cause = cause_is_same f reads read other cause
+written_reads fault.OutOfMemory f reads read other w cause = cause_is_same f reads read other cause

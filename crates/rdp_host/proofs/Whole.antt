@@ -3,6 +3,7 @@ use Rattle.std.proofs.Common.{◌≡◌, ℕ, ◌^◌, ◌<◌, List, [], ◌∷
 use Rattle.std.specs.Prelude.{Option, Result, Ok, Err, ⊤}
 use Rattle.std.specs.Io.KnownBytes.{Appends, IsAtEnd, prepend_known}
 use Rattle.std.proofs.KnownBytes.{prepend_known-nil}
+use Rattle.edge_io.specs.Sink.{AppendsFront}
 use Rattle.px_core.specs.declared.surface.Size.{Size}
 use Rattle.line_text.specs.Lines.{lines_of}
 use Rattle.line_read.specs.Reading.{LineReading, new_reading, ahead}
@@ -20,8 +21,9 @@ use Rattle.solo_script.specs.Steps.{Refuses}
 use Rattle.script_rules.specs.Capture.{broken_line}
 use Rattle.rdp_host.specs.declared.opening.FirstLine.{FirstLine}
 use Rattle.rdp_host.specs.declared.opening.FirstLine.TheVariants as first
-use Rattle.rdp_host.specs.Run.{Tells, EndsWhereTold, WritesTheCapture, RunsScript}
-use Rattle.rdp_host.specs.Reading.{Sense, of_script, of_rest, Continues, Comes, Stops, DoesAll, Opens}
+use Rattle.rdp_host.specs.Run.{Tells, EndsWhereTold, WritesTheCapture, WritesAFront, RunsScript}
+use Rattle.rdp_host.specs.Reading.{Sense, of_script, of_rest, Continues, Comes, Stops, Fronts, DoesAll, Opens}
+use Rattle.rdp_host.proofs.Continued.{front_none, fronts_all, tells_of_all}
 
 is_small : (o : Opening) → IsSmall (refusal_of o) → IsSmallOpening o
 is_small NoSize h = tt
@@ -54,12 +56,16 @@ source_ends : (left rest : Option (List ℕ)) (held : List ℕ) → EndsWhereTol
 source_ends None rest held end = tt
 source_ends (Some bytes) rest held end = held_ends held rest end
 
+captured_front : (left : Option (List ℕ)) (told telling : Option (List ℕ)) → Fronts left of_script told telling → Tells left (λ script. WritesAFront script told telling)
+captured_front None told telling f = tt
+captured_front (Some script) told telling f = subst (AppendsFront told telling) (sym (written_is_capture script)) f
+
 all_captured : (result : Result (Unit {0}) ScriptFault) (left rest told telling : Option (List ℕ)) (held : List ℕ) → DoesAll result of_script left (prepend_known held rest) told telling → RunsScript result left rest told telling
 all_captured (Ok x) left rest told telling held d = (told_capture left None told telling tt d.1, source_ends left rest held d.0)
 all_captured (Err (fault.Line line rule)) left rest told telling held d = told_capture left (refusal_at line rule) told telling d.0 d.1
-all_captured (Err fault.ReadFault) left rest told telling held d = tt
-all_captured (Err fault.WriteFault) left rest told telling held d = tt
-all_captured (Err fault.OutOfMemory) left rest told telling held d = tt
+all_captured (Err fault.ReadFault) left rest told telling held d = captured_front left told telling d
+all_captured (Err fault.WriteFault) left rest told telling held d = captured_front left told telling d
+all_captured (Err fault.OutOfMemory) left rest told telling held d = captured_front left told telling d
 
 ends_later : (before between now : Option (List ℕ)) (rest : Sense) → Continues before between of_script [] rest → EndsWhereTold between now → EndsWhereTold before now
 ends_later None between now rest c e = tt
@@ -74,13 +80,18 @@ comes_later (Some bytes) (Some left) rest text refused c d = (c.0 ∙ d.0, c.1 �
 stops_later : (before between : Option (List ℕ)) (rest : Sense) (refused : Option LineRefusal) (told telling : Option (List ℕ)) → Continues before between of_script [] rest → Stops between rest refused told telling → Stops before of_script refused told telling
 stops_later before between rest refused told telling c s = record { text = s.text; written = s.written; comes = comes_later before between rest s.text refused c s.comes }
 
+fronts_on : (before between : Option (List ℕ)) (rest : Sense) (told telling : Option (List ℕ)) → Continues before between of_script [] rest → Fronts between rest told telling → Fronts before of_script told telling
+fronts_on None between rest told telling c f = tt
+fronts_on (Some bytes) None rest told telling c f = absurd c
+fronts_on (Some bytes) (Some left) rest told telling c f = subst (AppendsFront told telling) (sym c.0) f
+
 all_done : (result : Result (Unit {0}) ScriptFault) (before between now : Option (List ℕ)) (rest : Sense) (told telling : Option (List ℕ)) → Continues before between of_script [] rest →
     DoesAll result rest between now told telling → DoesAll result of_script before now told telling
 all_done (Ok x) before between now rest told telling c d = (ends_later before between now rest c d.0, stops_later before between rest None told telling c d.1)
 all_done (Err (fault.Line line rule)) before between now rest told telling c d = (d.0, stops_later before between rest _ told telling c d.1)
-all_done (Err fault.ReadFault) before between now rest told telling c d = tt
-all_done (Err fault.WriteFault) before between now rest told telling c d = tt
-all_done (Err fault.OutOfMemory) before between now rest told telling c d = tt
+all_done (Err fault.ReadFault) before between now rest told telling c d = fronts_on before between rest told telling c d
+all_done (Err fault.WriteFault) before between now rest told telling c d = fronts_on before between rest told telling c d
+all_done (Err fault.OutOfMemory) before between now rest told telling c d = fronts_on before between rest told telling c d
 
 -- a run whose first line gives a size, and which did all lines after it, wrote its capture
 pub sized_run : (result : Result (Unit {0}) ScriptFault) (answer : FirstLine) (size : Size) (at : ℕ) (old between now : LineReading) (left mid rest told telling : Option (List ℕ)) → answer ≡ first.Sized size → old ≡ new_reading →
@@ -104,5 +115,15 @@ broken_run answer (fault.Line line broken) rule old between left mid told tellin
           (subst (λ b. Comes b of_script (broken_line 1 rule) (refusal_at 1 rule)) whole breaks.1));
     })
 broken_run answer fault.ReadFault rule old between left mid told telling is begins opens r = absurd r
-broken_run answer fault.WriteFault rule old between left mid told telling is begins opens r = tt
-broken_run answer fault.OutOfMemory rule old between left mid told telling is begins opens r = tt
+broken_run answer fault.WriteFault rule old between left mid told telling is begins opens r =
+    let breaks : Opens (first.Breaks rule) (ahead old left) (ahead between mid) between.at = subst (λ a. Opens a (ahead old left) (ahead between mid) between.at) is opens in
+    let whole : ahead old left ≡ left = ap (λ r. ahead r left) begins ∙ prepend_known-nil left in
+    captured_front left told telling (fronts_all left of_script (broken_line 1 rule) (refusal_at 1 rule) told telling (subst (λ b. Comes b of_script (broken_line 1 rule) (refusal_at 1 rule)) whole breaks.1) r)
+broken_run answer fault.OutOfMemory rule old between left mid told telling is begins opens r =
+    let breaks : Opens (first.Breaks rule) (ahead old left) (ahead between mid) between.at = subst (λ a. Opens a (ahead old left) (ahead between mid) between.at) is opens in
+    let whole : ahead old left ≡ left = ap (λ r. ahead r left) begins ∙ prepend_known-nil left in
+    captured_front left told telling (fronts_all left of_script (broken_line 1 rule) (refusal_at 1 rule) told telling (subst (λ b. Comes b of_script (broken_line 1 rule) (refusal_at 1 rule)) whole breaks.1) r)
+
+-- a run that wrote nothing wrote a front of its capture
+pub nothing_written : (left told : Option (List ℕ)) → Tells left (λ script. WritesAFront script told told)
+nothing_written left told = tells_of_all left (λ script. WritesAFront script told told) (λ script. front_none told (capture_of encoder_frames first_grammar script))

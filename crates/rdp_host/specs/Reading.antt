@@ -12,6 +12,7 @@ use Rattle.line_text.specs.Words.{words_of}
 use Rattle.line_read.specs.declared.reader.Found.{Found}
 use Rattle.line_read.specs.declared.reader.Found.TheVariants as found
 use Rattle.edge_io.specs.Faults.{Rose}
+use Rattle.edge_io.specs.Sink.{AppendsFront}
 use Rattle.script_rules.specs.Script.{LineRefusal, size_rule, text_rule, form_rule, invite_form, all_bytes, is_ascii}
 use Rattle.script_rules.specs.Capture.{broken_line}
 use Rattle.solo_runs.specs.Solo.{Solo}
@@ -62,6 +63,10 @@ pub record Stops (before : Option (List ℕ)) (whole : Sense) (refused : Option 
   pub written : Appends told telling text
   pub comes : Comes before whole text refused
 
+-- a front of what the lines ahead come to was written
+abbrev pub Fronts : Option (List ℕ) → Sense → (told telling : Option (List ℕ)) → Type 0
+Fronts before whole told telling = Tells before (λ bytes. AppendsFront told telling (whole.writes (lines_of bytes)))
+
 -- what a script's first line gives: a size, and then the lines after it decide; or the rule that it breaks
 abbrev pub Opens : FirstLine → (before now : Option (List ℕ)) → ℕ → Type 0
 Opens (first.Sized size) before now at = IsTrue (is_session_size size.w size.h) × Continues before now of_script [] (of_rest size at)
@@ -92,9 +97,9 @@ abbrev pub DoesNext : Result Bool ScriptFault → Sense → Size → (k at next_
 DoesNext (Ok true) whole size k at next_at s before now told telling = (at < next_at) × (next_at ≤ script_limit) × Goes before now whole (of_lines size (k + 1) next_at s) told telling
 DoesNext (Ok false) whole size k at next_at s before now told telling = EndsWhereTold before now × Stops before whole None told telling
 DoesNext (Err (fault.Line line rule)) whole size k at next_at s before now told telling = (line ≡ k) × (rule < 2 ^ 8) × Stops before whole (refusal_at line rule) told telling
-DoesNext (Err fault.ReadFault) whole size k at next_at s before now told telling = ⊤
-DoesNext (Err fault.WriteFault) whole size k at next_at s before now told telling = ⊤
-DoesNext (Err fault.OutOfMemory) whole size k at next_at s before now told telling = ⊤
+DoesNext (Err fault.ReadFault) whole size k at next_at s before now told telling = Fronts before whole told telling
+DoesNext (Err fault.WriteFault) whole size k at next_at s before now told telling = Fronts before whole told telling
+DoesNext (Err fault.OutOfMemory) whole size k at next_at s before now told telling = Fronts before whole told telling
 
 -- how far lines were done, the last of them the k-th, where the lines ahead at first came to this: a line may follow, or none does
 abbrev pub Stands : Bool → Sense → Size → (k at : ℕ) → Solo → (before now told telling : Option (List ℕ)) → Type 0
@@ -105,6 +110,6 @@ Stands false whole size k at s before now told telling = EndsWhereTold before no
 abbrev pub DoesAll : Result (Unit {0}) ScriptFault → Sense → (before now told telling : Option (List ℕ)) → Type 0
 DoesAll (Ok x) whole before now told telling = EndsWhereTold before now × Stops before whole None told telling
 DoesAll (Err (fault.Line line rule)) whole before now told telling = IsSmall (refusal_at line rule) × Stops before whole (refusal_at line rule) told telling
-DoesAll (Err fault.ReadFault) whole before now told telling = ⊤
-DoesAll (Err fault.WriteFault) whole before now told telling = ⊤
-DoesAll (Err fault.OutOfMemory) whole before now told telling = ⊤
+DoesAll (Err fault.ReadFault) whole before now told telling = Fronts before whole told telling
+DoesAll (Err fault.WriteFault) whole before now told telling = Fronts before whole told telling
+DoesAll (Err fault.OutOfMemory) whole before now told telling = Fronts before whole told telling

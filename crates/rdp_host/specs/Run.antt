@@ -6,6 +6,7 @@ use Rattle.std.specs.declared.option.Option.TheVariants.{Some, None}
 use Rattle.std.specs.declared.result.Result.{Result}
 use Rattle.std.specs.declared.result.Result.TheVariants.{Ok, Err}
 use Rattle.edge_io.specs.Faults.{Rose}
+use Rattle.edge_io.specs.Sink.{AppendsFront}
 use Rattle.script_rules.specs.Script.{LineRefusal, first_grammar, opening_of}
 use Rattle.script_rules.specs.CaptureText.{capture_of}
 use Rattle.script_rules.specs.Headline.{encoder_frames, EveryViewerOfCapture}
@@ -31,14 +32,18 @@ pub record WritesTheCapture (script : List ℕ) (refused : Option LineRefusal) (
   pub shows_journal : EveryViewerOfCapture first_grammar script text
   pub refuses : refusal_of (opening_of first_grammar script) ≡ refused
 
+-- a script's run wrote a front of its capture
+abbrev pub WritesAFront : List ℕ → (before now : Option (List ℕ)) → Type 0
+WritesAFront script before now = AppendsFront before now (capture_of encoder_frames first_grammar script)
+
 -- a run that was done up to the script's end, or up to the first line that breaks a rule, wrote the capture; it ends with Ok only where
--- no byte is left
+-- no byte is left. After a fault, or want of memory, a front of it stands there
 abbrev pub RunsScript : Result (Unit {0}) ScriptFault → (left rest told telling : Option (List ℕ)) → Type 0
 RunsScript (Ok x) left rest told telling = Tells left (λ script. WritesTheCapture script None told telling) × EndsWhereTold left rest
 RunsScript (Err (Line k rule)) left rest told telling = Tells left (λ script. WritesTheCapture script (refusal_at k rule) told telling)
-RunsScript (Err ReadFault) left rest told telling = ⊤
-RunsScript (Err WriteFault) left rest told telling = ⊤
-RunsScript (Err OutOfMemory) left rest told telling = ⊤
+RunsScript (Err ReadFault) left rest told telling = Tells left (λ script. WritesAFront script told telling)
+RunsScript (Err WriteFault) left rest told telling = Tells left (λ script. WritesAFront script told telling)
+RunsScript (Err OutOfMemory) left rest told telling = Tells left (λ script. WritesAFront script told telling)
 
 -- the count of a source's faults rises in a run that fails to read, and only there
 abbrev pub ReadsCause : {T : Type 0} → Result T ScriptFault → ℕ → ℕ → Type 0
