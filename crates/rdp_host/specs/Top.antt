@@ -1,9 +1,10 @@
 -- What the program does, by its words.
-use Rattle.std.specs.Prelude.{◌≡◌, ℕ, List, [], ◌∷◌, ◌++◌, Bool, true, false, codes, OnOk, IfErr}
+use Rattle.std.specs.Prelude.{◌≡◌, ℕ, List, [], ◌∷◌, ◌++◌, Bool, true, false, codes, OnOk, OnErr, IfErr}
 use Rattle.std.specs.Io.KnownBytes.{Appends}
 use Rattle.std.specs.declared.option.Option.{Option}
 use Rattle.std.specs.declared.result.Result.{Result}
 use Rattle.std.specs.declared.result.Result.TheVariants.{Ok, Err}
+use Rattle.edge_io.specs.Sink.{AppendsFront}
 use Rattle.session_rules.specs.Steps.{is_same_name}
 use Rattle.solo_script.specs.Steps.{WritesCause, IsWriteFault}
 use Rattle.solo_script.specs.declared.fault.ScriptFault.{ScriptFault}
@@ -47,10 +48,12 @@ pub record RunsMode (status : ℕ) (left rest told telling : Option (List ℕ)) 
   pub read_cause : ReadsCause answer reads read
   pub write_cause : WritesCause answer writes wrote
 
--- the usage was written: 2 is that it stands there; 5 and 6 are a fault of the sink, whose count rose, and want of memory
+-- the usage was written: 2 is that it stands there; 5 and 6 are a fault of the sink, whose count rose, and want of memory, with a front
+-- of it there
 pub record WritesUsage (status : ℕ) (told telling : Option (List ℕ)) (writes wrote : ℕ) : Type 0 where
   pub answer : Result (Unit {0}) ScriptFault
   pub status_is : status ≡ usage_status answer
   pub written : OnOk answer (Appends told telling usage)
+  pub front : OnErr answer (AppendsFront told telling usage)
   pub fault : IfErr answer IsWriteFault
   pub write_cause : WritesCause answer writes wrote
