@@ -7,6 +7,7 @@ use Rattle.std.specs.declared.result.Result.{Result}
 use Rattle.std.specs.declared.result.Result.TheVariants.{Ok, Err}
 use Rattle.px_core.specs.declared.surface.Size.{Size}
 use Rattle.edge_io.specs.Faults.{Rose}
+use Rattle.edge_io.specs.Sink.{AppendsFront}
 use Rattle.line_text.specs.Words.{words_of}
 use Rattle.line_read.specs.declared.reader.Found.{Found}
 use Rattle.line_read.specs.declared.reader.Found.TheVariants as found
@@ -44,14 +45,25 @@ pub record DoesStep (line : Option SoloLine) (size : Size) (before now : Solo) (
   pub after : now ≡ solo_after size before step
   pub written : Appends old new (solo_line size before step)
 
--- what was done where a line was found, as the k-th: its step; nothing, since there is none; or its refusal was written
+-- what a line writes, as the k-th
+abbrev pub line_writes : Size → ℕ → Solo → SoloLine → List ℕ
+line_writes size k s (BreaksRule rule) = broken_line k rule
+line_writes size k s (AsksFor step) = solo_line size s step
+
+-- a line was found, and a front of what it writes was written
+pub record WritesFront (line : Option SoloLine) (size : Size) (k : ℕ) (s : Solo) (old new : Option (List ℕ)) : Type 0 where
+  pub found : SoloLine
+  pub is : line ≡ Some found
+  pub front : AppendsFront old new (line_writes size k s found)
+
+-- what was done where a line was found, as the k-th: its step; nothing, since there is none; or its refusal was written; where writing fails a front of the line's text was
 abbrev pub DoesFound : Result Bool ScriptFault → Found → ℕ → Size → Solo → Solo → List ℕ → Option (List ℕ) → Option (List ℕ) → Type 0
 DoesFound (Ok true) f k size before now text old new = DoesStep (found_line f before text) size before now old new
 DoesFound (Ok false) f k size before now text old new = (f ≡ found.End) × (now ≡ before) × (new ≡ old)
 DoesFound (Err (fault.Line line rule)) f k size before now text old new = (line ≡ k) × (found_line f before text ≡ Some (BreaksRule rule)) × (now ≡ before) × Appends old new (broken_line k rule)
 DoesFound (Err fault.ReadFault) f k size before now text old new = (f ≡ found.Failed) × (now ≡ before) × (new ≡ old)
-DoesFound (Err fault.WriteFault) f k size before now text old new = ⊤
-DoesFound (Err fault.OutOfMemory) f k size before now text old new = ⊤
+DoesFound (Err fault.WriteFault) f k size before now text old new = WritesFront (found_line f before text) size k before old new
+DoesFound (Err fault.OutOfMemory) f k size before now text old new = WritesFront (found_line f before text) size k before old new
 
 -- the causes of a write's answer
 abbrev pub WritesCause : {T : Type 0} → Result T ScriptFault → ℕ → ℕ → Type 0
@@ -72,9 +84,9 @@ IsWriteFault fault.ReadFault = ⊥
 IsWriteFault fault.WriteFault = ⊤
 IsWriteFault fault.OutOfMemory = ⊤
 
--- a refusal was written, or a fault of the write is answered
+-- a refusal was written, or a fault of the write is answered and a front of it was
 abbrev pub Refuses : ScriptFault → ℕ → ℕ → Option (List ℕ) → Option (List ℕ) → Type 0
 Refuses (fault.Line line broken) k rule old new = (line ≡ k) × (broken ≡ rule) × Appends old new (broken_line k rule)
 Refuses fault.ReadFault k rule old new = ⊥
-Refuses fault.WriteFault k rule old new = ⊤
-Refuses fault.OutOfMemory k rule old new = ⊤
+Refuses fault.WriteFault k rule old new = AppendsFront old new (broken_line k rule)
+Refuses fault.OutOfMemory k rule old new = AppendsFront old new (broken_line k rule)

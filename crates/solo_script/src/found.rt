@@ -1,5 +1,6 @@
-ghost use Rattle.std.specs.Prelude.{◌≡◌, ◌++◌, OnOk, IfErr, IsTrue};
+ghost use Rattle.std.specs.Prelude.{◌≡◌, ◌++◌, OnOk, OnErr, IfErr, IsTrue};
 ghost use Rattle.std.specs.Io.KnownBytes.{Appends};
+ghost use Rattle.edge_io.specs.Sink.{AppendsFront};
 ghost use Rattle.px_core.specs.Rectangle.{is_session_size};
 ghost use Rattle.script_rules.specs.Capture.{broken_line};
 ghost use Rattle.solo_script.specs.Steps.{DoesFound, WritesCause, FaultCause, IsWriteFault, Refuses};
@@ -14,7 +15,7 @@ use std::alloc::Global;
 
 /// Does what was found asks for, as line `k`, and writes its line of the capture; says whether there was a line.
 ///
-/// A `Line` leaves the run as it was, its refusal written; a `ReadFault` leaves run and output. A `WriteFault`, or want of memory, may leave a front of the line in the output.
+/// A `Line` leaves the run as it was, its refusal written; a `ReadFault` leaves run and output. A `WriteFault`, or want of memory, leaves a front of the line in the output.
 pub fn do_found<K: Sink>(
     alloc: Global,
     output: &mut K,
@@ -44,7 +45,7 @@ pub fn do_found<K: Sink>(
     }
 }
 
-/// Writes that line `k` breaks a rule, and answers so. After another answer a front of that text may stand in the output.
+/// Writes that line `k` breaks a rule, and answers so. After another answer a front of that text stands in the output.
 pub fn refuse<K: Sink>(alloc: Global, output: &mut K, k: u32, rule: u8) -> ScriptFault
     ensures done { Refuses result k rule (K.told output.old) (K.told output.new) }
     ensures cause { FaultCause result (K.faults output.old) (K.faults output.new) }
@@ -63,6 +64,7 @@ fn write_refusal<K: Sink>(
     rule: u8,
 ) -> Result<(), ScriptFault>
     ensures written { OnOk result (Appends (K.told output.old) (K.told output.new) (broken_line k rule)) }
+    ensures front { OnErr result (AppendsFront (K.told output.old) (K.told output.new) (broken_line k rule)) }
     ensures fault { IfErr result IsWriteFault }
     ensures cause { WritesCause result (K.faults output.old) (K.faults output.new) }
 {
@@ -71,12 +73,16 @@ fn write_refusal<K: Sink>(
     put(output, &line)
 }
 
-/// Writes bytes.
+/// Writes bytes; where there are none the output isn't called. An `Err` leaves a front of them there.
 pub fn put<K: Sink>(output: &mut K, bytes: &[u8]) -> Result<(), ScriptFault>
     ensures written { OnOk result (Appends (K.told output.old) (K.told output.new) bytes.now) }
+    ensures front { OnErr result (AppendsFront (K.told output.old) (K.told output.new) bytes.now) }
     ensures fault { IfErr result IsWriteFault }
     ensures cause { WritesCause result (K.faults output.old) (K.faults output.new) }
 {
+    if bytes.is_empty() {
+        return Ok(());
+    }
     match output.write_all(bytes) {
         Wrote::All => Ok(()),
         Wrote::Failed => Err(ScriptFault::WriteFault),

@@ -1,0 +1,60 @@
+#!/bin/sh
+# Times the proved rdp_host on scripts of N and of 2N lines, fills with a take every 200 lines, and prints lines and bytes a second,
+# the ratio of the two times, and the most memory for each accepted fill over that of a script without any.
+# Wanted: a ratio of at most 2.2, and at most 128 bytes.
+#
+# usage: bench/first_path.sh [N]      (2N is below the bound of 1,048,576 entries; the best of five runs counts)
+set -eu
+here=$(CDPATH= cd -- "$(dirname -- "$0")/.." && pwd)
+program=$here/crates/rdp_host/out/rdp_host
+lines=${1:-500000}
+[ -x "$program" ] || { echo "bench: no $program; 'rt run' in crates/rdp_host proves and builds it" >&2; exit 1; }
+work=$(mktemp -d)
+trap 'rm -rf "$work"' EXIT
+
+# A script of so many lines.
+script() {
+    awk -v lines="$1" 'BEGIN {
+        print "size 1024 768"
+        for (i = 2; i <= lines; i++) {
+            if (i % 200 == 0) print "take"
+            else printf "fill %d %d %d %d %06X\n", (i * 37) % 1000, (i * 53) % 700, 1 + i % 60, 1 + i % 50, (i * 7919) % 16777216
+        }
+    }'
+}
+
+# The least time of five runs over a script, in microseconds.
+microseconds() {
+    best=
+    for round in 1 2 3 4 5; do
+        begun=$(date +%s%N)
+        "$program" script < "$1" > "$work/capture"
+        ended=$(date +%s%N)
+        took=$(((ended - begun) / 1000))
+        if [ -z "$best" ] || [ "$took" -lt "$best" ]; then best=$took; fi
+    done
+    echo "$best"
+}
+
+# The most memory of a run over a script, in bytes.
+memory() {
+    /usr/bin/time -f %M -o "$work/memory" "$program" script < "$1" > /dev/null
+    echo $(($(cat "$work/memory") * 1024))
+}
+
+printf 'size 1024 768\ntake\n' > "$work/empty"
+script "$lines" > "$work/single"
+script $((2 * lines)) > "$work/double"
+single=$(microseconds "$work/single")
+double=$(microseconds "$work/double")
+fills=$(grep -c fill "$work/double")
+empty_memory=$(memory "$work/empty")
+double_memory=$(memory "$work/double")
+awk -v lines="$lines" -v single="$single" -v double="$double" -v read="$(wc -c < "$work/double")" -v written="$(wc -c < "$work/capture")" \
+    -v fills="$fills" -v empty="$empty_memory" -v full="$double_memory" 'BEGIN {
+    printf "%d lines: %.3f s; %d lines: %.3f s\n", lines, single / 1e6, 2 * lines, double / 1e6
+    printf "lines a second: %.0f\n", 2 * lines * 1e6 / double
+    printf "bytes a second: %.0f read, %.0f written\n", read * 1e6 / double, written * 1e6 / double
+    printf "ratio of the times: %.2f\n", double / single
+    printf "most memory: %d bytes, %.1f for each of %d fills over that of a script without any\n", full, (full - empty) / fills, fills
+}'

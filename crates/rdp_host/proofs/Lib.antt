@@ -1,0 +1,4 @@
+mod Continued
+mod NextLine
+mod FirstLine
+mod Whole

@@ -1,0 +1,129 @@
+-- What a script's lines come to is its capture, and what it refuses.
+use Rattle.std.proofs.Common.{◌≡◌, ℕ, ◌^◌, ◌<◌, List, [], ◌∷◌, ◌++◌, refl, ap, sym, ◌∙◌, subst, Some, None, arith}
+use Rattle.std.specs.Prelude.{Option, Result, Ok, Err, ⊤}
+use Rattle.std.specs.Io.KnownBytes.{Appends, IsAtEnd, prepend_known}
+use Rattle.std.proofs.KnownBytes.{prepend_known-nil}
+use Rattle.edge_io.specs.Sink.{AppendsFront}
+use Rattle.px_core.specs.declared.surface.Size.{Size}
+use Rattle.line_text.specs.Lines.{lines_of}
+use Rattle.line_read.specs.Reading.{LineReading, new_reading, ahead}
+use Rattle.script_rules.specs.Script.{LineRefusal, Opening, first_grammar, opening_of}
+use Rattle.script_rules.specs.Script.Opening.{NoSize, Unended, Opened}
+use Rattle.script_rules.specs.CaptureText.{capture_of}
+use Rattle.script_rules.specs.Headline.{encoder_frames, EveryViewerOfCapture}
+use Rattle.solo_runs.specs.Small.{IsSmall, IsSmallOpening}
+use Rattle.solo_runs.specs.SoloScript.{written_of, refused_of, refusal_of, refusal_at}
+use Rattle.solo_runs.proofs.LineByLine.{written_is_capture, refused_is}
+use Rattle.solo_runs.proofs.Law.{captures_show}
+use Rattle.solo_script.specs.declared.fault.ScriptFault.{ScriptFault}
+use Rattle.solo_script.specs.declared.fault.ScriptFault.TheVariants as fault
+use Rattle.solo_script.specs.Steps.{Refuses}
+use Rattle.script_rules.specs.Capture.{broken_line}
+use Rattle.rdp_host.specs.declared.opening.FirstLine.{FirstLine}
+use Rattle.rdp_host.specs.declared.opening.FirstLine.TheVariants as first
+use Rattle.rdp_host.specs.Run.{Tells, EndsWhereTold, WritesTheCapture, WritesAFront, RunsScript}
+use Rattle.rdp_host.specs.Reading.{Sense, of_script, of_rest, Continues, Comes, Stops, Fronts, DoesAll, Opens}
+use Rattle.rdp_host.proofs.Continued.{front_none, fronts_all, tells_of_all}
+
+is_small : (o : Opening) → IsSmall (refusal_of o) → IsSmallOpening o
+is_small NoSize h = tt
+is_small Unended h = tt
+is_small (Opened script) h = h
+
+told_capture : (left : Option (List ℕ)) (refused : Option LineRefusal) (told telling : Option (List ℕ)) → IsSmall refused → Stops left of_script refused told telling → Tells left (λ script. WritesTheCapture script refused told telling)
+told_capture None refused told telling small s = tt
+told_capture (Some script) refused told telling small s =
+    let refuses : refusal_of (opening_of first_grammar script) ≡ refused = refused_is script ∙ s.comes.1 in
+    let capture : s.text ≡ capture_of encoder_frames first_grammar script = sym s.comes.0 ∙ sym (written_is_capture script) in
+    record {
+      text = s.text;
+      written = s.written;
+      is_capture = capture;
+      shows_journal = subst (EveryViewerOfCapture first_grammar script) (sym capture)
+          (captures_show script (is_small (opening_of first_grammar script) (subst IsSmall (sym refuses) small)));
+      refuses = refuses;
+    }
+
+nothing_after : (held bytes : List ℕ) → held ++ bytes ≡ [] → bytes ≡ []
+nothing_after [] bytes e = e
+nothing_after (b ∷ bs) bytes e = absurd (cc e)
+
+held_ends : (held : List ℕ) (rest : Option (List ℕ)) → IsAtEnd (prepend_known held rest) → IsAtEnd rest
+held_ends held None end = tt
+held_ends held (Some bytes) end = nothing_after held bytes end
+
+source_ends : (left rest : Option (List ℕ)) (held : List ℕ) → EndsWhereTold left (prepend_known held rest) → EndsWhereTold left rest
+source_ends None rest held end = tt
+source_ends (Some bytes) rest held end = held_ends held rest end
+
+captured_front : (left : Option (List ℕ)) (told telling : Option (List ℕ)) → Fronts left of_script told telling → Tells left (λ script. WritesAFront script told telling)
+captured_front None told telling f = tt
+captured_front (Some script) told telling f = subst (AppendsFront told telling) (sym (written_is_capture script)) f
+
+all_captured : (result : Result (Unit {0}) ScriptFault) (left rest told telling : Option (List ℕ)) (held : List ℕ) → DoesAll result of_script left (prepend_known held rest) told telling → RunsScript result left rest told telling
+all_captured (Ok x) left rest told telling held d = (told_capture left None told telling tt d.1, source_ends left rest held d.0)
+all_captured (Err (fault.Line line rule)) left rest told telling held d = told_capture left (refusal_at line rule) told telling d.0 d.1
+all_captured (Err fault.ReadFault) left rest told telling held d = captured_front left told telling d
+all_captured (Err fault.WriteFault) left rest told telling held d = captured_front left told telling d
+all_captured (Err fault.OutOfMemory) left rest told telling held d = captured_front left told telling d
+
+ends_later : (before between now : Option (List ℕ)) (rest : Sense) → Continues before between of_script [] rest → EndsWhereTold between now → EndsWhereTold before now
+ends_later None between now rest c e = tt
+ends_later (Some bytes) None now rest c e = absurd c
+ends_later (Some bytes) (Some left) now rest c e = e
+
+comes_later : (before between : Option (List ℕ)) (rest : Sense) (text : List ℕ) (refused : Option LineRefusal) → Continues before between of_script [] rest → Comes between rest text refused → Comes before of_script text refused
+comes_later None between rest text refused c d = tt
+comes_later (Some bytes) None rest text refused c d = absurd c
+comes_later (Some bytes) (Some left) rest text refused c d = (c.0 ∙ d.0, c.1 ∙ d.1)
+
+stops_later : (before between : Option (List ℕ)) (rest : Sense) (refused : Option LineRefusal) (told telling : Option (List ℕ)) → Continues before between of_script [] rest → Stops between rest refused told telling → Stops before of_script refused told telling
+stops_later before between rest refused told telling c s = record { text = s.text; written = s.written; comes = comes_later before between rest s.text refused c s.comes }
+
+fronts_on : (before between : Option (List ℕ)) (rest : Sense) (told telling : Option (List ℕ)) → Continues before between of_script [] rest → Fronts between rest told telling → Fronts before of_script told telling
+fronts_on None between rest told telling c f = tt
+fronts_on (Some bytes) None rest told telling c f = absurd c
+fronts_on (Some bytes) (Some left) rest told telling c f = subst (AppendsFront told telling) (sym c.0) f
+
+all_done : (result : Result (Unit {0}) ScriptFault) (before between now : Option (List ℕ)) (rest : Sense) (told telling : Option (List ℕ)) → Continues before between of_script [] rest →
+    DoesAll result rest between now told telling → DoesAll result of_script before now told telling
+all_done (Ok x) before between now rest told telling c d = (ends_later before between now rest c d.0, stops_later before between rest None told telling c d.1)
+all_done (Err (fault.Line line rule)) before between now rest told telling c d = (d.0, stops_later before between rest _ told telling c d.1)
+all_done (Err fault.ReadFault) before between now rest told telling c d = fronts_on before between rest told telling c d
+all_done (Err fault.WriteFault) before between now rest told telling c d = fronts_on before between rest told telling c d
+all_done (Err fault.OutOfMemory) before between now rest told telling c d = fronts_on before between rest told telling c d
+
+-- a run whose first line gives a size, and which did all lines after it, wrote its capture
+pub sized_run : (result : Result (Unit {0}) ScriptFault) (answer : FirstLine) (size : Size) (at : ℕ) (old between now : LineReading) (left mid rest told telling : Option (List ℕ)) → answer ≡ first.Sized size → old ≡ new_reading →
+    Opens answer (ahead old left) (ahead between mid) between.at → DoesAll result (of_rest size between.at) (ahead between mid) (ahead now rest) told telling → RunsScript result left rest told telling
+sized_run result answer size at old between now left mid rest told telling is begins opens d =
+    let sized : Opens (first.Sized size) (ahead old left) (ahead between mid) between.at = subst (λ a. Opens a (ahead old left) (ahead between mid) between.at) is opens in
+    let whole : ahead old left ≡ left = ap (λ r. ahead r left) begins ∙ prepend_known-nil left in
+    all_captured result left rest told telling now.held (subst (λ b. DoesAll result of_script b (ahead now rest) told telling) whole
+    (all_done result (ahead old left) (ahead between mid) (ahead now rest) (of_rest size between.at) told telling sized.1 d))
+
+-- a run whose first line breaks a rule, which was written, wrote its capture
+pub broken_run : (answer : FirstLine) (refusal : ScriptFault) (rule : ℕ) (old between : LineReading) (left mid told telling : Option (List ℕ)) → answer ≡ first.Breaks rule → old ≡ new_reading →
+    Opens answer (ahead old left) (ahead between mid) between.at → Refuses refusal 1 rule told telling → RunsScript (Err refusal) left mid told telling
+broken_run answer (fault.Line line broken) rule old between left mid told telling is begins opens r =
+    let breaks : Opens (first.Breaks rule) (ahead old left) (ahead between mid) between.at = subst (λ a. Opens a (ahead old left) (ahead between mid) between.at) is opens in
+    let whole : ahead old left ≡ left = ap (λ r. ahead r left) begins ∙ prepend_known-nil left in
+    told_capture left (refusal_at line broken) told telling (omega (arith, r.0), omega (arith, r.1, breaks.0)) (record {
+      text = broken_line 1 rule;
+      written = r.2;
+      comes = subst (λ l. Comes left of_script (broken_line 1 rule) (refusal_at l broken)) (sym r.0) (subst (λ b. Comes left of_script (broken_line 1 rule) (refusal_at 1 b)) (sym r.1)
+          (subst (λ b. Comes b of_script (broken_line 1 rule) (refusal_at 1 rule)) whole breaks.1));
+    })
+broken_run answer fault.ReadFault rule old between left mid told telling is begins opens r = absurd r
+broken_run answer fault.WriteFault rule old between left mid told telling is begins opens r =
+    let breaks : Opens (first.Breaks rule) (ahead old left) (ahead between mid) between.at = subst (λ a. Opens a (ahead old left) (ahead between mid) between.at) is opens in
+    let whole : ahead old left ≡ left = ap (λ r. ahead r left) begins ∙ prepend_known-nil left in
+    captured_front left told telling (fronts_all left of_script (broken_line 1 rule) (refusal_at 1 rule) told telling (subst (λ b. Comes b of_script (broken_line 1 rule) (refusal_at 1 rule)) whole breaks.1) r)
+broken_run answer fault.OutOfMemory rule old between left mid told telling is begins opens r =
+    let breaks : Opens (first.Breaks rule) (ahead old left) (ahead between mid) between.at = subst (λ a. Opens a (ahead old left) (ahead between mid) between.at) is opens in
+    let whole : ahead old left ≡ left = ap (λ r. ahead r left) begins ∙ prepend_known-nil left in
+    captured_front left told telling (fronts_all left of_script (broken_line 1 rule) (refusal_at 1 rule) told telling (subst (λ b. Comes b of_script (broken_line 1 rule) (refusal_at 1 rule)) whole breaks.1) r)
+
+-- a run that wrote nothing wrote a front of its capture
+pub nothing_written : (left told : Option (List ℕ)) → Tells left (λ script. WritesAFront script told told)
+nothing_written left told = tells_of_all left (λ script. WritesAFront script told told) (λ script. front_none told (capture_of encoder_frames first_grammar script))

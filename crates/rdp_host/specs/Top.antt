@@ -1,0 +1,59 @@
+-- What the program does, by its words.
+use Rattle.std.specs.Prelude.{◌≡◌, ℕ, List, [], ◌∷◌, ◌++◌, Bool, true, false, codes, OnOk, OnErr, IfErr}
+use Rattle.std.specs.Io.KnownBytes.{Appends}
+use Rattle.std.specs.declared.option.Option.{Option}
+use Rattle.std.specs.declared.result.Result.{Result}
+use Rattle.std.specs.declared.result.Result.TheVariants.{Ok, Err}
+use Rattle.edge_io.specs.Sink.{AppendsFront}
+use Rattle.session_rules.specs.Steps.{is_same_name}
+use Rattle.solo_script.specs.Steps.{WritesCause, IsWriteFault}
+use Rattle.solo_script.specs.declared.fault.ScriptFault.{ScriptFault}
+use Rattle.solo_script.specs.declared.fault.ScriptFault.TheVariants.{Line, ReadFault, WriteFault, OutOfMemory}
+use Rattle.rdp_host.specs.Run.{RunsScript, ReadsCause}
+
+-- the words are the program's name and the mode script
+abbrev pub asks_for_script : List (List ℕ) → Bool
+asks_for_script [] = false
+asks_for_script (name ∷ []) = false
+asks_for_script (name ∷ mode ∷ []) = is_same_name mode (codes "script")
+asks_for_script (name ∷ mode ∷ more ∷ words) = false
+
+-- what is printed where the words ask for no mode
+abbrev pub usage : List ℕ
+usage = codes "usage: rdp_host MODE ARGS" ++ 10 ∷ []
+
+-- the exit status that an answer of a script's run is
+abbrev pub script_status : Result (Unit {0}) ScriptFault → ℕ
+script_status (Ok x) = 0
+script_status (Err (Line k rule)) = 3
+script_status (Err ReadFault) = 4
+script_status (Err WriteFault) = 5
+script_status (Err OutOfMemory) = 6
+
+-- the exit status that an answer of a write of the usage is
+abbrev pub usage_status : Result (Unit {0}) ScriptFault → ℕ
+usage_status (Ok x) = 2
+usage_status (Err (Line k rule)) = 3
+usage_status (Err ReadFault) = 4
+usage_status (Err WriteFault) = 5
+usage_status (Err OutOfMemory) = 6
+
+-- a script was run: 0 is its end, 3 the first line that breaks a rule, with the capture written that each viewer reads whole, and in
+-- which each mark shows the picture after exactly the journal entries that the frame's take found; 4, 5 and 6 are faults of the
+-- source and of the sink, whose counts rose, and want of memory
+pub record RunsMode (status : ℕ) (left rest told telling : Option (List ℕ)) (reads read writes wrote : ℕ) : Type 0 where
+  pub answer : Result (Unit {0}) ScriptFault
+  pub status_is : status ≡ script_status answer
+  pub capture : RunsScript answer left rest told telling
+  pub read_cause : ReadsCause answer reads read
+  pub write_cause : WritesCause answer writes wrote
+
+-- the usage was written: 2 is that it stands there; 5 and 6 are a fault of the sink, whose count rose, and want of memory, with a front
+-- of it there
+pub record WritesUsage (status : ℕ) (told telling : Option (List ℕ)) (writes wrote : ℕ) : Type 0 where
+  pub answer : Result (Unit {0}) ScriptFault
+  pub status_is : status ≡ usage_status answer
+  pub written : OnOk answer (Appends told telling usage)
+  pub front : OnErr answer (AppendsFront told telling usage)
+  pub fault : IfErr answer IsWriteFault
+  pub write_cause : WritesCause answer writes wrote

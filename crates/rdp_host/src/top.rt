@@ -1,0 +1,103 @@
+ghost use Rattle.std.specs.Prelude.{◌≡◌, [], false, map, string_bytes, IsTrue};
+ghost use Rattle.session_rules.specs.Steps.{is_same_name};
+ghost use Rattle.rdp_host.specs.Top.{asks_for_script, script_status, RunsMode, WritesUsage};
+
+use crate::script::run_script;
+use edge_io::{Gate, Sink, Source};
+use solo_script::{ScriptFault, put};
+use std::alloc::Global;
+use std::sync::Wait;
+use std::thread::Threads;
+
+/// The word of the mode that reads a script and writes its capture.
+const SCRIPT: &str = "script";
+
+/// What is printed where the words ask for no mode.
+const USAGE: &[u8] = b"usage: rdp_host MODE ARGS\n";
+
+/// The exit status of a script that was done up to its end.
+const DONE: u8 = 0;
+
+/// The exit status where the words ask for no mode.
+const BAD_WORDS: u8 = 2;
+
+/// The exit status where a line of a script breaks a rule.
+const BAD_LINE: u8 = 3;
+
+/// The exit status where the input couldn't be read.
+const READ_FAULT: u8 = 4;
+
+/// The exit status where the output couldn't be written.
+const WRITE_FAULT: u8 = 5;
+
+/// The exit status where no memory was left.
+pub(crate) const OUT_OF_MEMORY: u8 = 6;
+
+/// The whole program, over any input, output and gate; the answer is its exit status. The words begin with the program's name.
+///
+/// `script` reads a script from the input and writes its capture to the output. Other words write the usage line. The gate isn't
+/// touched.
+pub fn top<R: Threads + Wait + Sync, S: Source, K: Sink, G: Gate>(
+    _rt: &R,
+    alloc: Global,
+    words: &[String],
+    input: &mut S,
+    output: &mut K,
+    gate: &mut G,
+) -> u8
+    requires unused { G.given gate.old ≡ [] }
+    requires open { G.ended gate.old ≡ false }
+    // The capture's own clause: whatever the script, each viewer's bytes in what is written are never refused, and each mark shows the
+    // picture after exactly the journal entries that the frame's take found.
+    ensures script { IsTrue (asks_for_script (map string_bytes words.now)) → RunsMode result (S.left input.old) (S.left input.new) (K.told output.old) (K.told output.new)
+        (S.faults input.old) (S.faults input.new) (K.faults output.old) (K.faults output.new) }
+    ensures usage { asks_for_script (map string_bytes words.now) ≡ false → WritesUsage result (K.told output.old) (K.told output.new) (K.faults output.old) (K.faults output.new) }
+    ensures input { asks_for_script (map string_bytes words.now) ≡ false → input.new ≡ input.old }
+    ensures gate { gate.new ≡ gate.old }
+{
+    if is_script(words) {
+        status(run_script(alloc, input, output))
+    } else {
+        refuse_words(output)
+    }
+}
+
+/// Whether the words are the program's name and the mode `script`.
+fn is_script(words: &[String]) -> bool
+    ensures { result ≡ asks_for_script (map string_bytes words.now) }
+{
+    match words {
+        [_, mode] => is_same(mode.as_bytes(), SCRIPT.as_bytes()),
+        _ => false,
+    }
+}
+
+/// Whether two words are the same.
+fn is_same(word: &[u8], other: &[u8]) -> bool
+    ensures { result ≡ is_same_name word.now other.now }
+{
+    word == other
+}
+
+/// The exit status that an answer of a script's run is.
+fn status(answer: Result<(), ScriptFault>) -> u8
+    ensures { result ≡ script_status answer }
+{
+    match answer {
+        Ok(()) => DONE,
+        Err(ScriptFault::Line { .. }) => BAD_LINE,
+        Err(ScriptFault::ReadFault) => READ_FAULT,
+        Err(ScriptFault::WriteFault) => WRITE_FAULT,
+        Err(ScriptFault::OutOfMemory) => OUT_OF_MEMORY,
+    }
+}
+
+/// Writes the usage line, and answers the status of words that ask for no mode.
+fn refuse_words<K: Sink>(output: &mut K) -> u8
+    ensures { WritesUsage result (K.told output.old) (K.told output.new) (K.faults output.old) (K.faults output.new) }
+{
+    match put(output, USAGE) {
+        Ok(()) => BAD_WORDS,
+        Err(fault) => status(Err(fault)),
+    }
+}
