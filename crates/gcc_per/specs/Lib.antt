@@ -1,0 +1,7 @@
+pub mod Checked
+pub mod ClientCore
+pub mod ClientNetwork
+pub mod ClientBlocks
+pub mod ClientData
+pub mod ServerBlocks
+pub mod ServerData
