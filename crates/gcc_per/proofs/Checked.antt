@@ -1,5 +1,5 @@
 -- Steps of reading with causes.
-use Rattle.std.proofs.Common.{◌≡◌, ℕ, List, ◌++◌, refl, ap}
+use Rattle.std.proofs.Common.{◌≡◌, ℕ, List, refl, ap}
 use Rattle.std.specs.Prelude.{Ok, Err}
 use Rattle.wire_num.specs.Field.{Read}
 use Rattle.gcc_per.specs.declared.gcc_fault.Cause.{Cause}

@@ -7,4 +7,7 @@ pub mod UserData
 pub mod Parts
 pub mod ChannelIds
 pub mod Response
+pub mod BlockText
+pub mod BlocksText
+pub mod RequestText
 pub mod SampleClient

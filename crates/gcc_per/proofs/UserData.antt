@@ -9,13 +9,13 @@ use Rattle.gcc_per.specs.Checked.{Checked, plain, then_checked, map_checked, bef
 use Rattle.gcc_per.specs.ClientData.{client_blocks_at, user_data_at}
 use Rattle.gcc_per.proofs.Checked.{go_on_plain}
 
-abbrev to_end : ClientData → List ℕ → Checked ClientData
+abbrev pub to_end : ClientData → List ℕ → Checked ClientData
 to_end client end = map_checked (λ _. client) (plain (end_at end))
 
-abbrev in_content : List ℕ → List ℕ → Checked ClientData
+abbrev pub in_content : List ℕ → List ℕ → Checked ClientData
 in_content content after = then_checked (before_checked after (client_blocks_at content)) (λ client end. to_end client end)
 
-abbrev counted : ℕ → List ℕ → Checked ClientData
+abbrev pub counted : ℕ → List ℕ → Checked ClientData
 counted n more = then_checked (plain (bytes_at n more)) (λ content after. in_content content after)
 
 pub blocks_refused : (bs more content after left place : List ℕ) (n : ℕ) (cause : Cause) → per_len_at bs ≡ Ok (n, more) → bytes_at n more ≡ Ok (content, after)

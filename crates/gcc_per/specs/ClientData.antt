@@ -1,13 +1,12 @@
 -- The GCC Conference Create Request (T.124, 8.7; [MS-RDPBCGR] 2.2.1.3): the key of T.124, the request with its fixed
 -- choices, and the client's data blocks as its user data.
 use Rattle.std.specs.Prelude.{ℕ, List, [], ◌∷◌, Option, Some, None, Result, Ok, Err}
-use Rattle.wire_num.specs.Field.{then_read, bytes_at, end_at}
+use Rattle.wire_num.specs.Field.{bytes_at, end_at}
 use Rattle.wire_num.specs.Length.{per_len_at}
 use Rattle.wire_num.specs.Layout.{Layout, Open, Bytes, Length, Packed, ◌▸◌, fields_at}
 use Rattle.gcc_per.specs.declared.gcc_fault.GccFault.{GccFault}
 use Rattle.gcc_per.specs.declared.gcc_fault.Cause.TheVariants.{Broken}
 use Rattle.gcc_per.specs.declared.client_core.Desktop.{Desktop}
-use Rattle.gcc_per.specs.declared.client_blocks.ClientBlocks.{ClientBlocks}
 use Rattle.gcc_per.specs.declared.client_data.ClientData.{ClientData}
 use Rattle.gcc_per.specs.Checked.{Checked, plain, then_checked, map_checked, before_checked, placed_checked}
 use Rattle.gcc_per.specs.ClientBlocks.{blocks_at}

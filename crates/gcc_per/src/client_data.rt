@@ -8,11 +8,12 @@
 //! | 4 | h221NonStandard | `44 75 63 61`, "Duca" |
 //! | 1 or 2, n | user data | packed length, client blocks to the end |
 
-ghost use Rattle.std.specs.Prelude.{◌≡◌, [], ◌∷◌};
+ghost use Rattle.std.specs.Prelude.{◌≡◌, ◌↔◌, ℕ, List, [], ◌∷◌, Ok};
 ghost use Rattle.wire_num.specs.Layout.{fields_at};
 ghost use Rattle.wire_num.specs.Cursor.{ReadsFieldsAs, rest};
 ghost use Rattle.gcc_per.specs.Checked.{ReadsChecked};
 ghost use Rattle.gcc_per.specs.ClientData.{create_request, client_blocks_at, user_data_at, client_data_at, client_data_of, channels_of};
+ghost use Rattle.gcc_per.specs.Grammar.{IsRequest};
 
 use crate::GccFault;
 use crate::client_blocks::read_blocks;
@@ -48,6 +49,11 @@ pub fn read_client(bytes: &[u8]) -> Result<ClientData, GccFault>
         Err(cause) => Err(fault_of(cause, cursor.at())),
     }
 }
+
+/// The law of client data: they are read exactly where a request with them stands there.
+pub fn requests_are_read_exactly()
+    ensures { (bytes : List ℕ) (client : ClientData) → (client_data_of bytes ≡ Ok client) ↔ IsRequest bytes client }
+{}
 
 /// Reads all fields.
 #[tactic(auto, unfolding(crate::specs::ClientData::client_data_at))]

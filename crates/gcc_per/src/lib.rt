@@ -12,7 +12,7 @@ mod server_data;
 mod server_network;
 mod server_security;
 
-pub use client_data::{ClientData, read_client};
+pub use client_data::{ClientData, read_client, requests_are_read_exactly};
 pub use gcc_fault::GccFault;
 pub use server_data::write_server;
 

@@ -1,4 +1,4 @@
-use Rattle.std.proofs.Common.{◌≡◌, length, ap, ◌∙◌, arith}
+use Rattle.std.proofs.Common.{length, ap, ◌∙◌, arith}
 use Rattle.gcc_per.specs.ClientBlocks.{least_length}
 use Rattle.gcc_per.proofs.Within.{content_size, refused_in_content}
 use Rattle.gcc_per.proofs.Blocks.{network_refused}

@@ -1,5 +1,4 @@
 use Rattle.std.proofs.Common.{◌++◌, ap, sym, ◌∙◌, arith}
-use Rattle.std.proofs.lemmas.Grind.{common_steps}
 use Rattle.gcc_per.proofs.Response.{headers_are}
 use Rattle.gcc_per.proofs.server_data.put_headers.Goals as goal
 
