@@ -99,7 +99,7 @@ fn cut_blocks_are_read_or_refused_at_the_first_field_that_does_not_fit(rt: HostR
 /// One byte of the sample changed, at this place and to this value, is refused there.
 #[test]
 fn a_bad_field_is_refused_at_its_first_byte(rt: HostRuntime) {
-    let cases: [(u8, u8, Result<ClientData, GccFault>); 26] = [
+    let cases: [(usize, u8, Result<ClientData, GccFault>); 26] = [
         // the key, a length in another form, the request, the client's key
         (0, 1, bad(0)),
         (6, 2, bad(0)),
@@ -136,8 +136,9 @@ fn a_bad_field_is_refused_at_its_first_byte(rt: HostRuntime) {
         (186, 1, crowded(NETWORK + 4)),
     ];
     for (place, value, answer) in cases {
+        assert!(rt; place < WHOLE);
         let mut bytes = sample();
-        bytes[place as usize] = value;
+        bytes[place] = value;
         assert_eq!(rt; read_client(&bytes), answer);
     }
 }
@@ -169,7 +170,8 @@ fn the_last_depth_that_is_there_counts(rt: HostRuntime) {
         (131, 0xCA04, 24, 1, bad(CORE + 2)),
     ];
     for (size, post, high, supported, answer) in cases {
-        let mut bytes = sample();
+        let mut bytes = [0; 300];
+        bytes[..WHOLE].copy_from_slice(&sample());
         bytes[22] = size;
         bytes[25] = size;
         bytes[155] = (post & 0xFF) as u8;
@@ -182,17 +184,17 @@ fn the_last_depth_that_is_there_counts(rt: HostRuntime) {
 
 /// The sample's blocks in another order, with an unknown one of only a header, and a CS_NET with bytes behind its channels.
 #[test]
-fn blocks_stand_in_any_order(rt: HostRuntime) {
+fn blocks_stand_in_any_order(rt: HostRuntime) -> Result<(), Fail> {
     let sample = sample();
-    let mut bytes = [0; 229];
-    bytes[..CORE].copy_from_slice(&sample[..CORE]);
-    bytes[22] = 206;
-    bytes[23..27].copy_from_slice(&[5, 0xC0, 4, 0]);
-    bytes[27..71].copy_from_slice(&sample[NETWORK..]);
-    bytes[29] = 46;
-    bytes[73..217].copy_from_slice(&sample[CORE..SECURITY]);
-    bytes[217..229].copy_from_slice(&sample[SECURITY..NETWORK]);
-    assert_eq!(rt; read_client(&bytes), data(3));
+    let mut bytes = Vec::new(rt.alloc());
+    bytes.extend_from_slice(&sample[..22])?;
+    bytes.extend_from_slice(&[206, 5, 0xC0, 4, 0, 3, 0xC0, 46, 0])?;
+    bytes.extend_from_slice(&sample[NETWORK + 4..])?;
+    bytes.extend_from_slice(&[0, 0])?;
+    bytes.extend_from_slice(&sample[CORE..SECURITY])?;
+    bytes.extend_from_slice(&sample[SECURITY..NETWORK])?;
+    assert_eq!(rt; read_client(bytes.as_slice()), data(3));
+    Ok(())
 }
 
 /// The length of the connectPDU isn't compared, and may have one byte.
