@@ -138,11 +138,11 @@ adds_again Other found more bs content after a = (ap (λ m. Ok (m, after)) (sym 
 
 -- ---- a block
 
-grouped : (a b c d : List ℕ) → a ++ (b ++ (c ++ d)) ≡ (a ++ (b ++ c)) ++ d
+pub grouped : (a b c d : List ℕ) → a ++ (b ++ (c ++ d)) ≡ (a ++ (b ++ c)) ++ d
 grouped a b c d = sym (append_assoc a (b ++ c) d ∙ ap (λ xs. a ++ xs) (append_assoc b c d))
 
 -- two bytes, two bytes, and the others
-parts_of : (bs more : List ℕ) → drop 2 (drop 2 bs) ≡ more → bs ≡ take 2 bs ++ (take 2 (drop 2 bs) ++ more)
+pub parts_of : (bs more : List ℕ) → drop 2 (drop 2 bs) ≡ more → bs ≡ take 2 bs ++ (take 2 (drop 2 bs) ++ more)
 parts_of bs more e = regroup 2 bs (drop 2 bs) refl ∙ ap (λ xs. take 2 bs ++ xs) (regroup 2 (drop 2 bs) more e)
 
 kind_there : (found : ClientBlocks) (type more : List ℕ) → length type ≡ 2 → is_new found (kind_of (little_number 2 type)) ≡ true

@@ -20,10 +20,10 @@ use Rattle.gcc_per.specs.ClientBlocks.{kind_of, least_length, is_new, kind_at, l
 use Rattle.gcc_per.proofs.Checked.{go_on_plain, then_ok, plain_ok, map_ok, before_ok}
 use Rattle.gcc_per.proofs.Within.{content_size}
 
-abbrev with_content : BlockKind → ClientBlocks → List ℕ → ℕ → List ℕ → Checked ClientBlocks
+abbrev pub with_content : BlockKind → ClientBlocks → List ℕ → ℕ → List ℕ → Checked ClientBlocks
 with_content kind found bs n more = then_checked (plain (bytes_at (n - 4) more)) (λ content after. with_block kind found bs content after)
 
-abbrev with_length : BlockKind → ClientBlocks → List ℕ → List ℕ → Checked ClientBlocks
+abbrev pub with_length : BlockKind → ClientBlocks → List ℕ → List ℕ → Checked ClientBlocks
 with_length kind found bs sized = then_checked (plain (length_at kind sized)) (λ n more. with_content kind found bs n more)
 
 -- the block's fields, where its header and its content are there
@@ -47,12 +47,12 @@ network_refused found bs sized more content after left place kind n cause k l b 
 
 -- ---- the parts of a block that was read
 
-header_fits : (kind : BlockKind) → 4 ≤ least_length kind
+pub header_fits : (kind : BlockKind) → 4 ≤ least_length kind
 header_fits ClientCore = omega arith
 header_fits ClientNetwork = omega arith
 header_fits Other = omega arith
 
-length_ok : (kind : BlockKind) (bs : List ℕ) (y : ℕ × List ℕ) → length_at kind bs ≡ Ok y
+pub length_ok : (kind : BlockKind) (bs : List ℕ) (y : ℕ × List ℕ) → length_at kind bs ≡ Ok y
     → (2 ≤ length bs) × (little_number 2 bs ≡ y.0) × (drop 2 bs ≡ y.1) × (least_length kind ≤ y.0)
 unfolding length_at
 length_ok kind bs y e =
@@ -63,7 +63,7 @@ length_ok kind bs y e =
     let least : least_length kind ≤ v.0 = grind (arith, nat_tests, t.0) in
     (there.0, there.1 ∙ ap (λ p. p.0) t.1, there.2 ∙ ap (λ p. p.1) t.1, subst (λ p. least_length kind ≤ p.0) t.1 least)
 
-kind_ok : (found : ClientBlocks) (bs : List ℕ) (y : BlockKind × List ℕ) → kind_at found bs ≡ Ok y
+pub kind_ok : (found : ClientBlocks) (bs : List ℕ) (y : BlockKind × List ℕ) → kind_at found bs ≡ Ok y
     → (2 ≤ length bs) × (kind_of (little_number 2 bs) ≡ y.0) × (drop 2 bs ≡ y.1) × (is_new found y.0 ≡ true)
 unfolding kind_at
 kind_ok found bs y e =

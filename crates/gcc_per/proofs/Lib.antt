@@ -10,4 +10,5 @@ pub mod Response
 pub mod BlockText
 pub mod BlocksText
 pub mod RequestText
+pub mod Named
 pub mod SampleClient

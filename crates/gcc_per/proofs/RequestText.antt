@@ -149,7 +149,7 @@ user_again count content client packed e =
 
 -- ---- the request
 
-request_none : (bs values left : List ℕ) → IsText create_request bs values left → values ≡ []
+pub request_none : (bs values left : List ℕ) → IsText create_request bs values left → values ≡ []
 unfolding create_request
 request_none bs values left p = p.2.5.2.2.0
 

@@ -4,5 +4,6 @@ pub mod ClientNetwork
 pub mod ClientBlocks
 pub mod ClientData
 pub mod Grammar
+pub mod Refusals
 pub mod ServerBlocks
 pub mod ServerData

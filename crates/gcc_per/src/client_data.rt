@@ -8,12 +8,14 @@
 //! | 4 | h221NonStandard | `44 75 63 61`, "Duca" |
 //! | 1 or 2, n | user data | packed length, client blocks to the end |
 
-ghost use Rattle.std.specs.Prelude.{◌≡◌, ◌↔◌, ℕ, List, [], ◌∷◌, Ok};
+ghost use Rattle.std.specs.Prelude.{◌≡◌, ◌↔◌, ℕ, List, [], ◌∷◌, Ok, Err};
 ghost use Rattle.wire_num.specs.Layout.{fields_at};
 ghost use Rattle.wire_num.specs.Cursor.{ReadsFieldsAs, rest};
 ghost use Rattle.gcc_per.specs.Checked.{ReadsChecked};
 ghost use Rattle.gcc_per.specs.ClientData.{create_request, client_blocks_at, user_data_at, client_data_at, client_data_of, channels_of};
 ghost use Rattle.gcc_per.specs.Grammar.{IsRequest};
+ghost use Rattle.gcc_per.specs.Refusals.{CoreWithoutDepth, CrowdedNetwork};
+ghost use Rattle.gcc_per.specs.declared.gcc_fault.GccFault.TheVariants.{DepthNotOffered, TooManyChannels};
 
 use crate::GccFault;
 use crate::client_blocks::read_blocks;
@@ -50,9 +52,12 @@ pub fn read_client(bytes: &[u8]) -> Result<ClientData, GccFault>
     }
 }
 
-/// The law of client data: they are read exactly where a request with them stands there.
+/// The law of client data: they are read exactly where a request with them stands there; and where they are refused for a
+/// depth or for too many channels, it is a CS_CORE without that depth or a CS_NET with so many that stands there.
 pub fn requests_are_read_exactly()
-    ensures { (bytes : List ℕ) (client : ClientData) → (client_data_of bytes ≡ Ok client) ↔ IsRequest bytes client }
+    ensures exact { (bytes : List ℕ) (client : ClientData) → (client_data_of bytes ≡ Ok client) ↔ IsRequest bytes client }
+    ensures no_depth { (bytes : List ℕ) (at : ℕ) → client_data_of bytes ≡ Err (DepthNotOffered at) → CoreWithoutDepth bytes at }
+    ensures crowded { (bytes : List ℕ) (at : ℕ) → client_data_of bytes ≡ Err (TooManyChannels at) → CrowdedNetwork bytes at }
 {}
 
 /// Reads all fields.
