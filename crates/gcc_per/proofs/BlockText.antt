@@ -1,8 +1,8 @@
 -- Blocks that were read stand there, and blocks that stand there are read.
-use Rattle.std.proofs.Common.{◌≡◌, ℕ, zero, suc, ◌+◌, ◌-◌, ◌≤◌, Bool, true, false, cond, List, [], ◌++◌, length, take, drop, refl, ap, ◌∙◌, sym, arith, length-append, append_assoc, length-drop, subst}
+use Rattle.std.proofs.Common.{◌≡◌, ℕ, zero, suc, ◌+◌, ◌-◌, ◌≤◌, Bool, true, false, cond, List, [], ◌++◌, length, take, drop, refl, ap, ◌∙◌, sym, arith, length-append, subst}
 use Rattle.std.specs.Prelude.{nat_le, nat_lt, ◌&&◌, Option, Some, None, is_none, Ok, Err}
 use Rattle.std.proofs.lemmas.Bool.Decides.{nat_tests}
-use Rattle.std.proofs.lemmas.List.{length-take-le, drop-drop}
+use Rattle.std.proofs.lemmas.List.{length-take-le}
 use Rattle.std.proofs.Math.Seq.{take-append_seam, drop-append_seam}
 use Rattle.byteorder.specs.Endian.{little_number}
 use Rattle.wire_num.specs.Field.{then_read, map_read, passing_at, little_at, bytes_at}
@@ -23,7 +23,7 @@ use Rattle.gcc_per.specs.ClientNetwork.{channel_definitions, channel_count_at, c
 use Rattle.gcc_per.specs.ClientBlocks.{kind_of, least_length, is_new, kind_at, length_at, with_desktop, with_core, with_channels, with_block, block_at}
 use Rattle.gcc_per.specs.Grammar.{Block, block_bytes, kind_in, IsBlock, HasChannels}
 use Rattle.gcc_per.proofs.Checked.{then_ok, plain_ok, map_ok, before_ok, go_on, go_on_plain}
-use Rattle.gcc_per.proofs.Blocks.{block_ok, to_block}
+use Rattle.gcc_per.proofs.Blocks.{grouped, block_ok, to_block}
 
 -- ---- fields that stand there
 
@@ -138,13 +138,6 @@ adds_again Other found more bs content after a = (ap (λ m. Ok (m, after)) (sym 
 
 -- ---- a block
 
-pub grouped : (a b c d : List ℕ) → a ++ (b ++ (c ++ d)) ≡ (a ++ (b ++ c)) ++ d
-grouped a b c d = sym (append_assoc a (b ++ c) d ∙ ap (λ xs. a ++ xs) (append_assoc b c d))
-
--- two bytes, two bytes, and the others
-pub parts_of : (bs more : List ℕ) → drop 2 (drop 2 bs) ≡ more → bs ≡ take 2 bs ++ (take 2 (drop 2 bs) ++ more)
-parts_of bs more e = regroup 2 bs (drop 2 bs) refl ∙ ap (λ xs. take 2 bs ++ xs) (regroup 2 (drop 2 bs) more e)
-
 kind_there : (found : ClientBlocks) (type more : List ℕ) → length type ≡ 2 → is_new found (kind_of (little_number 2 type)) ≡ true
     → kind_at found (type ++ more) ≡ Ok (kind_of (little_number 2 type), more)
 unfolding kind_at passing_at
@@ -172,22 +165,12 @@ pub record Stands (found : ClientBlocks) (bs : List ℕ) (y : ClientBlocks × Li
 pub block_stands : (found : ClientBlocks) (bs : List ℕ) (y : ClientBlocks × List ℕ) → block_at found bs ≡ Ok y → Stands found bs y
 block_stands found bs y e =
     let p = block_ok found bs y e in
-    let type : List ℕ = take 2 bs in
-    let size : List ℕ = take 2 (drop 2 bs) in
-    let first : 2 ≤ length bs = omega (arith, p.whole) in
-    let second : 2 ≤ length (drop 2 bs) = omega (arith, p.whole, length-drop 2 bs) in
-    let kind : kind_of (little_number 2 type) ≡ p.kind = ap kind_of (sym (little_taken 2 bs first)) ∙ p.type in
-    let more : drop 2 (drop 2 bs) ≡ p.content ++ y.1 = drop-drop 2 2 bs ∙ p.parts in
+    let h = p.header in
     record {
-      block = record { type = type; size = size; content = p.content };
-      is = (
-        length-take-le 2 bs first,
-        length-take-le 2 (drop 2 bs) second,
-        sym (little_taken 2 (drop 2 bs) second) ∙ p.length_is,
-        subst (λ k. least_length k ≤ 4 + length p.content) (sym kind) p.least,
-      );
-      whole = parts_of bs (p.content ++ y.1) more ∙ grouped type size p.content y.1;
-      adds = subst (λ k. Adds k p.content found y.0) (sym kind) (adds_ok p.kind found bs p.content y.1 y p.adds p.new);
+      block = record { type = h.type; size = h.size; content = p.content };
+      is = h.is;
+      whole = h.whole;
+      adds = subst (λ k. Adds k p.content found y.0) (sym h.kind_is) (adds_ok p.kind found bs p.content y.1 y p.adds h.new);
     }
 
 pub block_again : (found more : ClientBlocks) (block : Block) (after : List ℕ) → IsBlock block → Adds (kind_in block) block.content found more

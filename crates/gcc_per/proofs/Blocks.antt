@@ -1,11 +1,11 @@
 -- A block, from its header on.
-use Rattle.std.proofs.Common.{◌≡◌, ℕ, ◌+◌, ◌-◌, ◌≤◌, ◌<◌, cond, true, List, ◌++◌, length, drop, ap, sym, ◌∙◌, subst, arith, length-append, length-drop}
+use Rattle.std.proofs.Common.{◌≡◌, ℕ, ◌+◌, ◌-◌, ◌≤◌, ◌<◌, cond, true, List, ◌++◌, length, take, drop, refl, ap, sym, ◌∙◌, subst, arith, length-append, append_assoc}
 use Rattle.std.specs.Prelude.{nat_le, ◌&&◌, Option, Some, None, Ok, Err}
 use Rattle.std.proofs.lemmas.Bool.Decides.{nat_tests}
-use Rattle.std.proofs.lemmas.List.{drop-drop}
+use Rattle.std.proofs.lemmas.List.{length-take-le}
 use Rattle.byteorder.specs.Endian.{little_number}
 use Rattle.wire_num.specs.Field.{passing_at, bytes_at, little_at}
-use Rattle.wire_num.proofs.Steps.{passed_ok}
+use Rattle.wire_num.proofs.Steps.{passed_ok, little_taken}
 use Rattle.wire_num.proofs.Steps as steps
 use Rattle.wire_num.proofs.ReadIsText.{bytes_ok, little_ok, passing_ok, regroup}
 use Rattle.gcc_per.specs.declared.gcc_fault.Cause.{Cause}
@@ -17,6 +17,7 @@ use Rattle.gcc_per.specs.Checked.{Checked, plain, then_checked, map_checked, bef
 use Rattle.gcc_per.specs.ClientCore.{desktop_of}
 use Rattle.gcc_per.specs.ClientNetwork.{channels_at}
 use Rattle.gcc_per.specs.ClientBlocks.{kind_of, least_length, is_new, kind_at, length_at, with_desktop, with_core, with_channels, with_block, block_at}
+use Rattle.gcc_per.specs.Grammar.{IsBlock}
 use Rattle.gcc_per.proofs.Checked.{go_on_plain, then_ok, plain_ok, map_ok, before_ok}
 use Rattle.gcc_per.proofs.Within.{content_size}
 
@@ -47,12 +48,12 @@ network_refused found bs sized more content after left place kind n cause k l b 
 
 -- ---- the parts of a block that was read
 
-pub header_fits : (kind : BlockKind) → 4 ≤ least_length kind
+header_fits : (kind : BlockKind) → 4 ≤ least_length kind
 header_fits ClientCore = omega arith
 header_fits ClientNetwork = omega arith
 header_fits Other = omega arith
 
-pub length_ok : (kind : BlockKind) (bs : List ℕ) (y : ℕ × List ℕ) → length_at kind bs ≡ Ok y
+length_ok : (kind : BlockKind) (bs : List ℕ) (y : ℕ × List ℕ) → length_at kind bs ≡ Ok y
     → (2 ≤ length bs) × (little_number 2 bs ≡ y.0) × (drop 2 bs ≡ y.1) × (least_length kind ≤ y.0)
 unfolding length_at
 length_ok kind bs y e =
@@ -63,7 +64,7 @@ length_ok kind bs y e =
     let least : least_length kind ≤ v.0 = grind (arith, nat_tests, t.0) in
     (there.0, there.1 ∙ ap (λ p. p.0) t.1, there.2 ∙ ap (λ p. p.1) t.1, subst (λ p. least_length kind ≤ p.0) t.1 least)
 
-pub kind_ok : (found : ClientBlocks) (bs : List ℕ) (y : BlockKind × List ℕ) → kind_at found bs ≡ Ok y
+kind_ok : (found : ClientBlocks) (bs : List ℕ) (y : BlockKind × List ℕ) → kind_at found bs ≡ Ok y
     → (2 ≤ length bs) × (kind_of (little_number 2 bs) ≡ y.0) × (drop 2 bs ≡ y.1) × (is_new found y.0 ≡ true)
 unfolding kind_at
 kind_ok found bs y e =
@@ -86,48 +87,68 @@ block_after ClientNetwork found bs content after y e =
     (before_ok after (channels_at content) s.0 s.1).3 ∙ s.3
 block_after Other found bs content after y e = let h : (found, after) ≡ y = cc in ap (λ p. p.1) h
 
-pub record BlockParts (found : ClientBlocks) (bs : List ℕ) (y : ClientBlocks × List ℕ) : Type 0 where
+-- a header and the content that it counts, seen as a block
+pub record Header (found : ClientBlocks) (kind : BlockKind) (bs content after : List ℕ) : Type 0 where
+  pub type : List ℕ
+  pub size : List ℕ
+  pub is : IsBlock (record { type = type; size = size; content = content })
+  pub kind_is : kind_of (little_number 2 type) ≡ kind
+  pub new : is_new found kind ≡ true
+  pub whole : bs ≡ (type ++ (size ++ content)) ++ after
+
+pub grouped : (a b c d : List ℕ) → a ++ (b ++ (c ++ d)) ≡ (a ++ (b ++ c)) ++ d
+grouped a b c d = sym (append_assoc a (b ++ c) d ∙ ap (λ xs. a ++ xs) (append_assoc b c d))
+
+-- two bytes, two bytes, and the others
+parts_of : (bs more : List ℕ) → drop 2 (drop 2 bs) ≡ more → bs ≡ take 2 bs ++ (take 2 (drop 2 bs) ++ more)
+parts_of bs more e = regroup 2 bs (drop 2 bs) refl ∙ ap (λ xs. take 2 bs ++ xs) (regroup 2 (drop 2 bs) more e)
+
+pub content_of : (n : ℕ) (bs content after : List ℕ) → bytes_at n bs ≡ Ok (content, after) → bs ≡ content ++ after
+content_of n bs content after e =
+    let front = bytes_ok n bs (content, after) e in
+    regroup n bs after front.2 ∙ ap (λ xs. xs ++ after) front.1
+
+pub header_ok : (found : ClientBlocks) (kind : BlockKind) (bs sized more content after : List ℕ) (n : ℕ) → kind_at found bs ≡ Ok (kind, sized) → length_at kind sized ≡ Ok (n, more)
+    → bytes_at (n - 4) more ≡ Ok (content, after) → Header found kind bs content after
+header_ok found kind bs sized more content after n e f g =
+    let k = kind_ok found bs (kind, sized) e in
+    let l = length_ok kind sized (n, more) f in
+    let counts : n ≡ 4 + length content = omega (arith, content_size (n - 4) more content after g, header_fits kind, l.3) in
+    let second : 2 ≤ length (drop 2 bs) = omega (arith, l.0, ap length k.2) in
+    let kind_is : kind_of (little_number 2 (take 2 bs)) ≡ kind = ap kind_of (sym (little_taken 2 bs k.0)) ∙ k.1 in
+    let size_is : little_number 2 (take 2 (drop 2 bs)) ≡ 4 + length content = sym (little_taken 2 (drop 2 bs) second) ∙ ap (little_number 2) k.2 ∙ l.1 ∙ counts in
+    let least : least_length kind ≤ 4 + length content = omega (arith, counts, l.3) in
+    let rest : drop 2 (drop 2 bs) ≡ content ++ after = ap (drop 2) k.2 ∙ l.2 ∙ content_of (n - 4) more content after g in
+    record {
+      type = take 2 bs;
+      size = take 2 (drop 2 bs);
+      is = (length-take-le 2 bs k.0, length-take-le 2 (drop 2 bs) second, size_is, subst (λ q. least_length q ≤ 4 + length content) (sym kind_is) least);
+      kind_is = kind_is;
+      new = k.3;
+      whole = parts_of bs (content ++ after) rest ∙ grouped (take 2 bs) (take 2 (drop 2 bs)) content after;
+    }
+
+pub record BlockRead (found : ClientBlocks) (bs : List ℕ) (y : ClientBlocks × List ℕ) : Type 0 where
   pub kind : BlockKind
   pub content : List ℕ
-  pub whole : 4 ≤ length bs
-  pub type : kind_of (little_number 2 bs) ≡ kind
-  pub new : is_new found kind ≡ true
-  pub length_is : little_number 2 (drop 2 bs) ≡ 4 + length content
-  pub least : least_length kind ≤ 4 + length content
-  pub parts : drop 4 bs ≡ content ++ y.1
+  pub header : Header found kind bs content y.1
   pub adds : with_block kind found bs content y.1 ≡ Ok y
 
-pub block_ok : (found : ClientBlocks) (bs : List ℕ) (y : ClientBlocks × List ℕ) → block_at found bs ≡ Ok y → BlockParts found bs y
+pub block_ok : (found : ClientBlocks) (bs : List ℕ) (y : ClientBlocks × List ℕ) → block_at found bs ≡ Ok y → BlockRead found bs y
 unfolding block_at
 block_ok found bs y e =
     let a = then_ok (plain (kind_at found bs)) (λ kind sized. with_length kind found bs sized) y e in
     let kind = a.0.0 in
-    let sized = a.0.1 in
-    let k = kind_ok found bs a.0 (plain_ok (kind_at found bs) a.0 a.1) in
-    let b = then_ok (plain (length_at kind sized)) (λ n more. with_content kind found bs n more) y a.2 in
+    let b = then_ok (plain (length_at kind a.0.1)) (λ n more. with_content kind found bs n more) y a.2 in
     let n = b.0.0 in
-    let more = b.0.1 in
-    let l = length_ok kind sized b.0 (plain_ok (length_at kind sized) b.0 b.1) in
-    let d = then_ok (plain (bytes_at (n - 4) more)) (λ content after. with_block kind found bs content after) y b.2 in
+    let d = then_ok (plain (bytes_at (n - 4) b.0.1)) (λ content after. with_block kind found bs content after) y b.2 in
     let content = d.0.0 in
-    let after = d.0.1 in
-    let there = plain_ok (bytes_at (n - 4) more) d.0 d.1 in
-    let front = bytes_ok (n - 4) more d.0 there in
-    let size : length content ≡ n - 4 = content_size (n - 4) more content after there in
-    let same : after ≡ y.1 = block_after kind found bs content after y d.2 in
-    let header : 4 ≤ n = omega (arith, header_fits kind, l.3) in
-    let counts : n ≡ 4 + length content = omega (arith, size, header) in
-    let sized_is : length bs - 2 ≡ length sized = sym (length-drop 2 bs) ∙ ap length k.2 in
-    let more_is : more ≡ content ++ after = regroup (n - 4) more after front.2 ∙ ap (λ xs. xs ++ after) front.1 in
+    let same : d.0.1 ≡ y.1 = block_after kind found bs content d.0.1 y d.2 in
+    let header = header_ok found kind bs a.0.1 b.0.1 content d.0.1 n (plain_ok (kind_at found bs) a.0 a.1) (plain_ok (length_at kind a.0.1) b.0 b.1) (plain_ok (bytes_at (n - 4) b.0.1) d.0 d.1) in
     record {
       kind = kind;
       content = content;
-      whole = omega (arith, sized_is, l.0);
-      type = k.1;
-      new = k.3;
-      length_is = ap (little_number 2) k.2 ∙ l.1 ∙ counts;
-      least = subst (λ m. least_length kind ≤ m) counts l.3;
-      parts = sym (drop-drop 2 2 bs) ∙ ap (drop 2) k.2 ∙ l.2 ∙ more_is ∙ ap (λ xs. content ++ xs) same;
+      header = subst (λ xs. Header found kind bs content xs) same header;
       adds = ap (with_block kind found bs content) (sym same) ∙ d.2;
     }
 
@@ -135,5 +156,5 @@ block_ok found bs y e =
 pub block_shorter : (found : ClientBlocks) (bs : List ℕ) (y : ClientBlocks × List ℕ) → block_at found bs ≡ Ok y → length y.1 < length bs
 block_shorter found bs y e =
     let p = block_ok found bs y e in
-    let size : length bs - 4 ≡ length p.content + length y.1 = sym (length-drop 4 bs) ∙ ap length p.parts ∙ length-append p.content y.1 in
-    omega (arith, size, p.whole)
+    let h = p.header in
+    omega (arith, ap length h.whole, h.is.0, length-append (h.type ++ (h.size ++ p.content)) y.1, length-append h.type (h.size ++ p.content))

@@ -1,9 +1,9 @@
 -- What stands where the refusal has a name of its own.
-use Rattle.std.proofs.Common.{◌≡◌, ℕ, zero, suc, ◌+◌, ◌-◌, ◌≤◌, ◌<◌, Bool, true, false, cond, List, [], ◌∷◌, ◌++◌, length, take, drop, refl, ap, ◌∙◌, sym, arith, length-append, length-drop, append_assoc, subst, ◌⊎◌, inl, inr}
+use Rattle.std.proofs.Common.{◌≡◌, ℕ, zero, suc, ◌+◌, ◌-◌, ◌≤◌, ◌<◌, Bool, true, false, cond, List, [], ◌∷◌, ◌++◌, length, take, drop, refl, ap, ◌∙◌, sym, arith, length-append, append_assoc, subst, ◌⊎◌, inl, inr}
 use Rattle.std.specs.Prelude.{nat_le, Option, Some, None, Ok, Err, flat_map}
 use Rattle.std.specs.List.{AllByRecursion}
 use Rattle.std.proofs.lemmas.Bool.Decides.{nat_tests}
-use Rattle.std.proofs.lemmas.List.{length-take-le, drop-drop}
+use Rattle.std.proofs.lemmas.List.{length-take-le}
 use Rattle.byteorder.specs.Endian.{little_number}
 use Rattle.wire_num.specs.Field.{Read, little_at, bytes_at, end_at}
 use Rattle.wire_num.specs.Length.{per_len_at}
@@ -12,7 +12,7 @@ use Rattle.wire_num.specs.Grammar.{IsText, IsPacked}
 use Rattle.wire_num.proofs.Steps.{little_taken}
 use Rattle.wire_num.proofs.ReadIsText.{bytes_ok, little_ok, count_ok, regroup, read_is_text}
 use Rattle.gcc_per.specs.declared.gcc_fault.GccFault.{GccFault}
-use Rattle.gcc_per.specs.declared.gcc_fault.GccFault.TheVariants.{BadGcc, DepthNotOffered, TooManyChannels}
+use Rattle.gcc_per.specs.declared.gcc_fault.GccFault.TheVariants.{DepthNotOffered, TooManyChannels}
 use Rattle.gcc_per.specs.declared.gcc_fault.Cause.{Cause}
 use Rattle.gcc_per.specs.declared.gcc_fault.Cause.TheVariants.{Broken, NoDepth, Crowded}
 use Rattle.gcc_per.specs.declared.client_core.Desktop.{Desktop}
@@ -23,14 +23,13 @@ use Rattle.gcc_per.specs.declared.client_data.ClientData.{ClientData}
 use Rattle.gcc_per.specs.Checked.{Checked, plain, then_checked, map_checked, before_checked, fault_of, placed_checked}
 use Rattle.gcc_per.specs.ClientCore.{desktop_of}
 use Rattle.gcc_per.specs.ClientNetwork.{channel_definitions, channel_count_at, channels_at}
-use Rattle.gcc_per.specs.ClientBlocks.{kind_of, least_length, kind_at, length_at, with_core, with_channels, with_block, block_at, blocks_from, no_blocks, blocks_at}
+use Rattle.gcc_per.specs.ClientBlocks.{kind_at, length_at, with_core, with_channels, with_block, block_at, blocks_from, no_blocks, blocks_at}
 use Rattle.gcc_per.specs.ClientData.{create_request, data_with, client_blocks_at, user_data_at, client_data_at, client_data_of}
 use Rattle.gcc_per.specs.Grammar.{Block, block_bytes, kind_in, IsBlock}
 use Rattle.gcc_per.specs.Refusals.{BlockStandsAt, CoreWithoutDepth, CrowdedNetwork}
-use Rattle.gcc_per.proofs.Within.{content_size}
 use Rattle.gcc_per.proofs.UserData.{to_end, in_content, counted}
-use Rattle.gcc_per.proofs.Blocks.{kind_ok, length_ok, header_fits, with_content, with_length}
-use Rattle.gcc_per.proofs.BlockText.{grouped, parts_of, block_stands}
+use Rattle.gcc_per.proofs.Blocks.{header_ok, with_content, with_length}
+use Rattle.gcc_per.proofs.BlockText.{block_stands}
 use Rattle.gcc_per.proofs.RequestText.{request_none}
 
 -- ---- steps where a cause other than Broken comes
@@ -154,38 +153,17 @@ unfolding block_at
 named_block found bs left cause named e =
     let a = plain_named (kind_at found bs) (λ kind sized. with_length kind found bs sized) cause left named e in
     let kind = a.0.0 in
-    let sized = a.0.1 in
-    let k = kind_ok found bs a.0 a.1 in
-    let b = plain_named (length_at kind sized) (λ n more. with_content kind found bs n more) cause left named a.2 in
+    let b = plain_named (length_at kind a.0.1) (λ n more. with_content kind found bs n more) cause left named a.2 in
     let n = b.0.0 in
-    let more = b.0.1 in
-    let l = length_ok kind sized b.0 b.1 in
-    let d = plain_named (bytes_at (n - 4) more) (λ content after. with_block kind found bs content after) cause left named b.2 in
+    let d = plain_named (bytes_at (n - 4) b.0.1) (λ content after. with_block kind found bs content after) cause left named b.2 in
     let content = d.0.0 in
-    let after = d.0.1 in
-    let front = bytes_ok (n - 4) more d.0 d.1 in
-    let length_is : length content ≡ n - 4 = content_size (n - 4) more content after d.1 in
-    let header : 4 ≤ n = omega (arith, header_fits kind, l.3) in
-    let counts : n ≡ 4 + length content = omega (arith, length_is, header) in
-    let sized_is : length bs - 2 ≡ length sized = sym (length-drop 2 bs) ∙ ap length k.2 in
-    let type : List ℕ = take 2 bs in
-    let size : List ℕ = take 2 (drop 2 bs) in
-    let first : 2 ≤ length bs = k.0 in
-    let second : 2 ≤ length (drop 2 bs) = omega (arith, l.0, ap length k.2) in
-    let is_kind : kind_of (little_number 2 type) ≡ kind = ap kind_of (sym (little_taken 2 bs first)) ∙ k.1 in
-    let more_is : more ≡ content ++ after = regroup (n - 4) more after front.2 ∙ ap (λ xs. xs ++ after) front.1 in
-    let rest_is : drop 2 (drop 2 bs) ≡ content ++ after = ap (drop 2) k.2 ∙ l.2 ∙ more_is in
+    let h = header_ok found kind bs a.0.1 b.0.1 content d.0.1 n a.1 b.1 d.1 in
     record {
-      block = record { type = type; size = size; content = content };
-      after = after;
-      is = (
-        length-take-le 2 bs first,
-        length-take-le 2 (drop 2 bs) second,
-        sym (little_taken 2 (drop 2 bs) second) ∙ ap (little_number 2) k.2 ∙ l.1 ∙ counts,
-        subst (λ q. least_length q ≤ 4 + length content) (sym is_kind) (subst (λ m. least_length kind ≤ m) counts l.3),
-      );
-      whole = parts_of bs (content ++ after) rest_is ∙ grouped type size content after;
-      tells = subst (λ q. Tells cause q content bs after left) (sym is_kind) (block_tells kind found bs content after left cause named d.2);
+      block = record { type = h.type; size = h.size; content = content };
+      after = d.0.1;
+      is = h.is;
+      whole = h.whole;
+      tells = subst (λ q. Tells cause q content bs d.0.1 left) (sym h.kind_is) (block_tells kind found bs content d.0.1 left cause named d.2);
     }
 
 -- ---- behind whole blocks

@@ -8,7 +8,7 @@ use Rattle.wire_num.specs.Length.{per_len_at}
 use Rattle.wire_num.specs.Layout.{Packed, fields_at}
 use Rattle.wire_num.specs.Grammar.{IsText, IsPacked}
 use Rattle.wire_num.proofs.Steps.{passed_ok, same_count}
-use Rattle.wire_num.proofs.ReadIsText.{bytes_ok, count_ok, regroup, read_is_text}
+use Rattle.wire_num.proofs.ReadIsText.{count_ok, read_is_text}
 use Rattle.wire_num.proofs.TextIsRead.{text_is_read}
 use Rattle.gcc_per.specs.declared.client_core.Desktop.{Desktop}
 use Rattle.gcc_per.specs.declared.client_blocks.ClientBlocks.{ClientBlocks}
@@ -20,6 +20,7 @@ use Rattle.gcc_per.specs.Grammar.{Block, block_bytes, IsBlock, core_blocks, netw
 use Rattle.gcc_per.proofs.UserData.{to_end, in_content, counted}
 use Rattle.gcc_per.proofs.Checked.{then_ok, plain_ok, map_ok, before_ok, go_on, go_on_plain}
 use Rattle.gcc_per.proofs.Within.{content_size}
+use Rattle.gcc_per.proofs.Blocks.{content_of}
 use Rattle.gcc_per.proofs.BlockText.{bytes_there}
 use Rattle.gcc_per.proofs.BlocksText.{AddAll, AllStand, CoreAfter, blocks_stand, blocks_again, core_side, network_side, both_sides, is_one_core, one_core, is_network_of, network_of}
 
@@ -32,6 +33,12 @@ none_left (b ∷ bs) h = absurd (omega (arith, h))
 end_none : (bs : List ℕ) (y : List ℕ × List ℕ) → end_at bs ≡ Ok y → bs ≡ []
 unfolding end_at
 end_none bs y e = none_left bs (same_count (length bs) 0 (passed_ok (length bs == 0) bs ([], bs) y e).0)
+
+nothing_after : (after end : List ℕ) (y : List ℕ × List ℕ) → after ≡ end → end_at end ≡ Ok y → after ≡ []
+nothing_after after end y e h = e ∙ end_none end y h
+
+same_client : (a b c : ClientData) → a ≡ b → b ≡ c → a ≡ c
+same_client a b c e f = e ∙ f
 
 end_again : end_at [] ≡ Ok ([], [])
 unfolding end_at
@@ -111,32 +118,32 @@ record UserData (bs : List ℕ) (client : ClientData) : Type 0 where
   whole : bs ≡ count ++ content
   says : BlocksSay content client
 
+user_of : (bs more content after : List ℕ) (n : ℕ) (client : ClientData) → per_len_at bs ≡ Ok (n, more) → bytes_at n more ≡ Ok (content, after) → after ≡ [] → BlocksSay content client
+    → UserData bs client
+user_of bs more content after n client e f none says =
+    let count = count_ok Packed bs (n, more) e in
+    let all : more ≡ content = content_of n more content after f ∙ ap (λ xs. content ++ xs) none ∙ append-nil content in
+    record {
+      count = count.0;
+      content = content;
+      packed = subst (IsPacked count.0) (sym (content_size n more content after f)) count.1;
+      whole = count.2 ∙ ap (λ xs. count.0 ++ xs) all;
+      says = says;
+    }
+
 user_ok : (bs : List ℕ) (y : ClientData × List ℕ) → user_data_at bs ≡ Ok y → UserData bs y.0
 unfolding user_data_at
 user_ok bs y e =
     let a = then_ok (plain (per_len_at bs)) (λ n more. counted n more) y e in
     let n = a.0.0 in
-    let more = a.0.1 in
-    let count = count_ok Packed bs a.0 (plain_ok (per_len_at bs) a.0 a.1) in
-    let b = then_ok (plain (bytes_at n more)) (λ content after. in_content content after) y a.2 in
+    let b = then_ok (plain (bytes_at n a.0.1)) (λ content after. in_content content after) y a.2 in
     let content = b.0.0 in
-    let after = b.0.1 in
-    let there = plain_ok (bytes_at n more) b.0 b.1 in
-    let d = then_ok (before_checked after (client_blocks_at content)) (λ client end. to_end client end) y b.2 in
-    let f = before_ok after (client_blocks_at content) d.0 d.1 in
+    let d = then_ok (before_checked b.0.1 (client_blocks_at content)) (λ client end. to_end client end) y b.2 in
+    let f = before_ok b.0.1 (client_blocks_at content) d.0 d.1 in
     let g = map_ok (λ _. d.0.0) (plain (end_at d.0.1)) y d.2 in
-    let none : after ≡ [] = f.3 ∙ end_none d.0.1 g.0 (plain_ok (end_at d.0.1) g.0 g.1) in
-    let front = bytes_ok n more b.0 there in
-    let all : more ≡ content = regroup n more after front.2 ∙ ap (λ xs. xs ++ after) front.1 ∙ ap (λ xs. content ++ xs) none ∙ append-nil content in
-    let size : length content ≡ n = content_size n more content after there in
-    let same : f.0.0 ≡ y.0 = f.2 ∙ g.2 in
-    record {
-      count = count.0;
-      content = content;
-      packed = subst (IsPacked count.0) (sym size) count.1;
-      whole = count.2 ∙ ap (λ xs. count.0 ++ xs) all;
-      says = subst (BlocksSay content) same (blocks_ok content f.0 f.1);
-    }
+    let none = nothing_after b.0.1 d.0.1 g.0 f.3 (plain_ok (end_at d.0.1) g.0 g.1) in
+    let same = same_client f.0.0 d.0.0 y.0 f.2 g.2 in
+    user_of bs a.0.1 content b.0.1 n y.0 (plain_ok (per_len_at bs) a.0 a.1) (plain_ok (bytes_at n a.0.1) b.0 b.1) none (subst (BlocksSay content) same (blocks_ok content f.0 f.1))
 
 user_again : (count content : List ℕ) (client : ClientData) → IsPacked count (length content) → client_blocks_at content ≡ Ok (client, []) → user_data_at (count ++ content) ≡ Ok (client, [])
 unfolding user_data_at
