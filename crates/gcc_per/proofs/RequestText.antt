@@ -1,5 +1,5 @@
 -- A request that was read stands there, and one that stands there is read.
-use Rattle.std.proofs.Common.{◌≡◌, ℕ, true, false, List, [], ◌∷◌, ◌++◌, length, refl, ap, ◌∙◌, sym, arith, append-nil, subst}
+use Rattle.std.proofs.Common.{◌≡◌, ℕ, ◌≤◌, true, false, List, [], ◌∷◌, ◌++◌, length, refl, ap, ◌∙◌, sym, arith, append-nil, subst}
 use Rattle.std.specs.Prelude.{nat_lt, ◌==◌, Option, Some, None, Ok, Err, flat_map}
 use Rattle.std.specs.List.{AllByRecursion}
 use Rattle.std.proofs.lemmas.Bool.Decides.{nat_tests}
@@ -199,3 +199,14 @@ request_again bytes client r =
     ap (placed_checked bytes) (
     go_on_plain (fields_at create_request bytes) (λ _ more. user_data_at more) [] (r.count ++ content) (text_is_read create_request bytes [] (r.count ++ content) r.request)
     ∙ user_again r.count content client r.counted said)
+
+-- ---- few channels
+
+few_in : (networks : List Block) (channels : ℕ) → IsNetwork networks channels → channels ≤ 31
+few_in [] channels p = omega (arith, p)
+few_in (block ∷ []) channels p = p.5
+few_in (block ∷ other ∷ blocks) channels p = absurd p
+
+pub few_channels : (bytes : List ℕ) (client : ClientData) → client_data_of bytes ≡ Ok client → client.channels ≤ 31
+few_channels bytes client e =
+    let r = request_ok bytes client e in few_in (network_blocks r.blocks) client.channels r.network

@@ -1,5 +1,5 @@
 -- A response is its headers and the server's data blocks.
-use Rattle.std.proofs.Common.{◌≡◌, ℕ, ◌+◌, ◌<◌, true, List, [], ◌∷◌, ◌++◌, length, refl, ap, ◌∙◌, sym, append_assoc, length-append, arith}
+use Rattle.std.proofs.Common.{◌≡◌, ℕ, ◌+◌, ◌≤◌, ◌<◌, true, List, [], ◌∷◌, ◌++◌, length, refl, ap, ◌∙◌, sym, append_assoc, length-append, arith}
 use Rattle.std.specs.Prelude.{nat_lt}
 use Rattle.std.proofs.lemmas.Bool.Decides.{nat_tests}
 use Rattle.wire_num.specs.Length.{per_len_of}
@@ -45,3 +45,20 @@ headers_are n h =
     let two : per_len_of (14 + n) ≡ (14 + n) ∷ [] = short_length (14 + n) (omega (arith, h)) in
     ap (λ xs. t124_key ++ (per_len_of (13 + length xs + n) ++ (response_fields ++ (server_key ++ xs)))) one
     ∙ ap (λ xs. t124_key ++ (xs ++ (response_fields ++ (server_key ++ (n ∷ []))))) two
+
+-- the size of a response to at most 31 channels
+pub response_size : (channels asked : ℕ) → channels ≤ 31 → length (create_response channels asked) ≤ 118
+response_size channels asked few =
+    let n : ℕ = 24 + network_length channels in
+    let short : n < 114 = omega (arith, few) in
+    omega (
+      arith,
+      few,
+      blocks_length channels asked,
+      ap length (response_is channels asked n refl),
+      ap length (headers_are n short),
+      length-append (response_headers n) (server_blocks channels asked),
+    )
+
+pub written_size : (old new whole : List ℕ) → new ≡ old ++ whole → length whole ≤ 118 → length new ≤ length old + 118
+written_size old new whole e h = omega (arith, h, ap length e, length-append old whole)

@@ -8,7 +8,7 @@
 //! | 4 | h221NonStandard | `44 75 63 61`, "Duca" |
 //! | 1 or 2, n | user data | packed length, client blocks to the end |
 
-ghost use Rattle.std.specs.Prelude.{◌≡◌, ◌↔◌, ℕ, List, [], ◌∷◌, Ok, Err};
+ghost use Rattle.std.specs.Prelude.{◌≡◌, ◌≤◌, ◌↔◌, ℕ, List, [], ◌∷◌, Ok, Err, IfOk};
 ghost use Rattle.wire_num.specs.Layout.{fields_at};
 ghost use Rattle.wire_num.specs.Cursor.{ReadsFieldsAs, rest};
 ghost use Rattle.gcc_per.specs.Checked.{ReadsChecked};
@@ -43,7 +43,8 @@ pub struct ClientData {
 /// Reads a GCC Conference Create Request, which is all of the slice: the user data of a Connect-Initial (T.124, 8.7;
 /// MS-RDPBCGR, 2.2.1.3).
 pub fn read_client(bytes: &[u8]) -> Result<ClientData, GccFault>
-    ensures { result ≡ client_data_of bytes.now }
+    ensures exact { result ≡ client_data_of bytes.now }
+    ensures few { IfOk result (λ client. client.channels ≤ 31) }
 {
     let mut cursor = Cursor::new(bytes);
     match read_client_data(&mut cursor) {

@@ -9,7 +9,7 @@
 //! | 1 | length of the user data | packed |
 //! | | user data | SC_CORE, SC_NET, SC_SECURITY |
 
-ghost use Rattle.std.specs.Prelude.{◌≡◌, ◌≤◌, ◌++◌, OnOk, OnErr};
+ghost use Rattle.std.specs.Prelude.{◌≡◌, ◌≤◌, ◌+◌, ◌++◌, length, OnOk, OnErr};
 ghost use Rattle.wire_num.specs.Written.{AppendsFront};
 ghost use Rattle.gcc_per.specs.ServerBlocks.{server_blocks};
 ghost use Rattle.gcc_per.specs.ServerData.{create_response, response_headers};
@@ -33,10 +33,12 @@ const FIELDS_SIZE: u8 = 14;
 const BLOCK_SIZE: u16 = 12;
 
 /// Writes a GCC Conference Create Response at the end, for a client with so many static virtual channels that asked for these
-/// protocols: the user data of a Connect-Response (T.124, 8.7; MS-RDPBCGR, 2.2.1.4). An `Err` leaves a front of it there.
+/// protocols: the user data of a Connect-Response (T.124, 8.7; MS-RDPBCGR, 2.2.1.4), at most 118 bytes. An `Err` leaves a
+/// front of them there.
 pub fn write_server(out: &mut Vec<u8>, channels: u16, asked: u32) -> Result<(), OutOfMemory>
     requires { channels ≤ 31 }
     ensures ok { OnOk result (out.new.items ≡ out.old.items ++ create_response channels asked) }
+    ensures size { OnOk result (length out.new.items ≤ length out.old.items + 118) }
     ensures memory { OnErr result (AppendsFront out.old.items (create_response channels asked) out.new.items) }
 {
     put_headers(out, BLOCK_SIZE + network_size(channels) + BLOCK_SIZE)?;
