@@ -31,6 +31,7 @@ abbrev pub before_checked : {A : Type 0} → List ℕ → Checked A → Checked 
 before_checked after (Ok v) = Ok (v.0, after)
 before_checked after (Err e) = Err (e.0, e.1 ++ after)
 
+-- the refusal for a cause at a place
 abbrev pub fault_of : Cause → ℕ → GccFault
 fault_of Broken at = BadGcc at
 fault_of NoDepth at = DepthNotOffered at

@@ -36,6 +36,7 @@ length_at kind bs =
     then_read (little_at 2 bs) (λ n more.
     if nat_le (least_length kind) n && nat_le n (4 + length more) then Ok (n, more) else Err bs)
 
+-- the same, with what a CS_CORE or a CS_NET says
 abbrev pub with_desktop : ClientBlocks → Desktop → ClientBlocks
 with_desktop found desktop = record { desktop = Some desktop; channels = found.channels }
 
@@ -53,6 +54,7 @@ with_block ClientCore found bs content after = with_core found bs after (desktop
 with_block ClientNetwork found bs content after = map_checked (with_channels found) (before_checked after (channels_at content))
 with_block Other found bs content after = Ok (found, after)
 
+-- type; length; content
 unfoldable pub block_at : ClientBlocks → List ℕ → Checked ClientBlocks
 block_at found bs =
     then_checked (plain (kind_at found bs)) (λ kind sized.
@@ -66,6 +68,7 @@ blocks_from n found [] = Ok (found, [])
 blocks_from zero found (b ∷ bs) = Ok (found, b ∷ bs)
 blocks_from (suc n) found (b ∷ bs) = then_checked (block_at found (b ∷ bs)) (λ more after. blocks_from n more after)
 
+-- before the first block
 abbrev pub no_blocks : ClientBlocks
 no_blocks = record { desktop = None; channels = None }
 

@@ -44,6 +44,7 @@ user_data_at bs =
     then_checked (before_checked after (client_blocks_at content)) (λ client end.
     map_checked (λ _. client) (plain (end_at end)))))
 
+-- the fields before the user data, and these
 unfoldable pub client_data_at : List ℕ → Checked ClientData
 client_data_at bs = then_checked (plain (fields_at create_request bs)) (λ _ more. user_data_at more)
 

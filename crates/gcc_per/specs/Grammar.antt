@@ -18,9 +18,11 @@ pub record Block : Type 0 where
   pub size : List ℕ
   pub content : List ℕ
 
+-- all its bytes
 abbrev pub block_bytes : Block → List ℕ
 block_bytes block = block.type ++ (block.size ++ block.content)
 
+-- its kind, by its type
 abbrev pub kind_in : Block → BlockKind
 kind_in block = kind_of (little_number 2 block.type)
 
@@ -30,6 +32,7 @@ IsBlock block =
     (length block.type ≡ 2) × (length block.size ≡ 2) × (little_number 2 block.size ≡ 4 + length block.content)
     × (least_length (kind_in block) ≤ 4 + length block.content)
 
+-- whether a block of this kind is a CS_CORE, or a CS_NET
 abbrev pub is_core : BlockKind → Bool
 is_core ClientCore = true
 is_core ClientNetwork = false
@@ -40,6 +43,7 @@ is_network ClientCore = false
 is_network ClientNetwork = true
 is_network Other = false
 
+-- the blocks that are
 abbrev pub core_blocks : List Block → List Block
 core_blocks blocks = filter (λ block. is_core (kind_in block)) blocks
 

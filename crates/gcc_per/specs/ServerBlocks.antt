@@ -37,5 +37,6 @@ network_headers channels =
 abbrev pub server_security : List ℕ
 server_security = server_block 3074 (little_bytes 4 0 ++ little_bytes 4 0)
 
+-- in this order (profile)
 abbrev pub server_blocks : ℕ → ℕ → List ℕ
 server_blocks channels asked = server_core asked ++ (server_network channels ++ server_security)

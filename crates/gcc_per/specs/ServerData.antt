@@ -20,6 +20,7 @@ response_fields = 20 ∷ 118 ∷ 10 ∷ 1 ∷ 1 ∷ 0 ∷ 1 ∷ 192 ∷ 0 ∷ []
 abbrev pub server_key : List ℕ
 server_key = 77 ∷ 99 ∷ 68 ∷ 110 ∷ []
 
+-- the whole, for a client with so many channels that asked for these protocols
 unfoldable pub create_response : ℕ → ℕ → List ℕ
 create_response channels asked = t124_key ++ counted (response_fields ++ (server_key ++ counted (server_blocks channels asked)))
 
