@@ -1,0 +1,52 @@
+-- Each packet of the sample client is read, and its Connect-Initial is answered.
+use Rattle.std.proofs.Common.{◌≡◌, [], ◌∷◌, refl}
+use Rattle.wire_num.specs.Field.{bytes_at, big_at, little_at, passing_at, end_at, at_least, rest_count_at}
+use Rattle.wire_num.specs.Length.{per_len_at, ber_len_at}
+use Rattle.wire_num.specs.Layout.{wanted_at, exactly_at}
+use Rattle.tpkt_x224.specs.Request.{references, request_header, after_cookie, asked_protocols}
+use Rattle.mcs_ber.specs.ConnectInitial.{user_data, three_parameters, upward_flag, initial_fields, connect_initial}
+use Rattle.mcs_ber.specs.ConnectResponse.{connect_response}
+use Rattle.mcs_dom.specs.ErectDomain.{erect_domain_request}
+use Rattle.mcs_dom.specs.ChannelJoin.{channel_join_request}
+use Rattle.mcs_dom.specs.SendData.{send_data_request}
+use Rattle.gcc_per.specs.ClientCore.{desktop_of}
+use Rattle.gcc_per.specs.ClientNetwork.{channel_count_at, channels_at}
+use Rattle.gcc_per.specs.ClientBlocks.{kind_at, length_at, block_at, blocks_at}
+use Rattle.gcc_per.specs.ClientData.{create_request, client_blocks_at, user_data_at, client_data_at}
+use Rattle.gcc_per.specs.ServerData.{create_response}
+use Rattle.bench_packets.specs.declared.reader.Reader.TheVariants.{NextPacket, ConnectionRequest, ConnectInitial, ClientUserData, ErectDomain, ChannelJoin, SendData}
+use Rattle.bench_packets.specs.Sample.{sample}
+use Rattle.bench_packets.specs.Readers.{answer_of}
+
+packet : answer_of NextPacket (sample NextPacket) ≡ 19
+packet = refl
+
+request : answer_of ConnectionRequest (sample ConnectionRequest) ≡ 0
+unfolding references request_header after_cookie asked_protocols wanted_at passing_at at_least rest_count_at big_at bytes_at
+request = refl
+
+initial : answer_of ConnectInitial (sample ConnectInitial) ≡ 106
+unfolding connect_initial initial_fields upward_flag three_parameters user_data wanted_at passing_at ber_len_at big_at bytes_at end_at
+initial = refl
+
+client : answer_of ClientUserData (sample ClientUserData) ≡ 115
+unfolding create_request client_data_at user_data_at client_blocks_at blocks_at block_at kind_at length_at channels_at channel_count_at desktop_of wanted_at passing_at per_len_at little_at bytes_at end_at
+client = refl
+
+erect : answer_of ErectDomain (sample ErectDomain) ≡ 1
+unfolding erect_domain_request wanted_at passing_at big_at bytes_at end_at
+erect = refl
+
+join : answer_of ChannelJoin (sample ChannelJoin) ≡ 1007
+unfolding channel_join_request wanted_at passing_at big_at bytes_at end_at
+join = refl
+
+send : answer_of SendData (sample SendData) ≡ 7
+unfolding send_data_request wanted_at passing_at per_len_at big_at bytes_at exactly_at end_at
+send = refl
+
+-- the whole packet with the host's answer
+answered : connect_response (create_response 3 0)
+    ≡ 3 ∷ 0 ∷ 0 ∷ 108 ∷ 2 ∷ 240 ∷ 128 ∷ 127 ∷ 102 ∷ 98 ∷ 10 ∷ 1 ∷ 0 ∷ 2 ∷ 1 ∷ 0 ∷ 48 ∷ 26 ∷ 2 ∷ 1 ∷ 34 ∷ 2 ∷ 1 ∷ 3 ∷ 2 ∷ 1 ∷ 0 ∷ 2 ∷ 1 ∷ 1 ∷ 2 ∷ 1 ∷ 0 ∷ 2 ∷ 1 ∷ 1 ∷ 2 ∷ 3 ∷ 0 ∷ 255 ∷ 248 ∷ 2 ∷ 1 ∷ 2 ∷ 4 ∷ 62 ∷ 0 ∷ 5 ∷ 0 ∷ 20 ∷ 124 ∷ 0 ∷ 1 ∷ 54 ∷ 20 ∷ 118 ∷ 10 ∷ 1 ∷ 1 ∷ 0 ∷ 1 ∷ 192 ∷ 0 ∷ 77 ∷ 99 ∷ 68 ∷ 110 ∷ 40 ∷ 1 ∷ 12 ∷ 12 ∷ 0 ∷ 4 ∷ 0 ∷ 8 ∷ 0 ∷ 0 ∷ 0 ∷ 0 ∷ 0 ∷ 3 ∷ 12 ∷ 16 ∷ 0 ∷ 235 ∷ 3 ∷ 3 ∷ 0 ∷ 236 ∷ 3 ∷ 237 ∷ 3 ∷ 238 ∷ 3 ∷ 0 ∷ 0 ∷ 2 ∷ 12 ∷ 12 ∷ 0 ∷ 0 ∷ 0 ∷ 0 ∷ 0 ∷ 0 ∷ 0 ∷ 0 ∷ 0 ∷ []
+unfolding connect_response create_response
+answered = refl

@@ -1,0 +1,14 @@
+pub mod Channels
+pub mod Checked
+pub mod Within
+pub mod Blocks
+pub mod Loop
+pub mod UserData
+pub mod Parts
+pub mod ChannelIds
+pub mod Response
+pub mod BlockText
+pub mod BlocksText
+pub mod RequestText
+pub mod Named
+pub mod SampleClient

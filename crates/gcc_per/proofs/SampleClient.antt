@@ -1,0 +1,81 @@
+-- The definitions on a sample client's user data, on others that break a rule, and on the answer.
+use Rattle.std.proofs.Common.{◌≡◌, ℕ, List, [], ◌∷◌, ◌++◌, replicate, refl}
+use Rattle.std.specs.Prelude.{Result, Ok, Err}
+use Rattle.wire_num.specs.Field.{bytes_at, little_at, passing_at, end_at}
+use Rattle.wire_num.specs.Length.{per_len_at}
+use Rattle.wire_num.specs.Layout.{wanted_at}
+use Rattle.gcc_per.specs.declared.gcc_fault.GccFault.{GccFault}
+use Rattle.gcc_per.specs.declared.gcc_fault.GccFault.TheVariants.{BadGcc, DepthNotOffered, TooManyChannels}
+use Rattle.gcc_per.specs.declared.client_data.ClientData.{ClientData}
+use Rattle.gcc_per.specs.ClientCore.{desktop_of}
+use Rattle.gcc_per.specs.ClientNetwork.{channel_count_at, channels_at}
+use Rattle.gcc_per.specs.ClientBlocks.{kind_at, length_at, block_at, blocks_at}
+use Rattle.gcc_per.specs.ClientData.{create_request, client_blocks_at, user_data_at, client_data_at, client_data_of}
+use Rattle.gcc_per.specs.ServerData.{create_response}
+
+-- what stands before so many bytes of blocks, below 256
+abbrev request : ℕ → List ℕ
+request size = 0 ∷ 5 ∷ 0 ∷ 20 ∷ 124 ∷ 0 ∷ 1 ∷ 128 ∷ 214 ∷ 0 ∷ 8 ∷ 0 ∷ 16 ∷ 0 ∷ 1 ∷ 192 ∷ 0 ∷ 68 ∷ 117 ∷ 99 ∷ 97 ∷ 128 ∷ size ∷ []
+
+-- a CS_CORE of 144 bytes, with these supportedColorDepths
+abbrev core : ℕ → List ℕ
+core depths = (1 ∷ 192 ∷ 144 ∷ 0 ∷ 4 ∷ 0 ∷ 8 ∷ 0 ∷ 64 ∷ 0 ∷ 48 ∷ 0 ∷ []) ++ (replicate 128 0 ++ (24 ∷ 0 ∷ depths ∷ 0 ∷ []))
+
+abbrev security : List ℕ
+security = (2 ∷ 192 ∷ 12 ∷ 0 ∷ []) ++ replicate 8 0
+
+-- a CS_NET of 44 bytes with so many channels: rdpdr, cliprdr and rdpsnd
+abbrev network : ℕ → List ℕ
+network count = (3 ∷ 192 ∷ 44 ∷ 0 ∷ count ∷ 0 ∷ 0 ∷ 0 ∷ []) ++ (
+    (114 ∷ 100 ∷ 112 ∷ 100 ∷ 114 ∷ 0 ∷ 0 ∷ 0 ∷ 0 ∷ 0 ∷ 0 ∷ 0 ∷ []) ++ (
+    (99 ∷ 108 ∷ 105 ∷ 112 ∷ 114 ∷ 100 ∷ 114 ∷ 0 ∷ 0 ∷ 0 ∷ 0 ∷ 0 ∷ []) ++ (114 ∷ 100 ∷ 112 ∷ 115 ∷ 110 ∷ 100 ∷ 0 ∷ 0 ∷ 0 ∷ 0 ∷ 0 ∷ 0 ∷ [])))
+
+abbrev answer : ℕ → Result ClientData GccFault
+answer channels = Ok (record { channels = channels; asked_width = 64; asked_height = 48 })
+
+sample : client_data_of (request 200 ++ (core 7 ++ (security ++ network 3))) ≡ answer 3
+unfolding create_request client_data_at user_data_at client_blocks_at blocks_at block_at kind_at length_at channels_at channel_count_at desktop_of wanted_at passing_at per_len_at little_at bytes_at end_at
+sample = refl
+
+another_order : client_data_of (request 200 ++ (network 2 ++ (security ++ core 7))) ≡ answer 2
+unfolding create_request client_data_at user_data_at client_blocks_at blocks_at block_at kind_at length_at channels_at channel_count_at desktop_of wanted_at passing_at per_len_at little_at bytes_at end_at
+another_order = refl
+
+core_alone : client_data_of (request 144 ++ core 1) ≡ answer 0
+unfolding create_request client_data_at user_data_at client_blocks_at blocks_at block_at kind_at length_at channels_at channel_count_at desktop_of wanted_at passing_at per_len_at little_at bytes_at end_at
+core_alone = refl
+
+no_core : client_data_of (request 56 ++ (security ++ network 3)) ≡ Err (BadGcc 79)
+unfolding create_request client_data_at user_data_at client_blocks_at blocks_at block_at kind_at length_at channels_at channel_count_at desktop_of wanted_at passing_at per_len_at little_at bytes_at end_at
+no_core = refl
+
+-- refused at the second CS_CORE's type, although it doesn't offer 24 bits either
+core_repeated : client_data_of (request 200 ++ (core 7 ++ (core 6 ++ security))) ≡ Err (BadGcc 167)
+unfolding create_request client_data_at user_data_at client_blocks_at blocks_at block_at kind_at length_at channels_at channel_count_at desktop_of wanted_at passing_at per_len_at little_at bytes_at end_at
+core_repeated = refl
+
+no_depth : client_data_of (request 188 ++ (network 3 ++ core 14)) ≡ Err (DepthNotOffered 67)
+unfolding create_request client_data_at user_data_at client_blocks_at blocks_at block_at kind_at length_at channels_at channel_count_at desktop_of wanted_at passing_at per_len_at little_at bytes_at end_at
+no_depth = refl
+
+crowded : client_data_of (request 188 ++ (network 32 ++ core 14)) ≡ Err (TooManyChannels 27)
+unfolding create_request client_data_at user_data_at client_blocks_at blocks_at block_at kind_at length_at channels_at channel_count_at desktop_of wanted_at passing_at per_len_at little_at bytes_at end_at
+crowded = refl
+
+fourth_channel : client_data_of (request 188 ++ (network 4 ++ core 7)) ≡ Err (BadGcc 67)
+unfolding create_request client_data_at user_data_at client_blocks_at blocks_at block_at kind_at length_at channels_at channel_count_at desktop_of wanted_at passing_at per_len_at little_at bytes_at end_at
+fourth_channel = refl
+
+left_over : client_data_of (request 144 ++ (core 7 ++ (9 ∷ []))) ≡ Err (BadGcc 167)
+unfolding create_request client_data_at user_data_at client_blocks_at blocks_at block_at kind_at length_at channels_at channel_count_at desktop_of wanted_at passing_at per_len_at little_at bytes_at end_at
+left_over = refl
+
+too_few : client_data_of (request 145 ++ core 6) ≡ Err (BadGcc 23)
+unfolding create_request client_data_at user_data_at client_blocks_at blocks_at block_at kind_at length_at channels_at channel_count_at desktop_of wanted_at passing_at per_len_at little_at bytes_at end_at
+too_few = refl
+
+-- the answer to the sample client
+answered : create_response 3 0
+    ≡ 0 ∷ 5 ∷ 0 ∷ 20 ∷ 124 ∷ 0 ∷ 1 ∷ 54 ∷ 20 ∷ 118 ∷ 10 ∷ 1 ∷ 1 ∷ 0 ∷ 1 ∷ 192 ∷ 0 ∷ 77 ∷ 99 ∷ 68 ∷ 110 ∷ 40 ∷ 1 ∷ 12 ∷ 12 ∷ 0 ∷ 4 ∷ 0 ∷ 8 ∷ 0 ∷ 0 ∷ 0 ∷ 0 ∷ 0 ∷ 3 ∷ 12 ∷ 16 ∷ 0 ∷ 235 ∷ 3 ∷ 3 ∷ 0 ∷ 236 ∷ 3 ∷ 237 ∷ 3 ∷ 238 ∷ 3 ∷ 0 ∷ 0 ∷ 2 ∷ 12 ∷ 12 ∷ 0 ∷ 0 ∷ 0 ∷ 0 ∷ 0 ∷ 0 ∷ 0 ∷ 0 ∷ 0 ∷ []
+unfolding create_response
+answered = refl
