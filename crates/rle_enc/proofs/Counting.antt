@@ -1,5 +1,5 @@
 -- Counting from the front, one place at a time.
-use Rattle.std.proofs.Common.{◌≡◌, ℕ, suc, ◌+◌, ◌<◌, ◌≤◌, ◌≢◌, true, false, cond, List, [], ◌∷◌, ◌++◌, length, take, drop, replicate, get_or, refl, ap, sym, ◌∙◌, arith, append_assoc, append-nil}
+use Rattle.std.proofs.Common.{◌≡◌, ℕ, suc, ◌+◌, ◌-◌, ◌<◌, ◌≤◌, ◌≢◌, true, false, cond, List, [], ◌∷◌, ◌++◌, length, take, drop, replicate, get_or, refl, ap, sym, ◌∙◌, arith, append_assoc, append-nil}
 use Rattle.std.specs.Prelude.{◌==◌, zip, flat_map, nat_le, ◌&&◌, Option, Some, None}
 use Rattle.std.proofs.lemmas.Bool.Decides.{nat_tests}
 use Rattle.std.proofs.lemmas.List.{drop_more, drop_all, take_more, take_all, length-replicate}
@@ -65,6 +65,19 @@ flat_map_last f (z ∷ zs) y = append_assoc (f z) (flat_map f zs) (f y) ∙ ap (
 
 pub flat_map_push : (f : ℕ → List ℕ) (p q xs : List ℕ) (i x : ℕ) → i < length xs → x ≡ get_or xs i 0 → q ≡ (p ++ flat_map f (take i xs)) ++ f x → q ≡ p ++ flat_map f (take (i + 1) xs)
 flat_map_push f p q xs i x lt at e = e ∙ append_assoc p (flat_map f (take i xs)) (f x) ∙ ap (λ zs. p ++ zs) (ap (λ y. flat_map f (take i xs) ++ f y) at ∙ flat_map_last f (take i xs) (get_or xs i 0) ∙ ap (flat_map f) (sym (take_more xs i 0 lt)))
+
+-- four items at the front
+four_on : (f : ℕ → List ℕ) (p r : List ℕ) (a b c d : ℕ) → (p ++ (((f a ++ f b) ++ f c) ++ f d)) ++ r ≡ p ++ (f a ++ (f b ++ (f c ++ (f d ++ r))))
+four_on f p r a b c d = simp append_assoc
+
+pub flat_map_four : (f : ℕ → List ℕ) (p q xs : List ℕ) (n : ℕ) → 4 ≤ length xs → n ≡ length xs - 4 → q ≡ p ++ (((f (get_or xs 0 0) ++ f (get_or xs 1 0)) ++ f (get_or xs 2 0)) ++ f (get_or xs 3 0)) → q ++ flat_map f (take n (drop 4 xs)) ≡ p ++ flat_map f xs
+flat_map_four f p q (a ∷ b ∷ c ∷ d ∷ xs) n h m e =
+    let all : take n xs ≡ xs = take_all n xs (omega (arith, m)) in
+    ap (λ us. us ++ flat_map f (take n xs)) e ∙ four_on f p (flat_map f (take n xs)) a b c d ∙ ap (λ us. p ++ (f a ++ (f b ++ (f c ++ (f d ++ flat_map f us))))) all
+flat_map_four f p q (a ∷ b ∷ c ∷ []) n h m e = absurd (omega (arith, h))
+flat_map_four f p q (a ∷ b ∷ []) n h m e = absurd (omega (arith, h))
+flat_map_four f p q (a ∷ []) n h m e = absurd (omega (arith, h))
+flat_map_four f p q [] n h m e = absurd (omega (arith, h))
 
 -- ---- the piece that is packed first
 

@@ -1,5 +1,5 @@
 //! How many pixels at a place are background, and how many have one colour; what is packed as one there (profile).
-ghost use Rattle.std.specs.Prelude.{◌≡◌, ◌<◌, ◌≤◌, length, slice_index, zip};
+ghost use Rattle.std.specs.Prelude.{◌≡◌, ◌<◌, ◌≤◌, IsTrue, length, slice_index, zip};
 ghost use Rattle.run_lengths.specs.Packer.{background_count, chosen_run, color_count};
 ghost use Rattle.rle_enc.specs.Stretch.{HasRow, leading, piece_size, run_of, spots_of};
 
@@ -52,6 +52,20 @@ fn count_background(pixels: &[u32], aboves: Option<&[u32]>) -> usize
     }
 }
 
+/// Whether the first pixel is neither background nor of the next one's colour.
+fn is_alone(pixels: &[u32], aboves: Option<&[u32]>) -> bool
+    requires some { 0 < length pixels.now }
+    requires row { HasRow aboves pixels.now }
+    ensures no_background { IsTrue result → background_count (spots_of aboves.entry pixels.now) ≡ 0 }
+    ensures own_color { IsTrue result → leading (slice_index pixels.now 0) pixels.now ≡ 1 }
+{
+    let above = match aboves {
+        Some(row) => row[0],
+        None => BLACK,
+    };
+    pixels[0] != above && (pixels.len() < 2 || pixels[1] != pixels[0])
+}
+
 /// What is packed first of a stretch, by the pixels one row earlier, or over black.
 pub fn first_piece(pixels: &[u32], aboves: Option<&[u32]>) -> Piece
     requires some { 0 < length pixels.now }
@@ -59,6 +73,9 @@ pub fn first_piece(pixels: &[u32], aboves: Option<&[u32]>) -> Piece
     ensures is { run_of result (slice_index pixels.now 0) ≡ chosen_run (background_count (spots_of aboves.entry pixels.now)) (color_count (slice_index pixels.now 0) (spots_of aboves.entry pixels.now)) (slice_index pixels.now 0) }
     ensures within { piece_size result ≤ length pixels.now }
 {
+    if is_alone(pixels, aboves) {
+        return Piece::Literal;
+    }
     let background = count_background(pixels, aboves);
     let color = count_color(pixels, pixels[0]);
     // A pixel has its own colour, so this many background pixels are at least one.

@@ -78,12 +78,37 @@ pub fn write_literals(out: &mut Vec<u8>, pixels: &[u32]) -> Result<(), AllocErro
     write_pixels(out, pixels)
 }
 
-/// Pixels as blue, green, red.
+/// Pixels as blue, green, red; four at once while there are so many.
 fn write_pixels(out: &mut Vec<u8>, pixels: &[u32]) -> Result<(), AllocError>
     ensures { OnOk result (out.new.items ≡ out.old.items ++ flat_map pixel_bytes pixels.now) }
 {
-    for pixel in pixels {
+    let mut rest = pixels;
+    while let [a, b, c, d, others @ ..] = rest {
+        write_four(out, *a, *b, *c, *d)?;
+        rest = others;
+    }
+    for pixel in rest {
         write_pixel(out, *pixel)?;
     }
     Ok(())
+}
+
+/// Four pixels as blue, green, red.
+fn write_four(out: &mut Vec<u8>, a: u32, b: u32, c: u32, d: u32) -> Result<(), AllocError>
+    ensures { OnOk result (out.new.items ≡ out.old.items ++ (pixel_bytes a ++ pixel_bytes b ++ pixel_bytes c ++ pixel_bytes d)) }
+{
+    out.extend_from_slice(&[
+        (a % 256) as u8,
+        (a / 256 % 256) as u8,
+        (a / 256 / 256 % 256) as u8,
+        (b % 256) as u8,
+        (b / 256 % 256) as u8,
+        (b / 256 / 256 % 256) as u8,
+        (c % 256) as u8,
+        (c / 256 % 256) as u8,
+        (c / 256 / 256 % 256) as u8,
+        (d % 256) as u8,
+        (d / 256 % 256) as u8,
+        (d / 256 / 256 % 256) as u8,
+    ])
 }
