@@ -24,6 +24,7 @@ const NEXT_BYTE: usize = 32;
 const NEXT_TWO_BYTES: usize = 288;
 
 /// A code and a length, in the shortest of its three forms.
+#[inline(always)]
 fn write_length(out: &mut Vec<u8>, code: u8, long_code: u8, n: usize) -> Result<(), AllocError>
     requires code { code < 224 }
     requires length { n < 65536 }
@@ -31,7 +32,19 @@ fn write_length(out: &mut Vec<u8>, code: u8, long_code: u8, n: usize) -> Result<
 {
     if n < NEXT_BYTE {
         out.extend_from_slice(&[code + n as u8])
-    } else if n < NEXT_TWO_BYTES {
+    } else {
+        write_far_length(out, code, long_code, n)
+    }
+}
+
+/// A code and a length that doesn't stand in it, in the next byte or, after a code of their own, in two.
+#[inline(never)]
+fn write_far_length(out: &mut Vec<u8>, code: u8, long_code: u8, n: usize) -> Result<(), AllocError>
+    requires far { NEXT_BYTE ≤ n }
+    requires length { n < 65536 }
+    ensures { OnOk result (out.new.items ≡ out.old.items ++ length_bytes code long_code n) }
+{
+    if n < NEXT_TWO_BYTES {
         out.extend_from_slice(&[code, (n - NEXT_BYTE) as u8])
     } else {
         out.extend_from_slice(&[long_code, (n % 256) as u8, (n / 256 % 256) as u8])
@@ -62,6 +75,14 @@ pub fn write_color(out: &mut Vec<u8>, n: usize, color: u32) -> Result<(), AllocE
     requires { n < 65536 }
     ensures { OnOk result (out.new.items ≡ out.old.items ++ run_bytes (runs.Run.Color n color)) }
 {
+    if n < NEXT_BYTE {
+        return out.extend_from_slice(&[
+            COLOR_RUN + n as u8,
+            (color % 256) as u8,
+            (color / 256 % 256) as u8,
+            (color / 256 / 256 % 256) as u8,
+        ]);
+    }
     write_length(out, COLOR_RUN, LONG_COLOR_RUN, n)?;
     write_pixel(out, color)
 }

@@ -1,7 +1,8 @@
 use Rattle.std.proofs.Common.{◌≤◌, ℕ, List, get_or, refl, arith}
 use Rattle.run_lengths.specs.Packer.{background_count}
 use Rattle.rle_enc.specs.Stretch.{leading, row_of, spots_of}
-use Rattle.rle_enc.proofs.Counting.{leading_some, piece_background, piece_color, piece_literal}
+use Rattle.rle_enc.proofs.Counting.{leading_some, piece_background, piece_color}
+use Rattle.rle_enc.proofs.Pending.{one_alone}
 use Rattle.rle_enc.proofs.counts.first_piece.Goals as goal
 
 pub returns-then-background-color-clause-is : goal.returns-then-background-color-clause-is
@@ -15,9 +16,4 @@ returns-then-color-ge2-clause-is c =
 
 pub returns-else-color-ge2-clause-is : goal.returns-else-color-ge2-clause-is
 returns-else-color-ge2-clause-is c =
-    piece_literal (row_of c.args.aboves) c.args.pixels.now c.count_background-background.result c.count_color-color.result (get_or c.args.pixels.now 0 0) c.requires.row c.count_background-background.ensures.is c.count_color-color.ensures.is (omega (arith, c.if-background-color.false, c.if-color-ge2.false)) (omega (arith, c.if-color-ge2.false))
-
-pub returns-then-is_alone-clause-is : goal.returns-then-is_alone-clause-is
-returns-then-is_alone-clause-is c =
-    let ps : List ℕ = c.args.pixels.now in
-    piece_literal (row_of c.args.aboves) ps (background_count (spots_of c.args.aboves ps)) (leading (get_or ps 0 0) ps) (get_or ps 0 0) c.requires.row refl refl (omega (arith, c.if-is_alone.ensures.no_background)) (omega (arith, c.if-is_alone.ensures.own_color))
+    (omega arith, one_alone (row_of c.args.aboves) c.args.pixels.now c.requires.some c.requires.row (omega (arith, c.if-background-color.false, c.if-color-ge2.false, c.count_background-background.ensures.is)) (omega (arith, c.if-color-ge2.false, c.count_color-color.ensures.is)))
