@@ -1,6 +1,6 @@
 -- Counting from the front, one place at a time.
-use Rattle.std.proofs.Common.{◌≡◌, ℕ, suc, ◌+◌, ◌-◌, ◌<◌, ◌≤◌, ◌≢◌, true, false, cond, List, [], ◌∷◌, ◌++◌, length, take, drop, replicate, get_or, refl, ap, sym, ◌∙◌, arith, append_assoc, append-nil}
-use Rattle.std.specs.Prelude.{◌==◌, zip, flat_map, nat_le, ◌&&◌, Option, Some, None}
+use Rattle.std.proofs.Common.{◌≡◌, ℕ, zero, suc, ◌+◌, ◌-◌, ◌<◌, ◌≤◌, ◌≢◌, Bool, true, false, cond, List, [], ◌∷◌, ◌++◌, length, take, drop, replicate, get_or, refl, ap, sym, ◌∙◌, arith, append_assoc, append-nil}
+use Rattle.std.specs.Prelude.{IsFalse, ◌==◌, zip, flat_map, nat_le, ◌&&◌, Option, Some, None}
 use Rattle.std.proofs.lemmas.Bool.Decides.{nat_tests}
 use Rattle.std.proofs.lemmas.List.{drop_more, drop_all, take_more, take_all, length-replicate}
 use Rattle.run_lengths.specs.Packer.{Spot, background_count, color_count, chosen_run}
@@ -78,6 +78,25 @@ flat_map_four f p q (a ∷ b ∷ c ∷ []) n h m e = absurd (omega (arith, h))
 flat_map_four f p q (a ∷ b ∷ []) n h m e = absurd (omega (arith, h))
 flat_map_four f p q (a ∷ []) n h m e = absurd (omega (arith, h))
 flat_map_four f p q [] n h m e = absurd (omega (arith, h))
+
+-- ---- no more than
+
+no_more : (b : Bool) (m i : ℕ) → m ≤ i → cond b (suc m) 0 ≤ suc i
+no_more true m i h = omega (arith, h)
+no_more false m i h = omega arith
+
+pub leading_within : (c : ℕ) (xs : List ℕ) → leading c xs ≤ length xs
+leading_within c [] = omega arith
+leading_within c (x ∷ xs) = no_more (x == c) (leading c xs) (length xs) (leading_within c xs)
+
+-- a pixel of another colour ends those of a colour
+pub leading_until : (c i : ℕ) (xs : List ℕ) → i < length xs → get_or xs i 0 ≢ c → leading c xs ≤ i
+leading_until c i [] lt other = absurd (omega (arith, lt))
+leading_until c zero (x ∷ xs) lt other = let e : leading c (x ∷ xs) ≡ 0 = ap (λ t. cond t (suc (leading c xs)) 0) (other_test x c other) in omega (arith, e)
+leading_until c (suc i) (x ∷ xs) lt other = no_more (x == c) (leading c xs) i (leading_until c i xs (omega (arith, lt)) other)
+
+pub differ : (a b : ℕ) → IsFalse (a == b) → a ≢ b
+differ a b e f = let same : (a == b) ≡ true = same_test a b f in cc
 
 -- ---- the piece that is packed first
 

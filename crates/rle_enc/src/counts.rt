@@ -1,5 +1,5 @@
 //! How many pixels at a place are background, and how many have one colour; what is packed as one there (profile).
-ghost use Rattle.std.specs.Prelude.{◌≡◌, ◌<◌, ◌≤◌, IsTrue, length, slice_index, zip};
+ghost use Rattle.std.specs.Prelude.{◌≡◌, ◌<◌, ◌≤◌, IsFalse, IsTrue, length, slice_index, zip};
 ghost use Rattle.run_lengths.specs.Packer.{background_count};
 ghost use Rattle.rle_enc.specs.Stretch.{HasRow, IsFirst, StandAlone, StandsIn, dropped, leading, piece_size, row_of, spots_of};
 
@@ -79,6 +79,15 @@ fn count_alone(pixels: &[u32], aboves: Option<&[u32]>) -> usize
     n
 }
 
+/// Whether the pixel at a place, if there is one, has the first one's colour.
+fn has_color_at(pixels: &[u32], at: usize) -> bool
+    requires some { 0 < length pixels.now }
+    requires within { at ≤ length pixels.now }
+    ensures { IsFalse result → leading (slice_index pixels.now 0) pixels.now ≤ at }
+{
+    at < pixels.len() && pixels[at] == pixels[0]
+}
+
 /// What is packed first of a stretch, by the pixels one row earlier, or over black.
 pub fn first_piece(pixels: &[u32], aboves: Option<&[u32]>) -> Piece
     requires some { 0 < length pixels.now }
@@ -91,6 +100,9 @@ pub fn first_piece(pixels: &[u32], aboves: Option<&[u32]>) -> Piece
         return Piece::Literals(alone);
     }
     let background = count_background(pixels, aboves);
+    if !has_color_at(pixels, background) {
+        return Piece::Background(background);
+    }
     let color = count_color(pixels, pixels[0]);
     // A pixel has its own colour, so this many background pixels are at least one.
     if background >= color {

@@ -1,5 +1,5 @@
 //! Writes the orders of the packer: background runs, colour runs and colour images.
-ghost use Rattle.std.specs.Prelude.{◌≡◌, ◌<◌, ◌≤◌, ◌++◌, OnOk, flat_map, length};
+ghost use Rattle.std.specs.Prelude.{◌≡◌, ◌/◌, ◌%◌, ◌<◌, ◌≤◌, ◌++◌, OnOk, flat_map, length};
 ghost use Rattle.run_lengths.specs.Packer.{length_bytes, pixel_bytes, run_bytes};
 ghost use Rattle.rle_enc.specs.Stretch.{literal_bytes};
 ghost use Rattle.run_lengths.specs.RunLength as runs;
@@ -51,15 +51,32 @@ fn write_far_length(out: &mut Vec<u8>, code: u8, long_code: u8, n: usize) -> Res
     }
 }
 
+/// The first byte of a pixel.
+fn blue(color: u32) -> u8
+    ensures { result ≡ color % 256 }
+{
+    (color % 256) as u8
+}
+
+/// The second byte of a pixel.
+fn green(color: u32) -> u8
+    ensures { result ≡ color / 256 % 256 }
+{
+    (color / 256 % 256) as u8
+}
+
+/// The third byte of a pixel.
+fn red(color: u32) -> u8
+    ensures { result ≡ color / 256 / 256 % 256 }
+{
+    (color / 256 / 256 % 256) as u8
+}
+
 /// A pixel as blue, green, red.
 fn write_pixel(out: &mut Vec<u8>, color: u32) -> Result<(), AllocError>
     ensures { OnOk result (out.new.items ≡ out.old.items ++ pixel_bytes color) }
 {
-    out.extend_from_slice(&[
-        (color % 256) as u8,
-        (color / 256 % 256) as u8,
-        (color / 256 / 256 % 256) as u8,
-    ])
+    out.extend_from_slice(&[blue(color), green(color), red(color)])
 }
 
 /// A background run.
@@ -76,12 +93,7 @@ pub fn write_color(out: &mut Vec<u8>, n: usize, color: u32) -> Result<(), AllocE
     ensures { OnOk result (out.new.items ≡ out.old.items ++ run_bytes (runs.Run.Color n color)) }
 {
     if n < NEXT_BYTE {
-        return out.extend_from_slice(&[
-            COLOR_RUN + n as u8,
-            (color % 256) as u8,
-            (color / 256 % 256) as u8,
-            (color / 256 / 256 % 256) as u8,
-        ]);
+        return out.extend_from_slice(&[COLOR_RUN + n as u8, blue(color), green(color), red(color)]);
     }
     write_length(out, COLOR_RUN, LONG_COLOR_RUN, n)?;
     write_pixel(out, color)
@@ -108,7 +120,14 @@ fn write_pixels(out: &mut Vec<u8>, pixels: &[u32]) -> Result<(), AllocError>
         write_four(out, *a, *b, *c, *d)?;
         rest = others;
     }
-    for pixel in rest {
+    write_each(out, rest)
+}
+
+/// Pixels as blue, green, red, one by one.
+fn write_each(out: &mut Vec<u8>, pixels: &[u32]) -> Result<(), AllocError>
+    ensures { OnOk result (out.new.items ≡ out.old.items ++ flat_map pixel_bytes pixels.now) }
+{
+    for pixel in pixels {
         write_pixel(out, *pixel)?;
     }
     Ok(())
@@ -119,17 +138,17 @@ fn write_four(out: &mut Vec<u8>, a: u32, b: u32, c: u32, d: u32) -> Result<(), A
     ensures { OnOk result (out.new.items ≡ out.old.items ++ (pixel_bytes a ++ pixel_bytes b ++ pixel_bytes c ++ pixel_bytes d)) }
 {
     out.extend_from_slice(&[
-        (a % 256) as u8,
-        (a / 256 % 256) as u8,
-        (a / 256 / 256 % 256) as u8,
-        (b % 256) as u8,
-        (b / 256 % 256) as u8,
-        (b / 256 / 256 % 256) as u8,
-        (c % 256) as u8,
-        (c / 256 % 256) as u8,
-        (c / 256 / 256 % 256) as u8,
-        (d % 256) as u8,
-        (d / 256 % 256) as u8,
-        (d / 256 / 256 % 256) as u8,
+        blue(a),
+        green(a),
+        red(a),
+        blue(b),
+        green(b),
+        red(b),
+        blue(c),
+        green(c),
+        red(c),
+        blue(d),
+        green(d),
+        red(d),
     ])
 }

@@ -1,4 +1,4 @@
-use Rattle.std.proofs.Common.{ℕ, List, ◌-◌, ◌≤◌, length, take, drop, arith}
+use Rattle.std.proofs.Common.{ℕ, List, ◌-◌, length, take, drop, arith}
 use Rattle.std.proofs.lemmas.List.{take_rest}
 use Rattle.rle_enc.specs.Stretch.{row_of}
 use Rattle.rle_enc.proofs.Pending.{alone_more}

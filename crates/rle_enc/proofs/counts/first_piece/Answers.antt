@@ -1,9 +1,15 @@
 use Rattle.std.proofs.Common.{◌≤◌, ℕ, List, get_or, refl, arith}
-use Rattle.run_lengths.specs.Packer.{background_count}
-use Rattle.rle_enc.specs.Stretch.{leading, row_of, spots_of}
+use Rattle.rle_enc.specs.Stretch.{leading, row_of}
 use Rattle.rle_enc.proofs.Counting.{leading_some, piece_background, piece_color}
 use Rattle.rle_enc.proofs.Pending.{one_alone}
 use Rattle.rle_enc.proofs.counts.first_piece.Goals as goal
+
+pub returns-then-not-has_color_at-clause-is : goal.returns-then-not-has_color_at-clause-is
+returns-then-not-has_color_at-clause-is c =
+    let ps : List ℕ = c.args.pixels.now in
+    let some : 1 ≤ leading (get_or ps 0 0) ps = leading_some ps c.requires.some in
+    let few : leading (get_or ps 0 0) ps ≤ c.count_background-background.result = c.if-not-has_color_at.ensures refl in
+    piece_background (row_of c.args.aboves) ps c.count_background-background.result (leading (get_or ps 0 0) ps) (get_or ps 0 0) c.requires.row c.count_background-background.ensures.is refl (omega (arith, some, few)) few
 
 pub returns-then-background-color-clause-is : goal.returns-then-background-color-clause-is
 returns-then-background-color-clause-is c =

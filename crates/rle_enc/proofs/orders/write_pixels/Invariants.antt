@@ -1,4 +1,4 @@
-use Rattle.std.proofs.Common.{◌≡◌, ◌++◌, length, take}
+use Rattle.std.proofs.Common.{◌≡◌, ◌++◌, length}
 use Rattle.std.specs.Prelude.{flat_map}
 use Rattle.run_lengths.specs.Packer.{pixel_bytes}
 use Rattle.rle_enc.proofs.orders.write_pixels.Given as goal
@@ -9,6 +9,3 @@ invariant-loop-rest l = l.out.items ++ flat_map pixel_bytes l.rest ≡ l.fn.out.
 
 abbrev pub decreases-loop-rest : goal.decreases-loop-rest
 decreases-loop-rest l = length l.rest
-
-abbrev pub invariant-loop-pixel : goal.invariant-loop-pixel
-invariant-loop-pixel l = l.out.items ≡ l.initial.out.items ++ flat_map pixel_bytes (take l.pixel-index l.pixel-items)
