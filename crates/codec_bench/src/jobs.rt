@@ -96,7 +96,9 @@ fn unpack_often(alloc: Global, bytes: &[u8], more: u32) -> Result<Vec<u32>, RleF
 }
 
 /// The last pixel of a row that is made over itself by the operation of a code.
-fn make_row(alloc: Global, code: u8, more: u32) -> Result<u32, AllocError> {
+fn make_row(alloc: Global, code: u8, more: u32) -> Result<u32, AllocError>
+    ensures { IfOk result (λ last. last ≡ raster_times (more + 1) code PATTERN SOURCE DESTINATION) }
+{
     // On the heap, so that the compiler doesn't compute with the colours.
     let pattern = vec![in alloc; PATTERN; SIDE]?;
     let source = vec![in alloc; SOURCE; SIDE]?;

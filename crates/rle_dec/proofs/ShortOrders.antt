@@ -1,12 +1,11 @@
 -- Orders with their length in the code, of the kinds that the packer writes.
-use Rattle.std.proofs.Common.{◌≡◌, ℕ, zero, suc, ◌*◌, ◌-◌, ◌<◌, ◌≤◌, Bool, true, false, cond, List, [], ◌∷◌, length, take, drop, get_or, refl, ap, sym, subst, ◌∙◌, arith, Some, Option}
+use Rattle.std.proofs.Common.{◌≡◌, ℕ, zero, suc, ◌*◌, ◌-◌, ◌<◌, ◌≤◌, true, false, cond, List, [], ◌∷◌, length, take, drop, get_or, ap, sym, subst, ◌∙◌, arith, Some}
 use Rattle.std.specs.Prelude.{nat_le, ◌&&◌, None}
 use Rattle.std.proofs.lemmas.Bool.Decides.{nat_tests}
 use Rattle.std.proofs.lemmas.List.{take_all}
 use Rattle.run_lengths.specs.declared.codes.Kind.{Kind}
 use Rattle.run_lengths.specs.declared.codes.Kind.TheVariants.{BackgroundRun, ForegroundRun, MaskImage, ColorRun, ColorImage}
 use Rattle.run_lengths.specs.declared.codes.Row.{Row}
-use Rattle.run_lengths.specs.declared.codes.Length.TheVariants.{InCode}
 use Rattle.run_lengths.specs.Bytes.{map_read, then_read}
 use Rattle.run_lengths.specs.Codes.{row, row_of, row_among, code_table, run, mask}
 use Rattle.run_lengths.specs.RunLength.{greatest_length, length_at, length_if, order_at, order_in_row, run_at}

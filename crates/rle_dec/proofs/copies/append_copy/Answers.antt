@@ -1,4 +1,4 @@
-use Rattle.std.proofs.Common.{◌≡◌, ◌+◌, ◌*◌, ◌/◌, ◌≤◌, length, vec_len, arith}
+use Rattle.std.proofs.Common.{◌+◌, ◌≤◌, length, arith}
 use Rattle.rle_dec.proofs.CopyLaws.{copy_more}
 use Rattle.rle_dec.proofs.copies.append_copy.Goals as goal
 
