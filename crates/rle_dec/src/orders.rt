@@ -11,6 +11,11 @@ use run_lengths::Kind;
 /// The most pixels of a bitmap: 64 by 64.
 pub const MOST_PIXELS: usize = 4096;
 
+/// The first code of colour runs, and of colour images.
+const COLOR_RUN: u8 = 0x60;
+
+const COLOR_IMAGE: u8 = 0x80;
+
 /// What an order of a length draws.
 #[derive(Clone, Copy)]
 pub enum Run<'a> {
@@ -46,8 +51,8 @@ pub fn read_order(stream: &[u8], left: usize) -> Read<'_, Order<'_>>
     // The commonest orders first, since each is then read with a kind that the compiler knows.
     match *code {
         0x01..=0x1F => read_short(Kind::BackgroundRun, *code, left, stream, rest),
-        0x61..=0x7F => read_short(Kind::ColorRun, *code - 0x60, left, stream, rest),
-        0x81..=0x9F => read_short(Kind::ColorImage, *code - 0x80, left, stream, rest),
+        0x61..=0x7F => read_short(Kind::ColorRun, *code - COLOR_RUN, left, stream, rest),
+        0x81..=0x9F => read_short(Kind::ColorImage, *code - COLOR_IMAGE, left, stream, rest),
         _ => read_in_table(*code, left, stream, rest),
     }
 }
