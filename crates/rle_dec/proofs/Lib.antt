@@ -1,3 +1,5 @@
 pub mod Fields
 pub mod Drawn
+pub mod CopyLaws
+pub mod ShortOrders
 pub mod Progress

@@ -4,6 +4,7 @@ ghost use Rattle.run_lengths.specs.Bytes.{pixels_of};
 ghost use Rattle.run_lengths.specs.RunLength.{bits_of, dithered_strokes, background_stroke, foreground_stroke, mask_bits};
 ghost use Rattle.rle_dec.specs.Drawing.{drawn_onto, masked, pixels_before};
 
+use crate::copies::append_copy;
 use crate::reads::pixel;
 use run_lengths::Stroke;
 use std::alloc::AllocError;
@@ -67,7 +68,7 @@ fn draw_above(out: &mut Vec<u32>, w: usize, n: usize) -> Result<(), AllocError>
     while left > 0 {
         let step = left.min(w);
         let from = out.len() - w;
-        out.extend_from_within(from..from + step)?;
+        append_copy(out, from, step)?;
         left -= step;
     }
     Ok(())
@@ -149,8 +150,25 @@ pub fn draw_mask(
     Ok(())
 }
 
-/// The pixels of bytes, three of each.
+/// The pixels of bytes, three of each; four pixels at once while there are so many.
 pub fn draw_image(out: &mut Vec<u32>, image: &[u8]) -> Result<(), AllocError>
+    ensures { OnOk result (out.new.items ≡ out.old.items ++ pixels_of image.now) }
+{
+    let mut bytes = image;
+    while let [b0, g0, r0, b1, g1, r1, b2, g2, r2, b3, g3, r3, rest @ ..] = bytes {
+        out.extend_from_slice(&[
+            pixel(*b0, *g0, *r0),
+            pixel(*b1, *g1, *r1),
+            pixel(*b2, *g2, *r2),
+            pixel(*b3, *g3, *r3),
+        ])?;
+        bytes = rest;
+    }
+    draw_pixels(out, bytes)
+}
+
+/// The pixels of bytes, one by one.
+fn draw_pixels(out: &mut Vec<u32>, image: &[u8]) -> Result<(), AllocError>
     ensures { OnOk result (out.new.items ≡ out.old.items ++ pixels_of image.now) }
 {
     let mut bytes = image;

@@ -23,6 +23,11 @@ impl From<AllocError> for RleFault {
 }
 
 impl fmt::Display for RleFault {
+    ghost use Rattle.std.specs.Prelude.{Some};
+    ghost use Rattle.rle_dec.specs.Messages.{fault_text};
+
+    ghost output = { λ fault. Some (fault_text fault) };
+
     fn fmt<W: fmt::Write>(&self, f: &mut fmt::Formatter<W>) -> fmt::Result {
         match self {
             RleFault::BadRle { at } => write!(f, "a run-length order is refused at {at}"),

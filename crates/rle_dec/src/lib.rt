@@ -3,6 +3,7 @@
 
 mod bitmap;
 mod codes;
+mod copies;
 mod draw;
 mod fault;
 mod orders;

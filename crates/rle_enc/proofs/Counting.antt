@@ -1,6 +1,6 @@
 -- Counting from the front, one place at a time.
-use Rattle.std.proofs.Common.{◌≡◌, ℕ, suc, ◌+◌, ◌<◌, ◌≤◌, ◌≢◌, true, false, cond, List, [], ◌∷◌, ◌++◌, length, take, drop, replicate, get_or, refl, ap, sym, ◌∙◌, arith, append_assoc, append-nil}
-use Rattle.std.specs.Prelude.{◌==◌, zip, flat_map, nat_le, ◌&&◌, Option, Some, None}
+use Rattle.std.proofs.Common.{◌≡◌, ℕ, zero, suc, ◌+◌, ◌-◌, ◌<◌, ◌≤◌, ◌≢◌, Bool, true, false, cond, List, [], ◌∷◌, ◌++◌, length, take, drop, replicate, get_or, refl, ap, sym, ◌∙◌, arith, append_assoc, append-nil}
+use Rattle.std.specs.Prelude.{IsFalse, ◌==◌, zip, flat_map, nat_le, ◌&&◌, Option, Some, None}
 use Rattle.std.proofs.lemmas.Bool.Decides.{nat_tests}
 use Rattle.std.proofs.lemmas.List.{drop_more, drop_all, take_more, take_all, length-replicate}
 use Rattle.run_lengths.specs.Packer.{Spot, background_count, color_count, chosen_run}
@@ -65,6 +65,38 @@ flat_map_last f (z ∷ zs) y = append_assoc (f z) (flat_map f zs) (f y) ∙ ap (
 
 pub flat_map_push : (f : ℕ → List ℕ) (p q xs : List ℕ) (i x : ℕ) → i < length xs → x ≡ get_or xs i 0 → q ≡ (p ++ flat_map f (take i xs)) ++ f x → q ≡ p ++ flat_map f (take (i + 1) xs)
 flat_map_push f p q xs i x lt at e = e ∙ append_assoc p (flat_map f (take i xs)) (f x) ∙ ap (λ zs. p ++ zs) (ap (λ y. flat_map f (take i xs) ++ f y) at ∙ flat_map_last f (take i xs) (get_or xs i 0) ∙ ap (flat_map f) (sym (take_more xs i 0 lt)))
+
+-- four items at the front
+four_on : (f : ℕ → List ℕ) (p r : List ℕ) (a b c d : ℕ) → (p ++ (((f a ++ f b) ++ f c) ++ f d)) ++ r ≡ p ++ (f a ++ (f b ++ (f c ++ (f d ++ r))))
+four_on f p r a b c d = simp append_assoc
+
+pub flat_map_four : (f : ℕ → List ℕ) (p q xs : List ℕ) (n : ℕ) → 4 ≤ length xs → n ≡ length xs - 4 → q ≡ p ++ (((f (get_or xs 0 0) ++ f (get_or xs 1 0)) ++ f (get_or xs 2 0)) ++ f (get_or xs 3 0)) → q ++ flat_map f (take n (drop 4 xs)) ≡ p ++ flat_map f xs
+flat_map_four f p q (a ∷ b ∷ c ∷ d ∷ xs) n h m e =
+    let all : take n xs ≡ xs = take_all n xs (omega (arith, m)) in
+    ap (λ us. us ++ flat_map f (take n xs)) e ∙ four_on f p (flat_map f (take n xs)) a b c d ∙ ap (λ us. p ++ (f a ++ (f b ++ (f c ++ (f d ++ flat_map f us))))) all
+flat_map_four f p q (a ∷ b ∷ c ∷ []) n h m e = absurd (omega (arith, h))
+flat_map_four f p q (a ∷ b ∷ []) n h m e = absurd (omega (arith, h))
+flat_map_four f p q (a ∷ []) n h m e = absurd (omega (arith, h))
+flat_map_four f p q [] n h m e = absurd (omega (arith, h))
+
+-- ---- no more than
+
+no_more : (b : Bool) (m i : ℕ) → m ≤ i → cond b (suc m) 0 ≤ suc i
+no_more true m i h = omega (arith, h)
+no_more false m i h = omega arith
+
+pub leading_within : (c : ℕ) (xs : List ℕ) → leading c xs ≤ length xs
+leading_within c [] = omega arith
+leading_within c (x ∷ xs) = no_more (x == c) (leading c xs) (length xs) (leading_within c xs)
+
+-- a pixel of another colour ends those of a colour
+pub leading_until : (c i : ℕ) (xs : List ℕ) → i < length xs → get_or xs i 0 ≢ c → leading c xs ≤ i
+leading_until c i [] lt other = absurd (omega (arith, lt))
+leading_until c zero (x ∷ xs) lt other = let e : leading c (x ∷ xs) ≡ 0 = ap (λ t. cond t (suc (leading c xs)) 0) (other_test x c other) in omega (arith, e)
+leading_until c (suc i) (x ∷ xs) lt other = no_more (x == c) (leading c xs) i (leading_until c i xs (omega (arith, lt)) other)
+
+pub differ : (a b : ℕ) → IsFalse (a == b) → a ≢ b
+differ a b e f = let same : (a == b) ≡ true = same_test a b f in cc
 
 -- ---- the piece that is packed first
 

@@ -1,32 +1,29 @@
 -- Pixels that stand for themselves and aren't written yet, before the runs that follow them.
 use Rattle.std.proofs.Common.{◌≡◌, ℕ, zero, suc, ◌+◌, ◌-◌, ◌<◌, ◌≤◌, List, [], ◌∷◌, ◌++◌, length, take, drop, replicate, get_or, refl, ap, sym, subst, ◌∙◌, arith, append_assoc, append-nil}
 use Rattle.std.specs.Prelude.{zip, flat_map, Option, Some, None, Result, Ok, Err, OnOk}
+use Rattle.std.proofs.Math.Seq.{take-add}
 use Rattle.std.proofs.lemmas.List.{drop_all, take_more, length-drop, drop-replicate, get_or-drop, take_all, drop-drop}
 use Rattle.run_lengths.specs.RunLength.{Run, run_size}
 use Rattle.run_lengths.specs.RunLength.Run.{Background, Foreground, Mask, Color, Image, Dithered}
-use Rattle.run_lengths.specs.Packer.{Spot, background_count, color_count, chosen_run, first_run, runs_past, onto_runs, joined_images, run_bytes}
-use Rattle.rle_enc.specs.Stretch.{literal_bytes, spots_in, HasItems, dropped}
+use Rattle.run_lengths.specs.Packer.{Spot, background_count, color_count, chosen_run, first_run, runs_past, onto_runs, joined_images, packed_runs, run_bytes}
+use Rattle.rle_enc.specs.Stretch.{StandAlone, after_literals, leading, literal_bytes, spots_in, HasItems, dropped}
 use Rattle.rle_enc.proofs.Runs.{pixels, pixels-drop, length-pixels, drop_first, chosen}
-use Rattle.rle_enc.proofs.Counting.{pixels_of_spots}
+use Rattle.rle_enc.proofs.Counting.{piece_literal, pixels_of_spots}
 
--- runs after pixels that stand for themselves
-abbrev pub after_literals : List ℕ → List Run → List Run
-after_literals [] rs = rs
-after_literals (c ∷ cs) rs = onto_runs (Image (c ∷ cs)) rs
+image_onto : (cs ds : List ℕ) (rs : List Run) → onto_runs (Image cs) (onto_runs (Image ds) rs) ≡ onto_runs (Image (cs ++ ds)) rs
+image_onto cs ds [] = refl
+image_onto cs ds (Background n ∷ rs) = refl
+image_onto cs ds (Foreground n ∷ rs) = refl
+image_onto cs ds (Mask bits ∷ rs) = refl
+image_onto cs ds (Color n c ∷ rs) = refl
+image_onto cs ds (Dithered n a b ∷ rs) = refl
+image_onto cs ds (Image es ∷ rs) = ap (λ us. Image us ∷ rs) (sym (append_assoc cs ds es))
 
-image_onto : (cs : List ℕ) (x : ℕ) (rs : List Run) → onto_runs (Image cs) (onto_runs (Image (x ∷ [])) rs) ≡ onto_runs (Image (cs ++ x ∷ [])) rs
-image_onto cs x [] = refl
-image_onto cs x (Background n ∷ rs) = refl
-image_onto cs x (Foreground n ∷ rs) = refl
-image_onto cs x (Mask bits ∷ rs) = refl
-image_onto cs x (Color n c ∷ rs) = refl
-image_onto cs x (Dithered n a b ∷ rs) = refl
-image_onto cs x (Image ds ∷ rs) = ap (λ es. Image es ∷ rs) (sym (append_assoc cs (x ∷ []) ds))
-
--- one pixel more that stands for itself
-one_literal : (cs : List ℕ) (x : ℕ) (rs : List Run) → after_literals cs (onto_runs (Image (x ∷ [])) rs) ≡ after_literals (cs ++ x ∷ []) rs
-one_literal [] x rs = refl
-one_literal (c ∷ cs) x rs = image_onto (c ∷ cs) x rs
+-- pixels more that stand for themselves
+more_literals : (cs ds : List ℕ) (rs : List Run) → after_literals cs (after_literals ds rs) ≡ after_literals (cs ++ ds) rs
+more_literals [] ds rs = refl
+more_literals (c ∷ cs) [] rs = ap (λ us. after_literals us rs) (sym (append-nil (c ∷ cs)))
+more_literals (c ∷ cs) (d ∷ ds) rs = image_onto (c ∷ cs) (d ∷ ds) rs
 
 -- the bytes of pixels that stand for themselves go before those of another run
 literals_then : (cs : List ℕ) (n : ℕ) (rs : List Run) → flat_map run_bytes (after_literals cs (Background n ∷ rs)) ≡ literal_bytes cs ++ (run_bytes (Background n) ++ flat_map run_bytes rs)
@@ -121,22 +118,62 @@ color_step row ps at literals k x n p p1 q whole lt h e f same g i w =
     ∙ ap (λ rs. p ++ flat_map run_bytes (after_literals lits rs)) (sym front)
     ∙ w
 
--- one pixel more that stands for itself
-pub literal_step : (row : Option (List ℕ)) (ps : List ℕ) (at literals x : ℕ) (p whole : List ℕ) → at < length ps → literals ≤ at → HasItems (length ps) row → x ≡ get_or ps at 0 → Image (x ∷ []) ≡ chosen_run (background_count (spots_in (dropped at row) (drop at ps))) (color_count x (spots_in (dropped at row) (drop at ps))) x →
-    p ++ flat_map run_bytes (after_literals (take literals (drop (at - literals) ps)) (joined_images (runs_past 0 (drop at (spots_in row ps))))) ≡ whole →
-    p ++ flat_map run_bytes (after_literals (take (literals + 1) (drop ((at + 1) - (literals + 1)) ps)) (joined_images (runs_past 0 (drop (at + 1) (spots_in row ps))))) ≡ whole
-literal_step row ps at literals x p whole lt le h e f w =
-    let rest : List Run = joined_images (runs_past 0 (drop (at + 1) (spots_in row ps))) in
-    let lits : List ℕ = take literals (drop (at - literals) ps) in
-    let front : joined_images (runs_past 0 (drop at (spots_in row ps))) ≡ onto_runs (Image (x ∷ [])) rest = front_at row ps at x (Image (x ∷ [])) lt h e f in
-    let from : (at + 1) - (literals + 1) ≡ at - literals = omega arith in
-    let there : literals < length (drop (at - literals) ps) = omega (arith, length-drop (at - literals) ps, lt, le) in
-    let item : get_or (drop (at - literals) ps) literals 0 ≡ x = get_or-drop (at - literals) ps literals 0 ∙ ap (λ n. get_or ps n 0) (omega (arith, le)) ∙ sym e in
-    let more : take (literals + 1) (drop (at - literals) ps) ≡ lits ++ x ∷ [] = take_more (drop (at - literals) ps) literals 0 there ∙ ap (λ y. lits ++ y ∷ []) item in
-    ap (λ n. p ++ flat_map run_bytes (after_literals (take (literals + 1) (drop n ps)) rest)) from
-    ∙ ap (λ us. p ++ flat_map run_bytes (after_literals us rest)) more
-    ∙ ap (λ rs. p ++ flat_map run_bytes rs) (sym (one_literal lits x rest))
-    ∙ ap (λ rs. p ++ flat_map run_bytes (after_literals lits rs)) (sym front)
+-- one pixel more at the front that stands for itself
+pub alone_step : (row : Option (List ℕ)) (ps : List ℕ) (n x : ℕ) → n < length ps → HasItems (length ps) row → x ≡ get_or ps n 0 → Image (x ∷ []) ≡ chosen_run (background_count (spots_in (dropped n row) (drop n ps))) (color_count x (spots_in (dropped n row) (drop n ps))) x →
+    StandAlone n ps (spots_in row ps) → StandAlone (n + 1) ps (spots_in row ps)
+alone_step row ps n x lt h e f alone =
+    let rest : List Run = packed_runs (drop (n + 1) (spots_in row ps)) in
+    let front : packed_runs (drop n (spots_in row ps)) ≡ onto_runs (Image (x ∷ [])) rest = front_at row ps n x (Image (x ∷ [])) lt h e f in
+    let more : take (n + 1) ps ≡ take n ps ++ x ∷ [] = take_more ps n 0 lt ∙ ap (λ y. take n ps ++ y ∷ []) (sym e) in
+    alone ∙ ap (after_literals (take n ps)) front ∙ more_literals (take n ps) (x ∷ []) rest ∙ ap (λ us. after_literals us rest) (sym more)
+
+-- what is packed first of the slices from a place on, in terms of the whole
+pub piece_at : (row rows : Option (List ℕ)) (ps qs : List ℕ) (at : ℕ) (r : ℕ → Run) → rows ≡ dropped at row → qs ≡ drop at ps → r (get_or qs 0 0) ≡ chosen_run (background_count (spots_in rows qs)) (color_count (get_or qs 0 0) (spots_in rows qs)) (get_or qs 0 0) → r (get_or ps at 0) ≡ chosen_run (background_count (spots_in (dropped at row) (drop at ps))) (color_count (get_or ps at 0) (spots_in (dropped at row) (drop at ps))) (get_or ps at 0)
+piece_at row rows ps qs at r e d f =
+    let x : get_or qs 0 0 ≡ get_or ps at 0 = ap (λ us. get_or us 0 0) d ∙ get_or-drop at ps 0 0 ∙ ap (λ n. get_or ps n 0) (omega arith) in
+    let R : Option (List ℕ) → List ℕ → ℕ → Run = λ rs us y. chosen_run (background_count (spots_in rs us)) (color_count y (spots_in rs us)) y in
+    ap r (sym x) ∙ f ∙ ap (λ rs. R rs qs (get_or qs 0 0)) e ∙ ap (λ us. R (dropped at row) us (get_or qs 0 0)) d ∙ ap (λ y. R (dropped at row) (drop at ps) y) x
+
+has_dropped : (row : Option (List ℕ)) (k n : ℕ) → HasItems k row → HasItems (k - n) (dropped n row)
+has_dropped None k n h = tt
+has_dropped (Some row) k n h = omega (arith, length-drop n row, h)
+
+dropped_none : (row : Option (List ℕ)) → dropped 0 row ≡ row
+dropped_none None = refl
+dropped_none (Some row) = refl
+
+-- the same by the counts of the slices from there on
+pub alone_more : (row rows : Option (List ℕ)) (ps qs : List ℕ) (n : ℕ) → n < length ps → HasItems (length ps) row → rows ≡ dropped n row → qs ≡ drop n ps → background_count (spots_in rows qs) < 1 → leading (get_or qs 0 0) qs < 2 → StandAlone n ps (spots_in row ps) → StandAlone (n + 1) ps (spots_in row ps)
+alone_more row rows ps qs n lt h e d none own alone =
+    let size : length ps - n ≡ length qs = sym (ap length d ∙ length-drop n ps) in
+    let P : Option (List ℕ) → Type 0 = λ r. HasItems (length qs) r in
+    let Q : ℕ → Type 0 = λ k. HasItems k (dropped n row) in
+    let has : HasItems (length qs) rows = subst P (sym e) (subst Q size (has_dropped row (length ps) n h)) in
+    let here : Image (get_or qs 0 0 ∷ []) ≡ chosen_run (background_count (spots_in rows qs)) (color_count (get_or qs 0 0) (spots_in rows qs)) (get_or qs 0 0) = piece_literal rows qs (background_count (spots_in rows qs)) (leading (get_or qs 0 0) qs) (get_or qs 0 0) has refl refl none own in
+    alone_step row ps n (get_or ps n 0) lt h refl (piece_at row rows ps qs n (λ x. Image (x ∷ [])) e d here) alone
+
+pub one_alone : (row : Option (List ℕ)) (ps : List ℕ) → 0 < length ps → HasItems (length ps) row → background_count (spots_in row ps) < 1 → leading (get_or ps 0 0) ps < 2 → StandAlone 1 ps (spots_in row ps)
+one_alone row ps some h none own = alone_more row row ps ps 0 some h (sym (dropped_none row)) refl none own refl
+
+-- pixels more that stand for themselves, before they are written
+pub literals_step : (row rows : Option (List ℕ)) (ps qs : List ℕ) (at literals n : ℕ) (p whole : List ℕ) → literals ≤ at → rows ≡ dropped at row → qs ≡ drop at ps → StandAlone n qs (spots_in rows qs) →
+    p ++ flat_map run_bytes (after_literals (take literals (drop (at - literals) ps)) (packed_runs (drop at (spots_in row ps)))) ≡ whole →
+    p ++ flat_map run_bytes (after_literals (take (literals + n) (drop ((at + n) - (literals + n)) ps)) (packed_runs (drop (at + n) (spots_in row ps)))) ≡ whole
+literals_step row rows ps qs at literals n p whole le e d alone w =
+    let from : List ℕ = drop (at - literals) ps in
+    let rest : List Run = packed_runs (drop (at + n) (spots_in row ps)) in
+    let here : spots_in rows qs ≡ drop at (spots_in row ps) = ap (λ r. spots_in r qs) e ∙ ap (spots_in (dropped at row)) d ∙ sym (drop-spots at row ps) in
+    let front : packed_runs (drop at (spots_in row ps)) ≡ after_literals (take n (drop at ps)) rest =
+    ap packed_runs (sym here) ∙ alone ∙ ap (λ ss. after_literals (take n qs) (packed_runs (drop n ss))) here
+    ∙ ap (λ us. after_literals (take n us) (packed_runs (drop n (drop at (spots_in row ps))))) d
+    ∙ ap (λ ss. after_literals (take n (drop at ps)) (packed_runs ss)) (drop-drop n at (spots_in row ps)) in
+    let start : (at + n) - (literals + n) ≡ at - literals = omega arith in
+    let end : (at - literals) + literals ≡ at = omega (arith, le) in
+    let both : take (literals + n) from ≡ take literals from ++ take n (drop at ps) = take-add literals n from ∙ ap (λ us. take literals from ++ take n us) (drop-drop literals (at - literals) ps ∙ ap (λ m. drop m ps) end) in
+    ap (λ m. p ++ flat_map run_bytes (after_literals (take (literals + n) (drop m ps)) rest)) start
+    ∙ ap (λ us. p ++ flat_map run_bytes (after_literals us rest)) both
+    ∙ ap (λ rs. p ++ flat_map run_bytes rs) (sym (more_literals (take literals from) (take n (drop at ps)) rest))
+    ∙ ap (λ rs. p ++ flat_map run_bytes (after_literals (take literals from) rs)) (sym front)
     ∙ w
 
 -- the end of a stretch
@@ -151,13 +188,6 @@ stretch_end row ps at literals p q whole end le h e w =
     ∙ ap (λ us. p ++ flat_map run_bytes (after_literals us [])) (sym all)
     ∙ ap (λ ss. p ++ flat_map run_bytes (after_literals (take literals (drop (at - literals) ps)) (joined_images (runs_past 0 ss)))) (sym none)
     ∙ w
-
--- what is packed first of the slices from a place on, in terms of the whole
-pub piece_at : (row rows : Option (List ℕ)) (ps qs : List ℕ) (at : ℕ) (r : ℕ → Run) → rows ≡ dropped at row → qs ≡ drop at ps → r (get_or qs 0 0) ≡ chosen_run (background_count (spots_in rows qs)) (color_count (get_or qs 0 0) (spots_in rows qs)) (get_or qs 0 0) → r (get_or ps at 0) ≡ chosen_run (background_count (spots_in (dropped at row) (drop at ps))) (color_count (get_or ps at 0) (spots_in (dropped at row) (drop at ps))) (get_or ps at 0)
-piece_at row rows ps qs at r e d f =
-    let x : get_or qs 0 0 ≡ get_or ps at 0 = ap (λ us. get_or us 0 0) d ∙ get_or-drop at ps 0 0 ∙ ap (λ n. get_or ps n 0) (omega arith) in
-    let R : Option (List ℕ) → List ℕ → ℕ → Run = λ rs us y. chosen_run (background_count (spots_in rs us)) (color_count y (spots_in rs us)) y in
-    ap r (sym x) ∙ f ∙ ap (λ rs. R rs qs (get_or qs 0 0)) e ∙ ap (λ us. R (dropped at row) us (get_or qs 0 0)) d ∙ ap (λ y. R (dropped at row) (drop at ps) y) x
 
 -- what an Ok says may be said otherwise
 pub on_ok_as : {T E : Type 0} (P Q : Type 0) (r : Result T E) → OnOk r P → (P → Q) → OnOk r Q

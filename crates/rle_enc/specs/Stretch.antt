@@ -1,10 +1,10 @@
 -- A stretch of pixels and the row before it, as the packer's code has them.
-use Rattle.std.specs.Prelude.{ℕ, suc, ◌≤◌, ◌==◌, List, [], ◌∷◌, length, drop, replicate, zip, Option, Some, None, if◌then◌else◌}
+use Rattle.std.specs.Prelude.{◌≡◌, ℕ, suc, ◌<◌, ◌≤◌, ◌==◌, List, [], ◌∷◌, length, take, drop, replicate, slice_index, zip, Option, Some, None, if◌then◌else◌}
 use denote.Ref.{Bor}
 use Rattle.run_lengths.specs.RunLength as runs
-use Rattle.run_lengths.specs.Packer.{Spot, run_bytes}
+use Rattle.run_lengths.specs.Packer.{Spot, background_count, chosen_run, color_count, onto_runs, packed_runs, run_bytes}
 use Rattle.rle_enc.specs.declared.counts.Piece.{Piece}
-use Rattle.rle_enc.specs.declared.counts.Piece.TheVariants.{Background, Color, Literal}
+use Rattle.rle_enc.specs.declared.counts.Piece.TheVariants.{Background, Color, Literals}
 
 -- how many items at the front are this number
 abbrev pub leading : ℕ → List ℕ → ℕ
@@ -39,11 +39,24 @@ abbrev pub dropped : ℕ → Option (List ℕ) → Option (List ℕ)
 dropped at None = None
 dropped at (Some row) = Some (drop at row)
 
--- the run of a piece that begins with a colour
-abbrev pub run_of : Piece → ℕ → runs.Run
-run_of (Background n) color = runs.Run.Background n
-run_of (Color n) color = runs.Run.Color n color
-run_of Literal color = runs.Run.Image (color ∷ [])
+-- runs after pixels that stand for themselves
+abbrev pub after_literals : List ℕ → List runs.Run → List runs.Run
+after_literals [] rs = rs
+after_literals (c ∷ cs) rs = onto_runs (runs.Run.Image (c ∷ cs)) rs
+
+-- the first pixels of a stretch, so many, stand for themselves
+abbrev pub StandAlone : ℕ → List ℕ → List Spot → Type 0
+StandAlone n pixels spots = packed_runs spots ≡ after_literals (take n pixels) (packed_runs (drop n spots))
+
+-- the run that is chosen where a colour stands before the spots
+abbrev pub run_there : ℕ → List Spot → runs.Run
+run_there color spots = chosen_run (background_count spots) (color_count color spots) color
+
+-- a piece is what is packed first of the pixels of a stretch
+abbrev pub IsFirst : Piece → List ℕ → List Spot → Type 0
+IsFirst (Background n) pixels spots = runs.Run.Background n ≡ run_there (slice_index pixels 0) spots
+IsFirst (Color n) pixels spots = runs.Run.Color n (slice_index pixels 0) ≡ run_there (slice_index pixels 0) spots
+IsFirst (Literals n) pixels spots = (0 < n) × StandAlone n pixels spots
 
 -- the bytes of pixels that stand for themselves
 abbrev pub literal_bytes : List ℕ → List ℕ
@@ -54,4 +67,4 @@ literal_bytes (c ∷ cs) = run_bytes (runs.Run.Image (c ∷ cs))
 abbrev pub piece_size : Piece → ℕ
 piece_size (Background n) = n
 piece_size (Color n) = n
-piece_size Literal = 1
+piece_size (Literals n) = n

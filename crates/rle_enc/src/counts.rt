@@ -1,7 +1,7 @@
 //! How many pixels at a place are background, and how many have one colour; what is packed as one there (profile).
-ghost use Rattle.std.specs.Prelude.{◌≡◌, ◌<◌, ◌≤◌, length, slice_index, zip};
-ghost use Rattle.run_lengths.specs.Packer.{background_count, chosen_run, color_count};
-ghost use Rattle.rle_enc.specs.Stretch.{HasRow, leading, piece_size, run_of, spots_of};
+ghost use Rattle.std.specs.Prelude.{◌≡◌, ◌<◌, ◌≤◌, IsFalse, IsTrue, length, slice_index, zip};
+ghost use Rattle.run_lengths.specs.Packer.{background_count};
+ghost use Rattle.rle_enc.specs.Stretch.{HasRow, IsFirst, StandAlone, StandsIn, dropped, leading, piece_size, row_of, spots_of};
 
 /// What is packed as one.
 #[derive(Clone, Copy)]
@@ -10,8 +10,8 @@ pub enum Piece {
     Background(usize),
     /// So many pixels of one colour.
     Color(usize),
-    /// One pixel itself.
-    Literal,
+    /// So many pixels themselves.
+    Literals(usize),
 }
 
 /// The colour of background in the first row.
@@ -52,14 +52,57 @@ fn count_background(pixels: &[u32], aboves: Option<&[u32]>) -> usize
     }
 }
 
+/// Whether the first pixel is neither background nor of the next one's colour.
+fn is_alone(pixels: &[u32], aboves: Option<&[u32]>) -> bool
+    requires some { 0 < length pixels.now }
+    requires row { HasRow aboves pixels.now }
+    ensures no_background { IsTrue result → background_count (spots_of aboves.entry pixels.now) ≡ 0 }
+    ensures own_color { IsTrue result → leading (slice_index pixels.now 0) pixels.now ≡ 1 }
+{
+    let above = match aboves {
+        Some(row) => row[0],
+        None => BLACK,
+    };
+    pixels[0] != above && (pixels.len() < 2 || pixels[1] != pixels[0])
+}
+
+/// How many pixels from the front on are neither background nor of the next one's colour.
+fn count_alone(pixels: &[u32], aboves: Option<&[u32]>) -> usize
+    requires row { HasRow aboves pixels.now }
+    ensures is { StandAlone result pixels.now (spots_of aboves.entry pixels.now) }
+    ensures within { result ≤ length pixels.now }
+{
+    let mut n = 0;
+    while n < pixels.len() && is_alone(&pixels[n..], rows_from(aboves, n)) {
+        n += 1;
+    }
+    n
+}
+
+/// Whether the pixel at a place, if there is one, has the first one's colour.
+fn has_color_at(pixels: &[u32], at: usize) -> bool
+    requires some { 0 < length pixels.now }
+    requires within { at ≤ length pixels.now }
+    ensures { IsFalse result → leading (slice_index pixels.now 0) pixels.now ≤ at }
+{
+    at < pixels.len() && pixels[at] == pixels[0]
+}
+
 /// What is packed first of a stretch, by the pixels one row earlier, or over black.
 pub fn first_piece(pixels: &[u32], aboves: Option<&[u32]>) -> Piece
     requires some { 0 < length pixels.now }
     requires row { HasRow aboves pixels.now }
-    ensures is { run_of result (slice_index pixels.now 0) ≡ chosen_run (background_count (spots_of aboves.entry pixels.now)) (color_count (slice_index pixels.now 0) (spots_of aboves.entry pixels.now)) (slice_index pixels.now 0) }
+    ensures is { IsFirst result pixels.now (spots_of aboves.entry pixels.now) }
     ensures within { piece_size result ≤ length pixels.now }
 {
+    let alone = count_alone(pixels, aboves);
+    if alone > 0 {
+        return Piece::Literals(alone);
+    }
     let background = count_background(pixels, aboves);
+    if !has_color_at(pixels, background) {
+        return Piece::Background(background);
+    }
     let color = count_color(pixels, pixels[0]);
     // A pixel has its own colour, so this many background pixels are at least one.
     if background >= color {
@@ -67,6 +110,17 @@ pub fn first_piece(pixels: &[u32], aboves: Option<&[u32]>) -> Piece
     } else if color >= 2 {
         Piece::Color(color)
     } else {
-        Piece::Literal
+        Piece::Literals(1)
+    }
+}
+
+/// The pixels one row earlier from a place on.
+pub fn rows_from(aboves: Option<&[u32]>, at: usize) -> Option<&[u32]>
+    requires { StandsIn at aboves }
+    ensures { row_of result ≡ dropped at (row_of aboves.entry) }
+{
+    match aboves {
+        Some(row) => Some(&row[at..]),
+        None => None,
     }
 }

@@ -1,9 +1,9 @@
 //! Packs one stretch of pixels: the first row, or the rest.
 ghost use Rattle.std.specs.Prelude.{◌≡◌, ◌<◌, ◌≤◌, ◌++◌, OnOk, flat_map, length};
 ghost use Rattle.run_lengths.specs.Packer.{packed_runs, run_bytes};
-ghost use Rattle.rle_enc.specs.Stretch.{HasRow, StandsIn, dropped, row_of, spots_of};
+ghost use Rattle.rle_enc.specs.Stretch.{HasRow, spots_of};
 
-use crate::counts::{Piece, first_piece};
+use crate::counts::{Piece, first_piece, rows_from};
 use crate::orders::{write_background, write_color, write_literals};
 use std::alloc::AllocError;
 
@@ -33,22 +33,11 @@ pub fn pack_stretch(
                 literals = 0;
                 at += n;
             }
-            Piece::Literal => {
-                literals += 1;
-                at += 1;
+            Piece::Literals(n) => {
+                literals += n;
+                at += n;
             }
         }
     }
     write_literals(out, &pixels[at - literals..])
-}
-
-/// The pixels one row earlier from a place on.
-fn rows_from(aboves: Option<&[u32]>, at: usize) -> Option<&[u32]>
-    requires { StandsIn at aboves }
-    ensures { row_of result ≡ dropped at (row_of aboves.entry) }
-{
-    match aboves {
-        Some(row) => Some(&row[at..]),
-        None => None,
-    }
 }

@@ -1,7 +1,15 @@
-use Rattle.std.proofs.Common.{◌≤◌, get_or, arith}
+use Rattle.std.proofs.Common.{◌≤◌, ℕ, List, get_or, refl, arith}
 use Rattle.rle_enc.specs.Stretch.{leading, row_of}
-use Rattle.rle_enc.proofs.Counting.{leading_some, piece_background, piece_color, piece_literal}
+use Rattle.rle_enc.proofs.Counting.{leading_some, piece_background, piece_color}
+use Rattle.rle_enc.proofs.Pending.{one_alone}
 use Rattle.rle_enc.proofs.counts.first_piece.Goals as goal
+
+pub returns-then-not-has_color_at-clause-is : goal.returns-then-not-has_color_at-clause-is
+returns-then-not-has_color_at-clause-is c =
+    let ps : List ℕ = c.args.pixels.now in
+    let some : 1 ≤ leading (get_or ps 0 0) ps = leading_some ps c.requires.some in
+    let few : leading (get_or ps 0 0) ps ≤ c.count_background-background.result = c.if-not-has_color_at.ensures refl in
+    piece_background (row_of c.args.aboves) ps c.count_background-background.result (leading (get_or ps 0 0) ps) (get_or ps 0 0) c.requires.row c.count_background-background.ensures.is refl (omega (arith, some, few)) few
 
 pub returns-then-background-color-clause-is : goal.returns-then-background-color-clause-is
 returns-then-background-color-clause-is c =
@@ -14,4 +22,4 @@ returns-then-color-ge2-clause-is c =
 
 pub returns-else-color-ge2-clause-is : goal.returns-else-color-ge2-clause-is
 returns-else-color-ge2-clause-is c =
-    piece_literal (row_of c.args.aboves) c.args.pixels.now c.count_background-background.result c.count_color-color.result (get_or c.args.pixels.now 0 0) c.requires.row c.count_background-background.ensures.is c.count_color-color.ensures.is (omega (arith, c.if-background-color.false, c.if-color-ge2.false)) (omega (arith, c.if-color-ge2.false))
+    (omega arith, one_alone (row_of c.args.aboves) c.args.pixels.now c.requires.some c.requires.row (omega (arith, c.if-background-color.false, c.if-color-ge2.false, c.count_background-background.ensures.is)) (omega (arith, c.if-color-ge2.false, c.count_color-color.ensures.is)))

@@ -1,7 +1,11 @@
-use Rattle.std.proofs.Common.{◌≡◌, ◌++◌, take}
+use Rattle.std.proofs.Common.{◌≡◌, ◌++◌, length}
 use Rattle.std.specs.Prelude.{flat_map}
 use Rattle.run_lengths.specs.Packer.{pixel_bytes}
 use Rattle.rle_enc.proofs.orders.write_pixels.Given as goal
 
-abbrev pub invariant-loop-pixel : goal.invariant-loop-pixel
-invariant-loop-pixel l = l.out.items ≡ l.fn.out.items ++ flat_map pixel_bytes (take l.pixel-index l.pixels)
+-- what is written, before the pixels that are left, is what was there before them all
+abbrev pub invariant-loop-rest : goal.invariant-loop-rest
+invariant-loop-rest l = l.out.items ++ flat_map pixel_bytes l.rest ≡ l.fn.out.items ++ flat_map pixel_bytes l.pixels
+
+abbrev pub decreases-loop-rest : goal.decreases-loop-rest
+decreases-loop-rest l = length l.rest

@@ -1,10 +1,10 @@
-use Rattle.std.proofs.Common.{◌≡◌, ◌-◌, ◌+◌, ◌≤◌, ◌++◌, ℕ, List, [], ◌∷◌, get_or, take, drop, length, refl, ap, ◌∙◌, arith}
+use Rattle.std.proofs.Common.{◌≡◌, ◌-◌, ◌+◌, ◌≤◌, ◌++◌, ℕ, List, get_or, take, drop, length, refl, ap, ◌∙◌, arith}
 use Rattle.std.proofs.lemmas.List.{take_rest}
 use Rattle.std.specs.Prelude.{flat_map}
-use Rattle.run_lengths.specs.RunLength.Run.{Background, Color, Image}
+use Rattle.run_lengths.specs.RunLength.Run.{Background, Color}
 use Rattle.run_lengths.specs.Packer.{run_bytes, packed_runs}
 use Rattle.rle_enc.specs.Stretch.{row_of, spots_of, literal_bytes}
-use Rattle.rle_enc.proofs.Pending.{background_step, color_step, literal_step, piece_at, stretch_end, on_ok_as}
+use Rattle.rle_enc.proofs.Pending.{background_step, color_step, literals_step, piece_at, stretch_end, on_ok_as}
 use Rattle.rle_enc.proofs.stretch.pack_stretch.Goals as goal
 
 pub loop-at-preserved-in-Background : goal.loop-at-preserved-in-Background
@@ -32,8 +32,8 @@ loop-at-preserved c =
     let ps : List ℕ = c.args.pixels.now in
     let whole : List ℕ = c.args.out.now.items ++ flat_map run_bytes (packed_runs (spots_of c.args.aboves ps)) in (
       omega (arith, c.loop-at.invariant.0),
-      omega (arith, c.loop-at-test.true),
-      literal_step (row_of c.args.aboves) ps c.loop-at.at c.loop-at.literals (get_or ps c.loop-at.at 0) c.loop-at.out.items whole c.loop-at-test.true c.loop-at.invariant.0 c.requires.row refl (piece_at (row_of c.args.aboves) (row_of c.rows_from.result) ps (take (length ps - c.loop-at.at) (drop c.loop-at.at ps)) c.loop-at.at (λ x. Image (x ∷ [])) c.rows_from.ensures (take_rest ps c.loop-at.at) c.in-Literal.ensures.is) c.loop-at.invariant.2,
+      omega (arith, c.loop-at-test.true, c.in-Literals.ensures.within),
+      literals_step (row_of c.args.aboves) (row_of c.rows_from.result) ps (take (length ps - c.loop-at.at) (drop c.loop-at.at ps)) c.loop-at.at c.loop-at.literals c.in-Literals.n c.loop-at.out.items whole c.loop-at.invariant.0 c.rows_from.ensures (take_rest ps c.loop-at.at) c.in-Literals.ensures.is.1 c.loop-at.invariant.2,
     )
 
 pub returns : goal.returns

@@ -1,8 +1,7 @@
 use Rattle.std.proofs.Common.{◌≡◌, ◌-◌, ◌≤◌, ◌++◌, drop, length, take}
 use Rattle.std.specs.Prelude.{flat_map}
 use Rattle.run_lengths.specs.Packer.{joined_images, packed_runs, run_bytes, runs_past}
-use Rattle.rle_enc.specs.Stretch.{spots_of}
-use Rattle.rle_enc.proofs.Pending.{after_literals}
+use Rattle.rle_enc.specs.Stretch.{after_literals, spots_of}
 use Rattle.rle_enc.proofs.stretch.pack_stretch.Given as goal
 
 abbrev pub invariant-loop-at : goal.invariant-loop-at
