@@ -1,11 +1,11 @@
 -- Lines that were done, and then more lines.
-use Rattle.std.proofs.Common.{◌≡◌, ℕ, suc, ◌+◌, ◌-◌, ◌^◌, ◌<◌, List, [], ◌∷◌, ◌++◌, refl, ap, sym, ◌∙◌, subst, Some, None, Bool, true, false, append_assoc, arith}
-use Rattle.std.specs.Prelude.{Option, Result, Ok, Err, ⊤, if◌then◌else◌}
-use Rattle.std.specs.Io.KnownBytes.{Appends, Keeps, IsAtEnd}
+use Rattle.std.proofs.Common.{◌≡◌, ℕ, suc, ◌+◌, ◌-◌, ◌^◌, ◌<◌, List, [], ◌++◌, refl, ap, sym, ◌∙◌, subst, Some, None, Bool, true, false, append_assoc, arith}
+use Rattle.std.specs.Prelude.{Option, Result, Ok, Err, if◌then◌else◌}
+use Rattle.std.specs.Io.KnownBytes.{Appends}
 use Rattle.std.proofs.KnownBytes.{Appends-trans, Appends-nil}
 use Rattle.edge_io.specs.Sink.{AppendsFront}
 use Rattle.px_core.specs.declared.surface.Size.{Size}
-use Rattle.line_text.specs.Lines.{Line, lines_of, script_limit}
+use Rattle.line_text.specs.Lines.{lines_of, script_limit}
 use Rattle.script_rules.specs.Script.{LineRefusal}
 use Rattle.solo_runs.specs.Solo.{Solo}
 use Rattle.solo_runs.specs.Small.{IsSmall}

@@ -1,6 +1,6 @@
 -- A script's first line was found.
 use Rattle.std.proofs.Common.{◌≡◌, ℕ, suc, ◌+◌, ◌^◌, ◌<◌, ◌≤◌, List, [], ◌∷◌, ◌++◌, length, refl, ap, sym, ◌∙◌, subst, Some, None, Bool, true, false, arith, length-append, ◌⊎◌, inl, inr}
-use Rattle.std.specs.Prelude.{Option, ⊤, ◌||◌, ◌&&◌, IsTrue, IfSome, codes, ◌==◌, if◌then◌else◌}
+use Rattle.std.specs.Prelude.{Option, IsTrue, IfSome, codes, ◌==◌, if◌then◌else◌}
 use Rattle.std.specs.Bool.{then_some}
 use Rattle.std.specs.Option.{option_and_then}
 use Rattle.std.specs.Io.KnownBytes.{IsAtEnd}
@@ -21,7 +21,7 @@ use Rattle.script_rules.specs.Script.{size_rule, text_rule, size_with, size_of_w
 use Rattle.script_rules.specs.Capture.{broken_line}
 use Rattle.solo_runs.specs.SoloScript.{written_with, refused_with, written_of, refused_of, refusal_at}
 use Rattle.rdp_host.specs.declared.opening.FirstLine.{FirstLine}
-use Rattle.rdp_host.specs.Reading.{Sense, of_script, of_rest, Continues, Comes, Opens, first_of}
+use Rattle.rdp_host.specs.Reading.{of_script, of_rest, Continues, Comes, Opens, first_of}
 
 -- ---- a line that gives a size is short
 

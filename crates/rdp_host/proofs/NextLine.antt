@@ -1,6 +1,6 @@
 -- The next line was found, and what it asks for was done.
 use Rattle.std.proofs.Common.{◌≡◌, ℕ, ◌+◌, ◌^◌, ◌<◌, ◌≤◌, List, [], ◌∷◌, ◌++◌, length, refl, ap, sym, ◌∙◌, subst, Some, None, Bool, true, false, arith, length-append}
-use Rattle.std.specs.Prelude.{Option, Result, Ok, Err, ⊤, ◌||◌, ◌&&◌, not, nat_lt, is_some, if◌then◌else◌}
+use Rattle.std.specs.Prelude.{Option, Result, Ok, Err, ◌||◌, ◌&&◌, not, nat_lt, is_some, if◌then◌else◌}
 use Rattle.std.specs.Io.KnownBytes.{Appends, Keeps, IsAtEnd}
 use Rattle.std.proofs.KnownBytes.{Appends-nil}
 use Rattle.std.proofs.lemmas.Bool.Decides.{nat_tests}
@@ -8,12 +8,12 @@ use Rattle.px_core.specs.declared.surface.Size.{Size}
 use Rattle.line_text.specs.Lines.{Line, line_bytes, lines_of, is_past_limits, script_limit, line_limit}
 use Rattle.line_text.specs.Words.{words_of}
 use Rattle.line_read.specs.Reading.{LineReading, HandsOut, IsPastLimits, first_is_past}
-use Rattle.line_read.specs.Finding.{Finds, FindsLine, FindsNone, FindCause}
+use Rattle.line_read.specs.Finding.{Finds, FindsNone, FindCause}
 use Rattle.line_read.specs.declared.reader.Found.{Found}
 use Rattle.line_read.specs.declared.reader.Found.TheVariants as found
 use Rattle.edge_io.specs.Faults.{Rose}
 use Rattle.edge_io.specs.Sink.{AppendsFront}
-use Rattle.script_rules.specs.Script.{LineRefusal, text_rule, form_rule, breaks_text_rule, all_bytes, is_ascii, begins_with_invite, invite_form}
+use Rattle.script_rules.specs.Script.{text_rule, form_rule, breaks_text_rule, all_bytes, is_ascii, begins_with_invite, invite_form}
 use Rattle.script_rules.specs.Capture.{broken_line}
 use Rattle.solo_runs.specs.Solo.{Solo, solo_line, solo_after, solo_at_first}
 use Rattle.solo_runs.specs.declared.step.SoloStep.{SoloStep}

@@ -1,18 +1,17 @@
 -- What a script's lines come to is its capture, and what it refuses.
-use Rattle.std.proofs.Common.{◌≡◌, ℕ, ◌^◌, ◌<◌, List, [], ◌∷◌, ◌++◌, refl, ap, sym, ◌∙◌, subst, Some, None, arith}
-use Rattle.std.specs.Prelude.{Option, Result, Ok, Err, ⊤}
-use Rattle.std.specs.Io.KnownBytes.{Appends, IsAtEnd, prepend_known}
+use Rattle.std.proofs.Common.{◌≡◌, ℕ, List, [], ◌∷◌, ◌++◌, ap, sym, ◌∙◌, subst, Some, None, arith}
+use Rattle.std.specs.Prelude.{Option, Result, Ok, Err}
+use Rattle.std.specs.Io.KnownBytes.{IsAtEnd, prepend_known}
 use Rattle.std.proofs.KnownBytes.{prepend_known-nil}
 use Rattle.edge_io.specs.Sink.{AppendsFront}
 use Rattle.px_core.specs.declared.surface.Size.{Size}
-use Rattle.line_text.specs.Lines.{lines_of}
 use Rattle.line_read.specs.Reading.{LineReading, new_reading, ahead}
 use Rattle.script_rules.specs.Script.{LineRefusal, Opening, first_grammar, opening_of}
 use Rattle.script_rules.specs.Script.Opening.{NoSize, Unended, Opened}
 use Rattle.script_rules.specs.CaptureText.{capture_of}
 use Rattle.script_rules.specs.Headline.{encoder_frames, EveryViewerOfCapture}
 use Rattle.solo_runs.specs.Small.{IsSmall, IsSmallOpening}
-use Rattle.solo_runs.specs.SoloScript.{written_of, refused_of, refusal_of, refusal_at}
+use Rattle.solo_runs.specs.SoloScript.{refusal_of, refusal_at}
 use Rattle.solo_runs.proofs.LineByLine.{written_is_capture, refused_is}
 use Rattle.solo_runs.proofs.Law.{captures_show}
 use Rattle.solo_script.specs.declared.fault.ScriptFault.{ScriptFault}

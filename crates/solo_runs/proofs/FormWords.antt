@@ -96,7 +96,8 @@ fill_some x y w h color words e = fill_by_values x y w h color words [] e
 
 -- ---- ranges
 
-solo_again : (a : SoloStep) → solo_of (step_of a) ≡ Some a
+-- the form of a step asks for it
+pub solo_again : (a : SoloStep) → solo_of (step_of a) ≡ Some a
 solo_again Take = refl
 solo_again (Fill p) = refl
 

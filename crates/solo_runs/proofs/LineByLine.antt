@@ -25,6 +25,7 @@ use Rattle.solo_runs.specs.SoloScript.SoloLine.{BreaksRule, AsksFor}
 use Rattle.solo_runs.proofs.Simulation.{Stands}
 use Rattle.solo_runs.proofs.Runs.{step_runs}
 use Rattle.solo_runs.proofs.Forms.{Found, IsSoloForm, form_found}
+use Rattle.solo_runs.proofs.FormWords.{solo_again}
 use Rattle.solo_runs.proofs.Scripts.{Follows, follows_on, SoloOutcome, line_is_solo, lines_are_solo}
 use Rattle.solo_runs.proofs.Headline.{joined_run, stands_at_first}
 use Rattle.solo_runs.proofs.Law.{solo_follows, invite_is_no_form}
@@ -34,10 +35,6 @@ use Rattle.solo_runs.proofs.Law.{solo_follows, invite_is_no_form}
 abbrev as_outcome : SoloLine → LineOutcome
 as_outcome (BreaksRule rule) = Breaks rule
 as_outcome (AsksFor a) = Asks (asked_of a)
-
-solo_again : (a : SoloStep) → solo_of (step_of a) ≡ Some a
-solo_again Take = refl
-solo_again (Fill p) = refl
 
 present : (size : Size) (s : Solo) (run : Run Encoder) (r : Reading) → Stands size s run → Follows size s run r → is_present solo_viewer r.play.reached.viewers ≡ true
 present size s run r h f = ap (λ vs. is_present solo_viewer vs) (ap (λ p. p.reached.viewers) f.play ∙ h.reached.viewers)

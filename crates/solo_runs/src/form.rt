@@ -2,7 +2,6 @@
 ghost use Rattle.std.specs.Prelude.{◌≡◌, ◌∷◌, [], ◌&&◌, ℕ, pos, List, None, IfSome, IsTrue, MatchOption, is_some};
 ghost use Rattle.std.specs.Option.{option_map, option_and_then};
 ghost use Rattle.px_core.specs.Rectangle.{is_session_size};
-ghost use Rattle.line_text.specs.Lines.{is_past_limits};
 ghost use Rattle.line_text.specs.Numbers.{number_up_to};
 ghost use Rattle.line_text.specs.Words.{words_of};
 ghost use Rattle.session_rules.specs.Steps.{is_same_name};
@@ -10,7 +9,7 @@ ghost use Rattle.session_rules.specs.Steps.Step.{TakeStep};
 ghost use Rattle.script_rules.specs.Fields.{Field, values_of, with_value, fill_by, without_clip};
 ghost use Rattle.script_rules.specs.Fields.Field.{Coordinate, Count, Digits};
 ghost use Rattle.script_rules.specs.Forms.{fill_fields, drawing_by, alone};
-ghost use Rattle.script_rules.specs.Script.{size_with, size_of_words, invite_form, role_named, breaks_text_rule, all_bytes, is_ascii};
+ghost use Rattle.script_rules.specs.Script.{size_with, size_of_words, invite_form, role_named, all_bytes, is_ascii};
 ghost use Rattle.solo_runs.specs.Solo.{solo_viewer, IsInRange};
 ghost use Rattle.solo_runs.specs.SoloScript.{solo_form, solo_of};
 
@@ -18,12 +17,6 @@ use crate::SoloStep;
 use fill_frames::Patch;
 use line_text::{Parts, read_coordinate, read_hexadecimal, read_number};
 use px_core::{Rect, Size};
-
-/// The most bytes of a line, its line feed not counted.
-const LINE_LIMIT: usize = 32_768;
-
-/// The most bytes of a script.
-const SCRIPT_LIMIT: usize = 268_435_456;
 
 /// The most columns, and the most rows, of a session's picture.
 const SIDE_LIMIT: u32 = 2_048;
@@ -88,14 +81,6 @@ pub fn solo_step(text: &[u8]) -> Option<SoloStep>
     step_of_words(&mut Parts::words(text))
 }
 
-/// Whether a line that begins at this place of a script, counted in bytes, is past the limits, isn't ended by a line feed or has a
-/// byte that isn't ASCII.
-pub fn breaks_text(text: &[u8], ended: bool, at: usize) -> bool
-    ensures { result ≡ breaks_text_rule at (record { text = text.now; ended = ended }) }
-{
-    is_past(text, ended, at) || !is_text_line(text, ended)
-}
-
 /// Whether a line is ended by a line feed and has only ASCII bytes.
 pub fn is_text_line(text: &[u8], ended: bool) -> bool
     ensures { result ≡ (ended && all_bytes is_ascii text.now) }
@@ -152,17 +137,6 @@ fn session_size(w: u32, h: u32) -> Option<Size>
     } else {
         None
     }
-}
-
-/// Whether a line is past the limits of a line and of a script.
-fn is_past(text: &[u8], ended: bool, at: usize) -> bool
-    ensures { result ≡ is_past_limits at (record { text = text.now; ended = ended }) }
-{
-    if text.len() > LINE_LIMIT {
-        return true;
-    }
-    let whole = if ended { text.len() + 1 } else { text.len() };
-    at > SCRIPT_LIMIT - whole
 }
 
 /// Whether each byte of a text is ASCII.

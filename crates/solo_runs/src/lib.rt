@@ -9,7 +9,7 @@ mod refusal;
 mod solo;
 mod step;
 
-pub use form::{breaks_text, is_invite, is_text_line, size_of_line, solo_step};
+pub use form::{is_invite, is_text_line, size_of_line, solo_step};
 pub use laws::first_scripts_show_the_journal;
 pub use lines::{
     write_bad_drawing, write_broken, write_frame, write_joined, write_journal_full, write_nothing,

@@ -7,7 +7,7 @@ mod step;
 
 pub use fault::ScriptFault;
 pub use found::{do_found, put, refuse};
-pub use step::{FORM_RULE, PENDING_RULE, TEXT_RULE, do_line};
+pub use step::{FORM_RULE, TEXT_RULE};
 
 #[cfg(test)]
 mod tests;

@@ -22,12 +22,12 @@ pub const TEXT_RULE: u8 = 2;
 pub const FORM_RULE: u8 = 3;
 
 /// The rule of the most fills that a take may find.
-pub const PENDING_RULE: u8 = 8;
+pub(crate) const PENDING_RULE: u8 = 8;
 
 /// Does what a line asks for, and writes its line of the capture, or answers the rule that it breaks and leaves run and buffer as they were.
 ///
 /// It fails only for want of memory; no clause then describes the run's registers, and a front of the line may stand in the buffer.
-pub fn do_line(
+pub(crate) fn do_line(
     alloc: Global,
     out: &mut Vec<u8>,
     run: &mut SoloRun,

@@ -1,11 +1,11 @@
-use Rattle.std.proofs.Common.{◌≡◌, ℕ, ◌∙◌, ap, sym, subst, arith}
+use Rattle.std.proofs.Common.{◌∙◌, sym, subst, arith}
 use Rattle.std.proofs.lemmas.Result.{err_from_is_err_and}
 use Rattle.std.specs.Prelude.{Err}
 use Rattle.line_read.specs.Reading.{ahead}
 use Rattle.solo_script.specs.Steps.{WritesCause}
 use Rattle.rdp_host.specs.Run.{ReadsCause}
-use Rattle.rdp_host.specs.Reading.{Stands, DoesNext, DoesAll, of_rest, of_lines}
-use Rattle.rdp_host.proofs.Continued.{stands_on, stands_at_first, stands_last, ends_at_first, shorter, has_room, reads_on, writes_on}
+use Rattle.rdp_host.specs.Reading.{Stands, DoesAll, of_rest}
+use Rattle.rdp_host.proofs.Continued.{stands_on, stands_at_first, stands_last, shorter, has_room, reads_on, writes_on}
 use Rattle.rdp_host.proofs.lines.do_lines.Goals as goal
 
 -- src/lines.rt:37:5

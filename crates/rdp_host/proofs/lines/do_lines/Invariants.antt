@@ -1,4 +1,4 @@
-use Rattle.std.proofs.Common.{◌≡◌, ℕ, ◌-◌, suc}
+use Rattle.std.proofs.Common.{◌≡◌, ◌-◌, suc}
 use Rattle.std.specs.Prelude.{if◌then◌else◌}
 use Rattle.line_read.specs.Reading.{ahead}
 use Rattle.line_text.specs.Lines.{script_limit}

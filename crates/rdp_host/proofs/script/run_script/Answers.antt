@@ -1,4 +1,4 @@
-use Rattle.rdp_host.proofs.Whole.{sized_run, broken_run, nothing_written}
+use Rattle.rdp_host.proofs.Whole.{sized_run, broken_run}
 use Rattle.rdp_host.proofs.script.run_script.Goals as goal
 
 -- src/script.rt:28:1
