@@ -173,6 +173,15 @@ ends_at_first fault.ReadFault whole size at next_at t before now told telling d 
 ends_at_first fault.WriteFault whole size at next_at t before now told telling d = d
 ends_at_first fault.OutOfMemory whole size at next_at t before now told telling d = d
 
+-- all lines were done behind those that were
+pub all_after : (result : Result (Unit {0}) ScriptFault) (before between now : Option (List ℕ)) (whole rest : Sense) (told mid telling : Option (List ℕ)) →
+    Goes before between whole rest told mid → DoesAll result rest between now mid telling → DoesAll result whole before now told telling
+all_after (Ok x) before between now whole rest told mid telling g d = (ends_later before between now whole rest g.text g.continues d.0, goes_stops before between whole rest None told mid telling g d.1)
+all_after (Err (fault.Line line rule)) before between now whole rest told mid telling g d = (d.0, goes_stops before between whole rest _ told mid telling g d.1)
+all_after (Err fault.ReadFault) before between now whole rest told mid telling g d = fronts_later before between whole rest told mid telling g d
+all_after (Err fault.WriteFault) before between now whole rest told mid telling g d = fronts_later before between whole rest told mid telling g d
+all_after (Err fault.OutOfMemory) before between now whole rest told mid telling g d = fronts_later before between whole rest told mid telling g d
+
 -- ---- the loop over the lines
 
 pub has_room : (goes_on : Bool) (whole : Sense) (size : Size) (k at : ℕ) (s : Solo) (before now told telling : Option (List ℕ)) → Stands goes_on whole size k at s before now told telling → goes_on ≡ true → k + 1 < 2 ^ 32

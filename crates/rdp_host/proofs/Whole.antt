@@ -2,7 +2,7 @@
 use Rattle.std.proofs.Common.{◌≡◌, ℕ, List, [], ◌∷◌, ◌++◌, ap, sym, ◌∙◌, subst, Some, None, arith}
 use Rattle.std.specs.Prelude.{Option, Result, Ok, Err}
 use Rattle.std.specs.Io.KnownBytes.{IsAtEnd, prepend_known}
-use Rattle.std.proofs.KnownBytes.{prepend_known-nil}
+use Rattle.std.proofs.KnownBytes.{prepend_known-nil, Appends-nil}
 use Rattle.edge_io.specs.Sink.{AppendsFront}
 use Rattle.px_core.specs.declared.surface.Size.{Size}
 use Rattle.line_read.specs.Reading.{LineReading, new_reading, ahead}
@@ -21,8 +21,8 @@ use Rattle.script_rules.specs.Capture.{broken_line}
 use Rattle.rdp_host.specs.declared.opening.FirstLine.{FirstLine}
 use Rattle.rdp_host.specs.declared.opening.FirstLine.TheVariants as first
 use Rattle.rdp_host.specs.Run.{Tells, EndsWhereTold, WritesTheCapture, WritesAFront, RunsScript}
-use Rattle.rdp_host.specs.Reading.{Sense, of_script, of_rest, Continues, Comes, Stops, Fronts, DoesAll, Opens}
-use Rattle.rdp_host.proofs.Continued.{front_none, fronts_all, tells_of_all}
+use Rattle.rdp_host.specs.Reading.{of_script, of_rest, Comes, Goes, Stops, Fronts, DoesAll, Opens}
+use Rattle.rdp_host.proofs.Continued.{front_none, fronts_all, tells_of_all, all_after}
 
 is_small : (o : Opening) → IsSmall (refusal_of o) → IsSmallOpening o
 is_small NoSize h = tt
@@ -66,40 +66,15 @@ all_captured (Err fault.ReadFault) left rest told telling held d = captured_fron
 all_captured (Err fault.WriteFault) left rest told telling held d = captured_front left told telling d
 all_captured (Err fault.OutOfMemory) left rest told telling held d = captured_front left told telling d
 
-ends_later : (before between now : Option (List ℕ)) (rest : Sense) → Continues before between of_script [] rest → EndsWhereTold between now → EndsWhereTold before now
-ends_later None between now rest c e = tt
-ends_later (Some bytes) None now rest c e = absurd c
-ends_later (Some bytes) (Some left) now rest c e = e
-
-comes_later : (before between : Option (List ℕ)) (rest : Sense) (text : List ℕ) (refused : Option LineRefusal) → Continues before between of_script [] rest → Comes between rest text refused → Comes before of_script text refused
-comes_later None between rest text refused c d = tt
-comes_later (Some bytes) None rest text refused c d = absurd c
-comes_later (Some bytes) (Some left) rest text refused c d = (c.0 ∙ d.0, c.1 ∙ d.1)
-
-stops_later : (before between : Option (List ℕ)) (rest : Sense) (refused : Option LineRefusal) (told telling : Option (List ℕ)) → Continues before between of_script [] rest → Stops between rest refused told telling → Stops before of_script refused told telling
-stops_later before between rest refused told telling c s = record { text = s.text; written = s.written; comes = comes_later before between rest s.text refused c s.comes }
-
-fronts_on : (before between : Option (List ℕ)) (rest : Sense) (told telling : Option (List ℕ)) → Continues before between of_script [] rest → Fronts between rest told telling → Fronts before of_script told telling
-fronts_on None between rest told telling c f = tt
-fronts_on (Some bytes) None rest told telling c f = absurd c
-fronts_on (Some bytes) (Some left) rest told telling c f = subst (AppendsFront told telling) (sym c.0) f
-
-all_done : (result : Result (Unit {0}) ScriptFault) (before between now : Option (List ℕ)) (rest : Sense) (told telling : Option (List ℕ)) → Continues before between of_script [] rest →
-    DoesAll result rest between now told telling → DoesAll result of_script before now told telling
-all_done (Ok x) before between now rest told telling c d = (ends_later before between now rest c d.0, stops_later before between rest None told telling c d.1)
-all_done (Err (fault.Line line rule)) before between now rest told telling c d = (d.0, stops_later before between rest _ told telling c d.1)
-all_done (Err fault.ReadFault) before between now rest told telling c d = fronts_on before between rest told telling c d
-all_done (Err fault.WriteFault) before between now rest told telling c d = fronts_on before between rest told telling c d
-all_done (Err fault.OutOfMemory) before between now rest told telling c d = fronts_on before between rest told telling c d
-
 -- a run whose first line gives a size, and which did all lines after it, wrote its capture
 pub sized_run : (result : Result (Unit {0}) ScriptFault) (answer : FirstLine) (size : Size) (at : ℕ) (old between now : LineReading) (left mid rest told telling : Option (List ℕ)) → answer ≡ first.Sized size → old ≡ new_reading →
     Opens answer (ahead old left) (ahead between mid) between.at → DoesAll result (of_rest size between.at) (ahead between mid) (ahead now rest) told telling → RunsScript result left rest told telling
 sized_run result answer size at old between now left mid rest told telling is begins opens d =
     let sized : Opens (first.Sized size) (ahead old left) (ahead between mid) between.at = subst (λ a. Opens a (ahead old left) (ahead between mid) between.at) is opens in
     let whole : ahead old left ≡ left = ap (λ r. ahead r left) begins ∙ prepend_known-nil left in
+    let goes : Goes (ahead old left) (ahead between mid) of_script (of_rest size between.at) told told = record { text = []; written = Appends-nil told; continues = sized.1 } in
     all_captured result left rest told telling now.held (subst (λ b. DoesAll result of_script b (ahead now rest) told telling) whole
-    (all_done result (ahead old left) (ahead between mid) (ahead now rest) (of_rest size between.at) told telling sized.1 d))
+    (all_after result (ahead old left) (ahead between mid) (ahead now rest) of_script (of_rest size between.at) told told telling goes d))
 
 -- a run whose first line breaks a rule, which was written, wrote its capture
 pub broken_run : (answer : FirstLine) (refusal : ScriptFault) (rule : ℕ) (old between : LineReading) (left mid told telling : Option (List ℕ)) → answer ≡ first.Breaks rule → old ≡ new_reading →
