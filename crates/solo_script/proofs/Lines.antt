@@ -1,6 +1,6 @@
 -- What is done where a line was found.
 use Rattle.std.proofs.Common.{◌≡◌, ℕ, List, [], ◌++◌, refl, ap, sym, ◌∙◌, subst, Some, None, Bool}
-use Rattle.std.specs.Prelude.{Option, Result, Ok, Err}
+use Rattle.std.specs.Prelude.{Option, Err}
 use Rattle.std.specs.Io.KnownBytes.{Appends}
 use Rattle.px_core.specs.declared.surface.Size.{Size}
 use Rattle.solo_runs.specs.Solo.{Solo, solo_line}
