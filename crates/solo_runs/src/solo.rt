@@ -1,5 +1,5 @@
 //! The state of a run of one viewer: the patches that it was asked to fill, and what was sent of them.
-ghost use Rattle.std.specs.Prelude.{◌≡◌, ◌≤◌, ◌++◌, nat_lt, option_map, length, true, IsTrue, OnOk, OnErr, IfOk};
+ghost use Rattle.std.specs.Prelude.{◌≡◌, ◌≤◌, ◌++◌, nat_lt, option_map, length, true, None, IsTrue, OnOk, OnErr, IfOk};
 ghost use Rattle.px_core.specs.Rectangle.{is_session_size};
 ghost use Rattle.wire_num.specs.Written.{AppendsFront};
 ghost use Rattle.solo_runs.specs.Solo.{solo_at_first, pending, next_bytes, patch_refusal, refusal_of_fill, after_fill, takes_frame, after_take, IsInRange};
@@ -53,12 +53,13 @@ impl SoloRun {
         }
     }
 
-    /// Accepts a patch, or says why it is refused. An `Err` leaves the run as it was.
+    /// Accepts a patch, or says why it is refused. An `Err` leaves the run as it was, and comes only of a patch that isn't refused.
     pub fn fill(&mut self, patch: Patch) -> Result<Option<FillRefusal>, OutOfMemory>
         requires { IsInRange (Fill patch) }
         ensures answer { IfOk result (λ refusal. option_map refusal_of_fill refusal ≡ patch_refusal self.old patch) }
         ensures after { OnOk result (self.new ≡ after_fill (patch_refusal self.old patch) self.old patch) }
         ensures memory { OnErr result (self.new ≡ self.old) }
+        ensures accepted { OnErr result (patch_refusal self.old patch ≡ None) }
     {
         let refusal = fill_refusal(self.patches.len(), patch.rect);
         if refusal.is_none() {

@@ -8,6 +8,7 @@ use Rattle.std.specs.declared.result.Result.TheVariants.{Ok, Err}
 use Rattle.px_core.specs.declared.surface.Size.{Size}
 use Rattle.edge_io.specs.Faults.{Rose}
 use Rattle.edge_io.specs.Sink.{AppendsFront}
+use Rattle.line_text.specs.Hexadecimal.{HoldsFront}
 use Rattle.line_text.specs.Words.{words_of}
 use Rattle.line_read.specs.declared.reader.Found.{Found}
 use Rattle.line_read.specs.declared.reader.Found.TheVariants as found
@@ -23,6 +24,11 @@ use Rattle.solo_script.specs.declared.fault.ScriptFault.TheVariants as fault
 -- what a line within the limits asks for, or the rule that it breaks
 abbrev pub line_within : Solo → List ℕ → Bool → SoloLine
 line_within s text ended = unless_text (not (ended && all_bytes is_ascii text)) (asks_for s (solo_form (words_of text)))
+
+-- a line asks for a step, and a front of what the step writes was appended
+abbrev pub AppendsStep : SoloLine → Size → Solo → List ℕ → List ℕ → Type 0
+AppendsStep (BreaksRule rule) size s old new = ⊥
+AppendsStep (AsksFor step) size s old new = HoldsFront old new (solo_line size s step)
 
 -- what was answered of a line: the rule that it breaks, with nothing done, or its step done and its line of the capture written
 abbrev pub DoesLine : SoloLine → Option ℕ → Size → Solo → Solo → List ℕ → List ℕ → Type 0

@@ -1,4 +1,4 @@
-ghost use Rattle.std.specs.Prelude.{◌≡◌, ◌++◌, OnOk, OnErr, IfErr, IsTrue};
+ghost use Rattle.std.specs.Prelude.{◌≡◌, ◌<◌, ◌++◌, [], length, OnOk, OnErr, IfErr, IsTrue};
 ghost use Rattle.std.specs.Io.KnownBytes.{Appends};
 ghost use Rattle.edge_io.specs.Sink.{AppendsFront};
 ghost use Rattle.px_core.specs.Rectangle.{is_session_size};
@@ -73,12 +73,14 @@ fn write_refusal<K: Sink>(
     put(output, &line)
 }
 
-/// Writes bytes; where there are none the output isn't called. An `Err` leaves a front of them there.
+/// Writes bytes; where there are none the output isn't called, and it doesn't fail. An `Err` leaves a front of them there.
 pub fn put<K: Sink>(output: &mut K, bytes: &[u8]) -> Result<(), ScriptFault>
     ensures written { OnOk result (Appends (K.told output.old) (K.told output.new) bytes.now) }
     ensures front { OnErr result (AppendsFront (K.told output.old) (K.told output.new) bytes.now) }
     ensures fault { IfErr result IsWriteFault }
     ensures cause { WritesCause result (K.faults output.old) (K.faults output.new) }
+    ensures untouched { bytes.now ≡ [] → output.new ≡ output.old }
+    ensures some { OnErr result (0 < length bytes.now) }
 {
     if bytes.is_empty() {
         return Ok(());

@@ -1,10 +1,11 @@
-ghost use Rattle.std.specs.Prelude.{◌≡◌, ◌++◌, OnOk, IfOk, IfErr, IsTrue};
+ghost use Rattle.std.specs.Prelude.{◌≡◌, ◌++◌, false, OnOk, OnErr, IfOk, IfErr, IsTrue};
+ghost use Rattle.line_text.specs.Hexadecimal.{HoldsFront};
 ghost use Rattle.px_core.specs.Rectangle.{is_session_size};
 ghost use Rattle.solo_runs.specs.Solo.{solo_line, solo_after, IsInRange};
 ghost use Rattle.solo_runs.specs.SoloScript.{unless_many, finds_many};
 ghost use Rattle.solo_runs.specs.declared.step.SoloStep.TheVariants.{Take, Fill};
 ghost use Rattle.solo_script.specs.declared.fault.ScriptFault.TheVariants.{OutOfMemory};
-ghost use Rattle.solo_script.specs.Steps.{line_within, DoesLine};
+ghost use Rattle.solo_script.specs.Steps.{line_within, DoesLine, AppendsStep};
 
 use crate::fault::ScriptFault;
 use fill_frames::Patch;
@@ -26,7 +27,9 @@ pub(crate) const PENDING_RULE: u8 = 8;
 
 /// Does what a line asks for, and writes its line of the capture, or answers the rule that it breaks and leaves run and buffer as they were.
 ///
-/// It fails only for want of memory; no clause then describes the run's registers, and a front of the line may stand in the buffer.
+/// It fails only for want of memory, and only of a line that breaks no rule. Then a front of its line of the capture was appended, and the
+/// run has the patches that it had; no clause describes how many of them count as sent, nor the registers.
+#[tactic(auto, using(crate::proofs::Fronts::none_of_it))]
 pub(crate) fn do_line(
     alloc: Global,
     out: &mut Vec<u8>,
@@ -38,6 +41,8 @@ pub(crate) fn do_line(
     requires { IsTrue (is_session_size size.w size.h) }
     ensures done { IfOk result (λ broken. DoesLine (line_within run.old text.now ended) broken size run.old run.new out.old.items out.new.items) }
     ensures memory { IfErr result (λ fault. fault ≡ OutOfMemory) }
+    ensures front { OnErr result (AppendsStep (line_within run.old text.now ended) size run.old out.old.items out.new.items) }
+    ensures patches { OnErr result (run.new.patches ≡ run.old.patches) }
 {
     if !is_text_line(text, ended) {
         return Ok(Some(TEXT_RULE));
@@ -52,7 +57,8 @@ pub(crate) fn do_line(
     }
 }
 
-/// Lets the viewer take a frame, or answers the rule on the most fills that one may find.
+/// Lets the viewer take a frame, or answers the rule on the most fills that one may find, which needs no memory.
+#[tactic(auto, using(crate::proofs::Fronts::none_of_it))]
 fn take(
     alloc: Global,
     out: &mut Vec<u8>,
@@ -62,6 +68,9 @@ fn take(
     requires { IsTrue (is_session_size size.w size.h) }
     ensures done { IfOk result (λ broken. DoesLine (unless_many (finds_many run.old Take) Take) broken size run.old run.new out.old.items out.new.items) }
     ensures memory { IfErr result (λ fault. fault ≡ OutOfMemory) }
+    ensures few { OnErr result (finds_many run.old Take ≡ false) }
+    ensures front { OnErr result (HoldsFront out.old.items out.new.items (solo_line size run.old Take)) }
+    ensures patches { OnErr result (run.new.patches ≡ run.old.patches) }
 {
     if run.finds_many() {
         return Ok(Some(PENDING_RULE));
@@ -88,6 +97,7 @@ fn fill(
     ensures after { OnOk result (run.new ≡ solo_after size run.old (Fill patch)) }
     ensures line { OnOk result (out.new.items ≡ out.old.items ++ solo_line size run.old (Fill patch)) }
     ensures memory { IfErr result (λ fault. fault ≡ OutOfMemory) }
+    ensures unchanged { OnErr result ((run.new ≡ run.old) × (out.new.items ≡ out.old.items)) }
 {
     match run.fill(patch)? {
         None => {}
