@@ -4,36 +4,16 @@
 # difference: so what a process takes to start, and to make its tile, isn't in it.
 #
 # Run at the top of the repository: sh bench/codec.sh. It needs valgrind and rt, and writes a table.
-set -eu
-LC_ALL=C
-export LC_ALL
+bench=bench_codec
+. "$(dirname "$0")/instructions.sh"
 
 few=1
 many=11
-times=$((many - few))
 kinds='flat window grey_text bit_text photo noise'
 # SRCCOPY, PATCOPY, SRCINVERT, the three with loops of their own; then others, by their codes.
 codes='204 240 102 0 85 90 136 184 226 238 251 255'
 rows=100
 pixels=64
-
-here=$(cd "$(dirname "$0")/.." && pwd)
-program=$here/crates/bench_codec/out/bench_codec
-scratch=$(mktemp -d)
-trap 'rm -rf "$scratch"' EXIT
-
-(cd "$here/crates/bench_codec" && rt run <stdin >"$scratch/stdout" 2>"$scratch/stderr") || {
-    cat "$scratch/stderr" >&2
-    exit 1
-}
-
-# The instructions of one run over a line.
-count() {
-    echo "$1" >"$scratch/line"
-    valgrind --tool=callgrind --callgrind-out-file="$scratch/callgrind" "$program" \
-        <"$scratch/line" >"$scratch/stdout" 2>"$scratch/stderr"
-    sed -n 's/^.*Collected : \([0-9]*\).*$/\1/p' "$scratch/stderr"
-}
 
 # The instructions that one repetition of a request takes: repeated FEW and MANY times.
 each() {
