@@ -34,7 +34,7 @@ enough zero j bytes hk hj = sym (cut_none j bytes hk)
 enough (suc k) zero bytes hk hj = cut_none (suc k) bytes hj
 enough (suc k) (suc j) bytes hk hj = enough_by (packet_at bytes) k j bytes refl hk hj (enough k j)
 
-once : (bytes : List ℕ) → packets_of bytes ≡ cut_by (packet_at bytes) bytes (λ after. cut_from (length bytes) after)
+pub once : (bytes : List ℕ) → packets_of bytes ≡ cut_by (packet_at bytes) bytes (λ after. cut_from (length bytes) after)
 once bytes = enough (length bytes) (suc (length bytes)) bytes (omega arith) (omega arith)
 
 pub whole_is_cut : (bytes : List ℕ) (n : ℕ) → packet_at bytes ≡ Whole n → packets_of bytes ≡ after_packets (take n bytes ∷ []) (packets_of (drop n bytes))

@@ -1,8 +1,23 @@
 -- The packets of a stream that comes in pieces.
-use Rattle.std.specs.Prelude.{ℕ, zero, suc, List, [], ◌∷◌, ◌++◌, length, take, drop}
+use Rattle.std.specs.Prelude.{◌≡◌, ◌<◌, ℕ, zero, suc, List, [], ◌∷◌, ◌++◌, length, take, drop, flat_map}
+use Rattle.std.specs.List.{AllByRecursion}
 use Rattle.tpkt_x224.specs.declared.tpkt.Packet.{Packet}
 use Rattle.tpkt_x224.specs.declared.tpkt.Packet.TheVariants.{Whole, Part, NotTpkt, BadLength}
-use Rattle.tpkt_x224.specs.Tpkt.{packet_at}
+use Rattle.tpkt_x224.specs.Tpkt.{IsPacket, packet_at}
+
+-- a whole packet stands at the head
+abbrev pub StartsWithPacket : List ℕ → Type 0
+StartsWithPacket bytes = (packet : List ℕ) × (more : List ℕ) × IsPacket packet × (bytes ≡ packet ++ more)
+
+-- these bytes, which may be none, are a packet's, and not all of it
+abbrev pub IsPartOfPacket : List ℕ → Type 0
+IsPartOfPacket bytes = (more : List ℕ) × (0 < length more) × IsPacket (bytes ++ more)
+
+-- A stream is these packets and this rest: one behind the other they are the stream, and no whole packet is left in the rest.
+pub record IsStreamOf (bytes : List ℕ) (packets : List (List ℕ)) (rest : List ℕ) : Type 0 where
+  pub joined : flat_map (λ packet. packet) packets ++ rest ≡ bytes
+  pub each : AllByRecursion IsPacket packets
+  pub left : StartsWithPacket rest → ⊥
 
 -- the whole packets of a stream so far, and the bytes after them: nothing, a part of a packet, or a fault
 pub record Cut : Type 0 where
