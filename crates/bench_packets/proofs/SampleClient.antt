@@ -34,7 +34,7 @@ unfolding create_request client_data_at user_data_at client_blocks_at blocks_at 
 client = refl
 
 erect : answer_of ErectDomain (sample ErectDomain) ≡ 1
-unfolding erect_domain_request wanted_at passing_at big_at bytes_at end_at
+unfolding erect_domain_request wanted_at passing_at big_at bytes_at
 erect = refl
 
 join : answer_of ChannelJoin (sample ChannelJoin) ≡ 1007

@@ -1,5 +1,5 @@
 -- The definitions on a sample client's packets, and on texts that break a rule.
-use Rattle.std.proofs.Common.{◌≡◌, [], ◌∷◌, refl}
+use Rattle.std.proofs.Common.{◌≡◌, [], ◌∷◌, drop, refl}
 use Rattle.std.specs.Prelude.{Ok, Err}
 use Rattle.wire_num.specs.Field.{bytes_at, big_at, passing_at, end_at}
 use Rattle.wire_num.specs.Length.{per_len_at}
@@ -13,8 +13,18 @@ use Rattle.mcs_dom.specs.Ultimatum.{ultimatum, ultimatum_packet}
 use Rattle.mcs_dom.specs.DomainPdu.{domain_pdu_of}
 
 erects : domain_pdu_of (4 ∷ 1 ∷ 0 ∷ 1 ∷ 0 ∷ []) ≡ Ok Erect
-unfolding erect_domain_request wanted_at passing_at big_at bytes_at end_at
+unfolding erect_domain_request wanted_at passing_at big_at bytes_at
 erects = refl
+
+-- the packet of a client that writes two plain numbers of two bytes, behind its Data header
+erects_by_plain_numbers : domain_pdu_of (drop 7 (3 ∷ 0 ∷ 0 ∷ 12 ∷ 2 ∷ 240 ∷ 128 ∷ 4 ∷ 0 ∷ 1 ∷ 0 ∷ 1 ∷ [])) ≡ Ok Erect
+unfolding erect_domain_request wanted_at passing_at big_at bytes_at
+erects_by_plain_numbers = refl
+
+-- an integer of two bytes of which one is there
+half_an_integer : domain_pdu_of (4 ∷ 1 ∷ 0 ∷ 2 ∷ 7 ∷ []) ≡ Err (record { at = 4 })
+unfolding erect_domain_request wanted_at passing_at big_at bytes_at
+half_an_integer = refl
 
 attaches : domain_pdu_of (40 ∷ []) ≡ Ok Attach
 unfolding attach_user_request wanted_at end_at

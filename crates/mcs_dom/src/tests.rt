@@ -39,6 +39,23 @@ fn the_sample_client_erects_attaches_and_joins(rt: HostRuntime) {
     }
 }
 
+/// A client in use writes two plain numbers of two bytes, in the packet `03 00 00 0C 02 F0 80 04 00 01 00 01`. By the packed
+/// encoding they are an integer of no bytes, one of one byte, and a byte left over.
+#[test]
+fn bytes_after_an_erect_domain_are_dropped(rt: HostRuntime) {
+    let packet = [3, 0, 0, 0x0C, 2, 0xF0, 0x80, 0x04, 0, 1, 0, 1];
+    assert_eq!(rt; read_domain(&packet[7..]), Ok(DomainPdu::Erect));
+    let cases: [&[u8]; 4] = [
+        &[0x04, 1, 0, 1, 0],
+        &[0x04, 1, 0, 1, 0, 0],
+        &[0x04, 0, 0],
+        &[0x04, 0, 0, 0x28, 0x38],
+    ];
+    for bytes in cases {
+        assert_eq!(rt; read_domain(bytes), Ok(DomainPdu::Erect));
+    }
+}
+
 /// The place of a join's first field that a front of so many bytes hasn't.
 fn first_missing(length: usize) -> usize {
     if length == 0 {
@@ -114,12 +131,12 @@ fn a_bad_pdu_is_refused_at_its_field(rt: HostRuntime) {
         (&[0x05], 0),
         (&[0x23, 0x00], 0),
         (&[0x68, 0, 1, 3, 0xEB, 0x70, 1, 0], 0),
-        // Erect Domain: a count that is missing, a value that doesn't fit, bytes left over
+        // Erect Domain: a count that is missing, a value that doesn't fit
         (&[0x04], 1),
         (&[0x04, 2, 0], 2),
         (&[0x04, 1, 0], 3),
         (&[0x04, 1, 0, 1], 4),
-        (&[0x04, 1, 0, 1, 0, 0], 5),
+        (&[0x04, 0, 2, 0], 3),
         // Attach User: bytes left over
         (&[0x28, 0x00], 1),
         // Channel Join: a user above 65,535, bytes left over
