@@ -2,7 +2,7 @@
 use Rattle.std.proofs.Common.{◌≡◌, ℕ, zero, suc, ◌≤◌, List, [], ◌∷◌, ◌++◌, length, take, drop, refl, ap, sym, ◌∙◌, arith, length-append, append_assoc, subst}
 use Rattle.std.specs.Prelude.{flat_map}
 use Rattle.std.specs.List.{AllByRecursion}
-use Rattle.std.proofs.lemmas.List.{take-append-drop}
+use Rattle.std.proofs.lemmas.List.{take-append-drop, length-take-le}
 use Rattle.std.proofs.Math.Seq.{take-append_seam, drop-append_seam}
 use Rattle.tpkt_x224.specs.declared.tpkt.Packet.{Packet}
 use Rattle.tpkt_x224.specs.declared.tpkt.Packet.TheVariants.{Whole, Part, NotTpkt, BadLength}
@@ -22,6 +22,18 @@ started packet more p =
     let n = length packet in
     let fits : n ≤ length (packet ++ more) = omega (arith, length-append packet more) in
     (whole_head (packet ++ more) n).1 (fits, subst IsPacket (sym (take-append_seam packet more)) p)
+
+-- the same with its length
+abbrev pub HeadOf : List ℕ → ℕ → Type 0
+HeadOf bytes n = (packet : List ℕ) × (more : List ℕ) × IsPacket packet × (length packet ≡ n) × (bytes ≡ packet ++ more)
+
+pub head_is : (bytes : List ℕ) (n : ℕ) → packet_at bytes ≡ Whole n → HeadOf bytes n
+head_is bytes n e =
+    let w = (whole_head bytes n).0 e in
+    (take n bytes, drop n bytes, w.1, length-take-le n bytes w.0, sym (take-append-drop n bytes))
+
+pub head_again : (bytes : List ℕ) (n : ℕ) → HeadOf bytes n → packet_at bytes ≡ Whole n
+head_again bytes n h = ap packet_at h.4 ∙ started h.0 h.1 h.2 ∙ ap Whole h.3
 
 starts_whole : (bytes : List ℕ) (s : StartsWithPacket bytes) → packet_at bytes ≡ Whole (length s.0)
 starts_whole bytes s = ap packet_at s.3 ∙ started s.0 s.1 s.2

@@ -3,3 +3,4 @@ pub mod Pieces
 pub mod Request
 pub mod Confirm
 pub mod Data
+pub mod Grammar

@@ -4,6 +4,7 @@
 mod bad_tpdu;
 mod confirm;
 mod data;
+mod laws;
 mod pieces;
 mod request;
 mod tpkt;
@@ -11,6 +12,7 @@ mod tpkt;
 pub use bad_tpdu::BadTpdu;
 pub use confirm::write_confirm;
 pub use data::data_header;
+pub use laws::packets_are_read_exactly;
 pub use pieces::{heads_of_streams, packets_in_any_pieces};
 pub use request::{Request, read_request};
 pub use tpkt::{Packet, next_packet};
