@@ -1,2 +1,4 @@
 pub mod Indication
+pub mod PduText
+pub mod TextPdu
 pub mod SampleClient

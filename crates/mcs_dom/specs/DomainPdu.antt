@@ -1,10 +1,10 @@
 -- The domain PDUs of a client (T.125, 7, DomainMCSPDU, by the packed encoding rules).
-use Rattle.std.specs.Prelude.{ℕ, ◌==◌, List, [], ◌∷◌, length, Result, Err, if◌then◌else◌}
+use Rattle.std.specs.Prelude.{◌≡◌, ◌≤◌, ℕ, ◌==◌, List, [], ◌∷◌, length, Result, Err, if◌then◌else◌}
 use Rattle.wire_num.specs.Field.{Read, map_read, placed}
 use Rattle.wire_num.specs.Layout.{fields_at}
 use Rattle.mcs_dom.specs.declared.bad_domain.BadDomain.{BadDomain}
 use Rattle.mcs_dom.specs.declared.domain_pdu.DomainPdu.{DomainPdu}
-use Rattle.mcs_dom.specs.declared.domain_pdu.DomainPdu.TheVariants.{Erect, Attach}
+use Rattle.mcs_dom.specs.declared.domain_pdu.DomainPdu.TheVariants.{Erect, Attach, Join, Data, Bye}
 use Rattle.mcs_dom.specs.ErectDomain.{erect_domain_request}
 use Rattle.mcs_dom.specs.AttachUser.{attach_user_request}
 use Rattle.mcs_dom.specs.ChannelJoin.{channel_join_request, join_of}
@@ -47,3 +47,11 @@ domain_at size (first ∷ bs) = pdu_at (choice_of first) first size (first ∷ b
 -- the PDU that a text is
 abbrev pub domain_pdu_of : List ℕ → Result DomainPdu BadDomain
 domain_pdu_of bs = placed (λ at. record { at = at }) bs (domain_at (length bs) bs)
+
+-- data have their body at the end of a text of so many bytes
+abbrev pub HasBodyAtEnd : ℕ → DomainPdu → Type 0
+HasBodyAtEnd size Erect = Unit {0}
+HasBodyAtEnd size Attach = Unit {0}
+HasBodyAtEnd size (Join user channel) = Unit {0}
+HasBodyAtEnd size (Data user channel body) = (body.from ≤ body.to) × (body.to ≡ size)
+HasBodyAtEnd size (Bye reason) = Unit {0}

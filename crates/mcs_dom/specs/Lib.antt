@@ -5,3 +5,4 @@ pub mod ChannelJoin
 pub mod SendData
 pub mod Ultimatum
 pub mod DomainPdu
+pub mod Grammar

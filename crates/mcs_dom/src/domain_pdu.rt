@@ -5,9 +5,9 @@
 //! | 0 | 1 | choice | `04` Erect Domain Request, `28` Attach User Request, `38` Channel Join Request, `64` Send Data Request, `20` to `22` Disconnect Provider Ultimatum |
 //! | 1 | | fields of the choice | each in a file of its own |
 
-ghost use Rattle.std.specs.Prelude.{◌≡◌, length};
+ghost use Rattle.std.specs.Prelude.{◌≡◌, length, IfOk};
 ghost use Rattle.wire_num.specs.Cursor.{ReadsFields, rest};
-ghost use Rattle.mcs_dom.specs.DomainPdu.{domain_pdu_of, domain_at, pdu_at, choice_of};
+ghost use Rattle.mcs_dom.specs.DomainPdu.{domain_pdu_of, domain_at, pdu_at, choice_of, HasBodyAtEnd};
 
 use crate::attach_user::{ATTACH_USER_REQUEST, read_attach_user};
 use crate::bad_domain::BadDomain;
@@ -41,9 +41,11 @@ pub enum DomainPdu {
     },
 }
 
-/// Reads a domain PDU, which is all of the slice (T.125, 7).
+/// Reads a domain PDU, which is all of the slice (T.125, 7). The body of data is the slice's last bytes.
+#[tactic(auto, using(crate::proofs::TextPdu::body_at_end))]
 pub fn read_domain(bytes: &[u8]) -> Result<DomainPdu, BadDomain>
-    ensures { result ≡ domain_pdu_of bytes.now }
+    ensures exact { result ≡ domain_pdu_of bytes.now }
+    ensures range { IfOk result (HasBodyAtEnd (length bytes.now)) }
 {
     let mut cursor = Cursor::new(bytes);
     match read_pdu(bytes, &mut cursor) {

@@ -7,6 +7,7 @@ mod bad_domain;
 mod channel_join;
 mod domain_pdu;
 mod erect_domain;
+mod laws;
 mod send_data;
 mod ultimatum;
 mod user;
@@ -15,6 +16,7 @@ pub use attach_user::write_attach;
 pub use bad_domain::BadDomain;
 pub use channel_join::write_join;
 pub use domain_pdu::{DomainPdu, read_domain};
+pub use laws::domain_pdus_are_read_exactly;
 pub use send_data::write_indication;
 pub use ultimatum::write_end;
 
