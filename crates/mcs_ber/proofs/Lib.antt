@@ -1,5 +1,6 @@
 pub mod Within
 pub mod Parameters
 pub mod Initial
+pub mod InitialText
 pub mod Response
 pub mod SampleClient

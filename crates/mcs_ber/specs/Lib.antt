@@ -1,3 +1,4 @@
 pub mod DomainParameters
 pub mod ConnectInitial
+pub mod Grammar
 pub mod ConnectResponse

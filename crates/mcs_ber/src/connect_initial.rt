@@ -28,9 +28,11 @@ const BOOLEAN: [u8; 2] = [1, 1];
 /// The bytes of a boolean's value.
 const BOOLEAN_SIZE: usize = 1;
 
-/// Where the user data of a Connect-Initial stand, whose first byte is the slice's (T.125, 7).
+/// Where the user data of a Connect-Initial stand, whose first byte is the slice's (T.125, 7). They are the slice's last bytes.
+#[tactic(auto, using(crate::proofs::InitialText::range_is))]
 pub fn read_initial(bytes: &[u8]) -> Result<Range, BadBer>
-    ensures { result ≡ user_data_of bytes.now }
+    ensures exact { result ≡ user_data_of bytes.now }
+    ensures range { IfOk result (λ place. (place.from ≤ place.to) × (place.to ≡ length bytes.now)) }
 {
     let mut cursor = Cursor::new(bytes);
     match read_connect_initial(&mut cursor) {

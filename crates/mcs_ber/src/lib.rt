@@ -6,10 +6,12 @@ mod bad_ber;
 mod connect_initial;
 mod connect_response;
 mod domain_parameters;
+mod laws;
 
 pub use bad_ber::BadBer;
 pub use connect_initial::read_initial;
 pub use connect_response::write_response;
+pub use laws::connect_initials_are_read_exactly;
 
 #[cfg(test)]
 mod tests;

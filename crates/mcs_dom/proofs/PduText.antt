@@ -39,7 +39,8 @@ one_count [] n p = absurd p
 one_count (b ∷ []) n p = ap (λ x. x ∷ []) (sym p)
 one_count (b ∷ c ∷ count) n p = absurd p
 
-counted : (bytes count content more : List ℕ) → IsOneByte count (length content) → bytes ≡ count ++ (content ++ more) → bytes ≡ length content ∷ (content ++ more)
+counted : (bytes count content more : List ℕ) → IsOneByte count (length content) → bytes ≡ count ++ (content ++ more)
+    → bytes ≡ length content ∷ (content ++ more)
 counted bytes count content more p e = e ∙ ap (λ xs. xs ++ (content ++ more)) (one_count count (length content) p)
 
 -- ---- each PDU
@@ -66,7 +67,8 @@ unfolding channel_join_request
 join_stands bytes values left t =
     let user = t.2 in
     let channel = user.7 in
-    let all : values ≡ big_number 2 user.0 ∷ big_number 2 channel.0 ∷ [] = user.6 ∙ ap (λ xs. big_number 2 user.0 ∷ xs) (channel.6 ∙ ap (λ xs. big_number 2 channel.0 ∷ xs) channel.7.0) in
+    let all : values ≡ big_number 2 user.0 ∷ big_number 2 channel.0 ∷ [] =
+    user.6 ∙ ap (λ xs. big_number 2 user.0 ∷ xs) (channel.6 ∙ ap (λ xs. big_number 2 channel.0 ∷ xs) channel.7.0) in
     let stands : IsJoin bytes (1001 + big_number 2 user.0) (big_number 2 channel.0) = record {
       initiator = user.0;
       id = channel.0;
@@ -89,12 +91,14 @@ at_end bytes before part e = record {
 abbrev pub before_body : List ℕ → List ℕ → ℕ → List ℕ → List ℕ
 before_body initiator id flags count = 100 ∷ (initiator ++ (id ++ (flags ∷ count)))
 
-pub regrouped : (initiator id : List ℕ) (flags : ℕ) (count body : List ℕ) → 100 ∷ (initiator ++ (id ++ (flags ∷ (count ++ body)))) ≡ before_body initiator id flags count ++ body
+pub regrouped : (initiator id : List ℕ) (flags : ℕ) (count body : List ℕ)
+    → 100 ∷ (initiator ++ (id ++ (flags ∷ (count ++ body)))) ≡ before_body initiator id flags count ++ body
 regrouped initiator id flags count body =
     ap (λ xs. 100 ∷ xs) (ap (λ xs. initiator ++ xs) (sym (append_assoc id (flags ∷ count) body)) ∙ sym (append_assoc initiator (id ++ (flags ∷ count)) body))
 
 abbrev DataOf : List ℕ → List ℕ → Type 0
-DataOf bytes values = IsData bytes (1001 + slice_index values 0) (slice_index values 1) (record { from = length bytes - slice_index values 3; to = length bytes })
+DataOf bytes values =
+    IsData bytes (1001 + slice_index values 0) (slice_index values 1) (record { from = length bytes - slice_index values 3; to = length bytes })
 
 data_stands : (bytes values left : List ℕ) → IsText send_data_request bytes values left → DataOf bytes values
 unfolding send_data_request
@@ -107,7 +111,8 @@ data_stands bytes values left t =
     let all : values ≡ big_number 2 user.0 ∷ big_number 2 channel.0 ∷ bits ∷ length body.1 ∷ [] =
     user.6 ∙ ap (λ xs. big_number 2 user.0 ∷ xs) (channel.6 ∙ ap (λ xs. big_number 2 channel.0 ∷ xs) (flags.6 ∙ ap (λ xs. bits ∷ xs) body.4)) in
     let whole : bytes ≡ 100 ∷ (user.0 ++ (channel.0 ++ (bits ∷ (body.0 ++ body.1)))) =
-    t.1 ∙ ap (λ xs. 100 ∷ xs) (user.5 ∙ ap (λ xs. user.0 ++ xs) (channel.5 ∙ ap (λ xs. channel.0 ++ xs) (flags.5 ∙ ap (λ xs. xs ++ flags.1) (one_byte flags.0 flags.3) ∙ ap (λ xs. bits ∷ xs) body.3))) in
+    t.1 ∙ ap (λ xs. 100 ∷ xs) (user.5 ∙ ap (λ xs. user.0 ++ xs) (channel.5
+    ∙ ap (λ xs. channel.0 ++ xs) (flags.5 ∙ ap (λ xs. xs ++ flags.1) (one_byte flags.0 flags.3) ∙ ap (λ xs. bits ∷ xs) body.3))) in
     let stands : DataOf bytes (big_number 2 user.0 ∷ big_number 2 channel.0 ∷ bits ∷ length body.1 ∷ []) = record {
       initiator = user.0;
       id = channel.0;
@@ -156,7 +161,8 @@ chosen first e = chosen_by first (chooses (first == 4) (first == 40) (first == 5
 known_reason : (reason : ℕ) → nat_le reason 4 ≡ true → reason ≤ 4
 known_reason reason e = grind (arith, nat_tests, e)
 
-ultimatum_stands : (first : ℕ) (bytes values left : List ℕ) → InOrder first → IsText (ultimatum first) bytes values left → IsUltimatum bytes (reason_of first (slice_index values 0))
+ultimatum_stands : (first : ℕ) (bytes values left : List ℕ) → InOrder first → IsText (ultimatum first) bytes values left
+    → IsUltimatum bytes (reason_of first (slice_index values 0))
 unfolding ultimatum
 ultimatum_stands first bytes values left o t =
     let second = t.2 in
@@ -178,7 +184,8 @@ ultimatum_stands first bytes values left o t =
 abbrev Stands : List ℕ → DomainPdu → Type 0
 Stands bytes pdu = IsDomainPdu bytes pdu
 
-stands_by : (c : Choice) (first : ℕ) (bytes : List ℕ) (y : DomainPdu × List ℕ) → choice_of first ≡ c → pdu_at c first (length bytes) bytes ≡ Ok y → Stands bytes y.0
+stands_by : (c : Choice) (first : ℕ) (bytes : List ℕ) (y : DomainPdu × List ℕ) → choice_of first ≡ c → pdu_at c first (length bytes) bytes ≡ Ok y
+    → Stands bytes y.0
 stands_by ErectDomainRequest first bytes y o e =
     let m = map_ok (λ _. Erect) (fields_at erect_domain_request bytes) y e in
     subst (Stands bytes) m.2 (erect_stands bytes m.0.0 m.0.1 (read_is_text erect_domain_request bytes m.0.0 m.0.1 m.1))
@@ -200,7 +207,8 @@ domain_stands : (bytes : List ℕ) (y : DomainPdu × List ℕ) → domain_at (le
 domain_stands [] y e = absurd (let no : ⊥ = cc in no)
 domain_stands (first ∷ bs) y e = stands_by (choice_of first) first (first ∷ bs) y refl e
 
-placed_ok : (bs : List ℕ) (r : Read DomainPdu) (pdu : DomainPdu) → placed (λ at. let fault : BadDomain = record { at = at } in fault) bs r ≡ Ok pdu → (left : List ℕ) × (r ≡ Ok (pdu, left))
+placed_ok : (bs : List ℕ) (r : Read DomainPdu) (pdu : DomainPdu) → placed (λ at. let fault : BadDomain = record { at = at } in fault) bs r ≡ Ok pdu
+    → (left : List ℕ) × (r ≡ Ok (pdu, left))
 placed_ok bs (Ok v) pdu e =
     let h : v.0 ≡ pdu = cc in (v.1, ap (λ q. Ok (q, v.1)) h)
 placed_ok bs (Err left) pdu e = absurd (let no : ⊥ = cc in no)

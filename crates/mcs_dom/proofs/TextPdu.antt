@@ -43,7 +43,8 @@ attach_again : (bytes : List ℕ) → bytes ≡ 40 ∷ [] → IsText attach_user
 unfolding attach_user_request
 attach_again bytes e = ([], e, (refl, refl, refl))
 
-join_again : (bytes : List ℕ) (user channel : ℕ) (j : IsJoin bytes user channel) → IsText channel_join_request bytes (big_number 2 j.initiator ∷ big_number 2 j.id ∷ []) []
+join_again : (bytes : List ℕ) (user channel : ℕ) (j : IsJoin bytes user channel)
+    → IsText channel_join_request bytes (big_number 2 j.initiator ∷ big_number 2 j.id ∷ []) []
 unfolding channel_join_request
 join_again bytes user channel j = (
   j.initiator ++ j.id,
@@ -123,7 +124,8 @@ abbrev got : DomainPdu → Result DomainPdu BadDomain
 got pdu = Ok pdu
 
 -- a text of the table of its first byte
-read_by : (first : ℕ) (rest bytes : List ℕ) (c : Choice) (pdu : DomainPdu) (left : List ℕ) → bytes ≡ first ∷ rest → choice_of first ≡ c → pdu_at c first (length bytes) bytes ≡ Ok (pdu, left)
+read_by : (first : ℕ) (rest bytes : List ℕ) (c : Choice) (pdu : DomainPdu) (left : List ℕ) → bytes ≡ first ∷ rest → choice_of first ≡ c
+    → pdu_at c first (length bytes) bytes ≡ Ok (pdu, left)
     → domain_pdu_of bytes ≡ got pdu
 read_by first rest bytes c pdu left e o r =
     let fault : ℕ → BadDomain = λ at. record { at = at } in
@@ -139,7 +141,8 @@ same_join a b user channel e f = ap (λ x. Join x b) (sym e) ∙ ap (λ y. Join 
 abbrev place_of : ℕ → ℕ → Range
 place_of from to = record { from = from; to = to }
 
-same_data : (a b user channel : ℕ) (place : Range) (from to : ℕ) → user ≡ a → channel ≡ b → place.from ≡ from → place.to ≡ to → Data a b (place_of from to) ≡ Data user channel place
+same_data : (a b user channel : ℕ) (place : Range) (from to : ℕ) → user ≡ a → channel ≡ b → place.from ≡ from → place.to ≡ to
+    → Data a b (place_of from to) ≡ Data user channel place
 same_data a b user channel place from to e f g h =
     ap (λ x. Data x b (place_of from to)) (sym e)
     ∙ ap (λ y. Data user y (place_of from to)) (sym f)
@@ -174,7 +177,8 @@ pdu_again bytes (Data user channel body) d =
     let place = d.place in
     read_by 100 (d.initiator ++ (d.id ++ (d.flags ∷ (d.count ++ d.carried)))) bytes SendDataRequest (Data user channel body) [] d.whole refl
     (ap (map_read (data_of (length bytes))) (text_is_read send_data_request bytes values [] (data_again bytes user channel body d))
-    ∙ ap got_read (same_data (1001 + big_number 2 d.initiator) (big_number 2 d.id) user channel body (length bytes - length d.carried) (length bytes) d.by.is d.on.is
+    ∙ ap got_read (same_data (1001 + big_number 2 d.initiator) (big_number 2 d.id) user channel body (length bytes - length d.carried) (length bytes)
+    d.by.is d.on.is
     (place.from ∙ from_end bytes place.before d.carried place.whole) place.to))
 pdu_again bytes (Bye reason) u =
     let k : ℕ = u.first - 32 in

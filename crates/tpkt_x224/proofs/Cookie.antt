@@ -72,7 +72,9 @@ shorter b text e is = record {
 line_end : IsCookie (13 ∷ 10 ∷ [])
 line_end = record {
   ended = ([], refl);
-  first = λ behind h. let e : 2 ≡ length (h.0 ++ (13 ∷ 10 ∷ behind)) = ap length h.1 in nil_from_length behind (omega (arith, e, length-append h.0 (13 ∷ 10 ∷ behind)));
+  first = λ behind h.
+      let e : 2 ≡ length (h.0 ++ (13 ∷ 10 ∷ behind)) = ap length h.1 in
+      nil_from_length behind (omega (arith, e, length-append h.0 (13 ∷ 10 ∷ behind)));
 }
 
 -- ---- what is behind the first line is behind a cookie, or there is no line
@@ -115,7 +117,9 @@ behind_line (b ∷ bs) = behind_by (ends_here b bs) b bs refl (behind_line bs)
 -- ---- and nothing else is
 
 no_cookie : (text : List ℕ) → length text ≤ 1 → IsCookie text → ⊥
-no_cookie text h is = let e : length text ≡ length (is.ended.0 ++ (13 ∷ 10 ∷ [])) = ap length is.ended.1 in omega (arith, h, e, length-append is.ended.0 (13 ∷ 10 ∷ []))
+no_cookie text h is =
+    let e : length text ≡ length (is.ended.0 ++ (13 ∷ 10 ∷ [])) = ap length is.ended.1 in
+    omega (arith, h, e, length-append is.ended.0 (13 ∷ 10 ∷ []))
 
 -- a line that ends in a cookie's second byte ends the cookie
 ended_cookie : (b : ℕ) (text after : List ℕ) → IsCookie (b ∷ text) → EndsHere b (text ++ after) → drop 1 (text ++ after) ≡ after
@@ -131,7 +135,8 @@ same_end : (b : ℕ) (text after : List ℕ) → ends_here b (text ++ after) ≡
 same_end b [] after e is = absurd (no_cookie (b ∷ []) (omega arith) is)
 same_end b (c ∷ text) after e is = e
 
-line_by : (t : Bool) (b : ℕ) (text after : List ℕ) → ends_here b (text ++ after) ≡ t → IsCookie (b ∷ text) → (IsCookie text → after_line (text ++ after) ≡ after)
+line_by : (t : Bool) (b : ℕ) (text after : List ℕ) → ends_here b (text ++ after) ≡ t → IsCookie (b ∷ text)
+    → (IsCookie text → after_line (text ++ after) ≡ after)
     → cond t (drop 1 (text ++ after)) (after_line (text ++ after)) ≡ after
 line_by true b text after e is on = ended_cookie b text after is (ended_here b (text ++ after) e)
 line_by false b text after e is on = on (shorter b text (same_end b text after e is) is)

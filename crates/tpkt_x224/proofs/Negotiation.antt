@@ -41,7 +41,8 @@ begun (b ∷ f ∷ s ∷ t ∷ bs) fits e =
 
 started : (bs : List ℕ) (asked : ℕ) → IsNegotiation bs asked → begins bs ≡ true
 started bs asked n =
-    let size : length bs ≡ 2 + (length n.size + (length n.protocols + length n.more)) = omega (arith, ap length n.whole, length-append n.size (n.protocols ++ n.more), length-append n.protocols n.more) in
+    let size : length bs ≡ 2 + (length n.size + (length n.protocols + length n.more)) =
+    omega (arith, ap length n.whole, length-append n.size (n.protocols ++ n.more), length-append n.protocols n.more) in
     let fits : 8 ≤ length bs = omega (arith, size, n.two, n.four) in
     let a : nat_le 8 (length bs) ≡ true = grind (arith, nat_tests, fits) in
     let b : (slice_index bs 0 == 1) ≡ true = ap (λ xs. slice_index xs 0 == 1) n.whole in

@@ -45,7 +45,8 @@ header_of packet values variable t =
     let source = destination.4 in
     let class = source.7 in
     let unit : counted.0 ≡ unit_of destination.0 source.0 class.0 variable =
-    code.1 ∙ ap (λ xs. 224 ∷ xs) (destination.3 ∙ ap (λ xs. destination.0 ++ xs) (source.5 ∙ ap (λ xs. source.0 ++ xs) (class.3 ∙ ap (λ xs. class.0 ++ xs) class.4.1))) in
+    code.1 ∙ ap (λ xs. 224 ∷ xs) (destination.3 ∙ ap (λ xs. destination.0 ++ xs) (source.5
+    ∙ ap (λ xs. source.0 ++ xs) (class.3 ∙ ap (λ xs. class.0 ++ xs) class.4.1))) in
     record {
       header = tpkt.0;
       destination = destination.0;
@@ -65,7 +66,15 @@ header_again packet values variable h =
     let behind : List ℕ = h.destination ++ (h.source ++ (h.class ++ variable)) in
     let unit : List ℕ = 224 ∷ behind in
     let size : length behind ≡ 5 + length variable =
-    omega (arith, h.two, h.also_two, h.one, length-append h.destination (h.source ++ (h.class ++ variable)), length-append h.source (h.class ++ variable), length-append h.class variable) in
+    omega (
+      arith,
+      h.two,
+      h.also_two,
+      h.one,
+      length-append h.destination (h.source ++ (h.class ++ variable)),
+      length-append h.source (h.class ++ variable),
+      length-append h.class variable,
+    ) in
     let all : 4 ≤ length packet = omega (arith, h.four, ap length h.whole, length-append h.header (length unit ∷ unit)) in
     let five : 5 ≤ length behind = omega (arith, size) in (
       all,
@@ -97,7 +106,8 @@ header_again packet values variable h =
 
 -- ---- the whole
 
-placed_ok : (bs : List ℕ) (r : Read Request) (request : Request) → placed (λ at. let fault : BadTpdu = record { at = at } in fault) bs r ≡ Ok request → (left : List ℕ) × (r ≡ Ok (request, left))
+placed_ok : (bs : List ℕ) (r : Read Request) (request : Request) → placed (λ at. let fault : BadTpdu = record { at = at } in fault) bs r ≡ Ok request
+    → (left : List ℕ) × (r ≡ Ok (request, left))
 placed_ok bs (Ok v) request e =
     let h : v.0 ≡ request = cc in (v.1, ap (λ q. Ok (q, v.1)) h)
 placed_ok bs (Err left) request e = absurd (let h : ⊥ = cc in h)
@@ -111,7 +121,8 @@ same_read x y e = cc
 same_request : (a b : Request) (l k : List ℕ) → read_of a l ≡ read_of b k → a ≡ b
 same_request a b l k e = ap (λ p. p.0) (same_read (a, l) (b, k) e)
 
-request_is : (packet values variable : List ℕ) (request : Request) → fields_at request_header packet ≡ Ok (values, variable) → request_in values variable ≡ request → IsRequest packet request
+request_is : (packet values variable : List ℕ) (request : Request) → fields_at request_header packet ≡ Ok (values, variable)
+    → request_in values variable ≡ request → IsRequest packet request
 request_is packet values variable request e r =
     let h = header_of packet values variable (read_is_text request_header packet values variable e) in
     record {
@@ -156,7 +167,8 @@ request_again packet request r =
       values_are = refl;
     } in
     let e = text_is_read request_header packet values r.variable (header_again packet values r.variable h) in
-    let asked : asked_protocols (after_cookie r.variable) ≡ request.asked = ap asked_protocols (cookie_only r.variable r.after r.cookie) ∙ asks_only r.after request.asked r.asked in
+    let asked : asked_protocols (after_cookie r.variable) ≡ request.asked =
+    ap asked_protocols (cookie_only r.variable r.after r.cookie) ∙ asks_only r.after request.asked r.asked in
     ap (λ read. placed (λ at. let fault : BadTpdu = record { at = at } in fault) packet (then_read read (λ vs bs. Ok (request_in vs bs, [])))) e
     ∙ ap (λ k. Ok (asked_for k (asked_protocols (after_cookie r.variable)))) (sym r.reference)
     ∙ ap (λ a. Ok (asked_for request.reference a)) asked

@@ -79,20 +79,23 @@ each_packet bytes = each_from (length bytes) bytes
 -- where nothing can be cut off, no whole packet is at the head
 uncut_starts : (bytes : List ℕ) → packets_of bytes ≡ uncut bytes → StartsWithPacket bytes → ⊥
 uncut_starts bytes e s =
-    let cut : packets_of bytes ≡ after_packets (take (length s.0) bytes ∷ []) (packets_of (drop (length s.0) bytes)) = whole_is_cut bytes (length s.0) (starts_whole bytes s) in
+    let cut : packets_of bytes ≡ after_packets (take (length s.0) bytes ∷ []) (packets_of (drop (length s.0) bytes)) =
+    whole_is_cut bytes (length s.0) (starts_whole bytes s) in
     let both : take (length s.0) bytes ∷ (packets_of (drop (length s.0) bytes)).packets ≡ [] = ap (λ c. c.packets) (sym cut ∙ e) in
     let h : ⊥ = cc in h
 
 pub none_left : (bytes : List ℕ) → StartsWithPacket (packets_of bytes).rest → ⊥
 none_left bytes s = uncut_starts (packets_of bytes).rest (rest_is_uncut bytes) s
 
-part_by : (p : Packet) (bytes : List ℕ) → packet_at bytes ≡ p → (StartsWithPacket bytes → ⊥) → (HasWrongVersion bytes → ⊥) → (HasBadLength bytes → ⊥) → IsPartOfPacket bytes
+part_by : (p : Packet) (bytes : List ℕ) → packet_at bytes ≡ p → (StartsWithPacket bytes → ⊥) → (HasWrongVersion bytes → ⊥) → (HasBadLength bytes → ⊥)
+    → IsPartOfPacket bytes
 part_by (Whole n) bytes e whole wrong bad = absurd (whole (starts bytes n e))
 part_by Part bytes e whole wrong bad = (part_head bytes).0 e
 part_by NotTpkt bytes e whole wrong bad = absurd (wrong ((version_head bytes).0 e))
 part_by BadLength bytes e whole wrong bad = absurd (bad ((length_head bytes).0 e))
 
-pub part_left : (bytes : List ℕ) → (HasWrongVersion (packets_of bytes).rest → ⊥) → (HasBadLength (packets_of bytes).rest → ⊥) → IsPartOfPacket (packets_of bytes).rest
+pub part_left : (bytes : List ℕ) → (HasWrongVersion (packets_of bytes).rest → ⊥) → (HasBadLength (packets_of bytes).rest → ⊥)
+    → IsPartOfPacket (packets_of bytes).rest
 part_left bytes wrong bad = part_by (packet_at (packets_of bytes).rest) (packets_of bytes).rest refl (none_left bytes) wrong bad
 
 -- ---- no other packets and rest
@@ -123,8 +126,10 @@ is_stream bytes = record { joined = stream_joined bytes; each = each_packet byte
 abbrev StreamOf : List ℕ → Cut → Type 0
 StreamOf bytes cut = IsStreamOf bytes cut.packets cut.rest
 
-pub cut_is_stream : (bytes : List ℕ) (packets : List (List ℕ)) (rest : List ℕ) → packets_of bytes ≡ record { packets = packets; rest = rest } → IsStreamOf bytes packets rest
+pub cut_is_stream : (bytes : List ℕ) (packets : List (List ℕ)) (rest : List ℕ) → packets_of bytes ≡ record { packets = packets; rest = rest }
+    → IsStreamOf bytes packets rest
 cut_is_stream bytes packets rest e = subst (StreamOf bytes) e (is_stream bytes)
 
-pub stream_is_cut : (bytes : List ℕ) (packets : List (List ℕ)) (rest : List ℕ) → IsStreamOf bytes packets rest → packets_of bytes ≡ record { packets = packets; rest = rest }
+pub stream_is_cut : (bytes : List ℕ) (packets : List (List ℕ)) (rest : List ℕ) → IsStreamOf bytes packets rest
+    → packets_of bytes ≡ record { packets = packets; rest = rest }
 stream_is_cut bytes packets rest s = ap packets_of (sym s.joined) ∙ only_so packets rest s.each s.left

@@ -1,0 +1,8 @@
+use Rattle.mcs_ber.proofs.InitialText.{initial_ok, initial_again, none_stands}
+use Rattle.mcs_ber.proofs.laws.connect_initials_are_read_exactly.Goals as goal
+
+pub returns-clause-exact : goal.returns-clause-exact
+returns-clause-exact c = λ bytes place. (initial_ok bytes place, initial_again bytes place)
+
+pub returns-clause-refused : goal.returns-clause-refused
+returns-clause-refused c = none_stands
