@@ -3,4 +3,8 @@ pub mod Content
 pub mod Steps
 pub mod ReadIsText
 pub mod TextIsRead
+pub mod Missing
 pub mod Refused
+pub mod RefusalIsRead
+pub mod Place
+pub mod RefusalRows

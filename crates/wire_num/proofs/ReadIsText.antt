@@ -58,13 +58,13 @@ none_left : (bs : List ℕ) → length bs ≡ 0 → bs ≡ []
 none_left [] h = refl
 none_left (b ∷ bs) h = absurd (omega (arith, h))
 
-end_ok : (bs : List ℕ) (y : List ℕ × List ℕ) → end_at bs ≡ Ok y → (bs ≡ []) × ([] ≡ y.0) × (bs ≡ y.1)
+pub end_ok : (bs : List ℕ) (y : List ℕ × List ℕ) → end_at bs ≡ Ok y → (bs ≡ []) × ([] ≡ y.0) × (bs ≡ y.1)
 unfolding end_at
 end_ok bs y e =
     let s = passed_ok (length bs == 0) bs ([], bs) y e in
     (none_left bs (same_count (length bs) 0 s.0), ap (λ p. p.0) s.1, ap (λ p. p.1) s.1)
 
-exactly_ok : (n : ℕ) (bs : List ℕ) (y : List ℕ × List ℕ) → exactly_at n bs ≡ Ok y → (length bs ≡ n) × ([] ≡ y.1)
+pub exactly_ok : (n : ℕ) (bs : List ℕ) (y : List ℕ × List ℕ) → exactly_at n bs ≡ Ok y → (length bs ≡ n) × ([] ≡ y.1)
 unfolding exactly_at
 exactly_ok n bs y e =
     let s = passed_ok (length bs == n) bs (bs, []) y e in

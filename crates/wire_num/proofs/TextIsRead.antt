@@ -15,25 +15,25 @@ use Rattle.wire_num.proofs.Steps.{not_short, counts, big_front, little_front}
 
 -- ---- fields that stand there are read
 
-abbrev got : List ℕ → List ℕ → Read (List ℕ)
+abbrev pub got : List ℕ → List ℕ → Read (List ℕ)
 got values left = Ok (values, left)
 
 same_answer : (vs ws l k : List ℕ) → vs ≡ ws → l ≡ k → got vs l ≡ got ws k
 same_answer vs ws l k e h = ap (λ x. got x l) e ∙ ap (λ x. got ws x) h
 
-then_again : {A B : Type 0} (r : Read A) (v : A) (rest : List ℕ) (f : A → List ℕ → Read B) (y : Read B) → r ≡ Ok (v, rest) → f v rest ≡ y → then_read r f ≡ y
+pub then_again : {A B : Type 0} (r : Read A) (v : A) (rest : List ℕ) (f : A → List ℕ → Read B) (y : Read B) → r ≡ Ok (v, rest) → f v rest ≡ y → then_read r f ≡ y
 then_again r v rest f y e h = ap (λ x. then_read x f) e ∙ h
 
-bytes_again : (text more : List ℕ) → bytes_at (length text) (text ++ more) ≡ Ok (text, more)
+pub bytes_again : (text more : List ℕ) → bytes_at (length text) (text ++ more) ≡ Ok (text, more)
 unfolding bytes_at
 bytes_again text more =
     let short : nat_lt (length (text ++ more)) (length text) ≡ false = not_short (length text) (length (text ++ more)) (omega (arith, length-append text more)) in
     rw short (ap (λ xs. Ok (xs, drop (length text) (text ++ more))) (take-append_seam text more) ∙ ap (λ xs. Ok (text, xs)) (drop-append_seam text more))
 
-bytes_all : (bs : List ℕ) → bytes_at (length bs) bs ≡ Ok (bs, [])
+pub bytes_all : (bs : List ℕ) → bytes_at (length bs) bs ≡ Ok (bs, [])
 bytes_all bs = ap (bytes_at (length bs)) (sym (append-nil bs)) ∙ bytes_again bs []
 
-bytes_there : (n : ℕ) (text more : List ℕ) → length text ≡ n → bytes_at n (text ++ more) ≡ Ok (text, more)
+pub bytes_there : (n : ℕ) (text more : List ℕ) → length text ≡ n → bytes_at n (text ++ more) ≡ Ok (text, more)
 bytes_there n text more h =
     let P : ℕ → Type 0 = λ k. bytes_at k (text ++ more) ≡ Ok (text, more) in subst P h (bytes_again text more)
 
@@ -44,7 +44,7 @@ big_again text more =
     let value = big_front (length text) text more (omega arith) in
     rw short (ap (λ n. Ok (n, drop (length text) (text ++ more))) value ∙ ap (λ xs. Ok (big_number (length text) text, xs)) (drop-append_seam text more))
 
-big_there : (n : ℕ) (text more : List ℕ) → length text ≡ n → big_at n (text ++ more) ≡ Ok (big_number n text, more)
+pub big_there : (n : ℕ) (text more : List ℕ) → length text ≡ n → big_at n (text ++ more) ≡ Ok (big_number n text, more)
 big_there n text more h =
     let P : ℕ → Type 0 = λ k. big_at k (text ++ more) ≡ Ok (big_number k text, more) in subst P h (big_again text more)
 
@@ -55,11 +55,11 @@ little_again text more =
     let value = little_front (length text) text more (omega arith) in
     rw short (ap (λ n. Ok (n, drop (length text) (text ++ more))) value ∙ ap (λ xs. Ok (little_number (length text) text, xs)) (drop-append_seam text more))
 
-little_there : (n : ℕ) (text more : List ℕ) → length text ≡ n → little_at n (text ++ more) ≡ Ok (little_number n text, more)
+pub little_there : (n : ℕ) (text more : List ℕ) → length text ≡ n → little_at n (text ++ more) ≡ Ok (little_number n text, more)
 little_there n text more h =
     let P : ℕ → Type 0 = λ k. little_at k (text ++ more) ≡ Ok (little_number k text, more) in subst P h (little_again text more)
 
-passing_again : (test : ℕ → Bool) (read : List ℕ → Read ℕ) (bs : List ℕ) (v : ℕ) (rest : List ℕ) → read bs ≡ Ok (v, rest) → test v ≡ true → passing_at test read bs ≡ Ok (v, rest)
+pub passing_again : (test : ℕ → Bool) (read : List ℕ → Read ℕ) (bs : List ℕ) (v : ℕ) (rest : List ℕ) → read bs ≡ Ok (v, rest) → test v ≡ true → passing_at test read bs ≡ Ok (v, rest)
 unfolding passing_at
 passing_again test read bs v rest e t =
     then_again (read bs) v rest (λ x more. cond (test x) (Ok (x, more)) (Err bs)) (Ok (v, rest)) e (ap (λ b. cond b (Ok (v, rest)) (Err bs)) t)
@@ -72,20 +72,20 @@ told false xs ys same e = absurd (other_text xs ys e same)
 starts : (ws more : List ℕ) → starts_with nat_eq (ws ++ more) ws ≡ true
 starts ws more = told (starts_with nat_eq (ws ++ more) ws) ws (take (length ws) (ws ++ more)) (sym (take-append_seam ws more)) refl
 
-wanted_again : (ws more : List ℕ) → wanted_at ws (ws ++ more) ≡ Ok ([], more)
+pub wanted_again : (ws more : List ℕ) → wanted_at ws (ws ++ more) ≡ Ok ([], more)
 unfolding wanted_at
 wanted_again ws more =
     rw (starts ws more) (ap (λ xs. Ok ([], xs)) (drop-append_seam ws more))
 
-end_again : end_at [] ≡ Ok ([], [])
+pub end_again : end_at [] ≡ Ok ([], [])
 unfolding end_at
 end_again = refl
 
-exactly_again : (bs : List ℕ) → exactly_at (length bs) bs ≡ Ok (bs, [])
+pub exactly_again : (bs : List ℕ) → exactly_at (length bs) bs ≡ Ok (bs, [])
 unfolding exactly_at
 exactly_again bs = rw (counts (length bs)) refl
 
-at_least_again : (n : ℕ) (bs : List ℕ) → n ≤ length bs → at_least n bs ≡ Ok ([], bs)
+pub at_least_again : (n : ℕ) (bs : List ℕ) → n ≤ length bs → at_least n bs ≡ Ok ([], bs)
 unfolding at_least
 at_least_again n bs h = rw (not_short n (length bs) h) refl
 
@@ -94,7 +94,7 @@ byte_again b bs =
     let value : big_number 1 (b ∷ []) ≡ b = omega arith in
     big_there 1 (b ∷ []) bs refl ∙ ap (λ n. Ok (n, bs)) value
 
-rest_count_again : (bs : List ℕ) → rest_count_at (length bs ∷ bs) ≡ Ok (length bs, bs)
+pub rest_count_again : (bs : List ℕ) → rest_count_at (length bs ∷ bs) ≡ Ok (length bs, bs)
 unfolding rest_count_at
 rest_count_again bs =
     then_again (big_at 1 (length bs ∷ bs)) (length bs) bs (λ n rest. cond (length rest == n) (Ok (n, rest)) (Err (length bs ∷ bs))) (Ok (length bs, bs))
@@ -135,7 +135,7 @@ one_again [] n more p = absurd p
 one_again (b ∷ []) n more p = byte_again b more ∙ ap (λ k. Ok (k, more)) (sym p)
 one_again (b ∷ c ∷ bs) n more p = absurd p
 
-count_again : (form : Count) (count : List ℕ) (n : ℕ) (more : List ℕ) → IsCount form count n → count_at form (count ++ more) ≡ Ok (n, more)
+pub count_again : (form : Count) (count : List ℕ) (n : ℕ) (more : List ℕ) → IsCount form count n → count_at form (count ++ more) ≡ Ok (n, more)
 count_again OneByte count n more p = one_again count n more p
 count_again Packed count n more p = packed_again count n more p
 count_again Basic count n more p = basic_again count n more p
