@@ -1,16 +1,15 @@
 -- Blocks that were read stand there, and blocks that stand there are read.
 use Rattle.std.proofs.Common.{◌≡◌, ℕ, zero, suc, ◌+◌, ◌-◌, ◌≤◌, Bool, true, false, cond, List, [], ◌++◌, length, take, drop, refl, ap, ◌∙◌, sym, arith, length-append, subst}
-use Rattle.std.specs.Prelude.{nat_le, nat_lt, ◌&&◌, Option, Some, None, is_none, Ok, Err}
+use Rattle.std.specs.Prelude.{nat_le, ◌&&◌, Option, Some, None, is_none, Ok, Err}
 use Rattle.std.proofs.lemmas.Bool.Decides.{nat_tests}
 use Rattle.std.proofs.lemmas.List.{length-take-le}
-use Rattle.std.proofs.Math.Seq.{take-append_seam, drop-append_seam}
 use Rattle.byteorder.specs.Endian.{little_number}
-use Rattle.wire_num.specs.Field.{then_read, map_read, passing_at, little_at, bytes_at}
+use Rattle.wire_num.specs.Field.{then_read, map_read, passing_at, little_at}
 use Rattle.wire_num.specs.Layout.{fields_at}
 use Rattle.wire_num.specs.Grammar.{IsText}
-use Rattle.wire_num.proofs.Steps.{little_taken, little_front, not_short}
+use Rattle.wire_num.proofs.Steps.{little_taken}
 use Rattle.wire_num.proofs.ReadIsText.{little_ok, read_is_text, regroup}
-use Rattle.wire_num.proofs.TextIsRead.{text_is_read}
+use Rattle.wire_num.proofs.TextIsRead.{bytes_there, little_there, text_is_read}
 use Rattle.gcc_per.specs.declared.client_core.Desktop.{Desktop}
 use Rattle.gcc_per.specs.declared.client_blocks.BlockKind.{BlockKind}
 use Rattle.gcc_per.specs.declared.client_blocks.BlockKind.TheVariants.{ClientCore, ClientNetwork, Other}
@@ -25,29 +24,6 @@ use Rattle.gcc_per.specs.Grammar.{Block, block_bytes, kind_in, IsBlock, HasChann
 use Rattle.gcc_per.proofs.Checked.{then_ok, plain_ok, map_ok, before_ok, go_on, go_on_plain}
 use Rattle.gcc_per.proofs.Blocks.{grouped, block_ok, to_block}
 
--- ---- fields that stand there
-
-bytes_again : (text more : List ℕ) → bytes_at (length text) (text ++ more) ≡ Ok (text, more)
-unfolding bytes_at
-bytes_again text more =
-    let short : nat_lt (length (text ++ more)) (length text) ≡ false = not_short (length text) (length (text ++ more)) (omega (arith, length-append text more)) in
-    rw short (ap (λ xs. Ok (xs, drop (length text) (text ++ more))) (take-append_seam text more) ∙ ap (λ xs. Ok (text, xs)) (drop-append_seam text more))
-
-pub bytes_there : (n : ℕ) (text more : List ℕ) → length text ≡ n → bytes_at n (text ++ more) ≡ Ok (text, more)
-bytes_there n text more e =
-    let P : ℕ → Type 0 = λ k. bytes_at k (text ++ more) ≡ Ok (text, more) in subst P e (bytes_again text more)
-
-little_again : (text more : List ℕ) → little_at (length text) (text ++ more) ≡ Ok (little_number (length text) text, more)
-unfolding little_at
-little_again text more =
-    let short : nat_lt (length (text ++ more)) (length text) ≡ false = not_short (length text) (length (text ++ more)) (omega (arith, length-append text more)) in
-    let value = little_front (length text) text more (omega arith) in
-    rw short (ap (λ n. Ok (n, drop (length text) (text ++ more))) value ∙ ap (λ xs. Ok (little_number (length text) text, xs)) (drop-append_seam text more))
-
-pub little_there : (n : ℕ) (text more : List ℕ) → length text ≡ n → little_at n (text ++ more) ≡ Ok (little_number n text, more)
-little_there n text more e =
-    let P : ℕ → Type 0 = λ k. little_at k (text ++ more) ≡ Ok (little_number k text, more) in subst P e (little_again text more)
-
 -- ---- the content of a CS_NET
 
 few_ok : {A : Type 0} (b : Bool) (d : Cause × List ℕ) (x y : A × List ℕ) → cond b (Ok x) (Err d) ≡ Ok y → (b ≡ true) × (x ≡ y)
@@ -59,7 +35,7 @@ no_values : (n : ℕ) (bs values left : List ℕ) → IsText (channel_definition
 no_values zero bs values left p = p.0
 no_values (suc n) bs values left p = no_values n p.1 values left p.4
 
-count_ok : (bs : List ℕ) (y : ℕ × List ℕ) → channel_count_at bs ≡ Ok y → (4 ≤ length bs) × (little_number 4 bs ≡ y.0) × (drop 4 bs ≡ y.1) × (y.0 ≤ 31)
+pub count_ok : (bs : List ℕ) (y : ℕ × List ℕ) → channel_count_at bs ≡ Ok y → (4 ≤ length bs) × (little_number 4 bs ≡ y.0) × (drop 4 bs ≡ y.1) × (y.0 ≤ 31)
 unfolding channel_count_at
 count_ok bs y e =
     let s = then_ok (plain (little_at 4 bs)) (λ count more. cond (nat_le count 31) (Ok (count, more)) (Err (Crowded, bs))) y e in
@@ -138,7 +114,7 @@ adds_again Other found more bs content after a = (ap (λ m. Ok (m, after)) (sym 
 
 -- ---- a block
 
-kind_there : (found : ClientBlocks) (type more : List ℕ) → length type ≡ 2 → is_new found (kind_of (little_number 2 type)) ≡ true
+pub kind_there : (found : ClientBlocks) (type more : List ℕ) → length type ≡ 2 → is_new found (kind_of (little_number 2 type)) ≡ true
     → kind_at found (type ++ more) ≡ Ok (kind_of (little_number 2 type), more)
 unfolding kind_at passing_at
 kind_there found type more size new =
@@ -146,15 +122,20 @@ kind_there found type more size new =
     ap (λ r. map_read kind_of (then_read r (λ v rest. cond (is_new found (kind_of v)) (Ok (v, rest)) (Err bs)))) (little_there 2 type more size)
     ∙ ap (λ b. map_read kind_of (cond b (Ok (little_number 2 type, more)) (Err bs))) new
 
-length_there : (kind : BlockKind) (size content after : List ℕ) → length size ≡ 2 → little_number 2 size ≡ 4 + length content → least_length kind ≤ 4 + length content
-    → length_at kind (size ++ (content ++ after)) ≡ Ok (little_number 2 size, content ++ after)
+pub size_there : (kind : BlockKind) (size more : List ℕ) → length size ≡ 2 → least_length kind ≤ little_number 2 size → little_number 2 size ≤ 4 + length more
+    → length_at kind (size ++ more) ≡ Ok (little_number 2 size, more)
 unfolding length_at
-length_there kind size content after two counts least =
+size_there kind size more two least most =
     let n : ℕ = little_number 2 size in
-    let bs : List ℕ = size ++ (content ++ after) in
-    let good : (nat_le (least_length kind) n && nat_le n (4 + length (content ++ after))) ≡ true = grind (arith, nat_tests, counts, least, length-append content after) in
-    ap (λ r. then_read r (λ k more. cond (nat_le (least_length kind) k && nat_le k (4 + length more)) (Ok (k, more)) (Err bs))) (little_there 2 size (content ++ after) two)
-    ∙ ap (λ b. cond b (Ok (n, content ++ after)) (Err bs)) good
+    let bs : List ℕ = size ++ more in
+    let good : (nat_le (least_length kind) n && nat_le n (4 + length more)) ≡ true = grind (arith, nat_tests, least, most) in
+    ap (λ r. then_read r (λ k more. cond (nat_le (least_length kind) k && nat_le k (4 + length more)) (Ok (k, more)) (Err bs))) (little_there 2 size more two)
+    ∙ ap (λ b. cond b (Ok (n, more)) (Err bs)) good
+
+pub length_there : (kind : BlockKind) (size content after : List ℕ) → length size ≡ 2 → little_number 2 size ≡ 4 + length content → least_length kind ≤ 4 + length content
+    → length_at kind (size ++ (content ++ after)) ≡ Ok (little_number 2 size, content ++ after)
+length_there kind size content after two counts least =
+    size_there kind size (content ++ after) two (omega (arith, counts, least)) (omega (arith, counts, length-append content after))
 
 pub record Stands (found : ClientBlocks) (bs : List ℕ) (y : ClientBlocks × List ℕ) : Type 0 where
   pub block : Block

@@ -53,8 +53,8 @@ header_fits ClientCore = omega arith
 header_fits ClientNetwork = omega arith
 header_fits Other = omega arith
 
-length_ok : (kind : BlockKind) (bs : List ℕ) (y : ℕ × List ℕ) → length_at kind bs ≡ Ok y
-    → (2 ≤ length bs) × (little_number 2 bs ≡ y.0) × (drop 2 bs ≡ y.1) × (least_length kind ≤ y.0)
+pub length_ok : (kind : BlockKind) (bs : List ℕ) (y : ℕ × List ℕ) → length_at kind bs ≡ Ok y
+    → (2 ≤ length bs) × (little_number 2 bs ≡ y.0) × (drop 2 bs ≡ y.1) × (least_length kind ≤ y.0) × (y.0 ≤ 4 + length y.1)
 unfolding length_at
 length_ok kind bs y e =
     let s = steps.then_ok (little_at 2 bs) (λ n more. cond (nat_le (least_length kind) n && nat_le n (4 + length more)) (Ok (n, more)) (Err bs)) y e in
@@ -62,9 +62,15 @@ length_ok kind bs y e =
     let t = passed_ok (nat_le (least_length kind) v.0 && nat_le v.0 (4 + length v.1)) bs v y s.2 in
     let there = little_ok 2 bs v s.1 in
     let least : least_length kind ≤ v.0 = grind (arith, nat_tests, t.0) in
-    (there.0, there.1 ∙ ap (λ p. p.0) t.1, there.2 ∙ ap (λ p. p.1) t.1, subst (λ p. least_length kind ≤ p.0) t.1 least)
+    let most : v.0 ≤ 4 + length v.1 = grind (arith, nat_tests, t.0) in (
+      there.0,
+      there.1 ∙ ap (λ p. p.0) t.1,
+      there.2 ∙ ap (λ p. p.1) t.1,
+      subst (λ p. least_length kind ≤ p.0) t.1 least,
+      subst (λ p. p.0 ≤ 4 + length p.1) t.1 most,
+    )
 
-kind_ok : (found : ClientBlocks) (bs : List ℕ) (y : BlockKind × List ℕ) → kind_at found bs ≡ Ok y
+pub kind_ok : (found : ClientBlocks) (bs : List ℕ) (y : BlockKind × List ℕ) → kind_at found bs ≡ Ok y
     → (2 ≤ length bs) × (kind_of (little_number 2 bs) ≡ y.0) × (drop 2 bs ≡ y.1) × (is_new found y.0 ≡ true)
 unfolding kind_at
 kind_ok found bs y e =

@@ -49,7 +49,7 @@ blocks_stand (suc n) found (b ∷ bs) y fits e =
 
 -- ---- blocks that stand there are read
 
-one_more : (n : ℕ) (found : ClientBlocks) (bs : List ℕ) → 0 < length bs → blocks_from (suc n) found bs ≡ then_checked (block_at found bs) (λ more after. blocks_from n more after)
+pub one_more : (n : ℕ) (found : ClientBlocks) (bs : List ℕ) → 0 < length bs → blocks_from (suc n) found bs ≡ then_checked (block_at found bs) (λ more after. blocks_from n more after)
 one_more n found [] some = absurd (omega (arith, some))
 one_more n found (b ∷ bs) some = refl
 

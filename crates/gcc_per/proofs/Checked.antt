@@ -1,5 +1,5 @@
 -- Steps of reading with causes.
-use Rattle.std.proofs.Common.{◌≡◌, ℕ, List, refl, ap}
+use Rattle.std.proofs.Common.{◌≡◌, ℕ, ◌⊎◌, inl, inr, List, ◌++◌, refl, ap, sym}
 use Rattle.std.specs.Prelude.{Ok, Err}
 use Rattle.wire_num.specs.Field.{Read}
 use Rattle.gcc_per.specs.declared.gcc_fault.Cause.{Cause}
@@ -21,7 +21,8 @@ pub stop_plain : {A B : Type 0} (r : Read A) (f : A → List ℕ → Checked B) 
 stop_plain r f left e = ap (λ x. then_checked (plain x) f) e
 
 -- the parts of what was read
-pub then_ok : {A B : Type 0} (r : Checked A) (f : A → List ℕ → Checked B) (y : B × List ℕ) → then_checked r f ≡ Ok y → (v : A × List ℕ) × (r ≡ Ok v) × (f v.0 v.1 ≡ Ok y)
+pub then_ok : {A B : Type 0} (r : Checked A) (f : A → List ℕ → Checked B) (y : B × List ℕ) → then_checked r f ≡ Ok y
+    → (v : A × List ℕ) × (r ≡ Ok v) × (f v.0 v.1 ≡ Ok y)
 then_ok (Ok v) f y e = (v, refl, e)
 then_ok (Err d) f y e = absurd (let h : ⊥ = cc in h)
 
@@ -33,6 +34,37 @@ pub map_ok : {A B : Type 0} (f : A → B) (r : Checked A) (y : B × List ℕ) �
 map_ok f (Ok v) y e = let h : (f v.0, v.1) ≡ y = cc in (v, refl, ap (λ p. p.0) h, ap (λ p. p.1) h)
 map_ok f (Err d) y e = absurd (let h : ⊥ = cc in h)
 
-pub before_ok : {A : Type 0} (after : List ℕ) (r : Checked A) (y : A × List ℕ) → before_checked after r ≡ Ok y → (v : A × List ℕ) × (r ≡ Ok v) × (v.0 ≡ y.0) × (after ≡ y.1)
+pub before_ok : {A : Type 0} (after : List ℕ) (r : Checked A) (y : A × List ℕ) → before_checked after r ≡ Ok y
+    → (v : A × List ℕ) × (r ≡ Ok v) × (v.0 ≡ y.0) × (after ≡ y.1)
 before_ok after (Ok v) y e = let h : (v.0, after) ≡ y = cc in (v, refl, ap (λ p. p.0) h, ap (λ p. p.1) h)
 before_ok after (Err d) y e = absurd (let h : ⊥ = cc in h)
+
+-- the parts of what was refused
+abbrev pub Same : Cause × List ℕ → Cause × List ℕ → Type 0
+Same d e = d ≡ e
+
+pub then_err : {A B : Type 0} (r : Checked A) (f : A → List ℕ → Checked B) (e : Cause × List ℕ) → then_checked r f ≡ Err e
+    → (r ≡ Err e) ⊎ ((v : A × List ℕ) × (r ≡ Ok v) × (f v.0 v.1 ≡ Err e))
+then_err (Ok v) f e h = inr (v, refl, h)
+then_err (Err d) f e h = inl (let k : d ≡ e = cc in ap Err k)
+
+pub plain_err : {A : Type 0} (r : Read A) (cause : Cause) (left : List ℕ) → plain r ≡ Err (cause, left) → (cause ≡ Broken) × (r ≡ Err left)
+plain_err (Ok v) cause left e = absurd (let k : ⊥ = cc in k)
+plain_err (Err l) cause left e =
+    let k : Same (Broken, l) (cause, left) = cc in (sym (ap (λ p. p.0) k), ap (λ p. Err p.1) k)
+
+pub plain_step : {A B : Type 0} (r : Read A) (f : A → List ℕ → Checked B) (cause : Cause) (left : List ℕ) → then_checked (plain r) f ≡ Err (cause, left)
+    → ((cause ≡ Broken) × (r ≡ Err left)) ⊎ ((v : A × List ℕ) × (r ≡ Ok v) × (f v.0 v.1 ≡ Err (cause, left)))
+plain_step (Ok v) f cause left e = inr (v, refl, e)
+plain_step (Err l) f cause left e =
+    let k : Same (Broken, l) (cause, left) = cc in inl (sym (ap (λ p. p.0) k), ap (λ p. Err p.1) k)
+
+pub map_err : {A B : Type 0} (f : A → B) (r : Checked A) (e : Cause × List ℕ) → map_checked f r ≡ Err e → r ≡ Err e
+map_err f (Ok v) e h = absurd (let k : ⊥ = cc in k)
+map_err f (Err d) e h = let k : d ≡ e = cc in ap Err k
+
+pub before_err : {A : Type 0} (after : List ℕ) (r : Checked A) (e : Cause × List ℕ) → before_checked after r ≡ Err e
+    → (left : List ℕ) × (r ≡ Err (e.0, left)) × (e.1 ≡ left ++ after)
+before_err after (Ok v) e h = absurd (let k : ⊥ = cc in k)
+before_err after (Err d) e h =
+    let k : Same (d.0, d.1 ++ after) e = cc in (d.1, ap (λ c. Err (c, d.1)) (ap (λ p. p.0) k), sym (ap (λ p. p.1) k))

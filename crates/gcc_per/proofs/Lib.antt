@@ -10,5 +10,8 @@ pub mod Response
 pub mod BlockText
 pub mod BlocksText
 pub mod RequestText
-pub mod Named
+pub mod BlockFault
+pub mod BlocksFault
+pub mod RequestFault
+pub mod FirstFault
 pub mod SampleClient

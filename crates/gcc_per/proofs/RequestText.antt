@@ -9,7 +9,7 @@ use Rattle.wire_num.specs.Layout.{Packed, fields_at}
 use Rattle.wire_num.specs.Grammar.{IsText, IsPacked}
 use Rattle.wire_num.proofs.Steps.{passed_ok, same_count}
 use Rattle.wire_num.proofs.ReadIsText.{count_ok, read_is_text}
-use Rattle.wire_num.proofs.TextIsRead.{text_is_read}
+use Rattle.wire_num.proofs.TextIsRead.{bytes_there, text_is_read}
 use Rattle.gcc_per.specs.declared.client_core.Desktop.{Desktop}
 use Rattle.gcc_per.specs.declared.client_blocks.ClientBlocks.{ClientBlocks}
 use Rattle.gcc_per.specs.declared.client_data.ClientData.{ClientData}
@@ -21,7 +21,6 @@ use Rattle.gcc_per.proofs.UserData.{to_end, in_content, counted}
 use Rattle.gcc_per.proofs.Checked.{then_ok, plain_ok, map_ok, before_ok, go_on, go_on_plain}
 use Rattle.gcc_per.proofs.Within.{content_size}
 use Rattle.gcc_per.proofs.Blocks.{content_of}
-use Rattle.gcc_per.proofs.BlockText.{bytes_there}
 use Rattle.gcc_per.proofs.BlocksText.{AddAll, AllStand, CoreAfter, blocks_stand, blocks_again, core_side, network_side, both_sides, is_one_core, one_core, is_network_of, network_of}
 
 -- ---- small steps
@@ -66,10 +65,10 @@ placed_ok bs (Err d) client e = absurd (let h : ⊥ = cc in h)
 
 -- ---- the client's data blocks
 
-record Found (o : Option Desktop) (channels : Option ℕ) (y : ClientData × List ℕ) : Type 0 where
-  desktop : Desktop
-  there : o ≡ Some desktop
-  client : y.0 ≡ record { channels = channels_of channels; asked_width = desktop.width; asked_height = desktop.height }
+pub record Found (o : Option Desktop) (channels : Option ℕ) (y : ClientData × List ℕ) : Type 0 where
+  pub desktop : Desktop
+  pub there : o ≡ Some desktop
+  pub client : y.0 ≡ record { channels = channels_of channels; asked_width = desktop.width; asked_height = desktop.height }
 
 found_ok : (o : Option Desktop) (channels : Option ℕ) (after : List ℕ) (y : ClientData × List ℕ) → data_with o channels after ≡ Ok y → Found o channels y
 found_ok (Some desktop) channels after y e =
@@ -77,13 +76,13 @@ found_ok (Some desktop) channels after y e =
     let h : (said, after) ≡ y = cc in record { desktop = desktop; there = refl; client = sym (ap (λ p. p.0) h) }
 found_ok None channels after y e = absurd (let h : ⊥ = cc in h)
 
-record BlocksSay (bs : List ℕ) (client : ClientData) : Type 0 where
-  found : ClientBlocks
-  left : List ℕ
-  stand : AllStand no_blocks bs (found, left)
-  says : Found found.desktop found.channels (client, left)
+pub record BlocksSay (bs : List ℕ) (client : ClientData) : Type 0 where
+  pub found : ClientBlocks
+  pub left : List ℕ
+  pub stand : AllStand no_blocks bs (found, left)
+  pub says : Found found.desktop found.channels (client, left)
 
-blocks_ok : (bs : List ℕ) (y : ClientData × List ℕ) → client_blocks_at bs ≡ Ok y → BlocksSay bs y.0
+pub blocks_ok : (bs : List ℕ) (y : ClientData × List ℕ) → client_blocks_at bs ≡ Ok y → BlocksSay bs y.0
 unfolding client_blocks_at blocks_at
 blocks_ok bs y e =
     let s = then_ok (blocks_from (length bs) no_blocks bs) (λ found after. data_with found.desktop found.channels after) y e in

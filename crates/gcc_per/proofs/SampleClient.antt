@@ -74,6 +74,23 @@ too_few : client_data_of (request 145 ++ core 6) ≡ Err (BadGcc 23)
 unfolding create_request client_data_at user_data_at client_blocks_at blocks_at block_at kind_at length_at channels_at channel_count_at desktop_of wanted_at passing_at per_len_at little_at bytes_at end_at
 too_few = refl
 
+-- another key than "Duca"; no length of the user data; a CS_CORE of 131 bytes; a CS_NET that ends in its count
+another_key : client_data_of (0 ∷ 5 ∷ 0 ∷ 20 ∷ 124 ∷ 0 ∷ 1 ∷ 14 ∷ 0 ∷ 8 ∷ 0 ∷ 16 ∷ 0 ∷ 1 ∷ 192 ∷ 0 ∷ 68 ∷ 117 ∷ 99 ∷ 98 ∷ 0 ∷ []) ≡ Err (BadGcc 16)
+unfolding create_request client_data_at user_data_at client_blocks_at blocks_at block_at kind_at length_at channels_at channel_count_at desktop_of wanted_at passing_at per_len_at little_at bytes_at end_at
+another_key = refl
+
+no_length : client_data_of (0 ∷ 5 ∷ 0 ∷ 20 ∷ 124 ∷ 0 ∷ 1 ∷ 13 ∷ 0 ∷ 8 ∷ 0 ∷ 16 ∷ 0 ∷ 1 ∷ 192 ∷ 0 ∷ 68 ∷ 117 ∷ 99 ∷ 97 ∷ []) ≡ Err (BadGcc 20)
+unfolding create_request client_data_at user_data_at client_blocks_at blocks_at block_at kind_at length_at channels_at channel_count_at desktop_of wanted_at passing_at per_len_at little_at bytes_at end_at
+no_length = refl
+
+short_core : client_data_of (request 131 ++ ((1 ∷ 192 ∷ 131 ∷ 0 ∷ []) ++ replicate 127 0)) ≡ Err (BadGcc 25)
+unfolding create_request client_data_at user_data_at client_blocks_at blocks_at block_at kind_at length_at channels_at channel_count_at desktop_of wanted_at passing_at per_len_at little_at bytes_at end_at
+short_core = refl
+
+cut_count : client_data_of (request 6 ++ (3 ∷ 192 ∷ 6 ∷ 0 ∷ 1 ∷ 0 ∷ [])) ≡ Err (BadGcc 27)
+unfolding create_request client_data_at user_data_at client_blocks_at blocks_at block_at kind_at length_at channels_at channel_count_at desktop_of wanted_at passing_at per_len_at little_at bytes_at end_at
+cut_count = refl
+
 -- the answer to the sample client
 answered : create_response 3 0
     ≡ 0 ∷ 5 ∷ 0 ∷ 20 ∷ 124 ∷ 0 ∷ 1 ∷ 54 ∷ 20 ∷ 118 ∷ 10 ∷ 1 ∷ 1 ∷ 0 ∷ 1 ∷ 192 ∷ 0 ∷ 77 ∷ 99 ∷ 68 ∷ 110 ∷ 40 ∷ 1 ∷ 12 ∷ 12 ∷ 0 ∷ 4 ∷ 0 ∷ 8 ∷ 0 ∷ 0 ∷ 0 ∷ 0 ∷ 0 ∷ 3 ∷ 12 ∷ 16 ∷ 0 ∷ 235 ∷ 3 ∷ 3 ∷ 0 ∷ 236 ∷ 3 ∷ 237 ∷ 3 ∷ 238 ∷ 3 ∷ 0 ∷ 0 ∷ 2 ∷ 12 ∷ 12 ∷ 0 ∷ 0 ∷ 0 ∷ 0 ∷ 0 ∷ 0 ∷ 0 ∷ 0 ∷ 0 ∷ []

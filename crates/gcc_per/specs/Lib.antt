@@ -5,5 +5,6 @@ pub mod ClientBlocks
 pub mod ClientData
 pub mod Grammar
 pub mod Refusals
+pub mod Faults
 pub mod ServerBlocks
 pub mod ServerData

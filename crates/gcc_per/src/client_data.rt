@@ -15,6 +15,7 @@ ghost use Rattle.gcc_per.specs.Checked.{ReadsChecked};
 ghost use Rattle.gcc_per.specs.ClientData.{create_request, client_blocks_at, user_data_at, client_data_at, client_data_of, channels_of};
 ghost use Rattle.gcc_per.specs.Grammar.{IsRequest};
 ghost use Rattle.gcc_per.specs.Refusals.{CoreWithoutDepth, CrowdedNetwork};
+ghost use Rattle.gcc_per.specs.Faults.{IsFirstFault};
 ghost use Rattle.gcc_per.specs.declared.gcc_fault.GccFault.TheVariants.{DepthNotOffered, TooManyChannels};
 
 use crate::GccFault;
@@ -53,10 +54,12 @@ pub fn read_client(bytes: &[u8]) -> Result<ClientData, GccFault>
     }
 }
 
-/// The law of client data: they are read exactly where a request with them stands there; and where they are refused for a
-/// depth or for too many channels, it is a CS_CORE without that depth or a CS_NET with so many that stands there.
+/// The law of client data: they are read exactly where a request with them stands there, and refused exactly for the first
+/// fault there, at its place: all before it is the front of a request without a fault. So where they are refused for a depth
+/// or for too many channels, it is a CS_CORE without that depth or a CS_NET with so many that stands there.
 pub fn requests_are_read_exactly()
     ensures exact { (bytes : List ℕ) (client : ClientData) → (client_data_of bytes ≡ Ok client) ↔ IsRequest bytes client }
+    ensures refused { (bytes : List ℕ) (fault : GccFault) → (client_data_of bytes ≡ Err fault) ↔ IsFirstFault bytes fault }
     ensures no_depth { (bytes : List ℕ) (at : ℕ) → client_data_of bytes ≡ Err (DepthNotOffered at) → CoreWithoutDepth bytes at }
     ensures crowded { (bytes : List ℕ) (at : ℕ) → client_data_of bytes ≡ Err (TooManyChannels at) → CrowdedNetwork bytes at }
 {}

@@ -38,7 +38,7 @@ big_err : (n : ℕ) (bs left : List ℕ) → big_at n bs ≡ Err left → bs ≡
 unfolding big_at
 big_err n bs left e = (short_err (nat_lt (length bs) n) bs left (big_number n bs, drop n bs) e).1
 
-little_err : (n : ℕ) (bs left : List ℕ) → little_at n bs ≡ Err left → bs ≡ left
+pub little_err : (n : ℕ) (bs left : List ℕ) → little_at n bs ≡ Err left → bs ≡ left
 unfolding little_at
 little_err n bs left e = (short_err (nat_lt (length bs) n) bs left (little_number n bs, drop n bs) e).1
 
@@ -47,7 +47,7 @@ passing_by : (r : Read ℕ) (test : ℕ → Bool) (bs left : List ℕ) → ((l :
 passing_by (Ok v) test bs left at e = (passed_err (test v.0) bs left (v.0, v.1) e).1
 passing_by (Err l) test bs left at e = at l refl ∙ (let h : l ≡ left = cc in h)
 
-passing_err : (test : ℕ → Bool) (read : List ℕ → Read ℕ) (bs left : List ℕ) → ((l : List ℕ) → read bs ≡ Err l → bs ≡ l) → passing_at test read bs ≡ Err left
+pub passing_err : (test : ℕ → Bool) (read : List ℕ → Read ℕ) (bs left : List ℕ) → ((l : List ℕ) → read bs ≡ Err l → bs ≡ l) → passing_at test read bs ≡ Err left
     → bs ≡ left
 unfolding passing_at
 passing_err test read bs left at e = passing_by (read bs) test bs left at e

@@ -5,27 +5,27 @@ use Rattle.wire_num.specs.Grammar.{IsText}
 use Rattle.wire_num.specs.Refusal.{IsRefusedAt}
 
 -- some bytes, and then these
-abbrev Ends : List ℕ → List ℕ → Type 0
+abbrev pub Ends : List ℕ → List ℕ → Type 0
 Ends bytes left = (front : List ℕ) × (bytes ≡ front ++ left)
 
-at_once : (bytes left : List ℕ) → left ≡ bytes → Ends bytes left
+pub at_once : (bytes left : List ℕ) → left ≡ bytes → Ends bytes left
 at_once bytes left e = ([], sym e)
 
-moved : (bytes front more left : List ℕ) → bytes ≡ front ++ more → Ends more left → Ends bytes left
+pub moved : (bytes front more left : List ℕ) → bytes ≡ front ++ more → Ends more left → Ends bytes left
 moved bytes front more left e h = (front ++ h.0, e ∙ ap (λ xs. front ++ xs) h.1 ∙ sym (append_assoc front h.0 left))
 
 all_read : (bytes left : List ℕ) → left ≡ [] → Ends bytes left
 all_read bytes left e = (bytes, sym (append-nil bytes) ∙ ap (λ xs. bytes ++ xs) (sym e))
 
 -- behind content, and in it
-behind : (bytes count content more left : List ℕ) → bytes ≡ count ++ (content ++ more) → Ends more left → Ends bytes left
+pub behind : (bytes count content more left : List ℕ) → bytes ≡ count ++ (content ++ more) → Ends more left → Ends bytes left
 behind bytes count content more left e h = moved bytes (count ++ content) more left (e ∙ sym (append_assoc count content more)) h
 
-within : (bytes count content more place left : List ℕ) → bytes ≡ count ++ (content ++ more) → Ends content place → left ≡ place ++ more → Ends bytes left
+pub within : (bytes count content more place left : List ℕ) → bytes ≡ count ++ (content ++ more) → Ends content place → left ≡ place ++ more → Ends bytes left
 within bytes count content more place left e h p =
     moved bytes count (content ++ more) left e (h.0, ap (λ xs. xs ++ more) h.1 ∙ append_assoc h.0 place more ∙ ap (λ xs. h.0 ++ xs) (sym p))
 
-text_end : (layout : Layout) (bytes values left : List ℕ) → IsText layout bytes values left → Ends bytes left
+pub text_end : (layout : Layout) (bytes values left : List ℕ) → IsText layout bytes values left → Ends bytes left
 text_end Open bytes values left p = ([], p.1)
 text_end End bytes values left p = ([], p.1 ∙ sym p.2)
 text_end Rest bytes values left p = all_read bytes left p.1

@@ -20,7 +20,7 @@ pub step : {A : Type 0} (r : Read A) (f : A → List ℕ → Read (List ℕ)) (l
 step (Ok v) f left e = inr (v, refl, e)
 step (Err l) f left e = let h : l ≡ left = cc in inl (ap Err h)
 
-pub map_err : (f : List ℕ → List ℕ) (r : Read (List ℕ)) (left : List ℕ) → map_read f r ≡ Err left → r ≡ Err left
+pub map_err : {A B : Type 0} (f : A → B) (r : Read A) (left : List ℕ) → map_read f r ≡ Err left → r ≡ Err left
 map_err f (Ok v) left e = absurd (let h : ⊥ = cc in h)
 map_err f (Err l) left e = let h : l ≡ left = cc in ap Err h
 
