@@ -10,3 +10,12 @@ pub mod MarksOfCaches
 pub mod MarksOfOrders
 pub mod Written
 pub mod Accepted
+pub mod Streams
+pub mod BrushesAndImages
+pub mod Texts
+pub mod ImagesAndCopies
+pub mod BlocksOfPixels
+pub mod SidesBelowOne
+pub mod Cells
+pub mod BoundsOfOrders
+pub mod EdgesOfUpdates

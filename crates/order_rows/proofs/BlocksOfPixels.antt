@@ -1,0 +1,174 @@
+-- What a viewer makes of SaveBitmap: blocks that are saved and restored. A coordinate with a sign is added to the last one.
+use Rattle.std.proofs.Common.{◌≡◌, [], ◌∷◌, ◌++◌, refl, Some, None, replicate}
+use Rattle.order_means.specs.ClientState.Fault.{Broken}
+use Rattle.order_rows.proofs.Streams.{orders, mark, filled_with, makes, picture, refused}
+
+-- it is kept when it is restored, and goes to another place the first time
+pub block_restored_twice : makes (orders 6 (filled_with 0x01 0x02 0x03 ++ (
+    -- OpaqueRect: left +1, top +1, width -6, height -2, red C8, green 00, blue 00
+    0x11 ∷ 0x7F ∷
+    0x01 ∷ 0x01 ∷ 0xFA ∷ 0xFE ∷ 0xC8 ∷ 0x00 ∷ 0x00 ∷
+    -- SaveBitmap: position 40, left +1, right +2, bottom +2
+    0x19 ∷ 0x0B ∷ 0x1B ∷
+    0x28 ∷ 0x00 ∷ 0x00 ∷ 0x00 ∷ 0x01 ∷ 0x02 ∷ 0x02 ∷
+    -- SaveBitmap: left +4, top +1, right +4, bottom +1, operation 1
+    0x11 ∷ 0x3E ∷
+    0x04 ∷ 0x01 ∷ 0x04 ∷ 0x01 ∷ 0x01 ∷
+    -- OpaqueRect: left -1, top -1, width +2, height +2, red 00, green 4D
+    0x19 ∷ 0x0A ∷ 0x3F ∷
+    0xFF ∷ 0xFF ∷ 0x02 ∷ 0x02 ∷ 0x00 ∷ 0x4D ∷
+    -- SaveBitmap: left -5, right -5
+    0x19 ∷ 0x0B ∷ 0x0A ∷
+    0xFB ∷ 0xFB ∷ [])) ++ mark) ≡ picture 6 0 (
+    Some 0x004D00 ∷ Some 0x004D00 ∷ Some 0x004D00 ∷ Some 0x004D00 ∷ Some 0x010203 ∷ Some 0x010203 ∷ Some 0x010203 ∷ Some 0x010203 ∷
+    Some 0x010203 ∷ Some 0x010203 ∷ Some 0x004D00 ∷ Some 0x004D00 ∷ Some 0x010203 ∷ Some 0x010203 ∷ Some 0x010203 ∷ Some 0x010203 ∷
+    Some 0xC80000 ∷ Some 0xC80000 ∷ Some 0x004D00 ∷ Some 0x004D00 ∷ Some 0x010203 ∷ Some 0xC80000 ∷ Some 0xC80000 ∷ Some 0x010203 ∷
+    Some 0xC80000 ∷ Some 0xC80000 ∷ Some 0x004D00 ∷ Some 0x004D00 ∷ Some 0x010203 ∷ Some 0xC80000 ∷ Some 0xC80000 ∷ Some 0x010203 ∷ [])
+block_restored_twice = refl
+
+-- the block is whole although the bounds are one pixel
+pub bounds_of_a_save_are_not_heeded : makes (orders 4 (
+    -- OpaqueRect: width +5, height +4, red 01, green 63, blue 03
+    0x19 ∷ 0x0A ∷ 0x7C ∷
+    0x05 ∷ 0x04 ∷ 0x01 ∷ 0x63 ∷ 0x03 ∷
+    -- SaveBitmap: left edge +2, top edge +2, right edge +2, bottom edge +2, right +3, bottom +3
+    0x1D ∷ 0x0B ∷ 0x18 ∷
+    0xF0 ∷ 0x02 ∷ 0x02 ∷ 0x02 ∷ 0x02 ∷ 0x03 ∷ 0x03 ∷
+    -- OpaqueRect: width +3, red 00, green 00, blue 09
+    0x19 ∷ 0x0A ∷ 0x74 ∷
+    0x03 ∷ 0x00 ∷ 0x00 ∷ 0x09 ∷
+    -- SaveBitmap: left +4, right +4, operation 1
+    0x19 ∷ 0x0B ∷ 0x2A ∷
+    0x04 ∷ 0x04 ∷ 0x01 ∷ []) ++ mark) ≡ picture 4 0 (
+    Some 0x000009 ∷ Some 0x000009 ∷ Some 0x000009 ∷ Some 0x000009 ∷ Some 0x016303 ∷ Some 0x016303 ∷ Some 0x016303 ∷ Some 0x016303 ∷
+    Some 0x000009 ∷ Some 0x000009 ∷ Some 0x000009 ∷ Some 0x000009 ∷ Some 0x016303 ∷ Some 0x016303 ∷ Some 0x016303 ∷ Some 0x016303 ∷
+    Some 0x000009 ∷ Some 0x000009 ∷ Some 0x000009 ∷ Some 0x000009 ∷ Some 0x016303 ∷ Some 0x016303 ∷ Some 0x016303 ∷ Some 0x016303 ∷
+    Some 0x000009 ∷ Some 0x000009 ∷ Some 0x000009 ∷ Some 0x000009 ∷ Some 0x016303 ∷ Some 0x016303 ∷ Some 0x016303 ∷ Some 0x016303 ∷ [])
+bounds_of_a_save_are_not_heeded = refl
+
+-- a block of 1 by 4 takes twenty positions, so one at 20 leaves one at 0
+pub blocks_side_by_side : makes (orders 6 (filled_with 0x01 0x02 0x03 ++ (
+    -- SaveBitmap: bottom +3
+    0x19 ∷ 0x0B ∷ 0x10 ∷ 0x03 ∷
+    -- OpaqueRect: red 09, green 09, blue 09
+    0x09 ∷ 0x0A ∷ 0x70 ∷
+    0x09 ∷ 0x09 ∷ 0x09 ∷
+    -- SaveBitmap: position 20, left +1, right +1
+    0x19 ∷ 0x0B ∷ 0x0B ∷
+    0x14 ∷ 0x00 ∷ 0x00 ∷ 0x00 ∷ 0x01 ∷ 0x01 ∷
+    -- SaveBitmap: position 0, left -1, right -1, operation 1
+    0x11 ∷ 0x2B ∷
+    0x00 ∷ 0x00 ∷ 0x00 ∷ 0x00 ∷ 0xFF ∷ 0xFF ∷ 0x01 ∷
+    -- SaveBitmap: position 20, left +1, right +1
+    0x11 ∷ 0x0B ∷
+    0x14 ∷ 0x00 ∷ 0x00 ∷ 0x00 ∷ 0x01 ∷ 0x01 ∷ [])) ++ mark) ≡ picture 6 0 (
+    Some 0x010203 ∷ Some 0x090909 ∷ Some 0x090909 ∷ Some 0x090909 ∷ Some 0x090909 ∷ Some 0x090909 ∷ Some 0x090909 ∷ Some 0x090909 ∷
+    Some 0x010203 ∷ Some 0x090909 ∷ Some 0x090909 ∷ Some 0x090909 ∷ Some 0x090909 ∷ Some 0x090909 ∷ Some 0x090909 ∷ Some 0x090909 ∷
+    Some 0x010203 ∷ Some 0x090909 ∷ Some 0x090909 ∷ Some 0x090909 ∷ Some 0x090909 ∷ Some 0x090909 ∷ Some 0x090909 ∷ Some 0x090909 ∷
+    Some 0x010203 ∷ Some 0x090909 ∷ Some 0x090909 ∷ Some 0x090909 ∷ Some 0x090909 ∷ Some 0x090909 ∷ Some 0x090909 ∷ Some 0x090909 ∷ [])
+blocks_side_by_side = refl
+
+-- a block at 19 drops the one at 0
+pub block_that_shares_a_position : makes (orders 4 (filled_with 0x01 0x02 0x03 ++ (
+    -- SaveBitmap: bottom +3
+    0x19 ∷ 0x0B ∷ 0x10 ∷ 0x03 ∷
+    -- SaveBitmap: position 19, left +1, right +1
+    0x11 ∷ 0x0B ∷
+    0x13 ∷ 0x00 ∷ 0x00 ∷ 0x00 ∷ 0x01 ∷ 0x01 ∷
+    -- SaveBitmap: position 0, left -1, right -1, operation 1
+    0x11 ∷ 0x2B ∷
+    0x00 ∷ 0x00 ∷ 0x00 ∷ 0x00 ∷ 0xFF ∷ 0xFF ∷ 0x01 ∷ [])) ++ mark) ≡ refused 32 Broken
+block_that_shares_a_position = refl
+
+-- 20 positions from 57,580 on
+pub block_up_to_the_last_position : makes (orders 2 (filled_with 0x01 0x02 0x03 ++ (
+    -- SaveBitmap: position 57580, bottom +3
+    0x19 ∷ 0x0B ∷ 0x11 ∷
+    0xEC ∷ 0xE0 ∷ 0x00 ∷ 0x00 ∷ 0x03 ∷ [])) ++ mark) ≡ picture 2 0 (replicate 32 (Some 0x010203))
+block_up_to_the_last_position = refl
+
+-- 20 positions from 57,581 on
+pub block_past_the_last_position : makes (orders 2 (filled_with 0x01 0x02 0x03 ++ (
+    -- SaveBitmap: position 57581, bottom +3
+    0x19 ∷ 0x0B ∷ 0x11 ∷
+    0xED ∷ 0xE0 ∷ 0x00 ∷ 0x00 ∷ 0x03 ∷ [])) ++ mark) ≡ refused 32 Broken
+block_past_the_last_position = refl
+
+-- an unknown pixel is saved, and is unknown where it is restored
+pub block_of_unknown_pixels : makes (orders 4 (
+    -- OpaqueRect: width +2, height +4, red 01, green 02, blue 03
+    0x19 ∷ 0x0A ∷ 0x7C ∷
+    0x02 ∷ 0x04 ∷ 0x01 ∷ 0x02 ∷ 0x03 ∷
+    -- SaveBitmap: left +1, right +2, bottom +1
+    0x19 ∷ 0x0B ∷ 0x1A ∷
+    0x01 ∷ 0x02 ∷ 0x01 ∷
+    -- OpaqueRect: width +6, red 07, green 07, blue 07
+    0x19 ∷ 0x0A ∷ 0x74 ∷
+    0x06 ∷ 0x07 ∷ 0x07 ∷ 0x07 ∷
+    -- SaveBitmap: operation 1
+    0x09 ∷ 0x0B ∷ 0x20 ∷ 0x01 ∷ []) ++ mark) ≡ picture 4 0 (
+    Some 0x070707 ∷ Some 0x010203 ∷ None ∷ Some 0x070707 ∷ Some 0x070707 ∷ Some 0x070707 ∷ Some 0x070707 ∷ Some 0x070707 ∷
+    Some 0x070707 ∷ Some 0x010203 ∷ None ∷ Some 0x070707 ∷ Some 0x070707 ∷ Some 0x070707 ∷ Some 0x070707 ∷ Some 0x070707 ∷
+    Some 0x070707 ∷ Some 0x070707 ∷ Some 0x070707 ∷ Some 0x070707 ∷ Some 0x070707 ∷ Some 0x070707 ∷ Some 0x070707 ∷ Some 0x070707 ∷
+    Some 0x070707 ∷ Some 0x070707 ∷ Some 0x070707 ∷ Some 0x070707 ∷ Some 0x070707 ∷ Some 0x070707 ∷ Some 0x070707 ∷ Some 0x070707 ∷ [])
+block_of_unknown_pixels = refl
+
+pub block_of_another_height : makes (orders 3 (filled_with 0x01 0x02 0x03 ++ (
+    -- SaveBitmap: position 40, left +1, right +2, bottom +2
+    0x19 ∷ 0x0B ∷ 0x1B ∷
+    0x28 ∷ 0x00 ∷ 0x00 ∷ 0x00 ∷ 0x01 ∷ 0x02 ∷ 0x02 ∷
+    -- SaveBitmap: bottom -1, operation 1
+    0x11 ∷ 0x30 ∷
+    0xFF ∷ 0x01 ∷ [])) ++ mark) ≡ refused 32 Broken
+block_of_another_height = refl
+
+pub block_of_another_position : makes (orders 3 (filled_with 0x01 0x02 0x03 ++ (
+    -- SaveBitmap: position 40, left +1, right +2, bottom +2
+    0x19 ∷ 0x0B ∷ 0x1B ∷
+    0x28 ∷ 0x00 ∷ 0x00 ∷ 0x00 ∷ 0x01 ∷ 0x02 ∷ 0x02 ∷
+    -- SaveBitmap: position 41, operation 1
+    0x01 ∷ 0x21 ∷
+    0x29 ∷ 0x00 ∷ 0x00 ∷ 0x00 ∷ 0x01 ∷ [])) ++ mark) ≡ refused 32 Broken
+block_of_another_position = refl
+
+-- right is left of left
+pub save_of_no_column : makes (orders 2 (filled_with 0x01 0x02 0x03 ++ (
+    -- SaveBitmap: left +2, right +1
+    0x19 ∷ 0x0B ∷ 0x0A ∷
+    0x02 ∷ 0x01 ∷ [])) ++ mark) ≡ refused 32 Broken
+save_of_no_column = refl
+
+pub restore_of_no_column : makes (orders 2 (filled_with 0x01 0x02 0x03 ++ (
+    -- SaveBitmap: left +2, right +1, operation 1
+    0x19 ∷ 0x0B ∷ 0x2A ∷
+    0x02 ∷ 0x01 ∷ 0x01 ∷ [])) ++ mark) ≡ refused 32 Broken
+restore_of_no_column = refl
+
+-- bottom is above top
+pub save_of_no_row : makes (orders 2 (filled_with 0x01 0x02 0x03 ++ (
+    -- SaveBitmap: top +2, bottom +1
+    0x19 ∷ 0x0B ∷ 0x14 ∷
+    0x02 ∷ 0x01 ∷ [])) ++ mark) ≡ refused 32 Broken
+save_of_no_row = refl
+
+pub save_left_of_the_surface : makes (orders 2 (filled_with 0x01 0x02 0x03 ++ (
+    -- SaveBitmap: left -1
+    0x19 ∷ 0x0B ∷ 0x02 ∷ 0xFF ∷ [])) ++ mark) ≡ refused 32 Broken
+save_left_of_the_surface = refl
+
+pub save_right_of_the_surface : makes (orders 2 (filled_with 0x01 0x02 0x03 ++ (
+    -- SaveBitmap: right +8
+    0x19 ∷ 0x0B ∷ 0x08 ∷ 0x08 ∷ [])) ++ mark) ≡ refused 32 Broken
+save_right_of_the_surface = refl
+
+pub save_below_the_surface : makes (orders 2 (filled_with 0x01 0x02 0x03 ++ (
+    -- SaveBitmap: bottom +4
+    0x19 ∷ 0x0B ∷ 0x10 ∷ 0x04 ∷ [])) ++ mark) ≡ refused 32 Broken
+save_below_the_surface = refl
+
+-- from column -32,768 to column 32,767
+pub save_of_the_widest_rectangle : makes (orders 2 (filled_with 0x01 0x02 0x03 ++ (
+    -- SaveBitmap: left -32768, right 32767
+    0x09 ∷ 0x0B ∷ 0x0A ∷
+    0x00 ∷ 0x80 ∷ 0xFF ∷ 0x7F ∷ [])) ++ mark) ≡ refused 32 Broken
+save_of_the_widest_rectangle = refl

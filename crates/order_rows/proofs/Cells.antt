@@ -1,0 +1,34 @@
+-- What a viewer makes of cached bitmaps and brushes at the edges of its caches.
+use Rattle.std.proofs.Common.{◌≡◌, ◌∷◌, ◌++◌, refl, None, replicate, false}
+use Rattle.order_means.specs.ClientState.Fault.{Broken, Oversized}
+use Rattle.order_rows.proofs.Streams.{viewer, orders, mark, cached_image, cached_brush_of, makes, made_by, picture, refused}
+
+-- a cell counts three bytes a pixel: 96 of 96, and 12 of 12
+pub cells_that_are_full : makes (orders 2 (cached_image 2 ++ (
+    -- cached raw bitmap: cacheId 1, width 4, height 1, bits 24, index 0, pixels
+    0x03 ∷ 0x0E ∷ 0x00 ∷ 0x00 ∷ 0x00 ∷ 0x00 ∷ 0x01 ∷ 0x00 ∷ 0x04 ∷ 0x01 ∷ 0x18 ∷ 0x0C ∷ 0x00 ∷ 0x00 ∷ 0x00 ∷ replicate 12 0x00)) ++ mark)
+    ≡ picture 0 0 (replicate 32 None)
+cells_that_are_full = refl
+
+-- 24 bytes in a cell of 12
+pub image_a_row_past_its_cell : makes (orders 1 (
+    -- cached raw bitmap: cacheId 1, width 4, height 2, bits 24, index 0, pixels
+    0x03 ∷ 0x1A ∷ 0x00 ∷ 0x00 ∷ 0x00 ∷ 0x00 ∷ 0x01 ∷ 0x00 ∷ 0x04 ∷ 0x02 ∷ 0x18 ∷ 0x18 ∷ 0x00 ∷ 0x00 ∷ 0x00 ∷ replicate 24 0x00) ++ mark)
+    ≡ refused 32 (Oversized 1 0)
+image_a_row_past_its_cell = refl
+
+pub greatest_index_of_a_cached_bitmap : makes (orders 1 (
+    -- cached raw bitmap: cacheId 0, width 4, height 1, bits 24, index 65535, pixels
+    0x03 ∷ 0x0E ∷ 0x00 ∷ 0x00 ∷ 0x00 ∷ 0x00 ∷ 0x00 ∷ 0x00 ∷ 0x04 ∷ 0x01 ∷ 0x18 ∷ 0x0C ∷ 0x00 ∷ 0xFF ∷ 0xFF ∷ replicate 12 0x00))
+    ≡ refused 32 (Oversized 0 65535)
+greatest_index_of_a_cached_bitmap = refl
+
+pub cached_brush_of_a_viewer_without_brushes : made_by (viewer false false) (orders 1 (cached_brush_of 0 (replicate 192 0)) ++ mark)
+    ≡ refused 33 (Oversized 13 0)
+cached_brush_of_a_viewer_without_brushes = refl
+
+-- its 64 pixels are one field, refused at its first byte
+pub brush_a_byte_short : makes (orders 1 (
+    -- cached brush: entry 0, format 05, sides 2056, style 00, length of pixels 192, pixels
+    0x03 ∷ 0xBE ∷ 0x00 ∷ 0x00 ∷ 0x00 ∷ 0x07 ∷ 0x00 ∷ 0x05 ∷ 0x08 ∷ 0x08 ∷ 0x00 ∷ 0xC0 ∷ replicate 191 0x00) ++ mark) ≡ refused 53 Broken
+brush_a_byte_short = refl
