@@ -1,7 +1,18 @@
 -- What a viewer makes of cached bitmaps and brushes at the edges of its caches.
-use Rattle.std.proofs.Common.{◌≡◌, ◌∷◌, ◌++◌, refl, None, replicate, false}
+use Rattle.std.proofs.Common.{◌≡◌, ℕ, List, [], ◌∷◌, ◌++◌, refl, None, replicate, false}
+use Rattle.caps_sets.specs.declared.confirmed.Confirmed.{Confirmed}
+use Rattle.caps_sets.specs.Confirmed.{sized}
 use Rattle.order_means.specs.ClientState.Fault.{Broken, Oversized}
+use Rattle.order_rows.proofs.Viewer.{small}
 use Rattle.order_rows.proofs.Streams.{viewer, orders, mark, cached_image, cached_brush_of, makes, made_by, picture, refused}
+
+-- a viewer whose bitmap cache 1 has a cell of so many bytes
+abbrev cell_of : ℕ → Confirmed
+cell_of n = record small { bitmaps = sized 2 48 ∷ sized 1 n ∷ sized 0 0 ∷ [] }
+
+-- a raw cached bitmap of 4 by 1, entry 0 of cache 1
+abbrev image_of_a_row : List ℕ
+image_of_a_row = 0x03 ∷ 0x0E ∷ 0x00 ∷ 0x00 ∷ 0x00 ∷ 0x00 ∷ 0x01 ∷ 0x00 ∷ 0x04 ∷ 0x01 ∷ 0x18 ∷ 0x0C ∷ 0x00 ∷ 0x00 ∷ 0x00 ∷ replicate 12 0x00
 
 -- a cell counts three bytes a pixel: 96 of 96, and 12 of 12
 pub cells_that_are_full : makes (orders 2 (cached_image 2 ++ (
@@ -9,6 +20,14 @@ pub cells_that_are_full : makes (orders 2 (cached_image 2 ++ (
     0x03 ∷ 0x0E ∷ 0x00 ∷ 0x00 ∷ 0x00 ∷ 0x00 ∷ 0x01 ∷ 0x00 ∷ 0x04 ∷ 0x01 ∷ 0x18 ∷ 0x0C ∷ 0x00 ∷ 0x00 ∷ 0x00 ∷ replicate 12 0x00)) ++ mark)
     ≡ picture 0 0 (replicate 32 None)
 cells_that_are_full = refl
+
+-- 4 by 1 pixels are twelve bytes, in a cell of so many
+pub image_that_fills_its_cell : made_by (cell_of 12) (orders 1 image_of_a_row ++ mark) ≡ picture 0 0 (replicate 32 None)
+image_that_fills_its_cell = refl
+
+-- the same in a cell that has a byte less
+pub image_past_its_cell : made_by (cell_of 11) (orders 1 image_of_a_row ++ mark) ≡ refused 32 (Oversized 1 0)
+image_past_its_cell = refl
 
 -- 24 bytes in a cell of 12
 pub image_a_row_past_its_cell : makes (orders 1 (
