@@ -1,7 +1,11 @@
 -- What a viewer makes of SaveBitmap: blocks that are saved and restored. A coordinate with a sign is added to the last one.
-use Rattle.std.proofs.Common.{◌≡◌, [], ◌∷◌, ◌++◌, refl, Some, None, replicate}
+use Rattle.std.proofs.Common.{◌≡◌, ℕ, List, [], ◌∷◌, ◌++◌, refl, Some, None, replicate, true, false}
+use Rattle.std.specs.Prelude.{Result, Ok}
+use Rattle.order_fields.specs.Bytes.{bind}
 use Rattle.order_means.specs.ClientState.Fault.{Broken}
-use Rattle.order_rows.proofs.Streams.{orders, mark, filled_with, makes, picture, refused}
+use Rattle.order_means.specs.FrameMarks.{Refusal, read_stream}
+use Rattle.order_rows.proofs.Viewer.{size_of}
+use Rattle.order_rows.proofs.Streams.{viewer, orders, mark, filled_with, Made, made, makes, picture, refused}
 
 -- it is kept when it is restored, and goes to another place the first time
 pub block_restored_twice : makes (orders 6 (filled_with 0x01 0x02 0x03 ++ (
@@ -172,3 +176,108 @@ pub save_of_the_widest_rectangle : makes (orders 2 (filled_with 0x01 0x02 0x03 +
     0x09 ∷ 0x0B ∷ 0x0A ∷
     0x00 ∷ 0x80 ∷ 0xFF ∷ 0x7F ∷ [])) ++ mark) ≡ refused 32 Broken
 save_of_the_widest_rectangle = refl
+
+-- up to the last column and row, painted over and restored
+pub block_of_the_whole_surface : makes (orders 4 (filled_with 0x01 0x02 0x03 ++ (
+    -- SaveBitmap: right +7, bottom +3
+    0x19 ∷ 0x0B ∷ 0x18 ∷
+    0x07 ∷ 0x03 ∷
+    -- OpaqueRect: red 09, green 09, blue 09
+    0x09 ∷ 0x0A ∷ 0x70 ∷
+    0x09 ∷ 0x09 ∷ 0x09 ∷
+    -- SaveBitmap: operation 1
+    0x09 ∷ 0x0B ∷ 0x20 ∷ 0x01 ∷ [])) ++ mark) ≡ picture 4 0 (replicate 32 (Some 0x010203))
+block_of_the_whole_surface = refl
+
+-- two columns, of which the surface has the second one
+pub restore_partly_left_of_the_surface : makes (orders 2 (
+    -- SaveBitmap: right +1
+    0x19 ∷ 0x0B ∷ 0x08 ∷ 0x01 ∷
+    -- SaveBitmap: left -1, right -1, operation 1
+    0x11 ∷ 0x2A ∷
+    0xFF ∷ 0xFF ∷ 0x01 ∷ [])) ≡ refused 32 Broken
+restore_partly_left_of_the_surface = refl
+
+-- two columns, of which the surface has the first one
+pub restore_partly_right_of_the_surface : makes (orders 2 (
+    -- SaveBitmap: right +1
+    0x19 ∷ 0x0B ∷ 0x08 ∷ 0x01 ∷
+    -- SaveBitmap: left +7, right +7, operation 1
+    0x11 ∷ 0x2A ∷
+    0x07 ∷ 0x07 ∷ 0x01 ∷ [])) ≡ refused 32 Broken
+restore_partly_right_of_the_surface = refl
+
+-- two rows, of which the surface has the second one
+pub restore_partly_above_the_surface : makes (orders 2 (
+    -- SaveBitmap: bottom +1
+    0x19 ∷ 0x0B ∷ 0x10 ∷ 0x01 ∷
+    -- SaveBitmap: top -1, bottom -1, operation 1
+    0x11 ∷ 0x34 ∷
+    0xFF ∷ 0xFF ∷ 0x01 ∷ [])) ≡ refused 32 Broken
+restore_partly_above_the_surface = refl
+
+-- two rows, of which the surface has the first one
+pub restore_partly_below_the_surface : makes (orders 2 (
+    -- SaveBitmap: bottom +1
+    0x19 ∷ 0x0B ∷ 0x10 ∷ 0x01 ∷
+    -- SaveBitmap: top +3, bottom +3, operation 1
+    0x11 ∷ 0x34 ∷
+    0x03 ∷ 0x03 ∷ 0x01 ∷ [])) ≡ refused 32 Broken
+restore_partly_below_the_surface = refl
+
+pub save_above_the_surface : makes (orders 1 (
+    -- SaveBitmap: top -1
+    0x19 ∷ 0x0B ∷ 0x04 ∷ 0xFF ∷ [])) ≡ refused 32 Broken
+save_above_the_surface = refl
+
+-- a block at 0 drops the one at 19
+pub block_behind_that_shares_a_position : makes (orders 4 (filled_with 0x01 0x02 0x03 ++ (
+    -- SaveBitmap: position 19, bottom +3
+    0x19 ∷ 0x0B ∷ 0x11 ∷
+    0x13 ∷ 0x00 ∷ 0x00 ∷ 0x00 ∷ 0x03 ∷
+    -- SaveBitmap: position 0
+    0x01 ∷ 0x01 ∷
+    0x00 ∷ 0x00 ∷ 0x00 ∷ 0x00 ∷
+    -- SaveBitmap: position 19, operation 1
+    0x01 ∷ 0x21 ∷
+    0x13 ∷ 0x00 ∷ 0x00 ∷ 0x00 ∷ 0x01 ∷ [])) ++ mark) ≡ refused 32 Broken
+block_behind_that_shares_a_position = refl
+
+-- a block of 2 by 4 takes 40 positions, here from 57,560 on
+pub two_columns_up_to_the_last_position : makes (orders 2 (filled_with 0x01 0x02 0x03 ++ (
+    -- SaveBitmap: position 57,560, right +1, bottom +3
+    0x19 ∷ 0x0B ∷ 0x19 ∷
+    0xD8 ∷ 0xE0 ∷ 0x00 ∷ 0x00 ∷ 0x01 ∷ 0x03 ∷ [])) ++ mark) ≡ picture 2 0 (replicate 32 (Some 0x010203))
+two_columns_up_to_the_last_position = refl
+
+-- from 57,561 on
+pub two_columns_past_the_last_position : makes (orders 2 (filled_with 0x01 0x02 0x03 ++ (
+    -- SaveBitmap: position 57,561, right +1, bottom +3
+    0x19 ∷ 0x0B ∷ 0x19 ∷
+    0xD9 ∷ 0xE0 ∷ 0x00 ∷ 0x00 ∷ 0x01 ∷ 0x03 ∷ [])) ++ mark) ≡ refused 32 Broken
+two_columns_past_the_last_position = refl
+
+-- what a viewer makes of a stream on a surface of 4 by 21
+abbrev makes_on_a_high_surface : List ℕ → Result Made Refusal
+makes_on_a_high_surface bytes = bind (read_stream (viewer false true) (size_of 4 21) bytes) (λ r. Ok (made bytes r))
+
+-- a block of 1 by 20 takes 20 positions, here from 57,580 on
+pub twenty_rows_up_to_the_last_position : makes_on_a_high_surface (orders 1 (
+    -- SaveBitmap: position 57,580, bottom +19
+    0x19 ∷ 0x0B ∷ 0x11 ∷
+    0xEC ∷ 0xE0 ∷ 0x00 ∷ 0x00 ∷ 0x13 ∷ []) ++ mark) ≡ picture 1 0 (replicate 84 None)
+twenty_rows_up_to_the_last_position = refl
+
+-- a block of 1 by 21 takes 40 positions, here from 57,560 on
+pub twenty_one_rows_up_to_the_last_position : makes_on_a_high_surface (orders 1 (
+    -- SaveBitmap: position 57,560, bottom +20
+    0x19 ∷ 0x0B ∷ 0x11 ∷
+    0xD8 ∷ 0xE0 ∷ 0x00 ∷ 0x00 ∷ 0x14 ∷ []) ++ mark) ≡ picture 1 0 (replicate 84 None)
+twenty_one_rows_up_to_the_last_position = refl
+
+-- from 57,561 on
+pub twenty_one_rows_past_the_last_position : makes_on_a_high_surface (orders 1 (
+    -- SaveBitmap: position 57,561, bottom +20
+    0x19 ∷ 0x0B ∷ 0x11 ∷
+    0xD9 ∷ 0xE0 ∷ 0x00 ∷ 0x00 ∷ 0x14 ∷ []) ++ mark) ≡ refused 32 Broken
+twenty_one_rows_past_the_last_position = refl

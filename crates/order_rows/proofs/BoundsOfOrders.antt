@@ -41,3 +41,20 @@ pub bounds_without_a_pixel : makes (orders 2 (
     0x05 ∷ 0x70 ∷
     0xF0 ∷ 0xFD ∷ 0x03 ∷ 0x06 ∷ 0xFF ∷ 0x06 ∷ 0x06 ∷ 0x06 ∷ []) ++ mark) ≡ picture 2 0 (replicate 32 None)
 bounds_without_a_pixel = refl
+
+-- the third order has the bounds of the first one, and the second has none
+pub bounds_stay_over_an_order_without_any : makes (orders 3 (
+    -- OpaqueRect: left edge +1, top edge +1, right edge +3, bottom edge +2, width +8, height +4, red 01, green 02, blue 03
+    0x1D ∷ 0x0A ∷ 0x7C ∷
+    0xF0 ∷ 0x01 ∷ 0x01 ∷ 0x03 ∷ 0x02 ∷ 0x08 ∷ 0x04 ∷ 0x01 ∷ 0x02 ∷ 0x03 ∷
+    -- OpaqueRect: red 04, green 05, blue 06
+    0x01 ∷ 0x70 ∷
+    0x04 ∷ 0x05 ∷ 0x06 ∷
+    -- OpaqueRect in the last bounds: red 07, green 08, blue 09
+    0x25 ∷ 0x70 ∷
+    0x07 ∷ 0x08 ∷ 0x09 ∷ []) ++ mark) ≡ picture 3 0 (
+    Some 0x040506 ∷ Some 0x040506 ∷ Some 0x040506 ∷ Some 0x040506 ∷ Some 0x040506 ∷ Some 0x040506 ∷ Some 0x040506 ∷ Some 0x040506 ∷
+    Some 0x040506 ∷ Some 0x070809 ∷ Some 0x070809 ∷ Some 0x070809 ∷ Some 0x040506 ∷ Some 0x040506 ∷ Some 0x040506 ∷ Some 0x040506 ∷
+    Some 0x040506 ∷ Some 0x070809 ∷ Some 0x070809 ∷ Some 0x070809 ∷ Some 0x040506 ∷ Some 0x040506 ∷ Some 0x040506 ∷ Some 0x040506 ∷
+    Some 0x040506 ∷ Some 0x040506 ∷ Some 0x040506 ∷ Some 0x040506 ∷ Some 0x040506 ∷ Some 0x040506 ∷ Some 0x040506 ∷ Some 0x040506 ∷ [])
+bounds_stay_over_an_order_without_any = refl

@@ -1,8 +1,8 @@
 -- What a viewer makes of orders with a brush, an image, or both: PatBlt and Mem3Blt. A coordinate with a sign is added to the last one.
-use Rattle.std.proofs.Common.{◌≡◌, [], ◌∷◌, ◌++◌, refl, Some, None}
+use Rattle.std.proofs.Common.{◌≡◌, [], ◌∷◌, ◌++◌, refl, Some, None, replicate}
 use Rattle.rop3_core.specs.Rop3.{ternary_raster}
 use Rattle.order_means.specs.ClientState.Fault.{Broken, Empty}
-use Rattle.order_rows.proofs.Streams.{orders, mark, filled_with, cached_image, small_image, cached_brush, makes, picture, refused}
+use Rattle.order_rows.proofs.Streams.{orders, mark, filled_with, cached_image, small_image, cached_brush, cached_brush_of, makes, picture, refused}
 
 -- code B8 takes the picture where the image has a 1, and the brush where it has a 0; the image is read from its third column on
 pub brush_image_and_picture_are_mixed : makes (orders 4 (filled_with 0x5A 0xC3 0x0F ++ (cached_image 0 ++ (cached_brush 2 ++ (
@@ -137,3 +137,50 @@ pub rows_of_a_brush : makes (orders 2 (cached_brush 63 ++ (
     Some 0x174A67 ∷ Some 0x2CC4B4 ∷ Some 0x90F23B ∷ Some 0x73B7A4 ∷ Some 0x868254 ∷ Some 0xE255F3 ∷ Some 0x17B99D ∷ Some 0x6C2EA4 ∷ [])
 unfolding ternary_raster
 rows_of_a_brush = refl
+
+-- code 55 inverts the picture, and an empty entry is refused all the same
+pub brush_that_the_code_does_not_need : makes (orders 1 (
+    -- PatBlt: width +8, height +4, rop 55, style 85, hatch 5
+    0x11 ∷ 0x1C ∷ 0x06 ∷
+    0x08 ∷ 0x04 ∷ 0x55 ∷ 0x85 ∷ 0x05 ∷ []) ++ mark) ≡ refused 32 (Empty 13 5)
+brush_that_the_code_does_not_need = refl
+
+-- code 55 inverts the picture, and an empty entry is refused all the same
+pub image_that_the_code_does_not_need : makes (orders 1 (
+    -- MemBlt: width +8, height +4, rop 55, index 1
+    0x19 ∷ 0x0D ∷ 0x38 ∷ 0x01 ∷
+    0x08 ∷ 0x04 ∷ 0x55 ∷ 0x01 ∷ 0x00 ∷ []) ++ mark) ≡ refused 32 (Empty 0 1)
+image_that_the_code_does_not_need = refl
+
+-- the brush's extra bytes, back and fore are anything
+pub extra_and_colours_of_a_brush_are_not_read : makes (orders 2 (cached_brush_of 2 (replicate 192 0x2A) ++ (
+    -- PatBlt: width +8, height +4, rop F0, back 000005, fore 000006, style 85, hatch 2, extra
+    0x11 ∷ 0x7C ∷ 0x0E ∷
+    0x08 ∷ 0x04 ∷ 0xF0 ∷ 0x00 ∷ 0x00 ∷ 0x05 ∷ 0x00 ∷ 0x00 ∷ 0x06 ∷ 0x85 ∷ 0x02 ∷
+    0x4D ∷ 0x00 ∷ 0x00 ∷ 0x00 ∷ 0x00 ∷ 0x00 ∷ 0x00 ∷ [])) ++ mark) ≡ picture 1 0 (replicate 32 (Some 0x2A2A2A))
+unfolding ternary_raster
+extra_and_colours_of_a_brush_are_not_read = refl
+
+-- three of its columns, from column 1 and row 1 on
+pub lower_row_of_an_image : makes (orders 3 (filled_with 0x01 0x02 0x03 ++ (small_image ++ (
+    -- MemBlt: width +3, height +1, rop CC, xSrc +1, ySrc +1
+    0x59 ∷ 0x0D ∷ 0xF8 ∷
+    0x03 ∷ 0x01 ∷ 0xCC ∷ 0x01 ∷ 0x01 ∷ []))) ++ mark) ≡ picture 2 0 (
+    Some 0x050403 ∷ Some 0x080706 ∷ Some 0x0B0A09 ∷ Some 0x010203 ∷ Some 0x010203 ∷ Some 0x010203 ∷ Some 0x010203 ∷ Some 0x010203 ∷
+    Some 0x010203 ∷ Some 0x010203 ∷ Some 0x010203 ∷ Some 0x010203 ∷ Some 0x010203 ∷ Some 0x010203 ∷ Some 0x010203 ∷ Some 0x010203 ∷
+    Some 0x010203 ∷ Some 0x010203 ∷ Some 0x010203 ∷ Some 0x010203 ∷ Some 0x010203 ∷ Some 0x010203 ∷ Some 0x010203 ∷ Some 0x010203 ∷
+    Some 0x010203 ∷ Some 0x010203 ∷ Some 0x010203 ∷ Some 0x010203 ∷ Some 0x010203 ∷ Some 0x010203 ∷ Some 0x010203 ∷ Some 0x010203 ∷ [])
+unfolding ternary_raster
+lower_row_of_an_image = refl
+
+-- the same by a Mem3Blt, whose code takes the image alone
+pub lower_row_of_an_image_with_a_brush : makes (orders 4 (filled_with 0x01 0x02 0x03 ++ (small_image ++ (cached_brush 2 ++ (
+    -- Mem3Blt: width +3, height +1, rop CC, xSrc +1, ySrc +1, style 85, hatch 2
+    0x59 ∷ 0x0E ∷ 0xF8 ∷ 0x30 ∷
+    0x03 ∷ 0x01 ∷ 0xCC ∷ 0x01 ∷ 0x01 ∷ 0x85 ∷ 0x02 ∷ [])))) ++ mark) ≡ picture 2 0 (
+    Some 0x050403 ∷ Some 0x080706 ∷ Some 0x0B0A09 ∷ Some 0x010203 ∷ Some 0x010203 ∷ Some 0x010203 ∷ Some 0x010203 ∷ Some 0x010203 ∷
+    Some 0x010203 ∷ Some 0x010203 ∷ Some 0x010203 ∷ Some 0x010203 ∷ Some 0x010203 ∷ Some 0x010203 ∷ Some 0x010203 ∷ Some 0x010203 ∷
+    Some 0x010203 ∷ Some 0x010203 ∷ Some 0x010203 ∷ Some 0x010203 ∷ Some 0x010203 ∷ Some 0x010203 ∷ Some 0x010203 ∷ Some 0x010203 ∷
+    Some 0x010203 ∷ Some 0x010203 ∷ Some 0x010203 ∷ Some 0x010203 ∷ Some 0x010203 ∷ Some 0x010203 ∷ Some 0x010203 ∷ Some 0x010203 ∷ [])
+unfolding ternary_raster
+lower_row_of_an_image_with_a_brush = refl

@@ -1,5 +1,6 @@
 -- What a viewer makes of cached bitmaps and brushes at the edges of its caches.
-use Rattle.std.proofs.Common.{◌≡◌, ℕ, List, [], ◌∷◌, ◌++◌, refl, None, replicate, false}
+use Rattle.std.proofs.Common.{◌≡◌, ℕ, List, [], ◌∷◌, ◌++◌, refl, Some, None, replicate, false}
+use Rattle.rop3_core.specs.Rop3.{ternary_raster}
 use Rattle.caps_sets.specs.declared.confirmed.Confirmed.{Confirmed}
 use Rattle.caps_sets.specs.Confirmed.{sized}
 use Rattle.order_means.specs.ClientState.Fault.{Broken, Oversized}
@@ -51,3 +52,56 @@ pub brush_a_byte_short : makes (orders 1 (
     -- cached brush: entry 0, format 05, sides 2056, style 00, length of pixels 192, pixels
     0x03 ∷ 0xBE ∷ 0x00 ∷ 0x00 ∷ 0x00 ∷ 0x07 ∷ 0x00 ∷ 0x05 ∷ 0x08 ∷ 0x08 ∷ 0x00 ∷ 0xC0 ∷ replicate 191 0x00) ++ mark) ≡ refused 53 Broken
 brush_a_byte_short = refl
+
+-- a cell counts three bytes a pixel, and not the one byte that a background run of eight has
+pub packed_image_past_its_cell : makes (orders 1 (
+    -- cached packed bitmap: cacheId 1, width 4, height 2, bits 24, index 0, pixels
+    0x03 ∷ 0x03 ∷ 0x00 ∷ 0x00 ∷ 0x04 ∷ 0x02 ∷ 0x01 ∷ 0x00 ∷ 0x04 ∷ 0x02 ∷ 0x18 ∷ 0x01 ∷ 0x00 ∷ 0x00 ∷ 0x00 ∷
+    0x08 ∷ []) ++ mark) ≡ refused 32 (Oversized 1 0)
+packed_image_past_its_cell = refl
+
+-- 23 bytes of 24, which are too many for the cell of 12
+pub bytes_of_an_image_before_its_cell : makes (orders 1 (
+    -- cached raw bitmap: cacheId 1, width 4, height 2, bits 24, index 0, pixels
+    0x03 ∷ 0x19 ∷ 0x00 ∷ 0x00 ∷ 0x00 ∷ 0x00 ∷ 0x01 ∷ 0x00 ∷ 0x04 ∷ 0x02 ∷ 0x18 ∷ 0x17 ∷ 0x00 ∷ 0x00 ∷ 0x00 ∷ replicate 23 0x00) ++ mark) ≡ refused 32 Broken
+bytes_of_an_image_before_its_cell = refl
+
+-- 11 bytes of 12
+pub raw_image_that_is_too_short : makes (orders 1 (
+    -- cached raw bitmap: cacheId 0, width 4, height 1, bits 24, index 0, pixels
+    0x03 ∷ 0x0D ∷ 0x00 ∷ 0x00 ∷ 0x00 ∷ 0x00 ∷ 0x00 ∷ 0x00 ∷ 0x04 ∷ 0x01 ∷ 0x18 ∷ 0x0B ∷ 0x00 ∷ 0x00 ∷ 0x00 ∷ replicate 11 0x00) ++ mark) ≡ refused 32 Broken
+raw_image_that_is_too_short = refl
+
+pub image_without_a_row : makes (orders 1 (
+    -- cached raw bitmap: cacheId 0, width 4, height 0, bits 24, index 0
+    0x03 ∷ 0x02 ∷ 0x00 ∷ 0x00 ∷ 0x00 ∷ 0x00 ∷ 0x00 ∷ 0x00 ∷ 0x04 ∷ 0x00 ∷ 0x18 ∷ 0x00 ∷ 0x00 ∷ 0x00 ∷ 0x00 ∷ []) ++ mark) ≡ refused 32 Broken
+image_without_a_row = refl
+
+-- a background run of 256 pixels, which fill the cell of 768 bytes
+pub image_of_sixty_four_columns : makes (orders 1 (
+    -- cached packed bitmap: cacheId 0, width 64, height 4, bits 24, index 0, pixels
+    0x03 ∷ 0x05 ∷ 0x00 ∷ 0x00 ∷ 0x04 ∷ 0x02 ∷ 0x00 ∷ 0x00 ∷ 0x40 ∷ 0x04 ∷ 0x18 ∷ 0x03 ∷ 0x00 ∷ 0x00 ∷ 0x00 ∷
+    0xF0 ∷ 0x00 ∷ 0x01 ∷ []) ++ mark) ≡ picture 0 0 (replicate 32 None)
+image_of_sixty_four_columns = refl
+
+pub image_of_sixty_four_rows : makes (orders 1 (
+    -- cached packed bitmap: cacheId 0, width 4, height 64, bits 24, index 0, pixels
+    0x03 ∷ 0x05 ∷ 0x00 ∷ 0x00 ∷ 0x04 ∷ 0x02 ∷ 0x00 ∷ 0x00 ∷ 0x04 ∷ 0x40 ∷ 0x18 ∷ 0x03 ∷ 0x00 ∷ 0x00 ∷ 0x00 ∷
+    0xF0 ∷ 0x00 ∷ 0x01 ∷ []) ++ mark) ≡ picture 0 0 (replicate 32 None)
+image_of_sixty_four_rows = refl
+
+-- a background run of 68 pixels, for which the cell has room
+pub image_of_sixty_eight_columns : makes (orders 1 (
+    -- cached packed bitmap: cacheId 0, width 68, height 1, bits 24, index 0, pixels
+    0x03 ∷ 0x05 ∷ 0x00 ∷ 0x00 ∷ 0x04 ∷ 0x02 ∷ 0x00 ∷ 0x00 ∷ 0x44 ∷ 0x01 ∷ 0x18 ∷ 0x03 ∷ 0x00 ∷ 0x00 ∷ 0x00 ∷
+    0xF0 ∷ 0x44 ∷ 0x00 ∷ []) ++ mark) ≡ refused 32 Broken
+image_of_sixty_eight_columns = refl
+
+pub flags_and_style_of_a_cached_brush_are_not_read : makes (orders 2 (
+    -- cached brush: flags FFFF, entry 2, format 05, sides 08 08, style 07, length of its pixels
+    (0x03 ∷ 0xBF ∷ 0x00 ∷ 0xFF ∷ 0xFF ∷ 0x07 ∷ 0x02 ∷ 0x05 ∷ 0x08 ∷ 0x08 ∷ 0x07 ∷ 0xC0 ∷ replicate 192 0x2A) ++ (
+    -- PatBlt: width +8, height +4, rop F0, style 85, hatch 2
+    0x11 ∷ 0x1C ∷ 0x06 ∷
+    0x08 ∷ 0x04 ∷ 0xF0 ∷ 0x85 ∷ 0x02 ∷ [])) ++ mark) ≡ picture 1 0 (replicate 32 (Some 0x2A2A2A))
+unfolding ternary_raster
+flags_and_style_of_a_cached_brush_are_not_read = refl

@@ -89,3 +89,14 @@ pub update_that_is_compressed : makes (
     -- an update of one order: OpaqueRect
     0x00 ∷ 0x00 ∷ 0x00 ∷ 0x00 ∷ 0x01 ∷ 0x00 ∷ 0x00 ∷ 0x00 ∷ 0x19 ∷ 0x0A ∷ 0x7C ∷ 0x08 ∷ 0x04 ∷ 0x01 ∷ 0x02 ∷ 0x03 ∷ []) ≡ refused 29 Broken
 update_that_is_compressed = refl
+
+-- its last column and row are those of the surface
+pub rectangle_in_the_last_corner : makes (packet (
+    -- a rectangle: left 4, top 3, right 7, bottom 3, width 4, height 1, bits 24, flags 0000, length 12, bytes
+    0x01 ∷ 0x00 ∷ 0x01 ∷ 0x00 ∷ 0x04 ∷ 0x00 ∷ 0x03 ∷ 0x00 ∷ 0x07 ∷ 0x00 ∷ 0x03 ∷ 0x00 ∷ 0x04 ∷ 0x00 ∷ 0x01 ∷ 0x00 ∷ 0x18 ∷ 0x00 ∷
+    0x00 ∷ 0x00 ∷ 0x0C ∷ 0x00 ∷ replicate 12 0x2A) ++ mark) ≡ picture 0 1 (
+    None ∷ None ∷ None ∷ None ∷ None ∷ None ∷ None ∷ None ∷
+    None ∷ None ∷ None ∷ None ∷ None ∷ None ∷ None ∷ None ∷
+    None ∷ None ∷ None ∷ None ∷ None ∷ None ∷ None ∷ None ∷
+    None ∷ None ∷ None ∷ None ∷ Some 0x2A2A2A ∷ Some 0x2A2A2A ∷ Some 0x2A2A2A ∷ Some 0x2A2A2A ∷ [])
+rectangle_in_the_last_corner = refl

@@ -197,3 +197,10 @@ pub code_that_reads_nothing_makes_pixels_known : makes (orders 4 (
     Some 0xFFFFFF ∷ Some 0xFFFFFF ∷ None ∷ None ∷ None ∷ None ∷ None ∷ None ∷ [])
 unfolding ternary_raster
 code_that_reads_nothing_makes_pixels_known = refl
+
+-- code 55 inverts the picture, and a source outside the surface is refused all the same
+pub source_that_the_code_does_not_need : makes (orders 2 (filled_with 0x01 0x02 0x03 ++ (
+    -- ScrBlt: width +8, height +4, rop 55, xSrc +1
+    0x19 ∷ 0x02 ∷ 0x3C ∷
+    0x08 ∷ 0x04 ∷ 0x55 ∷ 0x01 ∷ [])) ++ mark) ≡ refused 32 Broken
+source_that_the_code_does_not_need = refl

@@ -127,7 +127,7 @@ pub record Made : Type 0 where
   pub tiles : ℕ
   pub rest : List ℕ
 
-abbrev made : List ℕ → Reading → Made
+abbrev pub made : List ℕ → Reading → Made
 made bytes r = record { pictures = r.view.pictures; orders = r.view.orders; tiles = r.view.tiles; rest = unread bytes }
 
 -- what a viewer makes of a stream on a surface of 8 by 4
