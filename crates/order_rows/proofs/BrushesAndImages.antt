@@ -29,7 +29,7 @@ unfolding ternary_raster
 brush_image_and_picture_in_bounds = refl
 
 -- the brush's extra bytes, back and fore are anything
-pub extra_and_colours_of_a_mem3_are_not_read : makes (orders 4 (filled_with 0x01 0x02 0x03 ++ (cached_image 0 ++ (cached_brush 2 ++ (
+pub extra_and_colors_of_a_mem3_are_not_read : makes (orders 4 (filled_with 0x01 0x02 0x03 ++ (cached_image 0 ++ (cached_brush 2 ++ (
     -- Mem3Blt: left +1, width +4, height +4, rop B8, back 000005, fore 000006, style 85, hatch 2, extra
     0x59 ∷ 0x0E ∷ 0x3A ∷ 0x73 ∷
     0x01 ∷ 0x04 ∷ 0x04 ∷ 0xB8 ∷ 0x00 ∷ 0x00 ∷ 0x05 ∷ 0x00 ∷ 0x00 ∷ 0x06 ∷ 0x85 ∷ 0x02 ∷ 0x4D ∷ 0x00 ∷ 0x00 ∷ 0x00 ∷ 0x00 ∷ 0x00 ∷ 0x00 ∷ [])))) ++ mark)
@@ -39,7 +39,7 @@ pub extra_and_colours_of_a_mem3_are_not_read : makes (orders 4 (filled_with 0x01
     Some 0x010203 ∷ Some 0x190109 ∷ Some 0x2D2A07 ∷ Some 0x25265F ∷ Some 0x050217 ∷ Some 0x010203 ∷ Some 0x010203 ∷ Some 0x010203 ∷
     Some 0x010203 ∷ Some 0x29C6B1 ∷ Some 0x114223 ∷ Some 0x6116A4 ∷ Some 0x840251 ∷ Some 0x010203 ∷ Some 0x010203 ∷ Some 0x010203 ∷ [])
 unfolding ternary_raster
-extra_and_colours_of_a_mem3_are_not_read = refl
+extra_and_colors_of_a_mem3_are_not_read = refl
 
 -- columns 5 to 8 of an image of eight
 pub source_of_a_mem3_past_its_image : makes (orders 4 (filled_with 0x01 0x02 0x03 ++ (cached_image 0 ++ (cached_brush 2 ++ (
@@ -153,13 +153,13 @@ pub image_that_the_code_does_not_need : makes (orders 1 (
 image_that_the_code_does_not_need = refl
 
 -- the brush's extra bytes, back and fore are anything
-pub extra_and_colours_of_a_brush_are_not_read : makes (orders 2 (cached_brush_of 2 (replicate 192 0x2A) ++ (
+pub extra_and_colors_of_a_brush_are_not_read : makes (orders 2 (cached_brush_of 2 (replicate 192 0x2A) ++ (
     -- PatBlt: width +8, height +4, rop F0, back 000005, fore 000006, style 85, hatch 2, extra
     0x11 ∷ 0x7C ∷ 0x0E ∷
     0x08 ∷ 0x04 ∷ 0xF0 ∷ 0x00 ∷ 0x00 ∷ 0x05 ∷ 0x00 ∷ 0x00 ∷ 0x06 ∷ 0x85 ∷ 0x02 ∷
     0x4D ∷ 0x00 ∷ 0x00 ∷ 0x00 ∷ 0x00 ∷ 0x00 ∷ 0x00 ∷ [])) ++ mark) ≡ picture 1 0 (replicate 32 (Some 0x2A2A2A))
 unfolding ternary_raster
-extra_and_colours_of_a_brush_are_not_read = refl
+extra_and_colors_of_a_brush_are_not_read = refl
 
 -- three of its columns, from column 1 and row 1 on
 pub lower_row_of_an_image : makes (orders 3 (filled_with 0x01 0x02 0x03 ++ (small_image ++ (

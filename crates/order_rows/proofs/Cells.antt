@@ -5,7 +5,7 @@ use Rattle.caps_sets.specs.declared.confirmed.Confirmed.{Confirmed}
 use Rattle.caps_sets.specs.Confirmed.{sized}
 use Rattle.order_means.specs.ClientState.Fault.{Broken, Oversized}
 use Rattle.order_rows.proofs.Viewer.{small}
-use Rattle.order_rows.proofs.Streams.{viewer, orders, mark, cached_image, cached_brush_of, makes, made_by, picture, refused}
+use Rattle.order_rows.proofs.Streams.{viewer, orders, mark, filled_with, cached_image, small_image, cached_brush, cached_brush_of, makes, made_by, picture, refused}
 
 -- a viewer whose bitmap cache 1 has a cell of so many bytes
 abbrev cell_of : ℕ → Confirmed
@@ -105,3 +105,55 @@ pub flags_and_style_of_a_cached_brush_are_not_read : makes (orders 2 (
     0x08 ∷ 0x04 ∷ 0xF0 ∷ 0x85 ∷ 0x02 ∷ [])) ++ mark) ≡ picture 1 0 (replicate 32 (Some 0x2A2A2A))
 unfolding ternary_raster
 flags_and_style_of_a_cached_brush_are_not_read = refl
+
+-- a viewer whose glyph cache 0 has a cell of so many bytes
+abbrev glyph_cell_of : ℕ → Confirmed
+glyph_cell_of n = record small { glyphs = sized 2 n ∷ replicate 9 (sized 0 0) }
+
+-- a glyph of 8 by 5, whose five bytes are padded to eight: length, flags, type; cacheId, count; index, x, y, cx, cy, bits
+abbrev glyph_of_five_rows : List ℕ
+glyph_of_five_rows =
+    0x03 ∷ 0x0D ∷ 0x00 ∷ 0x00 ∷ 0x00 ∷ 0x03 ∷ 0x00 ∷ 0x01 ∷
+    0x00 ∷ 0x00 ∷ 0x00 ∷ 0x00 ∷ 0x00 ∷ 0x00 ∷ 0x08 ∷ 0x00 ∷ 0x05 ∷ 0x00 ∷ replicate 8 0x00
+
+pub glyph_that_fills_its_cell : made_by (glyph_cell_of 8) (orders 1 glyph_of_five_rows ++ mark) ≡ picture 0 0 (replicate 32 None)
+glyph_that_fills_its_cell = refl
+
+pub padded_glyph_past_its_cell : made_by (glyph_cell_of 7) (orders 1 glyph_of_five_rows ++ mark) ≡ refused 32 (Oversized 3 0)
+padded_glyph_past_its_cell = refl
+
+-- a raw cached bitmap of 4 by 1 in one colour, entry 0 of a cache
+abbrev image_in_one_color : ℕ → List ℕ
+image_in_one_color cache = 0x03 ∷ 0x0E ∷ 0x00 ∷ 0x00 ∷ 0x00 ∷ 0x00 ∷ cache ∷ 0x00 ∷ 0x04 ∷ 0x01 ∷ 0x18 ∷ 0x0C ∷ 0x00 ∷ 0x00 ∷ 0x00 ∷ replicate 12 0x2A
+
+-- it replaces the first one
+pub second_image_of_an_entry : makes (orders 4 (filled_with 0x01 0x02 0x03 ++ (small_image ++ (image_in_one_color 0 ++ (
+    -- MemBlt: width +4, height +1, rop CC
+    0x59 ∷ 0x0D ∷ 0x38 ∷
+    0x04 ∷ 0x01 ∷ 0xCC ∷ [])))) ++ mark) ≡ picture 2 0 (
+    Some 0x2A2A2A ∷ Some 0x2A2A2A ∷ Some 0x2A2A2A ∷ Some 0x2A2A2A ∷ Some 0x010203 ∷ Some 0x010203 ∷ Some 0x010203 ∷ Some 0x010203 ∷
+    Some 0x010203 ∷ Some 0x010203 ∷ Some 0x010203 ∷ Some 0x010203 ∷ Some 0x010203 ∷ Some 0x010203 ∷ Some 0x010203 ∷ Some 0x010203 ∷
+    Some 0x010203 ∷ Some 0x010203 ∷ Some 0x010203 ∷ Some 0x010203 ∷ Some 0x010203 ∷ Some 0x010203 ∷ Some 0x010203 ∷ Some 0x010203 ∷
+    Some 0x010203 ∷ Some 0x010203 ∷ Some 0x010203 ∷ Some 0x010203 ∷ Some 0x010203 ∷ Some 0x010203 ∷ Some 0x010203 ∷ Some 0x010203 ∷ [])
+unfolding ternary_raster
+second_image_of_an_entry = refl
+
+-- cache 0 keeps its own
+pub image_of_the_same_entry_in_another_cache : makes (orders 4 (filled_with 0x01 0x02 0x03 ++ (small_image ++ (image_in_one_color 1 ++ (
+    -- MemBlt: width +4, height +1, rop CC
+    0x59 ∷ 0x0D ∷ 0x38 ∷
+    0x04 ∷ 0x01 ∷ 0xCC ∷ [])))) ++ mark) ≡ picture 2 0 (
+    Some 0x0E0D0C ∷ Some 0x11100F ∷ Some 0x141312 ∷ Some 0x171615 ∷ Some 0x010203 ∷ Some 0x010203 ∷ Some 0x010203 ∷ Some 0x010203 ∷
+    Some 0x010203 ∷ Some 0x010203 ∷ Some 0x010203 ∷ Some 0x010203 ∷ Some 0x010203 ∷ Some 0x010203 ∷ Some 0x010203 ∷ Some 0x010203 ∷
+    Some 0x010203 ∷ Some 0x010203 ∷ Some 0x010203 ∷ Some 0x010203 ∷ Some 0x010203 ∷ Some 0x010203 ∷ Some 0x010203 ∷ Some 0x010203 ∷
+    Some 0x010203 ∷ Some 0x010203 ∷ Some 0x010203 ∷ Some 0x010203 ∷ Some 0x010203 ∷ Some 0x010203 ∷ Some 0x010203 ∷ Some 0x010203 ∷ [])
+unfolding ternary_raster
+image_of_the_same_entry_in_another_cache = refl
+
+-- it replaces the first one
+pub second_brush_of_an_entry : makes (orders 3 (cached_brush 2 ++ (cached_brush_of 2 (replicate 192 0x2A) ++ (
+    -- PatBlt: width +8, height +4, rop F0, style 85, hatch 2
+    0x11 ∷ 0x1C ∷ 0x06 ∷
+    0x08 ∷ 0x04 ∷ 0xF0 ∷ 0x85 ∷ 0x02 ∷ []))) ++ mark) ≡ picture 1 0 (replicate 32 (Some 0x2A2A2A))
+unfolding ternary_raster
+second_brush_of_an_entry = refl

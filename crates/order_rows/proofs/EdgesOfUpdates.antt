@@ -1,7 +1,8 @@
 -- What a viewer makes of updates of other forms.
 use Rattle.std.proofs.Common.{◌≡◌, [], ◌∷◌, ◌++◌, refl, Some, None, replicate, true}
+use Rattle.rop3_core.specs.Rop3.{ternary_raster}
 use Rattle.order_means.specs.ClientState.Fault.{Broken}
-use Rattle.order_rows.proofs.Streams.{viewer, packet, orders, mark, filled_with, makes, made_by, picture, pictures, refused}
+use Rattle.order_rows.proofs.Streams.{viewer, packet, orders, mark, filled_with, small_image, makes, made_by, picture, pictures, refused}
 
 -- 0401: a colour run of four pixels
 pub rectangle_of_both_flags : makes (packet (
@@ -100,3 +101,36 @@ pub rectangle_in_the_last_corner : makes (packet (
     None ∷ None ∷ None ∷ None ∷ None ∷ None ∷ None ∷ None ∷
     None ∷ None ∷ None ∷ None ∷ Some 0x2A2A2A ∷ Some 0x2A2A2A ∷ Some 0x2A2A2A ∷ Some 0x2A2A2A ∷ [])
 rectangle_in_the_last_corner = refl
+
+-- an image and a block of one pixel before the mark, and their uses behind it
+pub caches_blocks_and_registers_outlive_a_mark : makes (orders 3 (filled_with 0x01 0x02 0x03 ++ (small_image ++ (
+    -- SaveBitmap of one pixel
+    0x09 ∷ 0x0B ∷ 0x00 ∷ []))) ++ (mark ++ (orders 3 (
+    -- OpaqueRect: red 09, green 09, blue 09
+    0x09 ∷ 0x0A ∷ 0x70 ∷
+    0x09 ∷ 0x09 ∷ 0x09 ∷
+    -- MemBlt: top +1, width +4, height +2, rop CC
+    0x59 ∷ 0x0D ∷ 0x3C ∷
+    0x01 ∷ 0x04 ∷ 0x02 ∷ 0xCC ∷
+    -- SaveBitmap: operation 1
+    0x09 ∷ 0x0B ∷ 0x20 ∷ 0x01 ∷ []) ++ mark))) ≡ pictures (replicate 32 (Some 0x010203) ∷ (
+    Some 0x010203 ∷ Some 0x090909 ∷ Some 0x090909 ∷ Some 0x090909 ∷ Some 0x090909 ∷ Some 0x090909 ∷ Some 0x090909 ∷ Some 0x090909 ∷
+    Some 0x0E0D0C ∷ Some 0x11100F ∷ Some 0x141312 ∷ Some 0x171615 ∷ Some 0x090909 ∷ Some 0x090909 ∷ Some 0x090909 ∷ Some 0x090909 ∷
+    Some 0x020100 ∷ Some 0x050403 ∷ Some 0x080706 ∷ Some 0x0B0A09 ∷ Some 0x090909 ∷ Some 0x090909 ∷ Some 0x090909 ∷ Some 0x090909 ∷
+    Some 0x090909 ∷ Some 0x090909 ∷ Some 0x090909 ∷ Some 0x090909 ∷ Some 0x090909 ∷ Some 0x090909 ∷ Some 0x090909 ∷ Some 0x090909 ∷ []) ∷ []) 5 0
+unfolding ternary_raster
+caches_blocks_and_registers_outlive_a_mark = refl
+
+-- 12 bytes, as many as raw pixels have, refused for flags 0001
+pub raw_rectangle_of_the_first_flag : makes (packet (
+    -- a rectangle: left 0, top 0, right 3, bottom 0, width 4, height 1, bits 24, flags 0001, length 12, bytes
+    0x01 ∷ 0x00 ∷ 0x01 ∷ 0x00 ∷ 0x00 ∷ 0x00 ∷ 0x00 ∷ 0x00 ∷ 0x03 ∷ 0x00 ∷ 0x00 ∷ 0x00 ∷ 0x04 ∷ 0x00 ∷ 0x01 ∷ 0x00 ∷ 0x18 ∷ 0x00 ∷
+    0x01 ∷ 0x00 ∷ 0x0C ∷ 0x00 ∷ replicate 12 0x00) ++ mark) ≡ refused 32 Broken
+raw_rectangle_of_the_first_flag = refl
+
+-- 12 bytes, as many as raw pixels have, refused for flags 0400
+pub raw_rectangle_of_the_second_flag : makes (packet (
+    -- a rectangle: left 0, top 0, right 3, bottom 0, width 4, height 1, bits 24, flags 0400, length 12, bytes
+    0x01 ∷ 0x00 ∷ 0x01 ∷ 0x00 ∷ 0x00 ∷ 0x00 ∷ 0x00 ∷ 0x00 ∷ 0x03 ∷ 0x00 ∷ 0x00 ∷ 0x00 ∷ 0x04 ∷ 0x00 ∷ 0x01 ∷ 0x00 ∷ 0x18 ∷ 0x00 ∷
+    0x00 ∷ 0x04 ∷ 0x0C ∷ 0x00 ∷ replicate 12 0x00) ++ mark) ≡ refused 32 Broken
+raw_rectangle_of_the_second_flag = refl

@@ -96,11 +96,11 @@ pub run_with_a_bottom_edge : makes (orders 2 (filled_with 0x01 0x02 0x03 ++ (
     0x09 ∷ 0x03 ∷ 0x01 ∷ 0x01 ∷ 0x00 ∷ [])) ++ mark) ≡ refused 32 Broken
 run_with_a_bottom_edge = refl
 
-pub run_with_a_fore_colour : makes (orders 2 (filled_with 0x01 0x02 0x03 ++ (
+pub empty_run_with_a_fore_color : makes (orders 2 (filled_with 0x01 0x02 0x03 ++ (
     -- GlyphIndex: cacheId 9, flAccel 3, fOpRedundant 1, fore 000001
     0x89 ∷ 0x1B ∷ 0x2B ∷
     0x09 ∷ 0x03 ∷ 0x01 ∷ 0x00 ∷ 0x00 ∷ 0x01 ∷ [])) ++ mark) ≡ refused 32 Broken
-run_with_a_fore_colour = refl
+empty_run_with_a_fore_color = refl
 
 pub run_with_a_character_increment : makes (orders 2 (filled_with 0x01 0x02 0x03 ++ (
     -- GlyphIndex: cacheId 9, flAccel 3, ulCharInc 1, fOpRedundant 1
