@@ -189,6 +189,26 @@ pub block_of_the_whole_surface : makes (orders 4 (filled_with 0x01 0x02 0x03 ++ 
     0x09 ∷ 0x0B ∷ 0x20 ∷ 0x01 ∷ [])) ++ mark) ≡ picture 4 0 (replicate 32 (Some 0x010203))
 block_of_the_whole_surface = refl
 
+-- a block of one pixel, of which the later one is restored
+pub block_saved_again_at_its_position : makes (orders 6 (filled_with 0x01 0x02 0x03 ++ (
+    -- SaveBitmap of one pixel
+    0x09 ∷ 0x0B ∷ 0x00 ∷
+    -- OpaqueRect: red 09, green 09, blue 09
+    0x09 ∷ 0x0A ∷ 0x70 ∷
+    0x09 ∷ 0x09 ∷ 0x09 ∷
+    -- SaveBitmap of one pixel
+    0x09 ∷ 0x0B ∷ 0x00 ∷
+    -- OpaqueRect: red 04, green 05, blue 06
+    0x09 ∷ 0x0A ∷ 0x70 ∷
+    0x04 ∷ 0x05 ∷ 0x06 ∷
+    -- SaveBitmap: operation 1
+    0x09 ∷ 0x0B ∷ 0x20 ∷ 0x01 ∷ [])) ++ mark) ≡ picture 6 0 (
+    Some 0x090909 ∷ Some 0x040506 ∷ Some 0x040506 ∷ Some 0x040506 ∷ Some 0x040506 ∷ Some 0x040506 ∷ Some 0x040506 ∷ Some 0x040506 ∷
+    Some 0x040506 ∷ Some 0x040506 ∷ Some 0x040506 ∷ Some 0x040506 ∷ Some 0x040506 ∷ Some 0x040506 ∷ Some 0x040506 ∷ Some 0x040506 ∷
+    Some 0x040506 ∷ Some 0x040506 ∷ Some 0x040506 ∷ Some 0x040506 ∷ Some 0x040506 ∷ Some 0x040506 ∷ Some 0x040506 ∷ Some 0x040506 ∷
+    Some 0x040506 ∷ Some 0x040506 ∷ Some 0x040506 ∷ Some 0x040506 ∷ Some 0x040506 ∷ Some 0x040506 ∷ Some 0x040506 ∷ Some 0x040506 ∷ [])
+block_saved_again_at_its_position = refl
+
 -- two columns, of which the surface has the second one
 pub restore_partly_left_of_the_surface : makes (orders 2 (
     -- SaveBitmap: right +1
