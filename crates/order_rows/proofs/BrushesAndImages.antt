@@ -161,12 +161,12 @@ pub extra_and_colors_of_a_brush_are_not_read : makes (orders 2 (cached_brush_of 
 unfolding ternary_raster
 extra_and_colors_of_a_brush_are_not_read = refl
 
--- three of its columns, from column 1 and row 1 on
+-- two of its columns, from column 2 and row 1 on
 pub lower_row_of_an_image : makes (orders 3 (filled_with 0x01 0x02 0x03 ++ (small_image ++ (
-    -- MemBlt: width +3, height +1, rop CC, xSrc +1, ySrc +1
+    -- MemBlt: width +2, height +1, rop CC, xSrc +2, ySrc +1
     0x59 ∷ 0x0D ∷ 0xF8 ∷
-    0x03 ∷ 0x01 ∷ 0xCC ∷ 0x01 ∷ 0x01 ∷ []))) ++ mark) ≡ picture 2 0 (
-    Some 0x050403 ∷ Some 0x080706 ∷ Some 0x0B0A09 ∷ Some 0x010203 ∷ Some 0x010203 ∷ Some 0x010203 ∷ Some 0x010203 ∷ Some 0x010203 ∷
+    0x02 ∷ 0x01 ∷ 0xCC ∷ 0x02 ∷ 0x01 ∷ []))) ++ mark) ≡ picture 2 0 (
+    Some 0x080706 ∷ Some 0x0B0A09 ∷ Some 0x010203 ∷ Some 0x010203 ∷ Some 0x010203 ∷ Some 0x010203 ∷ Some 0x010203 ∷ Some 0x010203 ∷
     Some 0x010203 ∷ Some 0x010203 ∷ Some 0x010203 ∷ Some 0x010203 ∷ Some 0x010203 ∷ Some 0x010203 ∷ Some 0x010203 ∷ Some 0x010203 ∷
     Some 0x010203 ∷ Some 0x010203 ∷ Some 0x010203 ∷ Some 0x010203 ∷ Some 0x010203 ∷ Some 0x010203 ∷ Some 0x010203 ∷ Some 0x010203 ∷
     Some 0x010203 ∷ Some 0x010203 ∷ Some 0x010203 ∷ Some 0x010203 ∷ Some 0x010203 ∷ Some 0x010203 ∷ Some 0x010203 ∷ Some 0x010203 ∷ [])
@@ -175,12 +175,26 @@ lower_row_of_an_image = refl
 
 -- the same by a Mem3Blt, whose code takes the image alone
 pub lower_row_of_an_image_with_a_brush : makes (orders 4 (filled_with 0x01 0x02 0x03 ++ (small_image ++ (cached_brush 2 ++ (
-    -- Mem3Blt: width +3, height +1, rop CC, xSrc +1, ySrc +1, style 85, hatch 2
+    -- Mem3Blt: width +2, height +1, rop CC, xSrc +2, ySrc +1, style 85, hatch 2
     0x59 ∷ 0x0E ∷ 0xF8 ∷ 0x30 ∷
-    0x03 ∷ 0x01 ∷ 0xCC ∷ 0x01 ∷ 0x01 ∷ 0x85 ∷ 0x02 ∷ [])))) ++ mark) ≡ picture 2 0 (
-    Some 0x050403 ∷ Some 0x080706 ∷ Some 0x0B0A09 ∷ Some 0x010203 ∷ Some 0x010203 ∷ Some 0x010203 ∷ Some 0x010203 ∷ Some 0x010203 ∷
+    0x02 ∷ 0x01 ∷ 0xCC ∷ 0x02 ∷ 0x01 ∷ 0x85 ∷ 0x02 ∷ [])))) ++ mark) ≡ picture 2 0 (
+    Some 0x080706 ∷ Some 0x0B0A09 ∷ Some 0x010203 ∷ Some 0x010203 ∷ Some 0x010203 ∷ Some 0x010203 ∷ Some 0x010203 ∷ Some 0x010203 ∷
     Some 0x010203 ∷ Some 0x010203 ∷ Some 0x010203 ∷ Some 0x010203 ∷ Some 0x010203 ∷ Some 0x010203 ∷ Some 0x010203 ∷ Some 0x010203 ∷
     Some 0x010203 ∷ Some 0x010203 ∷ Some 0x010203 ∷ Some 0x010203 ∷ Some 0x010203 ∷ Some 0x010203 ∷ Some 0x010203 ∷ Some 0x010203 ∷
     Some 0x010203 ∷ Some 0x010203 ∷ Some 0x010203 ∷ Some 0x010203 ∷ Some 0x010203 ∷ Some 0x010203 ∷ Some 0x010203 ∷ Some 0x010203 ∷ [])
 unfolding ternary_raster
 lower_row_of_an_image_with_a_brush = refl
+
+-- the entry is there
+pub column_origin_of_a_brush : makes (orders 2 (cached_brush 2 ++ (
+    -- PatBlt: width +8, height +4, rop F0, orgX 1, style 85, hatch 2
+    0x11 ∷ 0x9C ∷ 0x06 ∷
+    0x08 ∷ 0x04 ∷ 0xF0 ∷ 0x01 ∷ 0x85 ∷ 0x02 ∷ [])) ++ mark) ≡ refused 33 Broken
+column_origin_of_a_brush = refl
+
+-- the entry is there
+pub row_origin_of_a_brush : makes (orders 2 (cached_brush 2 ++ (
+    -- PatBlt: width +8, height +4, rop F0, orgY 1, style 85, hatch 2
+    0x11 ∷ 0x1C ∷ 0x07 ∷
+    0x08 ∷ 0x04 ∷ 0xF0 ∷ 0x01 ∷ 0x85 ∷ 0x02 ∷ [])) ++ mark) ≡ refused 33 Broken
+row_origin_of_a_brush = refl
