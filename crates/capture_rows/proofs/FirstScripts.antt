@@ -72,3 +72,10 @@ width_not_a_multiple_of_four : capture_of encoder_frames first_grammar (ended (c
     ≡ ended (codes "line 1 rule 1")
 unfolding digits ternary_raster
 width_not_a_multiple_of_four = refl
+
+invite_without_a_name : capture_of encoder_frames first_grammar (ended (codes "size 64 48")
+    ++ ended (codes "invite  owner"))
+    ≡ ended (codes "1 joined 64 48 plain")
+    ++ ended (codes "line 2 rule 3")
+unfolding digits ternary_raster
+invite_without_a_name = refl

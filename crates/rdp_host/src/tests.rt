@@ -181,6 +181,19 @@ fn other_words_give_the_usage_line(rt: HostRuntime) -> Result<(), Fail> {
     Ok(())
 }
 
+#[test]
+fn an_invite_without_a_name_has_no_form(rt: HostRuntime) -> Result<(), Fail> {
+    let alloc = rt.alloc();
+    let script = b"size 64 48\ninvite  owner\n";
+    let mut input = Bytes::new(script.to_vec(alloc)?, Vec::new(alloc));
+    let mut output = Keep::new(alloc);
+    let answer = run_script(alloc, &mut input, &mut output);
+    assert_eq!(rt; answer, Err(ScriptFault::Line { k: 2, rule: 3 }));
+    let wanted = joined(alloc, &[JOINED, b"line 2 rule 3\n"])?;
+    assert_eq!(rt; output.bytes(), wanted.as_slice());
+    Ok(())
+}
+
 /// A script that fills one pixel so many times.
 fn many_fills(alloc: Global, count: u32) -> Result<Vec<u8>, Fail> {
     let mut script = b"size 64 48\ntake\n".to_vec(alloc)?;

@@ -50,12 +50,23 @@ abbrev pub role_named : List ℕ → Option Role
 role_named word = if is_same_name word (codes "owner") then Some Owner
     else (if is_same_name word (codes "control") then Some Control else (if is_same_name word (codes "view") then Some View else None))
 
+-- a word has a byte: two spaces one after the other, or one at a line's edge, leave an empty word, which no form has
+abbrev pub is_word : List ℕ → Bool
+is_word [] = false
+is_word (b ∷ bs) = true
+
+abbrev pub are_words : List (List ℕ) → Bool
+are_words [] = true
+are_words (word ∷ words) = is_word word && are_words words
+
 abbrev pub invite_form : List (List ℕ) → Option LineForm
-invite_form (word ∷ name ∷ role ∷ []) = if is_same_name word (codes "invite") then option_map (InviteForm name) (role_named role) else None
+invite_form (word ∷ name ∷ role ∷ []) =
+    if is_same_name word (codes "invite") && is_word name then option_map (InviteForm name) (role_named role) else None
 invite_form words = None
 
 abbrev pub join_form : List (List ℕ) → Option LineForm
-join_form (word ∷ name ∷ preset ∷ words) = if is_same_name word (codes "join") then Some (JoinForm name (preset ∷ words)) else None
+join_form (word ∷ name ∷ preset ∷ words) =
+    if is_same_name word (codes "join") && are_words (name ∷ preset ∷ words) then Some (JoinForm name (preset ∷ words)) else None
 join_form words = None
 
 abbrev pub step_form : List Form → ℕ → List (List ℕ) → Option LineForm

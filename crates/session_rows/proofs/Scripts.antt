@@ -225,6 +225,36 @@ empty_script : answers_of ([])
 unfolding digits
 empty_script = refl
 
+-- no form has an empty word, which two spaces leave, or one at a line's end
+
+invite_without_a_name : answers_of (ended (codes "size 64 48")
+    ++ ended (codes "invite  owner"))
+    ≡ ended (codes "1 joined 64 48 plain")
+    ++ ended (codes "line 2 rule 3")
+unfolding digits
+invite_without_a_name = refl
+
+join_without_a_name : answers_of (ended (codes "size 64 48")
+    ++ ended (codes "invite ann owner")
+    ++ ended (codes "join  plain"))
+    ≡ ended (codes "line 3 rule 3")
+unfolding digits
+join_without_a_name = refl
+
+join_with_two_spaces_before_its_preset : answers_of (ended (codes "size 64 48")
+    ++ ended (codes "invite ann owner")
+    ++ ended (codes "join ann  plain"))
+    ≡ ended (codes "line 3 rule 3")
+unfolding digits
+join_with_two_spaces_before_its_preset = refl
+
+join_with_a_space_at_its_end : answers_of (ended (codes "size 64 48")
+    ++ ended (codes "invite ann owner")
+    ++ ended (codes "join ann plain "))
+    ≡ ended (codes "line 3 rule 3")
+unfolding digits
+join_with_a_space_at_its_end = refl
+
 -- ---- the first program's scripts: at most 256 drawings to a take
 
 abbrev repeated : ℕ → List ℕ → List ℕ

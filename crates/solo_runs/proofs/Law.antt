@@ -1,6 +1,6 @@
 -- The headline for the scripts that the program reads today.
 use Rattle.std.proofs.Common.{◌≡◌, ℕ, ◌+◌, ◌^◌, ◌<◌, List, [], ◌∷◌, ◌++◌, length, map, refl, ap, sym, ◌∙◌, subst, arith, Some, None, Bool, true, false, append_assoc}
-use Rattle.std.specs.Prelude.{Option, not, ◌==◌, codes, is_some, IsTrue, if◌then◌else◌}
+use Rattle.std.specs.Prelude.{Option, not, ◌&&◌, ◌==◌, codes, is_some, IsTrue, if◌then◌else◌}
 use Rattle.std.specs.Option.{option_map, option_and_then}
 use Rattle.std.specs.Bool.{then_some}
 use Rattle.std.proofs.lemmas.Bool.{and_parts}
@@ -16,7 +16,7 @@ use Rattle.session_rules.proofs.Changes.{ChangesAreTheHolders-legal}
 use Rattle.line_text.specs.Lines.{Line, lines_of, line_bytes, is_past_limits}
 use Rattle.line_text.specs.Words.{words_of}
 use Rattle.line_text.specs.Numbers.{number_of}
-use Rattle.script_rules.specs.Script.{Asked, Script, Reading, LineRefusal, first_grammar, invite_form, role_named, line_form, form_outcome, line_outcome, unless_broken, broken_if, breaks_text_rule, text_rule, form_rule, refused_at, script_from, proceeding, size_with, size_of_words, opened_reading, begins_with_invite, invited_script, solo_script, script_after, opening_by, opening_of_lines, opening_of, solo_join, after_step, solo_rows}
+use Rattle.script_rules.specs.Script.{Asked, Script, Reading, LineRefusal, first_grammar, invite_form, is_word, role_named, line_form, form_outcome, line_outcome, unless_broken, broken_if, breaks_text_rule, text_rule, form_rule, refused_at, script_from, proceeding, size_with, size_of_words, opened_reading, begins_with_invite, invited_script, solo_script, script_after, opening_by, opening_of_lines, opening_of, solo_join, after_step, solo_rows}
 use Rattle.script_rules.specs.Script.Opening.{Unended, Opened}
 use Rattle.script_rules.specs.Script.LineForm.{InviteForm}
 use Rattle.script_rules.specs.Script.LineOutcome.{Breaks}
@@ -127,7 +127,7 @@ invite_is_no_form (word ∷ []) e = absurd (cc e)
 invite_is_no_form (word ∷ name ∷ []) e = absurd (cc e)
 invite_is_no_form (word ∷ name ∷ role ∷ []) e = by (is_same_name word (codes "invite")) refl e
   where
-    by : (b : Bool) → is_same_name word (codes "invite") ≡ b → is_some (if b then option_map (InviteForm name) (role_named role) else None) ≡ true → line_form first_grammar (word ∷ name ∷ role ∷ []) ≡ None
+    by : (b : Bool) → is_same_name word (codes "invite") ≡ b → is_some (if b && is_word name then option_map (InviteForm name) (role_named role) else None) ≡ true → line_form first_grammar (word ∷ name ∷ role ∷ []) ≡ None
     by true same h = ap (λ w. line_form first_grammar (w ∷ name ∷ role ∷ [])) (same_word word (codes "invite") same)
     by false same h = absurd (cc h)
 invite_is_no_form (word ∷ name ∷ role ∷ more ∷ words) e = absurd (cc e)

@@ -68,7 +68,7 @@ pub fn is_invite(text: &[u8]) -> bool
     ensures { result ≡ is_some (invite_form (words_of text.now)) }
 {
     match three_words(text) {
-        Some((word, _, role)) => is_same(word, INVITE) && is_role(role),
+        Some((word, name, role)) => is_same(word, INVITE) && !name.is_empty() && is_role(role),
         None => false,
     }
 }
