@@ -5,21 +5,20 @@ mod lines;
 mod opening;
 mod script;
 mod top;
+mod words;
 
 use edge_io::{FileIn, FileOut, PlanGate};
 pub use script::run_script;
 pub use solo_script::ScriptFault;
-use std::alloc::Global;
-use std::env::{self, Env};
-use std::io;
 use std::process::ExitCode;
 use top::OUT_OF_MEMORY;
 pub use top::top;
+use words::words;
 
 fn main(rt: HostRuntime) -> ExitCode {
     let alloc = rt.alloc();
     // What fails before `top` wants memory.
-    let Ok(words) = words(&rt, alloc) else {
+    let Some(words) = words(&rt, alloc) else {
         return ExitCode::from(OUT_OF_MEMORY);
     };
     let Ok(mut gate) = PlanGate::new(alloc, Vec::new(alloc), Vec::new(alloc)) else {
@@ -28,11 +27,6 @@ fn main(rt: HostRuntime) -> ExitCode {
     let mut input = FileIn::new(&rt);
     let mut output = FileOut::new(&rt);
     ExitCode::from(top(&rt, alloc, &words, &mut input, &mut output, &mut gate))
-}
-
-/// The words that the program was run with, its name first.
-fn words<R: Env + Alloc<A = Global>>(rt: &R, alloc: Global) -> io::Result<Vec<String>> {
-    Ok(env::args(rt)?.collect::<Vec<String>>(alloc)?)
 }
 
 #[cfg(test)]

@@ -1,7 +1,9 @@
 //! Worked scripts, and scripts that meet faults. The captures stand as they were worked out by hand from the standard's tables.
+use crate::words::words as command_words;
 use crate::{ScriptFault, run_script, top};
 use edge_io::{Bytes, Keep, PlanGate, PlanSink, PlanSource};
 use std::alloc::Global;
+use std::env::{Env, FillError};
 use std::test::Fail;
 
 /// The line of a viewer that joins a picture of 64 by 48.
@@ -168,6 +170,9 @@ fn a_first_read_or_write_that_fails_gives_its_status(rt: HostRuntime) -> Result<
     Ok(())
 }
 
+/// The line of words that ask for no mode.
+const USAGE: &[u8] = b"usage: rdp_host MODE ARGS\n";
+
 #[test]
 fn other_words_give_the_usage_line(rt: HostRuntime) -> Result<(), Fail> {
     let alloc = rt.alloc();
@@ -177,7 +182,61 @@ fn other_words_give_the_usage_line(rt: HostRuntime) -> Result<(), Fail> {
     let mut gate = PlanGate::new(alloc, Vec::new(alloc), Vec::new(alloc))?;
     let answer = top(&rt, alloc, &words, &mut input, &mut output, &mut gate);
     assert_eq!(rt; answer, 2);
-    assert_eq!(rt; output.bytes(), b"usage: rdp_host MODE ARGS\n".as_slice());
+    assert_eq!(rt; output.bytes(), USAGE);
+    Ok(())
+}
+
+#[test]
+fn no_words_at_all_give_the_usage_line(rt: HostRuntime) -> Result<(), Fail> {
+    let alloc = rt.alloc();
+    let mut input = Bytes::new(TWO_FRAMES.to_vec(alloc)?, Vec::new(alloc));
+    let mut output = Keep::new(alloc);
+    let mut gate = PlanGate::new(alloc, Vec::new(alloc), Vec::new(alloc))?;
+    let answer = top(&rt, alloc, &[], &mut input, &mut output, &mut gate);
+    assert_eq!(rt; answer, 2);
+    assert_eq!(rt; output.bytes(), USAGE);
+    Ok(())
+}
+
+/// A program's name that is UTF-8, and a word that isn't.
+#[derive(Drop)]
+struct OddWord;
+
+impl Env for OddWord {
+    fn arg(&self, i: usize, buf: &mut [u8]) -> Result<usize, FillError> {
+        match i {
+            0 => put_word(buf, b"rdp_host"),
+            1 => put_word(buf, b"\xFF"),
+            _ => Err(FillError::NotPresent),
+        }
+    }
+
+    fn var(&self, _name: &str, _buf: &mut [u8]) -> Result<usize, FillError> {
+        Err(FillError::NotPresent)
+    }
+
+    fn var_at(&self, _i: usize, _buf: &mut [u8]) -> Result<usize, FillError> {
+        Err(FillError::NotPresent)
+    }
+}
+
+/// Puts a word at the front of a buffer that has room for it.
+fn put_word(buf: &mut [u8], word: &[u8]) -> Result<usize, FillError> {
+    match buf.get_mut(..word.len()) {
+        Some(front) => {
+            front.copy_from_slice(word);
+            Ok(word.len())
+        }
+        None => Err(FillError::TooLong),
+    }
+}
+
+#[test]
+fn a_word_that_is_not_text_leaves_no_words(rt: HostRuntime) -> Result<(), Fail> {
+    match command_words(&(OddWord, rt.alloc()), rt.alloc()) {
+        Some(words) => assert!(rt; words.is_empty()),
+        None => assert!(rt; false),
+    }
     Ok(())
 }
 
