@@ -32,3 +32,17 @@ fn a_line_of_no_form_is_refused_by_its_number(rt: HostRuntime) -> Result<(), Fai
     assert_eq!(rt; output.bytes(), b"line 7 rule 3\n".as_slice());
     Ok(())
 }
+
+#[test]
+fn each_fault_has_its_text(rt: HostRuntime) -> Result<(), Fail> {
+    let texts = [
+        (ScriptFault::Line { k: 12, rule: 7 }, "line 12 rule 7"),
+        (ScriptFault::ReadFault, "read fault"),
+        (ScriptFault::WriteFault, "write fault"),
+        (ScriptFault::OutOfMemory, "out of memory"),
+    ];
+    for (fault, text) in texts {
+        assert_eq!(rt; fault.to_string(rt.alloc())?.as_str(), text);
+    }
+    Ok(())
+}
