@@ -1,2 +1,4 @@
 mod Rows
 pub mod ReadBack
+pub mod FormsOfViewers
+pub mod StepsOfScripts

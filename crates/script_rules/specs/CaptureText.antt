@@ -1,5 +1,5 @@
 -- The text of a capture, as a function of what a script asks, of its answers, and of the bytes of each frame (profile).
-use Rattle.std.specs.Prelude.{ℕ, List, [], ◌∷◌, ◌++◌, option_to_list}
+use Rattle.std.specs.Prelude.{ℕ, ◌==◌, if◌then◌else◌, List, [], ◌∷◌, ◌++◌, option_to_list}
 use Rattle.px_core.specs.declared.surface.Size.{Size}
 use Rattle.caps_sets.specs.declared.confirmed.Confirmed.{Confirmed}
 use Rattle.caps_sets.specs.Confirmed.{plain}
@@ -82,6 +82,15 @@ line_in_run frames head run a = line_by frames head.size run a (outcome head run
 abbrev pub lines_from : {E : Type 0} → FrameText E → Head → Run E → List Asked → List ℕ
 lines_from frames head run [] = []
 lines_from frames head run (a ∷ rest) = line_in_run frames head run a ++ lines_from frames head (run_after frames head run a) rest
+
+abbrev pub sent_by : {E : Type 0} → FrameText E → Head → Run E → Asked → ℕ → List ℕ
+sent_by frames head run a v =
+    if viewer_of a.step == v then bytes_of_answer frames head.size run (viewer_of a.step) (outcome head run.play a.step).answer else []
+
+-- the bytes that each viewer is sent for all that is asked, one frame after the other
+abbrev pub sent_from : {E : Type 0} → FrameText E → Head → Run E → List Asked → ℕ → List ℕ
+sent_from frames head run [] v = []
+sent_from frames head run (a ∷ rest) v = sent_by frames head run a v ++ sent_from frames head (run_after frames head run a) rest v
 
 -- the capture of a script: the lines of its answers, and the line of the first line that breaks a rule
 abbrev pub capture_of_script : {E : Type 0} → FrameText E → Script → List ℕ

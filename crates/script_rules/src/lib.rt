@@ -1,2 +1,4 @@
-//! What scripts ask for and what captures say (both profile). Definitions alone.
+//! What scripts ask for and what captures say (both profile). Definitions, and laws about them.
 #![tactic(auto)]
+
+pub mod laws;
