@@ -8,10 +8,10 @@ use Rattle.draw_ops.specs.Content.{ImageOf, GlyphOf}
 use Rattle.caps_sets.specs.Confirmed.{full, bare, sized, with_bitmap_cache, with_glyph_cache}
 use Rattle.frame_rows.proofs.Takes.{draw, take, bytes_of_run}
 
-abbrev square : ℕ → ℕ → ImageOf
+abbrev pub square : ℕ → ℕ → ImageOf
 square side color = record { w = side; h = side; pixels = replicate (side * side) color }
 
-abbrev glyph : ℕ → GlyphOf
+abbrev pub glyph : ℕ → GlyphOf
 glyph bits = record { x = pos 0; y = pos 0; cx = 8; cy = 1; bits = bits ∷ [] }
 
 -- an image goes to the lowest cache whose cell holds it

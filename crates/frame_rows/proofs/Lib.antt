@@ -3,3 +3,4 @@ pub mod FillRows
 pub mod CopyRows
 pub mod CacheRows
 pub mod TileRows
+pub mod OrderRows

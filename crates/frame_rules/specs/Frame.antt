@@ -186,6 +186,6 @@ is_first t = t.before == 0
 abbrev pub frame_of : Size → Confirmed → List Entry → Held → TakeOf → FrameOf
 frame_of size c j held t = frame_over size c (is_first t) held t.asked (state_after size j t.number).surface.picture (pending_between size j t.before t.number)
 
--- the tiles that go as bitmaps
-abbrev pub dirty_tiles : Size → Confirmed → List Entry → Held → TakeOf → List ℕ
-dirty_tiles size c j held t = (frame_of size c j held t).tiles
+-- the tiles that go as bitmaps: the dirty ones, and those that the viewer asked for
+abbrev pub tiles_to_send : Size → Confirmed → List Entry → Held → TakeOf → List ℕ
+tiles_to_send size c j held t = (frame_of size c j held t).tiles

@@ -8,3 +8,4 @@ pub mod Shown
 pub mod FrameRead
 pub mod Encoder
 pub mod Describes
+pub mod OrdersOfBytes
