@@ -8,7 +8,8 @@ ghost use Rattle.line_read.specs.Reading.{HandsOut, AreAllLines};
 
 /// Lines that were handed out, and then more, are lines that were handed out.
 pub fn lines_add_up()
-    ensures { (before between now : Option (List ℕ)) (lines more : List Line) → HandsOut before between lines → HandsOut between now more → HandsOut before now (lines ++ more) }
+    ensures { (before between now : Option (List ℕ)) (lines more : List Line) → HandsOut before between lines → HandsOut between now more
+        → HandsOut before now (lines ++ more) }
 {}
 
 /// A call that hands out nothing keeps the lines that were handed out.

@@ -53,7 +53,8 @@ impl Model for LineReader {
 
     ghost view = { λ r. record { held = slice_range r.buffer.items r.from r.to; text = slice_range r.buffer.items r.text_from r.text_to; at = r.at } };
 
-    ghost invariant = { λ r. (r.from ≤ r.to) × (r.to ≤ ROOM) × (vec_len r.buffer ≡ ROOM) × (r.text_from ≤ r.text_to) × (r.text_to ≤ ROOM) × (r.at ≤ SCRIPT_LIMIT) };
+    ghost invariant = { λ r. (r.from ≤ r.to) × (r.to ≤ ROOM) × (vec_len r.buffer ≡ ROOM) × (r.text_from ≤ r.text_to) × (r.text_to ≤ ROOM)
+        × (r.at ≤ SCRIPT_LIMIT) };
 }
 
 impl LineReader {

@@ -1,4 +1,5 @@
 mod Continued
 mod NextLine
+mod SecondLine
 mod FirstLine
 mod Whole

@@ -38,15 +38,26 @@ usage_status (Err ReadFault) = 4
 usage_status (Err WriteFault) = 5
 usage_status (Err OutOfMemory) = 6
 
+-- what stands outside of the program at a moment: what the input has left and what was written, where they tell it, and how many faults
+-- each of them met
+pub record Outside : Type 0 where
+  pub left : Option (List ℕ)
+  pub told : Option (List ℕ)
+  pub reads : ℕ
+  pub writes : ℕ
+
+abbrev pub outside : (left told : Option (List ℕ)) (reads writes : ℕ) → Outside
+outside left told reads writes = record { left = left; told = told; reads = reads; writes = writes }
+
 -- a script was run: 0 is its end, 3 the first line that breaks a rule, with the capture written that each viewer reads whole, and in
 -- which each mark shows the picture after exactly the journal entries that the frame's take found; 4, 5 and 6 are faults of the
 -- source and of the sink, whose counts rose, and want of memory
-pub record RunsMode (status : ℕ) (left rest told telling : Option (List ℕ)) (reads read writes wrote : ℕ) : Type 0 where
+pub record RunsMode (status : ℕ) (before now : Outside) : Type 0 where
   pub answer : Result (Unit {0}) ScriptFault
   pub status_is : status ≡ script_status answer
-  pub capture : RunsScript answer left rest told telling
-  pub read_cause : ReadsCause answer reads read
-  pub write_cause : WritesCause answer writes wrote
+  pub capture : RunsScript answer before.left now.left before.told now.told
+  pub read_cause : ReadsCause answer before.reads now.reads
+  pub write_cause : WritesCause answer before.writes now.writes
 
 -- the usage was written: 2 is that it stands there; 5 and 6 are a fault of the sink, whose count rose, and want of memory, with a front
 -- of it there

@@ -7,7 +7,7 @@ ghost use Rattle.solo_runs.specs.Solo.{solo_at_first};
 ghost use Rattle.solo_runs.specs.SoloScript.{joined};
 ghost use Rattle.solo_script.specs.Steps.{WritesCause, IsWriteFault};
 ghost use Rattle.rdp_host.specs.Run.{ReadsCause};
-ghost use Rattle.rdp_host.specs.Reading.{DoesNext, DoesAll, invite_found, of_lines, of_rest};
+ghost use Rattle.rdp_host.specs.Reading.{NextLineDone, AllLinesDone, invite_found, moment, up_to, of_lines, of_rest};
 
 use edge_io::{Sink, Source};
 use line_read::{Found, LineReader};
@@ -28,7 +28,8 @@ pub(crate) fn do_lines<S: Source, K: Sink>(
     size: Size,
 ) -> Result<(), ScriptFault>
     requires { IsTrue (is_session_size size.w size.h) }
-    ensures done { DoesAll result (of_rest size reader.old.at) (ahead reader.old (S.left input.old)) (ahead reader.new (S.left input.new)) (K.told output.old) (K.told output.new) }
+    ensures done { AllLinesDone result (of_rest size reader.old.at)
+        (moment (ahead reader.old (S.left input.old)) (K.told output.old)) (moment (ahead reader.new (S.left input.new)) (K.told output.new)) }
     ensures read { ReadsCause result (S.faults input.old) (S.faults input.new) }
     ensures write { WritesCause result (K.faults output.old) (K.faults output.new) }
 {
@@ -53,7 +54,8 @@ fn do_second<S: Source, K: Sink>(
 ) -> Result<bool, ScriptFault>
     requires size { IsTrue (is_session_size size.w size.h) }
     requires run { run.old ≡ solo_at_first }
-    ensures done { DoesNext result (of_rest size reader.old.at) size 2 reader.old.at reader.new.at run.new (ahead reader.old (S.left input.old)) (ahead reader.new (S.left input.new)) (K.told output.old) (K.told output.new) }
+    ensures done { NextLineDone result (of_rest size reader.old.at) reader.old.at (up_to size 2 reader.new.at run.new)
+        (moment (ahead reader.old (S.left input.old)) (K.told output.old)) (moment (ahead reader.new (S.left input.new)) (K.told output.new)) }
     ensures read { ReadsCause result (S.faults input.old) (S.faults input.new) }
     ensures write { WritesCause result (K.faults output.old) (K.faults output.new) }
 {
@@ -79,7 +81,8 @@ fn do_next<S: Source, K: Sink>(
     k: u32,
 ) -> Result<bool, ScriptFault>
     requires { IsTrue (is_session_size size.w size.h) }
-    ensures done { DoesNext result (of_lines size k reader.old.at run.old) size k reader.old.at reader.new.at run.new (ahead reader.old (S.left input.old)) (ahead reader.new (S.left input.new)) (K.told output.old) (K.told output.new) }
+    ensures done { NextLineDone result (of_lines size k reader.old.at run.old) reader.old.at (up_to size k reader.new.at run.new)
+        (moment (ahead reader.old (S.left input.old)) (K.told output.old)) (moment (ahead reader.new (S.left input.new)) (K.told output.new)) }
     ensures read { ReadsCause result (S.faults input.old) (S.faults input.new) }
     ensures write { WritesCause result (K.faults output.old) (K.faults output.new) }
 {

@@ -1,6 +1,6 @@
 ghost use Rattle.std.specs.Prelude.{◌≡◌, [], false, map, string_bytes, IsTrue};
 ghost use Rattle.session_rules.specs.Steps.{is_same_name};
-ghost use Rattle.rdp_host.specs.Top.{asks_for_script, script_status, RunsMode, WritesUsage};
+ghost use Rattle.rdp_host.specs.Top.{asks_for_script, script_status, outside, RunsMode, WritesUsage};
 
 use crate::script::run_script;
 use edge_io::{Gate, Sink, Source};
@@ -49,9 +49,11 @@ pub fn top<R: Threads + Wait + Sync, S: Source, K: Sink, G: Gate>(
     requires open { G.ended gate.old ≡ false }
     // The capture's own clause: whatever the script, each viewer's bytes in what is written are never refused, and each mark shows the
     // picture after exactly the journal entries that the frame's take found.
-    ensures script { IsTrue (asks_for_script (map string_bytes words.now)) → RunsMode result (S.left input.old) (S.left input.new) (K.told output.old) (K.told output.new)
-        (S.faults input.old) (S.faults input.new) (K.faults output.old) (K.faults output.new) }
-    ensures usage { asks_for_script (map string_bytes words.now) ≡ false → WritesUsage result (K.told output.old) (K.told output.new) (K.faults output.old) (K.faults output.new) }
+    ensures script { IsTrue (asks_for_script (map string_bytes words.now)) → RunsMode result
+        (outside (S.left input.old) (K.told output.old) (S.faults input.old) (K.faults output.old))
+        (outside (S.left input.new) (K.told output.new) (S.faults input.new) (K.faults output.new)) }
+    ensures usage { asks_for_script (map string_bytes words.now) ≡ false
+        → WritesUsage result (K.told output.old) (K.told output.new) (K.faults output.old) (K.faults output.new) }
     ensures input { asks_for_script (map string_bytes words.now) ≡ false → input.new ≡ input.old }
     ensures gate { gate.new ≡ gate.old }
 {
