@@ -1,3 +1,4 @@
 mod Scripts
 mod Drawings
 mod Sessions
+mod Premises
