@@ -1,10 +1,12 @@
 -- The common part of two stretches of whole numbers has just the numbers of both.
-use Rattle.std.proofs.Common.{◌≡◌, ℕ, refl, ap, sym, ◌∙◌, arith}
-use Rattle.std.specs.Prelude.{Bool, true, false, ◌&&◌, ℤ, pos, ◌+ℤ◌, ◌≤ℤ◌, ◌<ℤ◌, int_le, int_lt}
+use Rattle.std.proofs.Common.{◌≡◌, ℕ, ◌≤◌, refl, ap, sym, ◌∙◌, arith}
+use Rattle.std.specs.Prelude.{Bool, true, false, ◌&&◌, nat_le, ℤ, pos, negsuc, ◌+ℤ◌, ◌-ℤ◌, ◌≤ℤ◌, ◌<ℤ◌, int_le, int_lt, Some, None, if◌then◌else◌}
 use Rattle.std.specs.Int.{int_min, int_max}
 use Rattle.std.proofs.lemmas.Int.{ints, clamps}
 use Rattle.std.proofs.lemmas.Bool.{and_from, and_parts}
-use Rattle.px_core.specs.Rectangle.{within}
+use Rattle.std.proofs.lemmas.Bool.Decides.{nat_tests}
+use Rattle.px_core.specs.Picture.{nat_of}
+use Rattle.px_core.specs.Rectangle.{within, common_length, if_numbers}
 
 pub int_le_from : (a b : ℤ) → a ≤ℤ b → int_le a b ≡ true
 int_le_from a b h = by (int_le a b) refl
@@ -19,6 +21,9 @@ int_lt_from a b h = by (int_lt a b) refl
     by : (t : Bool) → int_lt a b ≡ t → t ≡ true
     by true e = refl
     by false e = absurd (omega (arith, ints, h))
+
+pub nat_le_from : (a b : ℕ) → a ≤ b → nat_le a b ≡ true
+nat_le_from a b h = grind (arith, nat_tests, h)
 
 pub within-low : (a : ℤ) (m : ℕ) (z : ℤ) → within a m z ≡ true → a ≤ℤ z
 within-low a m z h = let e = (and_parts (int_le a z) (int_lt z (a +ℤ pos m)) h).0 in omega (arith, ints)
@@ -77,3 +82,31 @@ no_row p q r s e = sym (and_false (p && q)) ∙ ap (λ b. (p && q) && b) e ∙ b
     and_false : (b : Bool) → (b && false) ≡ false
     and_false true = refl
     and_false false = refl
+
+-- ---- how many numbers are common
+
+-- a stretch with a number is there, by its first number and its length
+pub stretch_is : (f from : ℤ) (n k : ℕ) → f ≡ from → n ≡ k → 1 ≤ n → Some (f, n) ≡ if_numbers from k
+stretch_is f from n k e ek more = ap (λ z. Some (z, n)) e ∙ ap (λ m. Some (from, m)) ek ∙ ap (λ b. if b then Some (from, k) else None) (sym (nat_le_from 1 k (omega (arith, more, ek))))
+
+no_stretch_is : (from : ℤ) (k : ℕ) → k ≡ 0 → None ≡ if_numbers from k
+no_stretch_is from k e = ap (if_numbers from) (sym e)
+
+nat_of_difference : (from end : ℤ) (n : ℕ) → end ≡ from +ℤ pos n → nat_of (end -ℤ from) ≡ n
+nat_of_difference from end n e = let d : end -ℤ from ≡ pos n = omega (arith, ints, e) in ap nat_of d
+
+nat_of_none : (z : ℤ) → z ≤ℤ pos 0 → nat_of z ≡ 0
+nat_of_none (pos n) h = omega (arith, ints, h)
+nat_of_none (negsuc n) h = refl
+
+-- the stretch from the later start to the earlier end
+pub common_stretch_is : (a : ℤ) (m : ℕ) (b : ℤ) (n : ℕ) (f : ℤ) (k : ℕ) → f ≡ int_max a b → (f +ℤ pos k) ≡ int_min (a +ℤ pos m) (b +ℤ pos n) → 1 ≤ k
+    → Some (f, k) ≡ if_numbers (int_max a b) (common_length a m b n)
+common_stretch_is a m b n f k start end more = stretch_is f (int_max a b) k (common_length a m b n) start
+    (sym (nat_of_difference (int_max a b) (int_min (a +ℤ pos m) (b +ℤ pos n)) k (sym end ∙ ap (λ z. z +ℤ pos k) start))) more
+
+-- none where one ends before the other starts
+pub no_common_stretch : (a : ℤ) (m : ℕ) (b : ℤ) (n : ℕ) → int_min (a +ℤ pos m) (b +ℤ pos n) ≤ℤ int_max a b
+    → None ≡ if_numbers (int_max a b) (common_length a m b n)
+no_common_stretch a m b n apart = no_stretch_is (int_max a b) (common_length a m b n)
+    (nat_of_none (int_min (a +ℤ pos m) (b +ℤ pos n) -ℤ int_max a b) (omega (arith, ints, apart)))

@@ -1,5 +1,5 @@
 -- Rectangles as sets of pixels.
-use Rattle.std.specs.Prelude.{ℕ, ◌*◌, ◌/◌, ◌%◌, ◌==◌, nat_le, ◌≤◌, ◌≤ℤ◌, Bool, false, ◌&&◌, ℤ, pos, negsuc, ◌+ℤ◌, ◌-ℤ◌, int_le, int_lt, List, Option, Some, None}
+use Rattle.std.specs.Prelude.{ℕ, ◌*◌, ◌/◌, ◌%◌, ◌==◌, nat_le, ◌≤◌, ◌≤ℤ◌, Bool, false, ◌&&◌, ℤ, pos, negsuc, ◌+ℤ◌, ◌-ℤ◌, int_le, int_lt, List, Option, Some, None, if◌then◌else◌}
 use Rattle.std.specs.Int.{int_min, int_max}
 use Rattle.px_core.specs.declared.surface.Size.{Size}
 use Rattle.px_core.specs.declared.rectangle.Rect.{Rect}
@@ -30,6 +30,10 @@ in_clip (Some r) = in_rect r
 abbrev pub has_pixel : Rect → Bool
 has_pixel r = nat_le 1 r.w && nat_le 1 r.h
 
+-- a rectangle where it has a pixel, else none
+abbrev pub if_pixels : Rect → Option Rect
+if_pixels r = if has_pixel r then Some r else None
+
 -- the rectangle of a whole picture
 abbrev pub whole : Size → Rect
 whole size = boxed (pos 0) (pos 0) size.w size.h
@@ -38,10 +42,13 @@ whole size = boxed (pos 0) (pos 0) size.w size.h
 abbrev pub is_inside : Size → Rect → Bool
 is_inside size r = (int_le (pos 0) r.x && int_le (r.x +ℤ pos r.w) (pos size.w)) && (int_le (pos 0) r.y && int_le (r.y +ℤ pos r.h) (pos size.h))
 
+-- how many numbers two stretches have in common
+abbrev pub common_length : ℤ → ℕ → ℤ → ℕ → ℕ
+common_length a m b n = nat_of (int_min (a +ℤ pos m) (b +ℤ pos n) -ℤ int_max a b)
+
 -- the common pixels of two rectangles; without any, a side is 0
 abbrev pub common : Rect → Rect → Rect
-common a b = boxed (int_max a.x b.x) (int_max a.y b.y)
-    (nat_of (int_min (a.x +ℤ pos a.w) (b.x +ℤ pos b.w) -ℤ int_max a.x b.x)) (nat_of (int_min (a.y +ℤ pos a.h) (b.y +ℤ pos b.h) -ℤ int_max a.y b.y))
+common a b = boxed (int_max a.x b.x) (int_max a.y b.y) (common_length a.x a.w b.x b.w) (common_length a.y a.h b.y b.h)
 
 -- the smallest rectangle that has the pixels of both
 abbrev pub joint : Rect → Rect → Rect
@@ -79,6 +86,10 @@ pub record IsShort (from : ℤ) (n : ℕ) : Type 0 where
   pub low : negsuc 65535 ≤ℤ from
   pub high : from ≤ℤ pos 65536
   pub short : n ≤ 65536
+
+-- a stretch from a number on where it has a number, else none
+abbrev pub if_numbers : ℤ → ℕ → Option (ℤ × ℕ)
+if_numbers from n = if nat_le 1 n then Some (from, n) else None
 
 -- the numbers of a stretch that may be missing
 abbrev pub in_optional_stretch : Option (ℤ × ℕ) → ℤ → Bool

@@ -1,6 +1,6 @@
 ghost use Rattle.std.specs.Prelude.{◌≡◌, ◌≤◌, ℤ, pos, ◌+ℤ◌, ◌&&◌, IfSome, IsTrue};
 ghost use Rattle.std.specs.Int.{int_max, int_min};
-ghost use Rattle.px_core.specs.Rectangle.{in_rect, in_optional_rect, in_optional_stretch, has_pixel, within, IsPlaced, IsShort};
+ghost use Rattle.px_core.specs.Rectangle.{in_rect, in_optional_rect, in_optional_stretch, has_pixel, common, common_length, within, if_pixels, if_numbers, IsPlaced, IsShort};
 
 /// A rectangle of pixels, by its upper left pixel and its sides, in pixels.
 ///
@@ -19,6 +19,7 @@ pub fn meet(a: Rect, b: Rect) -> Option<Rect>
     requires second { IsPlaced b }
     ensures pixels { (x y : ℤ) → in_optional_rect result x y ≡ (in_rect a x y && in_rect b x y) }
     ensures none_without_pixels { IfSome result (λ r. IsTrue (has_pixel r)) }
+    ensures rectangle { result ≡ if_pixels (common a b) }
 {
     match (common_columns(a, b), common_rows(a, b)) {
         (Some((x, w)), Some((y, h))) => Some(Rect { x, y, w, h }),
@@ -32,6 +33,7 @@ fn common_columns(a: Rect, b: Rect) -> Option<(i32, u32)>
     requires second { IsPlaced b }
     ensures columns { (x : ℤ) → in_optional_stretch result x ≡ (within a.x a.w x && within b.x b.w x) }
     ensures none_if_empty { IfSome result (λ s. 1 ≤ s.1) }
+    ensures stretch { result ≡ if_numbers (int_max a.x b.x) (common_length a.x a.w b.x b.w) }
 {
     common_stretch(a.x, a.w, b.x, b.w)
 }
@@ -42,6 +44,7 @@ fn common_rows(a: Rect, b: Rect) -> Option<(i32, u32)>
     requires second { IsPlaced b }
     ensures rows { (y : ℤ) → in_optional_stretch result y ≡ (within a.y a.h y && within b.y b.h y) }
     ensures none_if_empty { IfSome result (λ s. 1 ≤ s.1) }
+    ensures stretch { result ≡ if_numbers (int_max a.y b.y) (common_length a.y a.h b.y b.h) }
 {
     common_stretch(a.y, a.h, b.y, b.h)
 }
@@ -52,6 +55,7 @@ fn common_stretch(a: i32, a_length: u32, b: i32, b_length: u32) -> Option<(i32, 
     requires second { IsShort b b_length }
     ensures numbers { (z : ℤ) → in_optional_stretch result z ≡ (within a a_length z && within b b_length z) }
     ensures none_if_empty { IfSome result (λ s. 1 ≤ s.1) }
+    ensures stretch { result ≡ if_numbers (int_max a b) (common_length a a_length b b_length) }
 {
     let from = later(a, b);
     let end = earlier(end_of(a, a_length), end_of(b, b_length));

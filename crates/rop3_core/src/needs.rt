@@ -4,8 +4,8 @@
 //! alone. Such places lie apart by the operand's weight: 4 for the pattern, 2 for the source, 1 for
 //! the destination.
 
-ghost use Rattle.std.specs.Prelude.{◌↔◌, IsTrue};
-ghost use Rattle.rop3_core.specs.Rop3.{DependsOnPattern, DependsOnSource, DependsOnDestination};
+ghost use Rattle.std.specs.Prelude.{◌≡◌, ◌↔◌, IsTrue};
+ghost use Rattle.rop3_core.specs.Rop3.{DependsOnPattern, DependsOnSource, DependsOnDestination, is_pattern_needed, is_source_needed, is_destination_needed};
 
 /// The weight of the pattern's bit in a place of the code.
 const PATTERN_WEIGHT: u32 = 4;
@@ -22,21 +22,24 @@ const WITHOUT_DESTINATION: u8 = 0b0101_0101;
 
 /// Whether some change of the pattern alone changes the result of this code.
 pub fn needs_pattern(code: u8) -> bool
-    ensures { IsTrue result ↔ DependsOnPattern code }
+    ensures dependence { IsTrue result ↔ DependsOnPattern code }
+    ensures bits { result ≡ is_pattern_needed code }
 {
     (code ^ (code >> PATTERN_WEIGHT)) & WITHOUT_PATTERN != 0
 }
 
 /// Whether some change of the source alone changes the result of this code.
 pub fn needs_source(code: u8) -> bool
-    ensures { IsTrue result ↔ DependsOnSource code }
+    ensures dependence { IsTrue result ↔ DependsOnSource code }
+    ensures bits { result ≡ is_source_needed code }
 {
     (code ^ (code >> SOURCE_WEIGHT)) & WITHOUT_SOURCE != 0
 }
 
 /// Whether some change of the destination alone changes the result of this code.
 pub fn needs_destination(code: u8) -> bool
-    ensures { IsTrue result ↔ DependsOnDestination code }
+    ensures dependence { IsTrue result ↔ DependsOnDestination code }
+    ensures bits { result ≡ is_destination_needed code }
 {
     (code ^ (code >> DESTINATION_WEIGHT)) & WITHOUT_DESTINATION != 0
 }

@@ -7,4 +7,4 @@ pub returns : goal.returns
 returns c =
     let same = source_test c.args.code c.ranges.code.fits in
     let decides = source_decides c.args.code in
-    (λ yes. decides.0 (sym same ∙ yes), λ w. same ∙ decides.1 w)
+    record { dependence = (λ yes. decides.0 (sym same ∙ yes), λ w. same ∙ decides.1 w); bits = same }
