@@ -1,5 +1,6 @@
 //! Does what a line asks for, once and so many times more.
-ghost use Rattle.std.specs.Prelude.{◌≡◌, ℕ, ◌+◌, ◌^◌, ◌<◌, All, IfOk, Ok, length, slice_index};
+ghost use Rattle.std.specs.Prelude.{◌≡◌, ℕ, ◌+◌, ◌<◌, IfOk, IsTrue, Ok, length, slice_index};
+ghost use Rattle.px_core.specs.Colors.{are_colors};
 ghost use Rattle.run_lengths.specs.RunLength.{unrle};
 ghost use Rattle.rle_enc.specs.Result.{IsPacked};
 ghost use Rattle.bench_codec.specs.Jobs.{raster_times};
@@ -74,7 +75,7 @@ fn unpack_tile(alloc: Global, kind: Kind, more: u32) -> Result<Done, Fault> {
 /// Packs pixels; what the last time gave.
 fn pack_often(alloc: Global, pixels: &[u32], more: u32) -> Result<Packed, OutOfMemory>
     requires size { length pixels.now ≡ 4096 }
-    requires colors { All (λ color. color < 2 ^ 24) pixels.now }
+    requires colors { IsTrue (are_colors pixels.now) }
     ensures { IfOk result (IsPacked 64 pixels.now) }
 {
     let mut packed = pack(alloc, pixels, SIDE)?;

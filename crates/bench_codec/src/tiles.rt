@@ -1,5 +1,6 @@
 //! Tiles of 64 by 64 pixels as a screen has them, each by a formula in its column and row.
-ghost use Rattle.std.specs.Prelude.{◌≡◌, ◌*◌, ◌^◌, ◌<◌, All, IfOk, length};
+ghost use Rattle.std.specs.Prelude.{◌≡◌, ◌*◌, ◌^◌, ◌<◌, IfOk, IsTrue, length};
+ghost use Rattle.px_core.specs.Colors.{are_colors};
 
 use std::alloc::{AllocError, Global};
 
@@ -42,9 +43,10 @@ const HALF_INK: u32 = 128;
 const SCATTER: u32 = 0x9E3779B1;
 
 /// The pixels of a tile, the bottom row first.
+#[tactic(auto, using(px_core::proofs::Colors::pushed_are_colors))]
 pub fn tile(alloc: Global, kind: Kind) -> Result<Vec<u32>, AllocError>
     ensures size { IfOk result (λ pixels. length pixels.items ≡ 4096) }
-    ensures colors { IfOk result (λ pixels. All (λ color. color < 2 ^ 24) pixels.items) }
+    ensures colors { IfOk result (λ pixels. IsTrue (are_colors pixels.items)) }
 {
     let mut pixels = Vec::with_capacity(alloc, PIXELS)?;
     for i in 0..PIXELS {

@@ -1,1 +1,3 @@
 pub mod Painted
+pub mod Rows
+pub mod KeptColors

@@ -2,7 +2,7 @@
 use Rattle.std.specs.Prelude.{ℕ, ◌+◌, ℤ, pos, List, [], ◌∷◌, Option, Some, None, option_map}
 use Rattle.px_core.specs.declared.surface.Size.{Size}
 use Rattle.px_core.specs.declared.rectangle.Rect.{Rect}
-use Rattle.px_core.specs.Picture.{rows_of, where_chosen}
+use Rattle.px_core.specs.Picture.{listed, rows_of, pixel_at, where_chosen}
 use Rattle.px_core.specs.Rectangle.{boxed, in_clip, cut_out}
 use Rattle.rop3_core.specs.Palette.{session_colors}
 use Rattle.draw_ops.specs.declared.shape.Drawing.{Drawing}
@@ -96,6 +96,10 @@ slots_after size st (LoadGlyph font code glyph) = record st { glyphs = filled_sl
 -- pixel (x, y) after a drawing, from its old colour
 abbrev pub drawn_pixel : Size → SurfaceState → Drawing → ℤ → ℤ → ℕ → ℕ
 drawn_pixel size st d x y old = let p = painting_of size st d.shape in where_chosen (painted_area (in_clip d.clip) p x y) p.formula x y old
+
+-- row y of the picture after a drawing, pixel by pixel from the left
+abbrev pub drawn_row : Size → SurfaceState → Drawing → ℕ → List ℕ
+drawn_row size st d y = listed size.w 0 (λ x. drawn_pixel size st d (pos x) (pos y) (pixel_at size st.picture 0 x y))
 
 -- the picture after a drawing
 abbrev pub drawn_picture : Size → SurfaceState → Drawing → List ℕ

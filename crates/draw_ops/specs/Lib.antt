@@ -1,7 +1,7 @@
 pub mod Content
-pub mod Colors
 pub mod Formulas
 pub mod Slots
 pub mod Drawing
 pub mod Ranges
+pub mod StateColors
 pub mod Fits

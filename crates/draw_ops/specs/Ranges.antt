@@ -5,7 +5,7 @@ use Rattle.draw_ops.specs.declared.shape.Drawing.{Drawing}
 use Rattle.draw_ops.specs.declared.shape.Shape.{Shape}
 use Rattle.draw_ops.specs.declared.shape.Shape.TheVariants.{Fill, Dst, Pat, Copy, Blit, Blit3, Text, Line, Save, Restore, LoadImage, LoadBrush, LoadGlyph}
 use Rattle.draw_ops.specs.Content.{ImageOf, GlyphOf}
-use Rattle.draw_ops.specs.Colors.{is_color, are_colors}
+use Rattle.px_core.specs.Colors.{is_color, are_colors}
 
 -- numbers of 8, 16 and 32 bits
 abbrev pub is_u8 : ℕ → Bool

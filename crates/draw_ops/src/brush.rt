@@ -1,5 +1,5 @@
 ghost use Rattle.std.specs.Prelude.{◌≡◌, ℕ, List, length, IsTrue};
-ghost use Rattle.draw_ops.specs.Colors.{are_colors};
+ghost use Rattle.px_core.specs.Colors.{are_colors};
 
 use std::marker::Model;
 

@@ -1,6 +1,6 @@
 ghost use Rattle.std.specs.Prelude.{◌≡◌, IfOk, IsTrue};
 ghost use Rattle.draw_ops.specs.Content.{ImageOf};
-ghost use Rattle.draw_ops.specs.Colors.{are_colors};
+ghost use Rattle.px_core.specs.Colors.{are_colors};
 
 use crate::fault::OutOfMemory;
 use std::alloc::Global;

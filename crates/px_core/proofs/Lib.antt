@@ -1,1 +1,4 @@
+pub mod Colors
+pub mod Pictures
 pub mod Stretches
+pub mod TilePixels

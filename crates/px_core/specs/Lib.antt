@@ -1,3 +1,4 @@
+pub mod Colors
 pub mod Picture
 pub mod Rectangle
 pub mod Tiles

@@ -1,9 +1,9 @@
 -- Tiles: squares of 64 by 64 pixels that a picture is cut into, numbered row by row, 32 to a row (profile).
-use Rattle.std.specs.Prelude.{ℕ, ◌+◌, ◌*◌, ◌/◌, ◌%◌, Bool, true, false, ◌&&◌, ◌||◌, pos, List, [], ◌∷◌, filter}
+use Rattle.std.specs.Prelude.{ℕ, ◌+◌, ◌*◌, ◌/◌, ◌%◌, ◌<◌, IsTrue, Bool, true, false, ◌&&◌, ◌||◌, pos, List, [], ◌∷◌, filter}
 use Rattle.px_core.specs.declared.surface.Size.{Size}
 use Rattle.px_core.specs.declared.rectangle.Rect.{Rect}
 use Rattle.px_core.specs.Picture.{listed}
-use Rattle.px_core.specs.Rectangle.{boxed, common, has_pixel, whole}
+use Rattle.px_core.specs.Rectangle.{boxed, in_rect, common, has_pixel, whole}
 
 -- a set of tiles, by their numbers
 abbrev pub Tiles : Type 0
@@ -33,6 +33,10 @@ tile_at x y = 32 * (y / 64) + x / 64
 -- the tiles with a pixel of the rectangle on the picture
 abbrev pub tiles_of : Size → Rect → Tiles
 tiles_of size r tile = has_pixel (common (tile_rect tile) (common r (whole size)))
+
+-- one of a tile's pixels is a pixel of the rectangle on the picture
+abbrev pub HasPixelIn : Size → Rect → ℕ → Type 0
+HasPixelIn size r tile = (x : ℕ) × (y : ℕ) × (x < size.w) × (y < size.h) × IsTrue (in_rect (tile_rect tile) (pos x) (pos y)) × IsTrue (in_rect r (pos x) (pos y))
 
 -- the tiles of a picture, by ascending number
 abbrev pub picture_tiles : Size → List ℕ

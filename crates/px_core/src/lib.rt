@@ -3,6 +3,7 @@
 //! A pixel (x, y) stands in column x, counted from the left, and row y, counted from the top.
 #![tactic(auto)]
 
+pub mod laws;
 mod rectangle;
 mod surface;
 

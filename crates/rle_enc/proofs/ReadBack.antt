@@ -2,7 +2,9 @@
 use Rattle.std.proofs.Common.{◌≡◌, ℕ, zero, suc, ◌+◌, ◌-◌, ◌*◌, ◌^◌, ◌<◌, ◌≤◌, true, false, cond, List, [], ◌∷◌, ◌++◌, length, refl, ap, sym, ◌∙◌, arith, Some, None, Ok, append_assoc, ⊎_elim}
 use Rattle.std.specs.Prelude.{flat_map, map, nat_le, nat_lt, ◌&&◌}
 use Rattle.std.proofs.lemmas.Bool.Decides.{nat_tests}
-use Rattle.std.proofs.lemmas.Bool.{cases_lt}
+use Rattle.std.proofs.lemmas.Bool.{and_parts, cases_lt}
+use Rattle.px_core.specs.Colors.{is_color, are_colors}
+use Rattle.px_core.proofs.Colors.{color_below}
 use Rattle.run_lengths.specs.Bytes.{Read, then_read, map_read, read_if, bytes_of, bytes_at, pixels_of, low_number, low_bytes}
 use Rattle.run_lengths.specs.Codes.{row_of, row, run}
 use Rattle.run_lengths.specs.declared.codes.Kind.TheVariants.{BackgroundRun, ColorRun, ColorImage}
@@ -27,8 +29,8 @@ image_code code l h = grind (arith, nat_tests, l, h)
 
 -- ---- numbers
 
-pixel_back : (c : ℕ) → c < 2 ^ 24 → low_number (low_bytes 3 c) ≡ c
-pixel_back c h = omega (arith, h)
+pixel_back : (c : ℕ) → is_color c ≡ true → low_number (low_bytes 3 c) ≡ c
+pixel_back c h = omega (arith, color_below c h)
 
 two_bytes_back : (n : ℕ) → n < 65536 → low_number (low_bytes 2 n) ≡ n
 two_bytes_back n h = omega (arith, h)
@@ -101,26 +103,20 @@ bytes_back : (field xs rest : List ℕ) → bytes_of field (length xs) (xs ++ re
 bytes_back field [] rest = refl
 bytes_back field (x ∷ xs) rest = ap (map_read (λ bs. x ∷ bs)) (bytes_back field xs rest)
 
-abbrev pub IsColor : ℕ → Type 0
-IsColor c = c < 2 ^ 24
-
-abbrev pub AllColors : List ℕ → Type 0
-AllColors [] = Unit {0}
-AllColors (c ∷ cs) = IsColor c × AllColors cs
-
 pub length-image : (cs : List ℕ) → length (flat_map pixel_bytes cs) ≡ 3 * length cs
 length-image [] = refl
 length-image (c ∷ cs) = omega (arith, length-image cs)
 
-image_back : (cs : List ℕ) → AllColors cs → pixels_of (flat_map pixel_bytes cs) ≡ cs
+image_back : (cs : List ℕ) → are_colors cs ≡ true → pixels_of (flat_map pixel_bytes cs) ≡ cs
 image_back [] h = refl
-image_back (c ∷ cs) h = ap (λ x. x ∷ pixels_of (flat_map pixel_bytes cs)) (pixel_back c h.0) ∙ ap (λ xs. c ∷ xs) (image_back cs h.1)
+image_back (c ∷ cs) h = let k = and_parts (is_color c) (are_colors cs) h in
+    ap (λ x. x ∷ pixels_of (flat_map pixel_bytes cs)) (pixel_back c k.0) ∙ ap (λ xs. c ∷ xs) (image_back cs k.1)
 
 -- what the packer writes: lengths of 1 to 65,535, and colours
 abbrev pub IsPacked : Run → Type 0
 IsPacked (Background n) = (1 ≤ n) × (n < 65536)
-IsPacked (Color n c) = (1 ≤ n) × (n < 65536) × IsColor c
-IsPacked (Image cs) = (1 ≤ length cs) × (length cs < 65536) × AllColors cs
+IsPacked (Color n c) = (1 ≤ n) × (n < 65536) × (is_color c ≡ true)
+IsPacked (Image cs) = (1 ≤ length cs) × (length cs < 65536) × (are_colors cs ≡ true)
 IsPacked (Foreground n) = ⊥
 IsPacked (Mask bits) = ⊥
 IsPacked (Dithered n a b) = ⊥

@@ -2,7 +2,7 @@
 use Rattle.std.proofs.Common.{◌≡◌, ℕ, zero, suc, ◌+◌, ◌-◌, ◌<◌, ◌≤◌, Bool, true, false, cond, List, [], ◌∷◌, ◌++◌, length, take, drop, map, replicate, refl, ap, sym, subst, ◌∙◌, arith, append_assoc, length-append, ⊎_elim, inl, inr, ◌⊎◌}
 use Rattle.std.specs.Prelude.{nat_le, ◌&&◌, ◌==◌}
 use Rattle.std.proofs.lemmas.Bool.Decides.{nat_tests}
-use Rattle.std.proofs.lemmas.Bool.{cases_lt}
+use Rattle.std.proofs.lemmas.Bool.{and_from, cases_lt}
 use Rattle.std.proofs.lemmas.List.{length-drop, take-append-drop, length-take-le, map-append}
 use Rattle.run_lengths.specs.declared.strokes.Stroke.{Stroke}
 use Rattle.run_lengths.specs.declared.strokes.Stroke.TheVariants.{Plain}
@@ -10,7 +10,9 @@ use Rattle.run_lengths.specs.RunLength.{Run, run_size, run_strokes, drawn_pixel,
 use Rattle.run_lengths.specs.RunLength.Run.{Background, Foreground, Mask, Color, Image, Dithered}
 use Rattle.run_lengths.specs.Packer.{Spot, background_count, color_count, chosen_run, first_run, runs_past, onto_runs, joined_images, packed_runs}
 use Rattle.run_lengths.proofs.Laws.{drawn_over-append, drawn_over_front, length-run_strokes}
-use Rattle.rle_enc.proofs.ReadBack.{IsColor, AllColors, sizes}
+use Rattle.px_core.specs.Colors.{is_color, are_colors}
+use Rattle.px_core.proofs.Colors.{are_colors-append}
+use Rattle.rle_enc.proofs.ReadBack.{sizes}
 
 -- the pixels of spots, and those one row earlier
 abbrev pub pixels : List Spot → List ℕ
@@ -86,8 +88,8 @@ chosen P b c color back run image = by_tests (nat_le 1 b && nat_le c b) (nat_le 
 -- a run of at least one pixel, of the packer's kinds, in colours
 abbrev pub IsFair : Run → Type 0
 IsFair (Background n) = 1 ≤ n
-IsFair (Color n c) = (1 ≤ n) × IsColor c
-IsFair (Image cs) = (1 ≤ length cs) × AllColors cs
+IsFair (Color n c) = (1 ≤ n) × (is_color c ≡ true)
+IsFair (Image cs) = (1 ≤ length cs) × (are_colors cs ≡ true)
 IsFair (Foreground n) = ⊥
 IsFair (Mask bits) = ⊥
 IsFair (Dithered n a b) = ⊥
@@ -99,14 +101,14 @@ pub record Begins (back fore : Stroke) (spots : List Spot) (r : Run) : Type 0 wh
   pub fair : IsFair r
   pub draws : drawn_over (run_strokes r false back fore) (aboves spots) ≡ take (run_size r) (pixels spots)
 
-pub first_run_begins : (back fore : Stroke) (s : Spot) (spots : List Spot) → Keeps back (s ∷ spots) → IsColor s.0 → Begins back fore (s ∷ spots) (first_run s spots)
+pub first_run_begins : (back fore : Stroke) (s : Spot) (spots : List Spot) → Keeps back (s ∷ spots) → is_color s.0 ≡ true → Begins back fore (s ∷ spots) (first_run s spots)
 first_run_begins back fore s spots keeps color =
     let b : ℕ = background_count (s ∷ spots) in
     let c : ℕ = color_count s.0 (s ∷ spots) in
     chosen (Begins back fore (s ∷ spots)) b c s.0
     (λ l m. record { some = l; within = background_count_within (s ∷ spots); fair = l; draws = background_draws back b (s ∷ spots) keeps (omega arith) })
     (λ l. record { some = omega (arith, l); within = color_count_within s.0 (s ∷ spots); fair = (omega (arith, l), color); draws = color_draws s.0 c (s ∷ spots) (omega arith) })
-    (λ h l. record { some = omega arith; within = omega arith; fair = (omega arith, (color, tt)); draws = refl })
+    (λ h l. record { some = omega arith; within = omega arith; fair = (omega arith, and_from (is_color s.0) true color refl); draws = refl })
 
 -- ---- a stretch
 
@@ -161,7 +163,7 @@ packs_more back fore spots r rs first rest =
 
 abbrev pub AllColored : List Spot → Type 0
 AllColored [] = Unit {0}
-AllColored (s ∷ spots) = IsColor s.0 × AllColored spots
+AllColored (s ∷ spots) = (is_color s.0 ≡ true) × AllColored spots
 
 -- one place less, the first of a stretch being there
 pub drop_first : (n : ℕ) (s : Spot) (spots : List Spot) → 1 ≤ n → drop n (s ∷ spots) ≡ drop (n - 1) spots
@@ -179,10 +181,6 @@ runs_past_packs back fore zero (s ∷ spots) keeps colors =
     packs_more back fore (s ∷ spots) r (runs_past (run_size r - 1) spots) first (subst P (sym (drop_first (run_size r) s spots first.some)) (runs_past_packs back fore (run_size r - 1) spots keeps.1 colors.1))
 
 -- ---- images joined
-
-all_colors-append : (cs ds : List ℕ) → AllColors cs → AllColors ds → AllColors (cs ++ ds)
-all_colors-append [] ds h k = k
-all_colors-append (c ∷ cs) ds h k = (h.0, all_colors-append cs ds h.1 k)
 
 pub record SameRuns (rs ss : List Run) : Type 0 where
   pub sizes_same : sizes ss ≡ sizes rs
@@ -206,7 +204,7 @@ onto_same (Image cs) (Mask bits ∷ rs) = itself_same (Image cs ∷ Mask bits �
 onto_same (Image cs) (Dithered n a b ∷ rs) = itself_same (Image cs ∷ Dithered n a b ∷ rs)
 onto_same (Image cs) (Image ds ∷ rs) = record {
   sizes_same = omega (arith, length-append cs ds);
-  fair = λ h. ((omega (arith, h.0.0, length-append cs ds), all_colors-append cs ds h.0.1 h.1.0.1), h.1.1);
+  fair = λ h. ((omega (arith, h.0.0, length-append cs ds), are_colors-append cs ds h.0.1 h.1.0.1), h.1.1);
   strokes = λ back fore. ap (λ ss. ss ++ runs_strokes back fore rs) (map-append (λ c. Plain c) cs ds) ∙ append_assoc (map (λ c. Plain c) cs) (map (λ c. Plain c) ds) (runs_strokes back fore rs);
 }
 

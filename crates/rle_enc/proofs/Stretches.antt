@@ -2,6 +2,7 @@
 use Rattle.std.proofs.Common.{◌≡◌, ℕ, zero, suc, ◌+◌, ◌-◌, ◌*◌, ◌<◌, ◌≤◌, Bool, true, false, cond, List, [], ◌∷◌, ◌++◌, length, take, drop, replicate, refl, ap, sym, subst, ◌∙◌, arith, append_assoc, append-nil, length-append, Ok}
 use Rattle.std.specs.Prelude.{flat_map, map, zip, nat_lt, ◌==◌}
 use Rattle.std.proofs.lemmas.Bool.Decides.{nat_tests}
+use Rattle.std.proofs.lemmas.Bool.{and_parts}
 use Rattle.std.proofs.lemmas.List.{length-drop, length-replicate, take-append-drop, length-take-le, map-append, take_all}
 use Rattle.run_lengths.specs.declared.strokes.Stroke.{Stroke}
 use Rattle.run_lengths.specs.declared.strokes.Stroke.TheVariants.{Plain, Above}
@@ -10,7 +11,9 @@ use Rattle.run_lengths.specs.RunLength.{Run, Order, run_size, run_strokes, drawn
 use Rattle.run_lengths.specs.RunLength.Run.{Background, Foreground, Mask, Color, Image, Dithered}
 use Rattle.run_lengths.specs.Packer.{Spot, background_count, color_count, chosen_run, first_run, runs_past, onto_runs, joined_images, packed_runs, first_stretch, later_stretch, packed, run_bytes}
 use Rattle.run_lengths.proofs.Laws.{drawn_over-append, drawn_over_front, length-run_strokes}
-use Rattle.rle_enc.proofs.ReadBack.{AllColors, IsPacked, AllPacked, sizes, plain, runs_back}
+use Rattle.px_core.specs.Colors.{is_color, are_colors}
+use Rattle.px_core.proofs.Colors.{are_colors-drop}
+use Rattle.rle_enc.proofs.ReadBack.{IsPacked, AllPacked, sizes, plain, runs_back}
 use Rattle.rle_enc.proofs.Runs.{pixels, aboves, Keeps, AllColored, AllFair, IsFair, Packs, chosen, runs_strokes, packed_runs_packs, length-pixels}
 
 -- ---- background runs stand apart
@@ -221,18 +224,13 @@ keeps_above : (spots : List Spot) → Keeps Above spots
 keeps_above [] = tt
 keeps_above (s ∷ spots) = (refl, keeps_above spots)
 
-zip_colored : (xs ys : List ℕ) → AllColors xs → AllColored (zip xs ys)
+zip_colored : (xs ys : List ℕ) → are_colors xs ≡ true → AllColored (zip xs ys)
 zip_colored [] ys h = tt
 zip_colored (x ∷ xs) [] h = tt
-zip_colored (x ∷ xs) (y ∷ ys) h = (h.0, zip_colored xs ys h.1)
-
-all_colors-drop : (n : ℕ) (xs : List ℕ) → AllColors xs → AllColors (drop n xs)
-all_colors-drop zero xs h = h
-all_colors-drop (suc n) [] h = h
-all_colors-drop (suc n) (x ∷ xs) h = all_colors-drop n xs h.1
+zip_colored (x ∷ xs) (y ∷ ys) h = let k = and_parts (is_color x) (are_colors xs) h in (k.0, zip_colored xs ys k.1)
 
 -- the packer's bytes stand for the pixels
-pub packed_decompresses : (w h : ℕ) (ps : List ℕ) → 1 ≤ w → w ≤ length ps → length ps ≡ w * h → length ps < 65536 → AllColors ps → Decompresses (packed w ps) w h ps
+pub packed_decompresses : (w h : ℕ) (ps : List ℕ) → 1 ≤ w → w ≤ length ps → length ps ≡ w * h → length ps < 65536 → are_colors ps ≡ true → Decompresses (packed w ps) w h ps
 packed_decompresses w h ps some wide count small colors =
     let black : List ℕ = replicate w 0 in
     let long : length black ≡ w = length-replicate w 0 in
@@ -245,7 +243,7 @@ packed_decompresses w h ps some wide count small colors =
     let f : Stroke = foreground_stroke true nothing_drawn.foreground in
     let g : Stroke = foreground_stroke false d.foreground in
     let first : Packs b f early rs = packed_runs_packs b f early (keeps_black ps w) (zip_colored ps black colors) in
-    let second : Packs Above g late ss = packed_runs_packs Above g late (keeps_above late) (zip_colored (drop w ps) ps (all_colors-drop w ps colors)) in
+    let second : Packs Above g late ss = packed_runs_packs Above g late (keeps_above late) (zip_colored (drop w ps) ps (are_colors-drop w ps colors)) in
     let rest : length (drop w ps) ≡ length ps - w = length-drop w ps in
     let early_pixels : pixels early ≡ take w ps = pixels-zip ps black ∙ ap (λ n. take n ps) long in
     let early_aboves : aboves early ≡ black = aboves-zip ps black ∙ take_all (length ps) black (omega (arith, long, wide)) in

@@ -1,10 +1,10 @@
 -- The two stretches' bytes are the packer's; what follows of them.
 use Rattle.std.proofs.Common.{◌≡◌, ℕ, zero, suc, ◌+◌, ◌*◌, ◌/◌, ◌%◌, ◌^◌, ◌<◌, ◌≤◌, List, [], ◌∷◌, ◌++◌, length, take, drop, replicate, refl, ap, sym, subst, ◌∙◌, arith}
-use Rattle.std.specs.Prelude.{zip, flat_map, All}
+use Rattle.std.specs.Prelude.{zip, flat_map, true}
 use Rattle.std.proofs.lemmas.List.{length-take-le}
 use Rattle.run_lengths.specs.RunLength.{Decompresses}
 use Rattle.run_lengths.specs.Packer.{packed, packed_runs, run_bytes, first_stretch, color_runs_in}
-use Rattle.rle_enc.proofs.ReadBack.{AllColors}
+use Rattle.px_core.specs.Colors.{are_colors}
 use Rattle.rle_enc.proofs.Stretches.{packed_decompresses}
 use Rattle.rle_enc.proofs.Bound.{packed_few}
 
@@ -22,10 +22,6 @@ bytes_are_packed w ps first rest none p q empty wide f r e' g =
     let spots : zip {X = ℕ} first (replicate (length first) 0) ≡ first_stretch w ps = ap (λ us. zip us (replicate (length first) 0)) f ∙ ap (λ n. zip (take w ps) (replicate n 0)) long ∙ first_zip w ps in
     g ∙ ap (λ us. us ++ flat_map run_bytes (packed_runs (zip rest ps))) (e ∙ ap (λ ss. flat_map run_bytes (packed_runs ss)) spots) ∙ ap (λ us. flat_map run_bytes (packed_runs (first_stretch w ps)) ++ flat_map run_bytes (packed_runs (zip us ps))) r
 
-pub all_colors : (ps : List ℕ) → All (λ c. c < 2 ^ 24) ps → AllColors ps
-all_colors [] h = tt
-all_colors (p ∷ ps) h = (h 0 0 (omega arith), all_colors ps (λ k d lt. h (suc k) d (omega (arith, lt))))
-
 rows_whole : (n w : ℕ) → 1 ≤ w → n % w ≡ 0 → n ≡ w * (n / w)
 rows_whole n w some e = omega (arith, some, e)
 
@@ -35,10 +31,10 @@ at_least_a_row n w some one e = by_rows n w (n / w) one (rows_whole n w some e) 
   by_rows n w zero one e = absurd (omega (arith, one, e))
   by_rows n w (suc q) one e = omega (arith, e)
 
-pub bytes_read_back : (w : ℕ) (ps bytes : List ℕ) → 1 ≤ w → length ps % w ≡ 0 → 1 ≤ length ps → length ps ≤ 4096 → All (λ c. c < 2 ^ 24) ps → bytes ≡ packed w ps → Decompresses bytes w (length ps / w) ps
+pub bytes_read_back : (w : ℕ) (ps bytes : List ℕ) → 1 ≤ w → length ps % w ≡ 0 → 1 ≤ length ps → length ps ≤ 4096 → are_colors ps ≡ true → bytes ≡ packed w ps → Decompresses bytes w (length ps / w) ps
 bytes_read_back w ps bytes some rows one few colors e =
     let P : List ℕ → Type 0 = λ bs. Decompresses bs w (length ps / w) ps in
-    subst P (sym e) (packed_decompresses w (length ps / w) ps some (at_least_a_row (length ps) w some one rows) (rows_whole (length ps) w some rows) (omega (arith, few)) (all_colors ps colors))
+    subst P (sym e) (packed_decompresses w (length ps / w) ps some (at_least_a_row (length ps) w some one rows) (rows_whole (length ps) w some rows) (omega (arith, few)) colors)
 
 pub bytes_are_few : (w : ℕ) (ps bytes : List ℕ) → bytes ≡ packed w ps → length bytes ≤ 6 * (color_runs_in w ps + 1)
 bytes_are_few w ps bytes e = omega (arith, ap length e, packed_few w ps)

@@ -12,7 +12,7 @@ use Rattle.line_text.specs.Numbers.{digits_behind, number_of, at_most, number_up
 use Rattle.line_text.specs.Hexadecimal.{hexadecimal_of}
 use Rattle.px_core.specs.Picture.{nat_of}
 use Rattle.draw_ops.specs.declared.shape.Shape.TheVariants as shape
-use Rattle.draw_ops.specs.Colors.{is_color}
+use Rattle.px_core.specs.Colors.{is_color}
 use Rattle.draw_ops.specs.Ranges.{is_i32, is_u32, is_rect_in_range, is_drawing_in_range}
 use Rattle.std.specs.Prelude.{codes}
 use Rattle.draw_ops.specs.declared.shape.Drawing.{Drawing}

@@ -9,7 +9,7 @@ use Rattle.px_core.specs.Picture.{pixel_count, black_picture}
 use Rattle.px_core.specs.Rectangle.{is_session_size, whole}
 use Rattle.rop3_core.specs.Palette.{session_colors, client_colors}
 use Rattle.caps_sets.specs.Confirmed.{plain}
-use Rattle.draw_ops.specs.Colors.{is_color}
+use Rattle.px_core.specs.Colors.{is_color}
 use Rattle.draw_ops.specs.Ranges.{is_drawing_in_range, is_rect_in_range}
 use Rattle.draw_ops.specs.Fits.{rect_rule, is_side, first_some}
 use Rattle.session_rules.specs.Journal.{Refusal, unless, most_entries}
