@@ -46,7 +46,7 @@ mod tests {
     use std::io;
     use std::io::ErrorKind;
 
-    /// A reader whose second read fails, and whose third finds the end.
+    /// A reader of one byte, whose second read fails, and then of two bytes at once, before the end.
     #[derive(Drop)]
     struct Torn {
         reads: u8,
@@ -61,6 +61,11 @@ mod tests {
                     Ok(1)
                 }
                 2 => Err(io::Error::from(ErrorKind::BrokenPipe)),
+                3 if buf.len() >= 2 => {
+                    buf[0] = b'b';
+                    buf[1] = b'c';
+                    Ok(2)
+                }
                 _ => Ok(0),
             }
         }
@@ -78,6 +83,8 @@ mod tests {
         assert_eq!(rt; input.faults, 0);
         assert_eq!(rt; input.read(&mut buf), Got::Failed);
         assert_eq!(rt; input.faults, 1);
+        assert_eq!(rt; input.read(&mut buf), Got::Bytes(2));
+        assert_eq!(rt; (buf[0], buf[1]), (b'b', b'c'));
         assert_eq!(rt; input.read(&mut buf), Got::End);
         assert_eq!(rt; input.faults, 1);
     }

@@ -120,3 +120,19 @@ fn a_pass_finds_what_another_appended_and_the_two_meet(rt: HostRuntime) -> Resul
     assert_eq!(rt; log.lines.as_slice(), [1].as_slice());
     Ok(())
 }
+
+#[test]
+fn a_lock_round_entries_has_them_seen_from_the_start(rt: HostRuntime) -> Result<(), Fail> {
+    let log = Log {
+        owner: OWNER,
+        lines: vec![in rt.alloc(); 5u64; 3]?,
+    };
+    let (lock, first) = GrowLock::new(rt.alloc(), log)?;
+    assert_eq!(rt; first.seen(), 3);
+    let (first, place) = append(&rt, &lock, first, 9);
+    assert_eq!(rt; place, Some(3));
+    assert_eq!(rt; first.seen(), 4);
+    let log = lock.close(&rt, first);
+    assert_eq!(rt; log.lines.as_slice(), [5, 5, 5, 9].as_slice());
+    Ok(())
+}

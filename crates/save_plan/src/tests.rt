@@ -29,3 +29,22 @@ fn sides_are_reckoned_without_overflow(rt: HostRuntime) -> Result<(), Fail> {
     assert_eq!(rt; blocks.place(1, 2_880, 20)?, 0);
     Ok(())
 }
+
+#[test]
+fn sixteen_slots_share_all_positions(rt: HostRuntime) -> Result<(), Fail> {
+    // 60 by 60 takes 3,600 positions, a sixteenth of them all.
+    let mut blocks = Blocks::new(rt.alloc());
+    for slot in 0..16u8 {
+        blocks.free(slot);
+        let position = blocks.place(slot, 60, 60)?;
+        assert_eq!(rt; position, 3_600 * u32::from(slot), "slot {slot}");
+    }
+    blocks.free(16);
+    assert_eq!(rt; blocks.place(16, 1, 1), Err(PlaceFault::NoRoom));
+    for slot in [15u8, 0, 7] {
+        blocks.free(slot);
+        let position = blocks.place(slot, 60, 60)?;
+        assert_eq!(rt; position, 3_600 * u32::from(slot), "slot {slot}");
+    }
+    Ok(())
+}
