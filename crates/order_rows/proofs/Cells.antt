@@ -1,4 +1,4 @@
--- What a viewer makes of cached bitmaps and brushes at the edges of its caches.
+-- What a viewer makes of cached bitmaps, glyphs and brushes at the edges of its caches. A coordinate with a sign is added to the last one.
 use Rattle.std.proofs.Common.{◌≡◌, ℕ, List, [], ◌∷◌, ◌++◌, refl, Some, None, replicate, false}
 use Rattle.rop3_core.specs.Rop3.{ternary_raster}
 use Rattle.caps_sets.specs.declared.confirmed.Confirmed.{Confirmed}

@@ -1,4 +1,4 @@
--- What a viewer makes of updates of other forms.
+-- What a viewer makes of Bitmap updates and of marks, and of updates that are empty or refused. A coordinate with a sign is added to the last one.
 use Rattle.std.proofs.Common.{◌≡◌, [], ◌∷◌, ◌++◌, refl, Some, None, replicate, true}
 use Rattle.rop3_core.specs.Rop3.{ternary_raster}
 use Rattle.order_means.specs.ClientState.Fault.{Broken}
