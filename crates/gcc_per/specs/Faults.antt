@@ -117,6 +117,7 @@ pub record FaultStandsAt (bytes : List ℕ) (cause : Cause) (at : ℕ) : Type 0 
   pub place : length front ≡ at
   pub fault : HasFault bytes cause left
 
+-- the first fault is the one that is told
 abbrev pub IsFirstFault : List ℕ → GccFault → Type 0
 IsFirstFault bytes (BadGcc at) = FaultStandsAt bytes Broken at
 IsFirstFault bytes (DepthNotOffered at) = FaultStandsAt bytes NoDepth at
