@@ -176,6 +176,17 @@ record Fields (content values : List ℕ) : Type 0 where
   user_data_is : IsTagged (4 ∷ []) user last
   size : values ≡ length user ∷ []
 
+fields_joined : (content a calling b called c d skipped target e minimum f maximum g last : List ℕ) (flag : ℕ)
+    → content ≡ calling ++ a → a ≡ called ++ b → b ≡ 1 ∷ 1 ∷ c → c ≡ skipped ++ d → skipped ≡ flag ∷ [] → d ≡ target ++ e → e ≡ minimum ++ f → f ≡ maximum ++ g
+    → g ≡ last
+    → content ≡ fields_of calling called flag target minimum maximum last
+fields_joined content a calling b called c d skipped target e minimum f maximum g last flag p q r s t u v w x =
+    let parameters : d ≡ target ++ (minimum ++ (maximum ++ last)) =
+    u ∙ ap (λ xs. target ++ xs) (v ∙ ap (λ xs. minimum ++ xs) (w ∙ ap (λ xs. maximum ++ xs) x)) in
+    let flagged : b ≡ 1 ∷ 1 ∷ flag ∷ (target ++ (minimum ++ (maximum ++ last))) =
+    r ∙ ap (λ xs. 1 ∷ 1 ∷ xs) (s ∙ ap (λ xs. xs ++ d) t ∙ ap (λ xs. flag ∷ xs) parameters) in
+    p ∙ ap (λ xs. calling ++ xs) (q ∙ ap (λ xs. called ++ xs) flagged)
+
 fields_stand : (content values left : List ℕ) → IsText initial_fields content values left → Fields content values
 unfolding initial_fields upward_flag three_parameters user_data
 fields_stand content values left t =
@@ -188,8 +199,6 @@ fields_stand content values left t =
     let r = parameterised user_data q.more values left q.then in
     let u = r.then in
     let last : List ℕ = (4 ∷ []) ++ (u.2.0 ++ u.2.1) in
-    let behind : f.2.1 ≡ p.text ++ (q.text ++ (r.text ++ last)) =
-    p.whole ∙ ap (λ xs. p.text ++ xs) (q.whole ∙ ap (λ xs. q.text ++ xs) (r.whole ∙ ap (λ xs. r.text ++ xs) (u.1 ∙ ap (λ xs. 4 ∷ xs) u.2.3))) in
     record {
       calling = a.text;
       called = b.text;
@@ -199,8 +208,8 @@ fields_stand content values left t =
       maximum = r.text;
       last = last;
       user = u.2.1;
-      whole = a.whole ∙ ap (λ xs. a.text ++ xs) (b.whole ∙ ap (λ xs. b.text ++ xs) (
-          f.1 ∙ ap (λ xs. 1 ∷ 1 ∷ xs) (f.2.3 ∙ ap (λ xs. xs ++ f.2.1) flag.1 ∙ ap (λ xs. flag.0 ∷ xs) behind)));
+      whole = fields_joined content a.more a.text b.more b.text f.0 f.2.1 f.2.0 p.text p.more q.text q.more r.text r.more last flag.0
+          a.whole b.whole f.1 f.2.3 flag.1 p.whole q.whole r.whole (u.1 ∙ ap (λ xs. 4 ∷ xs) u.2.3);
       by = a.is;
       to = b.is;
       wanted = p.is;

@@ -4,8 +4,15 @@ use Rattle.byteorder.specs.Endian.{big_number}
 use Rattle.wire_num.specs.declared.range.Range.{Range}
 use Rattle.wire_num.specs.Field.{has_bits}
 use Rattle.wire_num.specs.Grammar.{IsPacked}
+use Rattle.tpkt_x224.specs.Grammar.{IsBrokenAt}
 use Rattle.mcs_dom.specs.declared.domain_pdu.DomainPdu.{DomainPdu}
 use Rattle.mcs_dom.specs.declared.domain_pdu.DomainPdu.TheVariants.{Erect, Attach, Join, Data, Bye}
+use Rattle.mcs_dom.specs.ErectDomain.{erect_domain_request}
+use Rattle.mcs_dom.specs.AttachUser.{attach_user_request}
+use Rattle.mcs_dom.specs.ChannelJoin.{channel_join_request}
+use Rattle.mcs_dom.specs.SendData.{send_data_request}
+use Rattle.mcs_dom.specs.Ultimatum.{ultimatum}
+use Rattle.mcs_dom.specs.DomainPdu.{Choice, ErectDomainRequest, AttachUserRequest, ChannelJoinRequest, SendDataRequest, DisconnectProviderUltimatum, Other, choice_of}
 
 -- choice; subHeight and subInterval, each a byte that counts its bytes, and the bytes; any bytes may follow
 pub record IsErectDomain (bytes : List ℕ) : Type 0 where
@@ -72,3 +79,17 @@ IsDomainPdu bytes Attach = bytes ≡ 40 ∷ []
 IsDomainPdu bytes (Join user channel) = IsJoin bytes user channel
 IsDomainPdu bytes (Data user channel body) = IsData bytes user channel body
 IsDomainPdu bytes (Bye reason) = IsUltimatum bytes reason
+
+-- the PDU of this choice breaks its rule at this offset; a byte that is no choice of a client breaks it itself
+abbrev pub IsBrokenBy : Choice → ℕ → List ℕ → ℕ → Type 0
+IsBrokenBy ErectDomainRequest first bytes at = IsBrokenAt erect_domain_request bytes at
+IsBrokenBy AttachUserRequest first bytes at = IsBrokenAt attach_user_request bytes at
+IsBrokenBy ChannelJoinRequest first bytes at = IsBrokenAt channel_join_request bytes at
+IsBrokenBy SendDataRequest first bytes at = IsBrokenAt send_data_request bytes at
+IsBrokenBy DisconnectProviderUltimatum first bytes at = IsBrokenAt (ultimatum first) bytes at
+IsBrokenBy Other first bytes at = at ≡ 0
+
+-- the bytes are no domain PDU, and break the rule of the one that they choose at this offset
+abbrev pub IsBrokenPdu : List ℕ → ℕ → Type 0
+IsBrokenPdu [] at = at ≡ 0
+IsBrokenPdu (first ∷ bs) at = IsBrokenBy (choice_of first) first (first ∷ bs) at

@@ -1,6 +1,8 @@
 -- What packets are, apart from reading: which bytes stand there, and what they say.
 use Rattle.std.specs.Prelude.{◌≡◌, ℕ, ◌⊎◌, List, [], ◌∷◌, ◌++◌, length, Option, Some, None}
 use Rattle.byteorder.specs.Endian.{big_number, little_number}
+use Rattle.wire_num.specs.Layout.{Layout}
+use Rattle.wire_num.specs.Refusal.{IsRefusedAt}
 use Rattle.tpkt_x224.specs.declared.request.Request.{Request}
 use Rattle.tpkt_x224.specs.Data.{data_header}
 
@@ -74,3 +76,11 @@ pub record CarriesData (packet : List ℕ) : Type 0 where
   pub carried : List ℕ
   pub four : length header ≡ 4
   pub whole : packet ≡ header ++ (data_header ++ carried)
+
+-- the bytes are no text of the table, and its first field that isn't there should begin at this offset
+pub record IsBrokenAt (layout : Layout) (bytes : List ℕ) (at : ℕ) : Type 0 where
+  pub front : List ℕ
+  pub left : List ℕ
+  pub whole : bytes ≡ front ++ left
+  pub place : at ≡ length front
+  pub refused : IsRefusedAt layout bytes left
