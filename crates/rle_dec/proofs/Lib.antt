@@ -1,5 +1,6 @@
 pub mod Fields
 pub mod Drawn
+pub mod Places
 pub mod CopyLaws
 pub mod ShortOrders
 pub mod Progress

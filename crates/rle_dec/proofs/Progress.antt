@@ -6,17 +6,8 @@ use Rattle.run_lengths.specs.declared.strokes.Stroke.{Stroke}
 use Rattle.run_lengths.specs.Bytes.{Read, place_in}
 use Rattle.run_lengths.specs.RunLength.{Order, run_size, drawn_over, order_at, onto_orders, orders_after, orders_in, Drawn, drawn_after, order_strokes, strokes_from, strokes_of, nothing_drawn, Decompresses, unrle, first_bad_run, pixels_of_orders, refused_place, follows_background, is_first_row, background_stroke, foreground_stroke, foreground_of, run_strokes, before_next}
 use Rattle.run_lengths.proofs.Laws.{orders_in_next, order_leaves, Leaves, OrderDraws, length-run_strokes, decompressed_is_unrle}
-use Rattle.rle_dec.specs.Drawing.{drawn_onto}
+use Rattle.rle_dec.specs.Drawing.{drawn_onto, drawn_rest, drawn_whole}
 use Rattle.rle_dec.proofs.Drawn.{drawn_onto-append, length-drawn_onto, are_drawn_onto}
-
--- what orders draw onto pixels
-abbrev pub drawn_rest : ℕ → Drawn → List ℕ → Result (List Order) (List ℕ) → Result (List ℕ) (List ℕ)
-drawn_rest w d pixels (Ok os) = Ok (drawn_onto w (strokes_from w d os) pixels)
-drawn_rest w d pixels (Err refused) = Err refused
-
--- what a whole stream draws
-abbrev pub drawn_whole : ℕ → ℕ → List ℕ → Result (List ℕ) (List ℕ)
-drawn_whole w count bytes = drawn_rest w nothing_drawn [] (orders_in count bytes)
 
 onto_drawn : (w : ℕ) (d : Drawn) (p : List ℕ) (o : Order) (r : Result (List Order) (List ℕ)) → drawn_rest w d p (onto_orders o r) ≡ drawn_rest w (drawn_after w d o) (drawn_onto w (order_strokes w d o) p) r
 onto_drawn w d p o (Ok os) = ap Ok (drawn_onto-append w (order_strokes w d o) (strokes_from w (drawn_after w d o) os) p)
@@ -57,6 +48,11 @@ rest_is_shorter left (b ∷ stream) rest o e = let P : Read Order → Type 0 = �
 pub refused_is_no_longer : (left : ℕ) (stream refused : List ℕ) → Err refused ≡ order_at left stream → length refused ≤ length stream
 refused_is_no_longer left [] refused e = let same : refused ≡ [] = cc in omega (arith, ap length same)
 refused_is_no_longer left (b ∷ stream) refused e = let P : Read Order → Type 0 = λ r. Leaves (OrderDraws left) (length stream) r in subst P (sym e) (order_leaves left b stream)
+
+-- an order draws no more pixels than are left
+pub order_fits : (left : ℕ) (stream rest : List ℕ) (o : Order) → Ok (o, rest) ≡ order_at left stream → run_size o.run ≤ left
+order_fits left [] rest o e = cc
+order_fits left (b ∷ stream) rest o e = let P : Read Order → Type 0 = λ r. Leaves (OrderDraws left) (length stream) r in let h = subst P (sym e) (order_leaves left b stream) in h.0.1
 
 -- ---- the whole stream
 

@@ -1,8 +1,8 @@
 -- Pixels drawn at the end of others.
-use Rattle.std.specs.Prelude.{ℕ, Bool, List, [], ◌∷◌, ◌++◌, length, map, replicate, slice_index, if◌then◌else◌}
+use Rattle.std.specs.Prelude.{ℕ, Bool, List, [], ◌∷◌, ◌++◌, length, map, replicate, slice_index, Result, Ok, Err, if◌then◌else◌}
 use Rattle.run_lengths.specs.declared.strokes.Stroke.{Stroke}
 use Rattle.run_lengths.specs.declared.strokes.Stroke.TheVariants.{Plain, Above, Crossed}
-use Rattle.run_lengths.specs.RunLength.{drawn_pixel}
+use Rattle.run_lengths.specs.RunLength.{Order, Drawn, drawn_pixel, strokes_from, nothing_drawn, orders_in}
 
 -- the pixel one row earlier than the next one, black before the first row
 abbrev pub above_next : ℕ → List ℕ → ℕ
@@ -22,3 +22,12 @@ pixels_before w (Crossed foreground) = w
 -- the strokes of a mask
 abbrev pub masked : Stroke → Stroke → List Bool → List Stroke
 masked back fore bits = map (λ b. if b then fore else back) bits
+
+-- what orders draw onto pixels
+abbrev pub drawn_rest : ℕ → Drawn → List ℕ → Result (List Order) (List ℕ) → Result (List ℕ) (List ℕ)
+drawn_rest w d pixels (Ok os) = Ok (drawn_onto w (strokes_from w d os) pixels)
+drawn_rest w d pixels (Err refused) = Err refused
+
+-- what a whole stream draws
+abbrev pub drawn_whole : ℕ → ℕ → List ℕ → Result (List ℕ) (List ℕ)
+drawn_whole w count bytes = drawn_rest w nothing_drawn [] (orders_in count bytes)

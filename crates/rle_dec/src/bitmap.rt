@@ -1,7 +1,8 @@
 //! The pixels of a run-length stream, the bottom row first ([MS-RDPBCGR] 3.1.9).
-ghost use Rattle.std.specs.Prelude.{◌≡◌, ◌+◌, ◌^◌, ◌<◌, ◌≤◌, IfErr, IfOk, Ok, OnOk, vec_len};
-ghost use Rattle.run_lengths.specs.RunLength.{Decompresses, before_next, follows_background, run_strokes, unrle};
-ghost use Rattle.rle_dec.specs.Drawing.{drawn_onto, pixels_before};
+ghost use Rattle.std.specs.Prelude.{◌≡◌, ◌+◌, ◌≤◌, IfErr, IfOk, IsFalse, Ok, Err, OnOk, length, take};
+ghost use Rattle.run_lengths.specs.RunLength.{Decompresses, background_stroke, before_next, follows_background, foreground_stroke, run_size, run_strokes, unrle};
+ghost use Rattle.run_lengths.specs.RunLength.Run.{Background};
+ghost use Rattle.rle_dec.specs.Drawing.{drawn_onto, drawn_whole, pixels_before};
 ghost use Rattle.rle_dec.specs.Faults.{RefusesAt};
 ghost use Rattle.rle_dec.specs.Orders.{run_of};
 
@@ -10,14 +11,15 @@ use crate::draw::{
     draw_run, foreground_pixel,
 };
 use crate::fault::RleFault;
-use crate::orders::{Order, Run, read_order};
+use crate::orders::{MOST_PIXELS, Order, Run, read_order};
 use run_lengths::{Before, Stroke};
-use std::alloc::{AllocError, Global};
+use std::alloc::Global;
 
 /// The foreground of a stream before it sets one.
 const WHITE: u32 = 0xFFFFFF;
 
-/// The pixels of a stream in rows of `w`, the bottom row first, each as 65536 * red + 256 * green + blue. Takes memory once, for its result.
+/// The pixels of a stream in rows of `w`, the bottom row first, each as 65536 * red + 256 * green + blue. Takes memory once, for its
+/// result, before it reads the first order.
 pub fn unpack(alloc: Global, bytes: &[u8], w: usize, h: usize) -> Result<Vec<u32>, RleFault>
     requires width { (1 ≤ w) × (w ≤ 64) }
     requires height { (1 ≤ h) × (h ≤ 64) }
@@ -25,33 +27,44 @@ pub fn unpack(alloc: Global, bytes: &[u8], w: usize, h: usize) -> Result<Vec<u32
     ensures drawn { IfOk result (λ pixels. Decompresses bytes.now w h pixels.items) }
     ensures refused { IfErr result (RefusesAt bytes.now w h) }
 {
-    let count = w * h;
-    let mut out = Vec::with_capacity(alloc, count)?;
+    // Each pixel is drawn over, so their first colour says nothing.
+    let mut out = vec![in alloc; WHITE; w * h]?;
+    match draw_stream(out.as_mut_slice(), w, bytes) {
+        Ok(()) => Ok(out),
+        Err(refused) => Err(RleFault::BadRle {
+            at: bytes.len() - refused.len(),
+        }),
+    }
+}
+
+/// Draws a whole stream; a refusal has the bytes from the refused field on.
+fn draw_stream<'a>(out: &mut [u32], w: usize, bytes: &'a [u8]) -> Result<(), &'a [u8]>
+    requires wide { 1 ≤ w }
+    requires most { length out.old ≤ MOST_PIXELS }
+    ensures ok { OnOk result (Ok out.new ≡ drawn_whole w (length out.old) bytes.now) }
+    ensures refused { IfErr result (λ refused. Err refused.now ≡ drawn_whole w (length out.old) bytes.now) }
+    ensures place { IfErr result (λ refused. length refused.now ≤ length bytes.now) }
+{
+    let mut at = 0;
     let mut stream = bytes;
     let mut foreground = WHITE;
     let mut before = Before::Other;
-    while out.len() < count {
-        let first = out.len() < w;
-        let (order, rest) = match read_order(stream, count - out.len()) {
+    while at < out.len() {
+        let first = at < w;
+        let (order, rest) = match read_order(stream, out.len() - at) {
             Ok(read) => read,
-            Err(refused) => return Err(RleFault::BadRle {
-                at: bytes.len() - refused.len(),
-            }),
+            Err(refused) => return Err(refused),
         };
         foreground = order.foreground.unwrap_or(foreground);
-        let follows = follows_run(before, first);
-        let back = background_pixel(first);
-        let fore = foreground_pixel(first, foreground);
-        draw_order(&mut out, w, follows, back, fore, &order)?;
+        at = draw_order(out, at, w, first, before, foreground, &order);
         before = before_after(&order, first);
         stream = rest;
     }
-    if !stream.is_empty() {
-        return Err(RleFault::BadRle {
-            at: bytes.len() - stream.len(),
-        });
+    if stream.is_empty() {
+        Ok(())
+    } else {
+        Err(stream)
     }
-    Ok(out)
 }
 
 /// Whether a background run there begins with a foreground pixel (profile: not at or past the end of the first row after one that begins in it).
@@ -76,35 +89,80 @@ fn before_after(order: &Order<'_>, first: bool) -> Before
     }
 }
 
-/// What an order draws, by its background and foreground strokes.
+/// What an order draws that begins in the first row or later, by what stands before it and the foreground; how many pixels are drawn then.
 #[tactic(auto, using(crate::proofs::Drawn::drawn_onto_color, crate::proofs::Drawn::drawn_onto_plain))]
 fn draw_order(
-    out: &mut Vec<u32>,
+    out: &mut [u32],
+    at: usize,
+    w: usize,
+    first: bool,
+    before: Before,
+    foreground: u32,
+    order: &Order<'_>,
+) -> usize
+    requires wide { 1 ≤ w }
+    requires room { at + order.now.length ≤ length out.old }
+    requires size { at + run_size (run_of order.now.length order.now.run) ≤ length out.old }
+    requires row { IsFalse first → w ≤ at }
+    ensures drawn { take result out.new ≡ drawn_onto w (run_strokes (run_of order.now.length order.now.run) (follows_background before first) (background_stroke first) (foreground_stroke first foreground)) (take at out.old) }
+    ensures within { result ≤ length out.old }
+{
+    let n = order.length;
+    match order.run {
+        Run::Color(color) => {
+            draw_color(out, at, n, color);
+            at + n
+        }
+        Run::Image(image) => draw_image(out, at, image),
+        Run::Dithered(first, second) => {
+            draw_dithered(out, at, w, n, first, second);
+            at + 2 * n
+        }
+        Run::Background => {
+            let back = background_pixel(first);
+            let fore = foreground_pixel(first, foreground);
+            draw_background(out, at, w, follows_run(before, first), back, fore, n);
+            at + n
+        }
+        Run::Foreground => {
+            draw_run(out, at, w, foreground_pixel(first, foreground), n);
+            at + n
+        }
+        Run::Mask(mask) => {
+            let back = background_pixel(first);
+            let fore = foreground_pixel(first, foreground);
+            draw_mask(out, at, w, back, fore, n, mask)
+        }
+        Run::Bits(bits) => {
+            let back = background_pixel(first);
+            let fore = foreground_pixel(first, foreground);
+            draw_bits(out, at, w, back, fore, n, bits);
+            at + n
+        }
+    }
+}
+
+/// So many pixels of background, the first one of foreground where it follows background.
+fn draw_background(
+    out: &mut [u32],
+    at: usize,
     w: usize,
     follows: bool,
     back: Stroke,
     fore: Stroke,
-    order: &Order<'_>,
-) -> Result<(), AllocError>
+    n: usize,
+)
     requires wide { 1 ≤ w }
-    requires room { vec_len out.old + order.now.length < 2 ^ 64 }
-    requires back_row { pixels_before w back ≤ vec_len out.old }
-    requires fore_row { pixels_before w fore ≤ vec_len out.old }
-    ensures { OnOk result (out.new.items ≡ drawn_onto w (run_strokes (run_of order.now.length order.now.run) follows back fore) out.old.items) }
+    requires room { at + n ≤ length out.old }
+    requires back_row { pixels_before w back ≤ at }
+    requires fore_row { pixels_before w fore ≤ at }
+    ensures { take (at + n) out.new ≡ drawn_onto w (run_strokes (Background n) follows back fore) (take at out.old) }
 {
-    let n = order.length;
-    match order.run {
-        Run::Background if follows && n > 0 => {
-            draw_pixel(out, w, fore)?;
-            draw_run(out, w, back, n - 1)
-        }
-        Run::Background => draw_run(out, w, back, n),
-        Run::Foreground => draw_run(out, w, fore, n),
-        Run::Mask(mask) => draw_mask(out, w, back, fore, n, mask),
-        Run::Bits(bits) => draw_bits(out, w, back, fore, n, bits),
-        Run::Color(color) => draw_color(out, n, color),
-        Run::Image(image) => draw_image(out, image),
-        Run::Dithered(first, second) => draw_dithered(out, w, n, first, second),
+    if follows && n > 0 {
+        draw_pixel(out, at, w, fore);
+        draw_run(out, at + 1, w, back, n - 1);
+    } else {
+        draw_run(out, at, w, back, n);
     }
 }
 
@@ -123,6 +181,161 @@ mod tests {
         let pixels = unpack(rt.alloc(), &stream, 64, 64)?;
         let wanted = vec![in rt.alloc(); 0xFF0000u32; 4096]?;
         assert_eq!(rt; pixels.as_slice(), wanted.as_slice());
+        Ok(())
+    }
+
+    /// A stream, its sides, and its pixels.
+    type Good = (&'static [u8], usize, usize, &'static [u32]);
+
+    #[test]
+    fn each_row_of_the_table_is_read_in_each_form_of_its_length(
+        rt: HostRuntime,
+    ) -> Result<(), Fail> {
+        const WHITES: [u32; 32] = [0xFFFFFF; 32];
+        const COLORS: [u32; 64] = [0x030201; 64];
+        const FIRST_32: [u32; 32] = [
+            0, 1, 2, 3, 4, 5, 6, 7, 8, 9, 10, 11, 12, 13, 14, 15, 16, 17, 18, 19, 20, 21, 22, 23,
+            24, 25, 26, 27, 28, 29, 30, 31,
+        ];
+        const DITHERED: [u32; 32] = [
+            1, 2, 1, 2, 1, 2, 1, 2, 1, 2, 1, 2, 1, 2, 1, 2, 1, 2, 1, 2, 1, 2, 1, 2, 1, 2, 1, 2, 1,
+            2, 1, 2,
+        ];
+        // Lengths stand in the code's low bits, in the next byte, in two bytes.
+        let table: [Good; 28] = [
+            // Background runs below an image, a colour run and an image: the pixels one row earlier.
+            (
+                &[0x82, 0x01, 0x02, 0x03, 0x04, 0x05, 0x06, 0x02],
+                2,
+                2,
+                &[0x030201, 0x060504, 0x030201, 0x060504],
+            ),
+            (&[0x60, 0x00, 0x01, 0x02, 0x03, 0x00, 0x00], 32, 2, &COLORS),
+            (
+                &[0x82, 0x01, 0x02, 0x03, 0x04, 0x05, 0x06, 0xF0, 0x02, 0x00],
+                2,
+                2,
+                &[0x030201, 0x060504, 0x030201, 0x060504],
+            ),
+            // Foreground runs: white in the first row, crossed with the row before in the second.
+            (&[0x22, 0x22], 2, 2, &[0xFFFFFF, 0xFFFFFF, 0, 0]),
+            (&[0x20, 0x00], 32, 1, &WHITES),
+            (&[0xF1, 0x02, 0x00], 1, 2, &[0xFFFFFF, 0xFFFFFF]),
+            // Mask images: eight pixels a step, one more than the next byte, as many as two bytes say; the lowest bit first.
+            (
+                &[0x41, 0x0F],
+                4,
+                2,
+                &[0xFFFFFF, 0xFFFFFF, 0xFFFFFF, 0xFFFFFF, 0, 0, 0, 0],
+            ),
+            (
+                &[0x40, 0x05, 0x2D],
+                3,
+                2,
+                &[0xFFFFFF, 0, 0xFFFFFF, 0xFFFFFF, 0, 0xFFFFFF],
+            ),
+            (
+                &[0xF2, 0x09, 0x00, 0xC3, 0x01],
+                3,
+                3,
+                &[0xFFFFFF, 0xFFFFFF, 0, 0, 0, 0, 0xFFFFFF, 0xFFFFFF, 0xFFFFFF],
+            ),
+            // Colour runs.
+            (&[0x62, 0x01, 0x02, 0x03], 2, 1, &[0x030201, 0x030201]),
+            (&[0x60, 0x20, 0x01, 0x02, 0x03], 32, 2, &COLORS),
+            (
+                &[0xF3, 0x02, 0x00, 0x01, 0x02, 0x03],
+                1,
+                2,
+                &[0x030201, 0x030201],
+            ),
+            // Colour images.
+            (
+                &[0x82, 0x01, 0x02, 0x03, 0x04, 0x05, 0x06],
+                2,
+                1,
+                &[0x030201, 0x060504],
+            ),
+            (
+                &[
+                    0x80, 0x00, 0x00, 0x00, 0x00, 0x01, 0x00, 0x00, 0x02, 0x00, 0x00, 0x03, 0x00,
+                    0x00, 0x04, 0x00, 0x00, 0x05, 0x00, 0x00, 0x06, 0x00, 0x00, 0x07, 0x00, 0x00,
+                    0x08, 0x00, 0x00, 0x09, 0x00, 0x00, 0x0A, 0x00, 0x00, 0x0B, 0x00, 0x00, 0x0C,
+                    0x00, 0x00, 0x0D, 0x00, 0x00, 0x0E, 0x00, 0x00, 0x0F, 0x00, 0x00, 0x10, 0x00,
+                    0x00, 0x11, 0x00, 0x00, 0x12, 0x00, 0x00, 0x13, 0x00, 0x00, 0x14, 0x00, 0x00,
+                    0x15, 0x00, 0x00, 0x16, 0x00, 0x00, 0x17, 0x00, 0x00, 0x18, 0x00, 0x00, 0x19,
+                    0x00, 0x00, 0x1A, 0x00, 0x00, 0x1B, 0x00, 0x00, 0x1C, 0x00, 0x00, 0x1D, 0x00,
+                    0x00, 0x1E, 0x00, 0x00, 0x1F, 0x00, 0x00,
+                ],
+                8,
+                4,
+                &FIRST_32,
+            ),
+            (
+                &[0xF4, 0x02, 0x00, 0x01, 0x02, 0x03, 0x04, 0x05, 0x06],
+                1,
+                2,
+                &[0x030201, 0x060504],
+            ),
+            // A foreground pixel and a foreground run: the next byte and sixteen.
+            (&[0xC3, 0x01, 0x00, 0x00], 3, 1, &[1, 1, 1]),
+            (
+                &[0xC0, 0x01, 0x01, 0x00, 0x00],
+                17,
+                1,
+                &[1, 1, 1, 1, 1, 1, 1, 1, 1, 1, 1, 1, 1, 1, 1, 1, 1],
+            ),
+            (
+                &[0xF6, 0x02, 0x00, 0x01, 0x02, 0x03],
+                2,
+                1,
+                &[0x030201, 0x030201],
+            ),
+            // A foreground pixel and a mask image.
+            (
+                &[0xD1, 0x05, 0x00, 0x00, 0x5A],
+                4,
+                2,
+                &[0, 5, 0, 5, 5, 0, 5, 0],
+            ),
+            (&[0xD0, 0x02, 0x05, 0x00, 0x00, 0x05], 3, 1, &[5, 0, 5]),
+            (
+                &[0xF7, 0x03, 0x00, 0x05, 0x00, 0x00, 0x06],
+                3,
+                1,
+                &[0, 5, 5],
+            ),
+            // Dithered runs: two pixels as often as the length.
+            (
+                &[0xE2, 0x01, 0x00, 0x00, 0x02, 0x00, 0x00],
+                4,
+                1,
+                &[1, 2, 1, 2],
+            ),
+            (
+                &[0xE0, 0x00, 0x01, 0x00, 0x00, 0x02, 0x00, 0x00],
+                8,
+                4,
+                &DITHERED,
+            ),
+            (
+                &[0xF8, 0x02, 0x00, 0x01, 0x00, 0x00, 0x02, 0x00, 0x00],
+                2,
+                2,
+                &[1, 2, 1, 2],
+            ),
+            // The masks 03 and 05 of eight pixels.
+            (&[0xF9], 4, 2, &[0xFFFFFF, 0xFFFFFF, 0, 0, 0, 0, 0, 0]),
+            (&[0xFA], 4, 2, &[0xFFFFFF, 0, 0xFFFFFF, 0, 0, 0, 0, 0]),
+            // One white pixel, one black one.
+            (&[0xFD], 1, 1, &[0xFFFFFF]),
+            (&[0xFE], 1, 1, &[0]),
+        ];
+        for (stream, w, h, wanted) in table {
+            assert!(rt; 1 <= w && w <= 64 && 1 <= h && h <= 64);
+            let pixels = unpack(rt.alloc(), stream, w, h)?;
+            assert_eq!(rt; pixels.as_slice(), wanted, "{w} by {h} pixels");
+        }
         Ok(())
     }
 

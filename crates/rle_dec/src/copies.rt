@@ -1,35 +1,40 @@
-//! Copies pixels that are drawn already to the end. An error leaves some of the copies there.
-ghost use Rattle.std.specs.Prelude.{◌≡◌, ◌+◌, ◌≤◌, ◌++◌, OnOk, slice_range, vec_len};
-
-use std::alloc::AllocError;
+//! Copies pixels that are drawn already to the place of the next ones.
+ghost use Rattle.std.specs.Prelude.{◌≡◌, ◌+◌, ◌≤◌, ◌++◌, length, slice_range, take};
 
 /// How many pixels are copied at once.
 const CHUNK: usize = 16;
 
-/// A copy of `n` pixels from a place on.
-pub fn append_copy(out: &mut Vec<u32>, from: usize, n: usize) -> Result<(), AllocError>
-    requires { from + n ≤ vec_len out.old }
-    ensures items { OnOk result (out.new.items ≡ out.old.items ++ slice_range out.old.items from (from + n)) }
-    ensures len { OnOk result (vec_len out.new ≡ vec_len out.old + n) }
+/// A copy of `n` pixels from a place on, after the first `at`, which are drawn.
+pub fn copy_back(out: &mut [u32], at: usize, from: usize, n: usize)
+    requires drawn { from + n ≤ at }
+    requires room { at + n ≤ length out.old }
+    ensures { take (at + n) out.new ≡ take at out.old ++ slice_range (take at out.old) from (from + n) }
 {
-    let mut at = from;
+    let mut done = 0;
     for _ in 0..n / CHUNK {
-        append_chunk(out, at)?;
-        at += CHUNK;
+        copy_chunk(out, at + done, from + done);
+        done += CHUNK;
     }
-    out.extend_from_within(at..from + n)?;
-    Ok(())
+    copy_rest(out, at + done, from + done, n - done);
 }
 
 /// A copy of as many pixels as are copied at once.
-fn append_chunk(out: &mut Vec<u32>, at: usize) -> Result<(), AllocError>
-    requires { at + CHUNK ≤ vec_len out.old }
-    ensures items { OnOk result (out.new.items ≡ out.old.items ++ slice_range out.old.items at (at + CHUNK)) }
-    ensures len { OnOk result (vec_len out.new ≡ vec_len out.old + CHUNK) }
+fn copy_chunk(out: &mut [u32], at: usize, from: usize)
+    requires drawn { from + CHUNK ≤ at }
+    requires room { at + CHUNK ≤ length out.old }
+    ensures { take (at + CHUNK) out.new ≡ take at out.old ++ slice_range (take at out.old) from (from + CHUNK) }
 {
-    let chunk: [u32; CHUNK] = match out[at..].first_chunk() {
-        Some(chunk) => *chunk,
-        None => unreachable!(),
-    };
-    out.extend_from_slice(&chunk)
+    let (drawn, next) = out.split_at_mut(at);
+    next[..CHUNK].copy_from_slice(&drawn[from..from + CHUNK]);
+}
+
+/// A copy of a few pixels, one by one.
+fn copy_rest(out: &mut [u32], at: usize, from: usize, n: usize)
+    requires drawn { from + n ≤ at }
+    requires room { at + n ≤ length out.old }
+    ensures { take (at + n) out.new ≡ take at out.old ++ slice_range (take at out.old) from (from + n) }
+{
+    for k in 0..n {
+        out[at + k] = out[from + k];
+    }
 }

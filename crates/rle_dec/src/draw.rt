@@ -1,13 +1,12 @@
-//! Draws runs of pixels at the end of those drawn so far ([MS-RDPBCGR] 3.1.9). An error leaves some of them drawn.
-ghost use Rattle.std.specs.Prelude.{◌≡◌, ◌+◌, ◌^◌, ◌<◌, ◌≤◌, [], ◌∷◌, ◌++◌, OnOk, replicate, vec_len};
+//! Draws runs of pixels after the first `at` of a bitmap, which are drawn ([MS-RDPBCGR] 3.1.9).
+ghost use Rattle.std.specs.Prelude.{◌≡◌, ◌+◌, ◌*◌, ◌<◌, ◌≤◌, [], ◌∷◌, ◌++◌, length, replicate, take};
 ghost use Rattle.run_lengths.specs.Bytes.{pixels_of};
 ghost use Rattle.run_lengths.specs.RunLength.{bits_of, dithered_strokes, background_stroke, foreground_stroke, mask_bits};
 ghost use Rattle.rle_dec.specs.Drawing.{drawn_onto, masked, pixels_before};
 
-use crate::copies::append_copy;
+use crate::copies::copy_back;
 use crate::reads::pixel;
 use run_lengths::Stroke;
-use std::alloc::AllocError;
 
 /// The bits of a byte.
 const BITS: usize = 8;
@@ -35,162 +34,190 @@ pub fn foreground_pixel(first: bool, foreground: u32) -> Stroke
 }
 
 /// One pixel.
-pub fn draw_pixel(out: &mut Vec<u32>, w: usize, stroke: Stroke) -> Result<(), AllocError>
+pub fn draw_pixel(out: &mut [u32], at: usize, w: usize, stroke: Stroke)
     requires wide { 1 ≤ w }
-    requires row { pixels_before w stroke ≤ vec_len out.old }
-    ensures drawn { OnOk result (out.new.items ≡ drawn_onto w (stroke ∷ []) out.old.items) }
-    ensures longer { OnOk result (vec_len out.new ≡ vec_len out.old + 1) }
+    requires room { at < length out.old }
+    requires row { pixels_before w stroke ≤ at }
+    ensures { take (at + 1) out.new ≡ drawn_onto w (stroke ∷ []) (take at out.old) }
 {
-    let color = match stroke {
+    out[at] = match stroke {
         Stroke::Plain(color) => color,
-        Stroke::Above => out[out.len() - w],
-        Stroke::Crossed(foreground) => foreground ^ out[out.len() - w],
+        Stroke::Above => out[at - w],
+        Stroke::Crossed(foreground) => foreground ^ out[at - w],
     };
-    out.push(color)?;
-    Ok(())
 }
 
 /// So many pixels of one colour.
-pub fn draw_color(out: &mut Vec<u32>, n: usize, color: u32) -> Result<(), AllocError>
-    requires { vec_len out.old + n < 2 ^ 64 }
-    ensures { OnOk result (out.new.items ≡ out.old.items ++ replicate n color) }
+pub fn draw_color(out: &mut [u32], at: usize, n: usize, color: u32)
+    requires { at + n ≤ length out.old }
+    ensures { take (at + n) out.new ≡ take at out.old ++ replicate n color }
 {
-    out.resize(out.len() + n, color)
+    out[at..at + n].fill(color);
+}
+
+/// Four pixels.
+fn draw_four(out: &mut [u32], at: usize, first: u32, second: u32, third: u32, fourth: u32)
+    requires { at + 4 ≤ length out.old }
+    ensures { take (at + 4) out.new ≡ take at out.old ++ first ∷ second ∷ third ∷ fourth ∷ [] }
+{
+    out[at] = first;
+    out[at + 1] = second;
+    out[at + 2] = third;
+    out[at + 3] = fourth;
+}
+
+/// These pixels.
+fn draw_colors(out: &mut [u32], at: usize, colors: &[u32])
+    requires { at + length colors.now ≤ length out.old }
+    ensures { take (at + length colors.now) out.new ≡ take at out.old ++ colors.now }
+{
+    out[at..at + colors.len()].copy_from_slice(colors);
 }
 
 /// So many pixels as one row earlier, at most a row at once.
-fn draw_above(out: &mut Vec<u32>, w: usize, n: usize) -> Result<(), AllocError>
+fn draw_above(out: &mut [u32], at: usize, w: usize, n: usize)
     requires wide { 1 ≤ w }
-    requires row { w ≤ vec_len out.old }
-    ensures { OnOk result (out.new.items ≡ drawn_onto w (replicate n Stroke.Above) out.old.items) }
+    requires room { at + n ≤ length out.old }
+    requires row { w ≤ at }
+    ensures { take (at + n) out.new ≡ drawn_onto w (replicate n Stroke.Above) (take at out.old) }
 {
+    let mut next = at;
     let mut left = n;
     while left > 0 {
         let step = left.min(w);
-        let from = out.len() - w;
-        append_copy(out, from, step)?;
+        copy_back(out, next, next - w, step);
+        next += step;
         left -= step;
     }
-    Ok(())
 }
 
 /// So many pixels as one row earlier exclusive-or a foreground.
-fn draw_crossed(out: &mut Vec<u32>, w: usize, n: usize, foreground: u32) -> Result<(), AllocError>
+fn draw_crossed(out: &mut [u32], at: usize, w: usize, n: usize, foreground: u32)
     requires wide { 1 ≤ w }
-    requires row { w ≤ vec_len out.old }
-    ensures { OnOk result (out.new.items ≡ drawn_onto w (replicate n (Stroke.Crossed foreground)) out.old.items) }
+    requires room { at + n ≤ length out.old }
+    requires row { w ≤ at }
+    ensures { take (at + n) out.new ≡ drawn_onto w (replicate n (Stroke.Crossed foreground)) (take at out.old) }
 {
-    for _ in 0..n {
-        let above = out[out.len() - w];
-        out.push(foreground ^ above)?;
+    for k in 0..n {
+        out[at + k] = foreground ^ out[at + k - w];
     }
-    Ok(())
 }
 
 /// So many pixels of one stroke.
 #[tactic(auto, using(crate::proofs::Drawn::drawn_onto_color))]
-pub fn draw_run(out: &mut Vec<u32>, w: usize, stroke: Stroke, n: usize) -> Result<(), AllocError>
+pub fn draw_run(out: &mut [u32], at: usize, w: usize, stroke: Stroke, n: usize)
     requires wide { 1 ≤ w }
-    requires room { vec_len out.old + n < 2 ^ 64 }
-    requires row { pixels_before w stroke ≤ vec_len out.old }
-    ensures { OnOk result (out.new.items ≡ drawn_onto w (replicate n stroke) out.old.items) }
+    requires room { at + n ≤ length out.old }
+    requires row { pixels_before w stroke ≤ at }
+    ensures { take (at + n) out.new ≡ drawn_onto w (replicate n stroke) (take at out.old) }
 {
     match stroke {
-        Stroke::Plain(color) => draw_color(out, n, color),
-        Stroke::Above => draw_above(out, w, n),
-        Stroke::Crossed(foreground) => draw_crossed(out, w, n, foreground),
+        Stroke::Plain(color) => draw_color(out, at, n, color),
+        Stroke::Above => draw_above(out, at, w, n),
+        Stroke::Crossed(foreground) => draw_crossed(out, at, w, n, foreground),
     }
 }
 
 /// So many pixels by the bits of a byte, from the lowest on.
 pub fn draw_bits(
-    out: &mut Vec<u32>,
+    out: &mut [u32],
+    at: usize,
     w: usize,
     back: Stroke,
     fore: Stroke,
     n: usize,
     byte: u8,
-) -> Result<(), AllocError>
+)
     requires wide { 1 ≤ w }
-    requires back_row { pixels_before w back ≤ vec_len out.old }
-    requires fore_row { pixels_before w fore ≤ vec_len out.old }
-    ensures drawn { OnOk result (out.new.items ≡ drawn_onto w (masked back fore (bits_of n byte)) out.old.items) }
-    ensures longer { OnOk result (vec_len out.old ≤ vec_len out.new) }
+    requires room { at + n ≤ length out.old }
+    requires back_row { pixels_before w back ≤ at }
+    requires fore_row { pixels_before w fore ≤ at }
+    ensures { take (at + n) out.new ≡ drawn_onto w (masked back fore (bits_of n byte)) (take at out.old) }
 {
     let mut bits = byte;
-    for _ in 0..n {
+    for k in 0..n {
         let stroke = if bits % 2 == 1 { fore } else { back };
-        draw_pixel(out, w, stroke)?;
+        draw_pixel(out, at + k, w, stroke);
         bits /= 2;
     }
-    Ok(())
 }
 
-/// So many pixels by the bits of bytes.
+/// So many pixels by the bits of bytes; how many pixels are drawn then.
 #[tactic(auto, using(crate::proofs::Drawn::mask_end))]
 pub fn draw_mask(
-    out: &mut Vec<u32>,
+    out: &mut [u32],
+    at: usize,
     w: usize,
     back: Stroke,
     fore: Stroke,
     n: usize,
     mask: &[u8],
-) -> Result<(), AllocError>
+) -> usize
     requires wide { 1 ≤ w }
-    requires back_row { pixels_before w back ≤ vec_len out.old }
-    requires fore_row { pixels_before w fore ≤ vec_len out.old }
-    ensures { OnOk result (out.new.items ≡ drawn_onto w (masked back fore (mask_bits n mask.now)) out.old.items) }
+    requires room { at + n ≤ length out.old }
+    requires back_row { pixels_before w back ≤ at }
+    requires fore_row { pixels_before w fore ≤ at }
+    ensures drawn { take result out.new ≡ drawn_onto w (masked back fore (mask_bits n mask.now)) (take at out.old) }
+    ensures within { result ≤ length out.old }
 {
+    let mut next = at;
     let mut left = n;
     for byte in mask {
         let step = left.min(BITS);
-        draw_bits(out, w, back, fore, step, *byte)?;
+        draw_bits(out, next, w, back, fore, step, *byte);
+        next += step;
         left -= step;
     }
-    Ok(())
+    next
 }
 
-/// The pixels of bytes, three of each; four pixels at once while there are so many.
-pub fn draw_image(out: &mut Vec<u32>, image: &[u8]) -> Result<(), AllocError>
-    ensures { OnOk result (out.new.items ≡ out.old.items ++ pixels_of image.now) }
+/// The pixels of bytes, three of each, four pixels at once while there are so many; how many pixels are drawn then.
+pub fn draw_image(out: &mut [u32], at: usize, image: &[u8]) -> usize
+    requires { at + length (pixels_of image.now) ≤ length out.old }
+    ensures drawn { take result out.new ≡ take at out.old ++ pixels_of image.now }
+    ensures within { result ≤ length out.old }
 {
+    let mut next = at;
     let mut bytes = image;
     while let [b0, g0, r0, b1, g1, r1, b2, g2, r2, b3, g3, r3, rest @ ..] = bytes {
-        out.extend_from_slice(&[
+        draw_four(
+            out,
+            next,
             pixel(*b0, *g0, *r0),
             pixel(*b1, *g1, *r1),
             pixel(*b2, *g2, *r2),
             pixel(*b3, *g3, *r3),
-        ])?;
+        );
+        next += 4;
         bytes = rest;
     }
-    draw_pixels(out, bytes)
+    draw_pixels(out, next, bytes)
 }
 
-/// The pixels of bytes, one by one.
-fn draw_pixels(out: &mut Vec<u32>, image: &[u8]) -> Result<(), AllocError>
-    ensures { OnOk result (out.new.items ≡ out.old.items ++ pixels_of image.now) }
+/// The pixels of bytes, one by one; how many pixels are drawn then.
+fn draw_pixels(out: &mut [u32], at: usize, image: &[u8]) -> usize
+    requires { at + length (pixels_of image.now) ≤ length out.old }
+    ensures drawn { take result out.new ≡ take at out.old ++ pixels_of image.now }
+    ensures within { result ≤ length out.old }
 {
+    let mut next = at;
     let mut bytes = image;
     while let [blue, green, red, rest @ ..] = bytes {
-        out.push(pixel(*blue, *green, *red))?;
+        out[next] = pixel(*blue, *green, *red);
+        next += 1;
         bytes = rest;
     }
-    Ok(())
+    next
 }
 
 /// Two pixels in turn, so many times.
-pub fn draw_dithered(
-    out: &mut Vec<u32>,
-    w: usize,
-    n: usize,
-    first: u32,
-    second: u32,
-) -> Result<(), AllocError>
-    ensures { OnOk result (out.new.items ≡ drawn_onto w (dithered_strokes n first second) out.old.items) }
+pub fn draw_dithered(out: &mut [u32], at: usize, w: usize, n: usize, first: u32, second: u32)
+    requires { at + 2 * n ≤ length out.old }
+    ensures { take (at + 2 * n) out.new ≡ drawn_onto w (dithered_strokes n first second) (take at out.old) }
 {
+    let mut next = at;
     for _ in 0..n {
-        out.extend_from_slice(&[first, second])?;
+        draw_colors(out, next, &[first, second]);
+        next += 2;
     }
-    Ok(())
 }

@@ -1,50 +1,31 @@
-use Rattle.std.proofs.Common.{◌≡◌, ◌*◌, ◌-◌, ◌≤◌, ◌<◌, ◌∙◌, ℕ, List, length, refl, sym, ap, Err, arith, nat_lt}
-use Rattle.std.proofs.lemmas.Bool.Decides.{nat_tests}
-use Rattle.run_lengths.specs.RunLength.{order_at, Drawn}
-use Rattle.rle_dec.specs.Orders.{order_of}
-use Rattle.rle_dec.proofs.Progress.{drawn_whole, code_step, order_refused, all_drawn, rest_is_shorter, refused_is_no_longer, drawn_is_decompressed, drawn_is_unrle, refused_is_unrle}
+use Rattle.std.proofs.Common.{◌≡◌, ◌*◌, ◌++◌, ◌-◌, ◌∙◌, ℕ, List, drop, length, take, refl, sym, ap, subst, Ok, arith}
+use Rattle.std.proofs.lemmas.List.{take_at}
+use Rattle.run_lengths.specs.RunLength.{Decompresses}
+use Rattle.rle_dec.specs.Drawing.{drawn_whole}
+use Rattle.rle_dec.proofs.Progress.{drawn_is_decompressed, drawn_is_unrle, refused_is_unrle}
 use Rattle.rle_dec.proofs.bitmap.unpack.Goals as goal
 
-pub overflow_sub-result : goal.overflow_sub-result
-overflow_sub-result c =
-    let shorter = refused_is_no_longer (c.args.w * c.args.h - c.len-in-loop-before-2.result) c.loop-before.stream.now c.in-Err.refused.now c.in-Err.ensures.is in
-    omega (arith, shorter, c.loop-before.invariant)
+-- a list that was written over another of its length
+written : (n : ℕ) (xs ys : List ℕ) → length xs ≡ n → take n (xs ++ ys) ≡ xs
+written n xs ys e = take_at xs ys n e
+
+pub returns-in-Ok-clause-ok : goal.returns-in-Ok-clause-ok
+returns-in-Ok-clause-ok c =
+    let count : length c.as_mut_slice.result.now ≡ c.args.w * c.args.h = omega (arith, c.as_mut_slice.ensures.len, c.in_ok-out.ensures.len) in
+    let p : List ℕ = c.draw_stream.new.out in
+    let whole = written c.in_ok-out.out.len p (drop (length p) c.in_ok-out.out.items) (omega (arith, c.draw_stream.auto.out, count, c.in_ok-out.ensures.len)) in
+    drawn_is_unrle c.args.bytes.now c.args.w c.args.h p c.requires.width.0 (c.in-Ok.ensures.ok ∙ ap (λ n. drawn_whole c.args.w n c.args.bytes.now) count) ∙ ap Ok (sym whole)
+
+pub returns-in-Ok-clause-drawn : goal.returns-in-Ok-clause-drawn
+returns-in-Ok-clause-drawn c =
+    let count : length c.as_mut_slice.result.now ≡ c.args.w * c.args.h = omega (arith, c.as_mut_slice.ensures.len, c.in_ok-out.ensures.len) in
+    let p : List ℕ = c.draw_stream.new.out in
+    let whole = written c.in_ok-out.out.len p (drop (length p) c.in_ok-out.out.items) (omega (arith, c.draw_stream.auto.out, count, c.in_ok-out.ensures.len)) in
+    let P : List ℕ → Type 0 = λ xs. Decompresses c.args.bytes.now c.args.w c.args.h xs in
+    subst P (sym whole) (drawn_is_decompressed c.args.bytes.now c.args.w c.args.h p c.requires.width.0 (c.in-Ok.ensures.ok ∙ ap (λ n. drawn_whole c.args.w n c.args.bytes.now) count))
 
 pub returns-in-Err-clause-refused : goal.returns-in-Err-clause-refused
 returns-in-Err-clause-refused c =
-    let p : List ℕ = c.loop-before.out.items in
-    let count : ℕ = c.args.w * c.args.h in
-    let same : c.len-in-loop-before-2.result ≡ length p = omega (arith, c.len-in-loop-before-2.ensures) in
-    let fewer : length p < count = omega (arith, c.loop-before-test.true, c.len.ensures) in
-    let refused : Err c.in-Err.refused.now ≡ order_at (count - length p) c.loop-before.stream.now = c.in-Err.ensures.is ∙ ap (λ n. order_at (count - n) c.loop-before.stream.now) same in
-    let d : Drawn = record { count = length p; foreground = c.loop-before.foreground; before = c.loop-before.before } in
-    refused_is_unrle c.args.bytes.now c.in-Err.refused.now c.args.w c.args.h (length c.args.bytes.now - length c.in-Err.refused.now) refl (sym (order_refused c.args.w count d p c.loop-before.stream.now c.in-Err.refused.now fewer refused) ∙ c.loop-before.invariant.1)
-
-pub loop-before-smaller : goal.loop-before-smaller
-loop-before-smaller c = rest_is_shorter (c.args.w * c.args.h - c.len-in-loop-before-2.result) c.loop-before.stream.now c.in-Ok.read.1.now (order_of c.in-Ok.read.0) c.in-Ok.ensures.is
-
-pub loop-before-preserved : goal.loop-before-preserved
-loop-before-preserved c =
-    let shorter = rest_is_shorter (c.args.w * c.args.h - c.len-in-loop-before-2.result) c.loop-before.stream.now c.in-Ok.read.1.now (order_of c.in-Ok.read.0) c.in-Ok.ensures.is in
-    let same : c.len-in-loop-before-2.result ≡ length c.loop-before.out.items = omega (arith, c.len-in-loop-before-2.ensures) in
-    let fewer : c.len-in-loop-before-2.result < c.args.w * c.args.h = omega (arith, c.loop-before-test.true, c.len.ensures, c.len-in-loop-before-2.ensures) in
-    let first : nat_lt c.len-in-loop-before.result c.args.w ≡ nat_lt c.len-in-loop-before-2.result c.args.w = ap (λ n. nat_lt n c.args.w) (omega (arith, c.len-in-loop-before.ensures, c.len-in-loop-before-2.ensures)) in (
-      omega (arith, shorter, c.loop-before.invariant),
-      code_step c.args.w (c.args.w * c.args.h) c.len-in-loop-before-2.result c.loop-before.foreground c.unwrap_or-foreground.result c.loop-before.before c.before_after-before.result (nat_lt c.len-in-loop-before.result c.args.w) c.follows_run-follows.result c.background_pixel-back.result c.foreground_pixel-fore.result c.loop-before.out.items c.draw_order.new.out.items c.loop-before.stream.now c.in-Ok.read.1.now (order_of c.in-Ok.read.0) same fewer c.in-Ok.ensures.is first c.unwrap_or-foreground.ensures c.follows_run-follows.ensures c.background_pixel-back.ensures c.foreground_pixel-fore.ensures c.before_after-before.ensures c.in_ok-draw_order.ensures ∙ c.loop-before.invariant.1,
-    )
-
-pub returns-clause-ok : goal.returns-clause-ok
-returns-clause-ok c =
-    let p : List ℕ = c.loop-before.out.items in
-    let none : length c.loop-before.stream.now ≡ 0 = grind (arith, nat_tests, c.is_empty.ensures, c.if-not-is_empty.false) in
-    let all : c.args.w * c.args.h ≤ length p = omega (arith, c.loop-before-test.false, c.len.ensures) in
-    let d : Drawn = record { count = length p; foreground = c.loop-before.foreground; before = c.loop-before.before } in
-    drawn_is_unrle c.args.bytes.now c.args.w c.args.h p c.requires.width.0 (all_drawn c.args.w (c.args.w * c.args.h) d p c.loop-before.stream.now (drawn_whole c.args.w (c.args.w * c.args.h) c.args.bytes.now) all none c.loop-before.invariant.1)
-
-pub returns-clause-drawn : goal.returns-clause-drawn
-returns-clause-drawn c =
-    let p : List ℕ = c.loop-before.out.items in
-    let none : length c.loop-before.stream.now ≡ 0 = grind (arith, nat_tests, c.is_empty.ensures, c.if-not-is_empty.false) in
-    let all : c.args.w * c.args.h ≤ length p = omega (arith, c.loop-before-test.false, c.len.ensures) in
-    let d : Drawn = record { count = length p; foreground = c.loop-before.foreground; before = c.loop-before.before } in
-    drawn_is_decompressed c.args.bytes.now c.args.w c.args.h p c.requires.width.0 (all_drawn c.args.w (c.args.w * c.args.h) d p c.loop-before.stream.now (drawn_whole c.args.w (c.args.w * c.args.h) c.args.bytes.now) all none c.loop-before.invariant.1)
+    let count : length c.as_mut_slice.result.now ≡ c.args.w * c.args.h = omega (arith, c.as_mut_slice.ensures.len, c.in_ok-out.ensures.len) in
+    refused_is_unrle c.args.bytes.now c.in-Err.refused.now c.args.w c.args.h (length c.args.bytes.now - length c.in-Err.refused.now) refl
+    (c.in-Err.ensures.refused ∙ ap (λ n. drawn_whole c.args.w n c.args.bytes.now) count)

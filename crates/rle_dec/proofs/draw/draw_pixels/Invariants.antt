@@ -1,9 +1,10 @@
-use Rattle.std.proofs.Common.{◌≡◌, ◌++◌, length}
+use Rattle.std.proofs.Common.{◌≡◌, ◌+◌, ◌++◌, length, take}
 use Rattle.run_lengths.specs.Bytes.{pixels_of}
 use Rattle.rle_dec.proofs.draw.draw_pixels.Given as goal
 
 abbrev pub invariant-loop-bytes : goal.invariant-loop-bytes
-invariant-loop-bytes l = l.out.items ++ pixels_of l.bytes ≡ l.fn.out.items ++ pixels_of l.image
+invariant-loop-bytes l =
+    (l.next + length (pixels_of l.bytes) ≡ l.at + length (pixels_of l.image)) × (take l.next l.out ++ pixels_of l.bytes ≡ take l.at l.fn.out ++ pixels_of l.image)
 
 abbrev pub decreases-loop-bytes : goal.decreases-loop-bytes
 decreases-loop-bytes l = length l.bytes
