@@ -4,9 +4,11 @@ use Rattle.std.specs.Prelude.{ℤ, ◌-ℤ◌, All}
 use Rattle.std.proofs.lemmas.List.Elements.{All-nil, All-cons, All-append}
 use Rattle.order_fields.specs.declared.kind.Kind.{Kind}
 use Rattle.order_fields.specs.declared.kind.Kind.TheVariants.{Coordinate, Number, Signed, Color}
-use Rattle.order_fields.specs.Bytes.{low_bytes, unsigned}
+use Rattle.byteorder.specs.Endian.{little_bytes, big_bytes}
+use Rattle.byte_fields.specs.Number.{unsigned}
+use Rattle.byte_fields.proofs.Numbers.{little_are_bytes, big_are_bytes}
 use Rattle.order_fields.specs.OrderTable.{Registers, opaque_rect, last_values}
-use Rattle.order_fields.specs.OrderDelta.{Field, fields_of, is_same, value_bytes, unless_same, field_bytes, present_bytes, shown, type_bytes, order_bytes, flags_of, fields_in, takes_deltas, is_typed, bit, control_byte, omitted_in, color_bytes}
+use Rattle.order_fields.specs.OrderDelta.{Field, fields_of, is_same, value_bytes, unless_same, field_bytes, present_bytes, shown, type_bytes, order_bytes, flags_of, fields_in, takes_deltas, is_typed, bit, control_byte, omitted_in}
 use Rattle.fill_frames.specs.declared.patch.Patch.{Patch}
 use Rattle.fill_frames.specs.Patches.{patch_fields}
 
@@ -22,21 +24,12 @@ bytes_cons b bs h hs = All-cons (λ b. b < 256) b bs h hs
 pub bytes_append : (xs ys : List ℕ) → AreBytes xs → AreBytes ys → AreBytes (xs ++ ys)
 bytes_append xs ys hx hy = All-append (λ b. b < 256) xs ys hx hy
 
-pub low_are_bytes : (n x : ℕ) → AreBytes (low_bytes n x)
-low_are_bytes zero x = bytes_nil
-low_are_bytes (suc n) x = bytes_cons (x % 256) (low_bytes n (x / 256)) (omega arith) (low_are_bytes n (x / 256))
-
-color_are_bytes : (c : ℕ) → AreBytes (color_bytes c)
-color_are_bytes c =
-    bytes_cons ((c / 65536) % 256) ((c / 256) % 256 ∷ c % 256 ∷ []) (omega arith)
-    (bytes_cons ((c / 256) % 256) (c % 256 ∷ []) (omega arith) (bytes_cons (c % 256) [] (omega arith) bytes_nil))
-
 value_are_bytes : (k : Kind) (delta : Bool) (last z : ℤ) → AreBytes (value_bytes k delta last z)
-value_are_bytes Coordinate true last z = low_are_bytes 1 (unsigned 1 (z -ℤ last))
-value_are_bytes Coordinate false last z = low_are_bytes 2 (unsigned 2 z)
-value_are_bytes (Number n) delta last z = low_are_bytes n _
-value_are_bytes Signed delta last z = low_are_bytes 2 (unsigned 2 z)
-value_are_bytes Color delta last z = color_are_bytes _
+value_are_bytes Coordinate true last z = little_are_bytes 1 (unsigned 1 (z -ℤ last))
+value_are_bytes Coordinate false last z = little_are_bytes 2 (unsigned 2 z)
+value_are_bytes (Number n) delta last z = little_are_bytes n _
+value_are_bytes Signed delta last z = little_are_bytes 2 (unsigned 2 z)
+value_are_bytes Color delta last z = big_are_bytes 3 _
 
 unless_are_bytes : (b : Bool) (bytes : List ℕ) → AreBytes bytes → AreBytes (unless_same b bytes)
 unless_are_bytes true bytes h = bytes_nil
@@ -68,7 +61,7 @@ patch_order_is_bytes regs p =
     let fs = fields_in opaque_rect regs vs in
     let flags = flags_of fs true in
     let a = type_bytes (is_typed opaque_rect regs) 10 in
-    let b = low_bytes (shown flags) flags in
+    let b = little_bytes (shown flags) flags in
     let c = present_bytes fs (takes_deltas fs) true [] in
-    let tail = bytes_append a (b ++ c) (type_are_bytes (is_typed opaque_rect regs)) (bytes_append b c (low_are_bytes (shown flags) flags) (present_are_bytes opaque_rect.kinds (last_values regs 10).numbers vs.numbers (takes_deltas fs))) in
+    let tail = bytes_append a (b ++ c) (type_are_bytes (is_typed opaque_rect regs)) (bytes_append b c (little_are_bytes (shown flags) flags) (present_are_bytes opaque_rect.kinds (last_values regs 10).numbers vs.numbers (takes_deltas fs))) in
     bytes_cons (control_byte false (is_typed opaque_rect regs) (takes_deltas fs) false (omitted_in opaque_rect regs vs)) (a ++ (b ++ c)) (control_is_byte (is_typed opaque_rect regs) (takes_deltas fs) (omitted_in opaque_rect regs vs) (omega arith)) tail

@@ -6,11 +6,12 @@ use Rattle.std.proofs.lemmas.Bool.Decides.{nat_tests}
 use Rattle.std.proofs.lemmas.List.{append-nil}
 use Rattle.px_core.specs.declared.surface.Size.{Size}
 use Rattle.caps_sets.specs.Confirmed.{plain}
-use Rattle.order_fields.specs.Bytes.{bind, low_bytes}
+use Rattle.byte_fields.specs.Field.{bind}
+use Rattle.byteorder.specs.Endian.{little_bytes}
 use Rattle.order_fields.specs.OrderTable.{Registers, AreRegisters, registers_after}
 use Rattle.order_fields.specs.OrderStream.{orders_in}
 use Rattle.order_fields.specs.OrderDelta.{order_bytes}
-use Rattle.order_fields.proofs.Numbers.{low_back}
+use Rattle.byte_fields.proofs.Numbers.{little_back, little_are_bytes}
 use Rattle.order_means.proofs.Packet.{update_cut}
 use Rattle.order_means.specs.HostBytes.{orders_body, synchronize_body, share_bytes, per_length_bytes, indication_bytes, update_packet, synchronize_packet}
 use Rattle.order_means.specs.Updates.{Body, cutting, updates, updates_from, before_updates}
@@ -21,7 +22,7 @@ use Rattle.frame_rules.specs.FrameBytes.{joined_bytes}
 use Rattle.fill_frames.specs.declared.patch.Patch.{Patch}
 use Rattle.fill_frames.specs.Patches.{ArePatches, patch_fields}
 use Rattle.fill_frames.specs.Views.{FrameIsRead, registers_after_patches, bytes_of_patches, patches_bytes, view_after_patches, view_after_frame}
-use Rattle.fill_frames.proofs.Bytes.{AreBytes, bytes_nil, bytes_cons, bytes_append, low_are_bytes, patch_order_is_bytes}
+use Rattle.fill_frames.proofs.Bytes.{AreBytes, bytes_nil, bytes_cons, bytes_append, patch_order_is_bytes}
 use Rattle.fill_frames.proofs.Reading.{orders_read, patches_obeyed, joined_short, one_update}
 
 abbrev all_small : List ℕ → Bool
@@ -29,7 +30,7 @@ all_small [] = true
 all_small (b ∷ bytes) = nat_lt b 256 && all_small bytes
 
 orders_update : (n : ℕ) (bytes : List ℕ) → n < 65536 → update_at (orders_body n bytes) ≡ Ok (Orders n bytes, [])
-orders_update n bytes h = ap (λ m. Ok (Orders m bytes, [])) (low_back 2 n (omega (arith, h)))
+orders_update n bytes h = ap (λ m. Ok (Orders m bytes, [])) (little_back 2 n (omega (arith, h)))
 
 -- the body of an update with patches
 body_obeyed : (size : Size) (v : View) (regs : Registers) (ps : List Patch) (place : ℕ) → v.client.registers ≡ regs → AreRegisters regs → ArePatches ps → length ps < 65536 →
@@ -110,9 +111,9 @@ share_are_bytes : (body : List ℕ) → AreBytes body → AreBytes (share_bytes 
 share_are_bytes body h =
     let end = 2 ∷ 0 ∷ 0 ∷ 0 ∷ body in
     let middle = 0x17 ∷ 0 ∷ 0xEA ∷ 3 ∷ 0xEA ∷ 3 ∷ 1 ∷ 0 ∷ 0 ∷ 1 ∷ [] in
-    bytes_append (low_bytes 2 (18 + length body)) (middle ++ (low_bytes 2 (4 + length body) ++ end)) (low_are_bytes 2 (18 + length body))
-    (bytes_append middle (low_bytes 2 (4 + length body) ++ end) (literal_bytes middle refl)
-    (bytes_append (low_bytes 2 (4 + length body)) end (low_are_bytes 2 (4 + length body)) (bytes_append (2 ∷ 0 ∷ 0 ∷ 0 ∷ []) body (literal_bytes (2 ∷ 0 ∷ 0 ∷ 0 ∷ []) refl) h)))
+    bytes_append (little_bytes 2 (18 + length body)) (middle ++ (little_bytes 2 (4 + length body) ++ end)) (little_are_bytes 2 (18 + length body))
+    (bytes_append middle (little_bytes 2 (4 + length body) ++ end) (literal_bytes middle refl)
+    (bytes_append (little_bytes 2 (4 + length body)) end (little_are_bytes 2 (4 + length body)) (bytes_append (2 ∷ 0 ∷ 0 ∷ 0 ∷ []) body (literal_bytes (2 ∷ 0 ∷ 0 ∷ 0 ∷ []) refl) h)))
 
 length-share : (body : List ℕ) → length (share_bytes body) ≡ 18 + length body
 length-share body = omega arith
@@ -129,8 +130,8 @@ update_are_bytes body short h =
     (bytes_cons ((7 + length mcs) % 256) (2 ∷ 0xF0 ∷ 0x80 ∷ mcs) (omega arith) (bytes_append (2 ∷ 0xF0 ∷ 0x80 ∷ []) mcs (literal_bytes (2 ∷ 0xF0 ∷ 0x80 ∷ []) refl) inner)))
 
 orders_are_bytes : (n : ℕ) (bytes : List ℕ) → AreBytes bytes → AreBytes (orders_body n bytes)
-orders_are_bytes n bytes h = bytes_append (0 ∷ 0 ∷ 0 ∷ 0 ∷ []) (low_bytes 2 n ++ 0 ∷ 0 ∷ bytes) (literal_bytes (0 ∷ 0 ∷ 0 ∷ 0 ∷ []) refl)
-    (bytes_append (low_bytes 2 n) (0 ∷ 0 ∷ bytes) (low_are_bytes 2 n) (bytes_append (0 ∷ 0 ∷ []) bytes (literal_bytes (0 ∷ 0 ∷ []) refl) h))
+orders_are_bytes n bytes h = bytes_append (0 ∷ 0 ∷ 0 ∷ 0 ∷ []) (little_bytes 2 n ++ 0 ∷ 0 ∷ bytes) (literal_bytes (0 ∷ 0 ∷ 0 ∷ 0 ∷ []) refl)
+    (bytes_append (little_bytes 2 n) (0 ∷ 0 ∷ bytes) (little_are_bytes 2 n) (bytes_append (0 ∷ 0 ∷ []) bytes (literal_bytes (0 ∷ 0 ∷ []) refl) h))
 
 joined_are_bytes : (ps : List Patch) (regs : Registers) → AreBytes (joined_bytes (bytes_of_patches regs ps))
 joined_are_bytes [] regs = bytes_nil

@@ -4,15 +4,12 @@ use Rattle.std.specs.Prelude.{ℤ}
 use Rattle.std.proofs.lemmas.Bool.Decides.{nat_tests}
 use Rattle.order_fields.specs.declared.kind.Kind.{Kind}
 use Rattle.order_fields.specs.declared.kind.Kind.TheVariants.{Coordinate, Number, Signed, Color}
-use Rattle.order_fields.specs.Bytes.{low_bytes}
+use Rattle.byteorder.specs.Endian.{little_bytes}
+use Rattle.byte_fields.proofs.Numbers.{length-little}
 use Rattle.order_fields.specs.OrderTable.{Registers, opaque_rect, last_values}
 use Rattle.order_fields.specs.OrderDelta.{Field, fields_of, is_same, value_bytes, unless_same, field_bytes, present_bytes, shown, type_bytes, order_bytes, flags_of, fields_in, takes_deltas, is_typed}
 use Rattle.fill_frames.specs.declared.patch.Patch.{Patch}
 use Rattle.fill_frames.specs.Patches.{patch_fields}
-
-length-low : (n x : ℕ) → length (low_bytes n x) ≡ n
-length-low zero x = refl
-length-low (suc n) x = ap suc (length-low n (x / 256))
 
 -- the most bytes of a field
 abbrev width : Kind → ℕ
@@ -28,7 +25,7 @@ widths (k ∷ ks) = width k + widths ks
 value_short : (k : Kind) (delta : Bool) (last z : ℤ) → length (value_bytes k delta last z) ≤ width k
 value_short Coordinate true last z = omega arith
 value_short Coordinate false last z = omega arith
-value_short (Number n) delta last z = omega (arith, length-low n)
+value_short (Number n) delta last z = omega (arith, length-little n)
 value_short Signed delta last z = omega arith
 value_short Color delta last z = omega arith
 
@@ -58,14 +55,14 @@ patch_order_short regs p =
     let fs = fields_in opaque_rect regs vs in
     let flags = flags_of fs true in
     let a = type_bytes (is_typed opaque_rect regs) 10 in
-    let b = low_bytes (shown flags) flags in
+    let b = little_bytes (shown flags) flags in
     let c = present_bytes fs (takes_deltas fs) true [] in
     omega (
       arith,
       length-append a (b ++ c),
       length-append b c,
       type_short (is_typed opaque_rect regs) 10,
-      length-low (shown flags) flags,
+      length-little (shown flags) flags,
       shown_short flags,
       present_short opaque_rect.kinds (last_values regs 10).numbers vs.numbers (takes_deltas fs),
     )

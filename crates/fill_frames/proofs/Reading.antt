@@ -5,7 +5,7 @@ use Rattle.std.proofs.lemmas.Bool.Decides.{nat_tests}
 use Rattle.std.proofs.lemmas.List.{append-nil}
 use Rattle.px_core.specs.declared.surface.Size.{Size}
 use Rattle.caps_sets.specs.Confirmed.{plain}
-use Rattle.order_fields.specs.Bytes.{bind}
+use Rattle.byte_fields.specs.Field.{bind}
 use Rattle.order_fields.specs.OrderTable.{Registers, AreRegisters, registers_after}
 use Rattle.order_fields.specs.OrderStream.{orders_in, with_orders}
 use Rattle.order_fields.specs.OrderDelta.{order_bytes}

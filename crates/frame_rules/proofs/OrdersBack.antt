@@ -8,15 +8,18 @@ use Rattle.order_fields.specs.OrderDelta.{edges_of_optional}
 use Rattle.order_fields.specs.Secondary.Cached.{Bitmap}
 use Rattle.order_fields.proofs.OrderBack.{order_back}
 use Rattle.order_means.specs.NamedDrawing.{fields_of}
-use Rattle.order_means.specs.WirePixels.{pixel_data, padded_image, padded_glyph, turned_over, pixel_bytes}
+use Rattle.order_means.specs.WirePixels.{pixel_data, padded_image, padded_glyph, turned_over}
+use Rattle.byte_fields.specs.Pixels.{pixels_bytes}
 use Rattle.order_means.specs.HostBytes.{cache_bitmap_body, cache_bitmap_data}
 use Rattle.order_means.specs.ClientState.{bitmap_flags}
-use Rattle.order_fields.specs.Bytes.{low_bytes, low_signed}
+use Rattle.byteorder.specs.Endian.{little_bytes}
+use Rattle.byte_fields.specs.Number.{little_signed}
 use Rattle.frame_rules.specs.FrameOrders.{SentOrder}
 use Rattle.frame_rules.specs.FrameOrders.SentOrder.{Drawn, CacheImage, CacheGlyph, CacheBrush, FrameMarker}
 use Rattle.frame_rules.specs.FrameBytes.{bytes_of_order, registers_after_order, bytes_of_orders, registers_after_orders, joined_bytes}
 use Rattle.frame_rules.specs.FrameRead.{image_data, as_read, FitsOrder, FitOrders}
-use Rattle.frame_rules.proofs.SecondaryBack.{secondary_back, bitmap_back, glyph_order_back, brush_back, length-pixel_bytes}
+use Rattle.frame_rules.proofs.SecondaryBack.{secondary_back, bitmap_back, glyph_order_back, brush_back}
+use Rattle.byte_fields.proofs.Pixels.{length-pixels_bytes}
 use Rattle.frame_rules.proofs.RegistersKept.{registers_kept}
 
 bitmap_order_back : (regs : Registers) (cache index w h : ℕ) (packed : Bool) (bytes rest : List ℕ) → index < 2 ^ 16 → length bytes < 2 ^ 15
@@ -35,13 +38,13 @@ sent_back c regs (CacheImage cache index image) rest are fits =
     bitmap_order_back regs cache index (padded_image image).w (padded_image image).h (image_data c image).is_packed (image_data c image).bytes rest fits.index_fits fits.few
 sent_back c regs (CacheGlyph cache index glyph) rest are fits =
     let few = fits.few in
-    secondary_back regs 0 3 (cache ∷ 1 ∷ (low_bytes 2 index ++ (low_signed 2 glyph.x ++ (low_signed 2 glyph.y ++ (low_bytes 2 glyph.cx ++ (low_bytes 2 glyph.cy ++ (padded_glyph glyph).bits)))))) _ rest
+    secondary_back regs 0 3 (cache ∷ 1 ∷ (little_bytes 2 index ++ (little_signed 2 glyph.x ++ (little_signed 2 glyph.y ++ (little_bytes 2 glyph.cx ++ (little_bytes 2 glyph.cy ++ (padded_glyph glyph).bits)))))) _ rest
     (omega arith) (omega arith) (omega arith)
     (glyph_order_back cache index glyph.x glyph.y glyph.cx glyph.cy (padded_glyph glyph).bits fits.index_fits fits.x fits.y fits.wide fits.high fits.bits)
 sent_back c regs (CacheBrush entry brush) rest are fits =
-    let count = length-pixel_bytes (turned_over 8 8 brush) in
+    let count = length-pixels_bytes (turned_over 8 8 brush) in
     let whole = fits.whole in
-    secondary_back regs 0 7 (entry ∷ 5 ∷ 8 ∷ 8 ∷ 0 ∷ 192 ∷ pixel_bytes (turned_over 8 8 brush)) _ rest (omega arith) (omega arith) (omega arith) (brush_back entry (turned_over 8 8 brush) fits.whole fits.colors)
+    secondary_back regs 0 7 (entry ∷ 5 ∷ 8 ∷ 8 ∷ 0 ∷ 192 ∷ pixels_bytes (turned_over 8 8 brush)) _ rest (omega arith) (omega arith) (omega arith) (brush_back entry (turned_over 8 8 brush) fits.whole fits.colors)
 sent_back c regs (FrameMarker true) rest are fits = refl
 sent_back c regs (FrameMarker false) rest are fits = refl
 

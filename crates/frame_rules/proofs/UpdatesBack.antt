@@ -4,10 +4,10 @@ use Rattle.std.specs.Prelude.{Result, Ok, Err, not, ◌&&◌, if◌then◌else�
 use Rattle.std.proofs.lemmas.Bool.Decides.{nat_tests}
 use Rattle.px_core.specs.declared.surface.Size.{Size}
 use Rattle.caps_sets.specs.declared.confirmed.Confirmed.{Confirmed}
-use Rattle.order_fields.specs.Bytes.{bind}
+use Rattle.byte_fields.specs.Field.{bind}
 use Rattle.order_fields.specs.OrderTable.{Registers, AreRegisters}
 use Rattle.order_fields.specs.OrderStream.{Order}
-use Rattle.order_fields.proofs.Numbers.{low_back}
+use Rattle.byte_fields.proofs.Numbers.{little_back}
 use Rattle.order_means.specs.HostBytes.{update_packet, orders_body, synchronize_body, synchronize_packet, frame_marker_bytes}
 use Rattle.order_means.specs.Updates.{Body, cutting}
 use Rattle.order_means.specs.Updates.Stage.{Between}
@@ -39,7 +39,7 @@ packet_obeyed c size v w p body short obeys =
 -- ---- an Orders update
 
 orders_body_back : (n : ℕ) (bytes : List ℕ) → n < 2 ^ 16 → update_at (orders_body n bytes) ≡ Ok (Orders n bytes, [])
-orders_body_back n bytes h = let few : n < 256 ^ 2 = omega arith in rw (low_back 2 n few) refl
+orders_body_back n bytes h = let few : n < 256 ^ 2 = omega arith in rw (little_back 2 n few) refl
 
 length-bytes_of_orders : (c : Confirmed) (regs : Registers) (os : List SentOrder) → length (bytes_of_orders c regs os) ≡ length os
 length-bytes_of_orders c regs [] = refl

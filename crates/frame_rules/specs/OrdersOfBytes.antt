@@ -6,7 +6,7 @@ use Rattle.px_core.specs.declared.rectangle.Rect.{Rect}
 use Rattle.px_core.specs.Picture.{nat_of}
 use Rattle.px_core.specs.Rectangle.{is_session_size}
 use Rattle.caps_sets.specs.declared.confirmed.Confirmed.{Confirmed}
-use Rattle.order_fields.specs.Bytes.{Read}
+use Rattle.byte_fields.specs.Field.{Read}
 use Rattle.order_fields.specs.OrderTable.{Registers, AreRegisters}
 use Rattle.order_fields.specs.OrderStream.{Order, Stream, orders_in}
 use Rattle.order_means.specs.WirePixels.{PixelData, data_of, turned_over}

@@ -1,11 +1,8 @@
 -- The fields of an order from a place on.
 use Rattle.std.proofs.Common.{◌≡◌, ℕ, zero, suc, ◌/◌, ◌^◌, ◌<◌, ℤ, List, [], ◌∷◌, length, get_or, drop, refl, ap, sym, ◌∙◌, ◌%◌, arith}
 use Rattle.std.specs.Prelude.{Bool, true, false, ◌&&◌}
-use Rattle.std.specs.Int.{bytes_low_first}
 use Rattle.std.proofs.lemmas.Bool.{false≢true}
-use Rattle.std.proofs.Math.Nat.{div-div-eq-div-mul}
 use Rattle.order_fields.specs.declared.kind.Kind.{Kind}
-use Rattle.order_fields.specs.Bytes.{low_bytes}
 use Rattle.order_fields.specs.OrderTable.{FitKinds, FitsKind}
 use Rattle.order_fields.specs.OrderDelta.{fields_of, is_near, all_near}
 use Rattle.order_fields.specs.Kept.{IsSized, AreSized}
@@ -29,17 +26,6 @@ fit_at i [] zs k d fits h = absurd (omega arith)
 fit_at i (x ∷ ks) [] k d fits h = absurd fits
 fit_at zero (x ∷ ks) (z ∷ zs) k d fits h = fits.0
 fit_at (suc i) (x ∷ ks) (z ∷ zs) k d fits h = let a : i < length ks = omega arith in fit_at i ks zs k d fits.1 a
-
--- the bytes of a number, as std cuts them
-pub low_first : (i n x y : ℕ) → y ≡ x / 256 ^ i → bytes_low_first i n x ≡ low_bytes n y
-low_first i zero x y e = refl
-low_first zero (suc n) x y e =
-    let same : y ≡ x = omega (arith, e) in
-    let next : y / 256 ≡ x / 256 ^ 1 = omega (arith, same) in
-    rw (low_first 1 n x (y / 256) next) (ap (λ z. z ∷ low_bytes n (y / 256)) (ap (λ z. z % 256) (sym same)))
-low_first (suc i) (suc n) x y e =
-    let next : y / 256 ≡ x / 256 ^ suc (suc i) = ap (λ z. z / 256) e ∙ div-div-eq-div-mul x (256 ^ suc i) 256 ∙ ap (λ z. x / z) (grind arith) in
-    rw (low_first (suc (suc i)) n x (y / 256) next) (ap (λ z. z % 256 ∷ low_bytes n (y / 256)) (sym e))
 
 -- a field of the list is sized
 pub sized_at : (i : ℕ) (ks : List Kind) (k : Kind) → AreSized ks → i < length ks → IsSized (get_or ks i k)

@@ -7,11 +7,13 @@ use Rattle.std.proofs.lemmas.Bool.{false≢true}
 use Rattle.std.proofs.lemmas.Bool.Decides.{nat_tests}
 use Rattle.order_fields.specs.declared.kind.Kind.{Kind}
 use Rattle.order_fields.specs.declared.kind.Kind.TheVariants.{Coordinate, Number, Signed, Color}
-use Rattle.order_fields.specs.Bytes.{map_read, taken}
+use Rattle.byte_fields.specs.Field.{map_read, taken}
 use Rattle.order_fields.specs.OrderTable.{values, FitsKind, FitKinds, BytesFit}
 use Rattle.order_fields.specs.OrderStream.{value_at, field_at, counted_at, values_at}
 use Rattle.order_fields.specs.OrderDelta.{Field, fields_of, is_same, is_near, all_near, is_byte, is_coordinate, flag, flags_of, same_list, keeps_bytes, value_bytes, field_bytes, unless_same, counted_bytes, present_bytes}
-use Rattle.order_fields.proofs.Numbers.{taken_back, number_back, signed_back, moved_back}
+use Rattle.order_fields.proofs.Numbers.{signed_back, moved_back}
+use Rattle.byte_fields.proofs.Bytes.{taken_back}
+use Rattle.byte_fields.proofs.Numbers.{little_at_back}
 
 color_back : (m : ℕ) → m < 16777216 → 256 * (256 * (256 * 0 + (m / 65536) % 256) + (m / 256) % 256) + m % 256 ≡ m
 color_back m h = omega arith
@@ -19,7 +21,7 @@ color_back m h = omega arith
 value_back : (k : Kind) (delta : Bool) (l z : ℤ) (rest : List ℕ) → FitsKind k z → (delta ≡ true → (not (is_coordinate k) || is_byte (z -ℤ l)) ≡ true) → value_at k delta l (value_bytes k delta l z ++ rest) ≡ Ok (z, rest)
 value_back Coordinate true l z rest fits near = moved_back l z rest (near refl) fits
 value_back Coordinate false l z rest fits near = signed_back z rest fits
-value_back (Number n) delta l (pos m) rest fits near = ap (map_read pos) (number_back n m rest fits)
+value_back (Number n) delta l (pos m) rest fits near = ap (map_read pos) (little_at_back n m rest fits)
 value_back (Number n) delta l (negsuc m) rest fits near = absurd fits
 value_back Signed delta l z rest fits near = signed_back z rest fits
 value_back Color delta l (pos m) rest fits near = ap (λ y. Ok (pos y, rest)) (color_back m fits)

@@ -2,7 +2,7 @@
 use Rattle.std.proofs.Common.{◌≡◌, ◌≤◌, ◌<◌, ◌-◌, ◌^◌, ℕ, suc, ℤ, List, ◌∷◌, ◌++◌, length, refl, ap, sym, arith, Bool, true, false, Some, None}
 use Rattle.std.specs.Prelude.{Option, ◌==◌, not}
 use Rattle.order_fields.specs.declared.kind.Kind.{Kind}
-use Rattle.order_fields.specs.Bytes.{low_bytes}
+use Rattle.byteorder.specs.Endian.{little_bytes}
 use Rattle.order_fields.specs.OrderTable.{Row, row_of, Values, FieldList, Edges, Registers, last_values, AreRegisters, FitKinds, FitsRow, IsFieldList, BytesFit}
 use Rattle.order_fields.specs.OrderDelta.{fields_of, flags_of, keeps_bytes, takes_deltas, present_bytes, shown, keeps_bounds, bounds_bytes, has_bounds, control_byte, type_bytes, bytes_by_row, order_bytes}
 use Rattle.order_fields.specs.Kept.{row_kinds, row_flags, is_row_counted, AreSized}
@@ -17,7 +17,7 @@ parts kinds flag_bytes counted regs confirmed o bounds =
     let typed = not (regs.last == o.code) in
     let keeps_edges = keeps_bounds confirmed regs.bounds bounds in
     (control_byte (has_bounds bounds) typed (takes_deltas fs) keeps_edges (flag_bytes - shown (flags_of fs keeps)) ∷ type_bytes typed o.code)
-    ++ (low_bytes (shown (flags_of fs keeps)) (flags_of fs keeps) ++ (bounds_bytes keeps_edges regs.bounds bounds ++ present_bytes fs (takes_deltas fs) keeps o.values.bytes))
+    ++ (little_bytes (shown (flags_of fs keeps)) (flags_of fs keeps) ++ (bounds_bytes keeps_edges regs.bounds bounds ++ present_bytes fs (takes_deltas fs) keeps o.values.bytes))
 
 parts_by : (found : Option Row) (regs : Registers) (confirmed : Bool) (o : FieldList) (bounds : Option Edges) → row_of o.code ≡ found → FitsRow found o.values →
     bytes_by_row found regs confirmed o.values bounds ≡ parts (row_kinds found) (row_flags found) (is_row_counted found) regs confirmed o bounds
@@ -35,7 +35,7 @@ pub order_from_parts : (regs : Registers) (confirmed : Bool) (o : FieldList) (bo
     keeps ≡ keeps_bytes (is_row_counted (row_of kind)) (last_values regs kind).bytes bytes → flags ≡ flags_of (fields_of kinds last values) keeps → delta ≡ takes_deltas (fields_of kinds last values) →
     typed ≡ not (regs.last == kind) → keeps_edges ≡ keeps_bounds confirmed regs.bounds bounds →
     control ≡ control_byte (has_bounds bounds) typed delta keeps_edges (row_flags (row_of kind) - shown flags) →
-    (control ∷ type_bytes typed kind) ++ (low_bytes (shown flags) flags ++ (bounds_bytes keeps_edges regs.bounds bounds ++ present_bytes (fields_of kinds last values) delta keeps bytes)) ≡ order_bytes regs confirmed o bounds
+    (control ∷ type_bytes typed kind) ++ (little_bytes (shown flags) flags ++ (bounds_bytes keeps_edges regs.bounds bounds ++ present_bytes (fields_of kinds last values) delta keeps bytes)) ≡ order_bytes regs confirmed o bounds
 order_from_parts regs confirmed o bounds fits control typed delta keeps_edges keeps kind flags kinds last values bytes ek eks el ev eb ep ef ed et ee ec =
     rw (ec, et, ed, ee, ef, ep, el, eks, ev, eb, ek) (sym (order_parts regs confirmed o bounds fits))
 

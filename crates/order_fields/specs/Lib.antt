@@ -1,4 +1,3 @@
-pub mod Bytes
 pub mod OrderTable
 pub mod Secondary
 pub mod OrderStream

@@ -7,7 +7,8 @@ use Rattle.order_fields.specs.declared.change.Change.{Change}
 use Rattle.order_fields.specs.declared.change.Change.TheVariants.{Same, Moved, Anew}
 use Rattle.order_fields.specs.declared.kind.Kind.{Kind}
 use Rattle.order_fields.specs.declared.kind.Kind.TheVariants.{Coordinate, Number, Signed, Color}
-use Rattle.order_fields.specs.Bytes.{low_bytes, low_signed}
+use Rattle.byteorder.specs.Endian.{little_bytes, big_bytes}
+use Rattle.byte_fields.specs.Number.{little_signed}
 use Rattle.order_fields.specs.OrderTable.{Row, row_of, Values, FieldList, Edges, edges, Registers, last_values}
 
 -- a field of an order: how it stands in bytes, its last value, and its new one
@@ -79,15 +80,12 @@ abbrev pub flags_of : List Field → Bool → ℕ
 flags_of [] keeps = flag keeps
 flags_of (f ∷ fs) keeps = flag (is_same f) + 2 * flags_of fs keeps
 
-abbrev pub color_bytes : ℕ → List ℕ
-color_bytes c = (c / 65536) % 256 ∷ (c / 256) % 256 ∷ c % 256 ∷ []
-
 abbrev pub value_bytes : Kind → Bool → ℤ → ℤ → List ℕ
-value_bytes Coordinate true last z = low_signed 1 (z -ℤ last)
-value_bytes Coordinate false last z = low_signed 2 z
-value_bytes (Number n) delta last z = low_bytes n (nat_of z)
-value_bytes Signed delta last z = low_signed 2 z
-value_bytes Color delta last z = color_bytes (nat_of z)
+value_bytes Coordinate true last z = little_signed 1 (z -ℤ last)
+value_bytes Coordinate false last z = little_signed 2 z
+value_bytes (Number n) delta last z = little_bytes n (nat_of z)
+value_bytes Signed delta last z = little_signed 2 z
+value_bytes Color delta last z = big_bytes 3 (nat_of z)
 
 abbrev pub unless_same : Bool → List ℕ → List ℕ
 unless_same true bytes = []
@@ -132,8 +130,8 @@ is_moved Anew = 0
 
 abbrev pub edge_bytes : Change → ℤ → ℤ → List ℕ
 edge_bytes Same l z = []
-edge_bytes Moved l z = low_signed 1 (z -ℤ l)
-edge_bytes Anew l z = low_signed 2 z
+edge_bytes Moved l z = little_signed 1 (z -ℤ l)
+edge_bytes Anew l z = little_signed 2 z
 
 abbrev pub edge_flags : Change → Change → Change → Change → ℕ
 edge_flags l t r b = is_anew l + 2 * is_anew t + 4 * is_anew r + 8 * is_anew b + 16 * is_moved l + 32 * is_moved t + 64 * is_moved r + 128 * is_moved b
@@ -195,7 +193,7 @@ type_bytes false code = []
 -- the type, the flag bytes, the bounds, the fields
 abbrev pub tail_bytes : Row → Bool → Bool → Bool → List Field → Bool → Edges → Option Edges → List ℕ → List ℕ
 tail_bytes r typed delta keeps_edges fs keeps old bounds bytes =
-    type_bytes typed r.code ++ (low_bytes (shown (flags_of fs keeps)) (flags_of fs keeps) ++ (bounds_bytes keeps_edges old bounds ++ present_bytes fs delta keeps bytes))
+    type_bytes typed r.code ++ (little_bytes (shown (flags_of fs keeps)) (flags_of fs keeps) ++ (bounds_bytes keeps_edges old bounds ++ present_bytes fs delta keeps bytes))
 
 -- the fields of an order against the registers
 abbrev pub fields_in : Row → Registers → Values → List Field

@@ -2,7 +2,8 @@
 use Rattle.std.specs.Prelude.{ℕ, zero, suc, ◌-◌, ◌/◌, ◌%◌, ◌==◌, nat_le, Bool, true, false, ◌&&◌, ℤ, pos, ◌+ℤ◌, List, [], ◌∷◌, ◌++◌, map, Option, Some, None, Ok, Err, if◌then◌else◌}
 use Rattle.order_fields.specs.declared.kind.Kind.{Kind}
 use Rattle.order_fields.specs.declared.kind.Kind.TheVariants.{Coordinate, Number, Signed, Color}
-use Rattle.order_fields.specs.Bytes.{Read, then_read, map_read, taken, number_at, high_at, signed_at, given, kept}
+use Rattle.byte_fields.specs.Field.{Read, then_read, map_read, taken, given, kept}
+use Rattle.byte_fields.specs.Number.{little_at, big_at, little_signed_at}
 use Rattle.order_fields.specs.OrderTable.{Row, row_of, Values, values, FieldList, Edges, edges, Registers, last_values, registers_after, fits_coordinate}
 use Rattle.order_fields.specs.Secondary.{Cached, secondary_at, marker_at}
 
@@ -10,15 +11,15 @@ use Rattle.order_fields.specs.Secondary.{Cached, secondary_at, marker_at}
 
 -- one signed byte that is added to the last value; a sum that has no two bytes is refused at that byte
 abbrev pub moved_at : ℤ → List ℕ → Read ℤ
-moved_at last bs = then_read (signed_at 1 bs) (λ d rest. given (fits_coordinate (last +ℤ d)) (last +ℤ d) rest bs)
+moved_at last bs = then_read (little_signed_at 1 bs) (λ d rest. given (fits_coordinate (last +ℤ d)) (last +ℤ d) rest bs)
 
 -- the value of a field that stands there; `delta` says whether coordinates are in the delta form
 abbrev pub value_at : Kind → Bool → ℤ → List ℕ → Read ℤ
 value_at Coordinate true last bs = moved_at last bs
-value_at Coordinate false last bs = signed_at 2 bs
-value_at (Number n) delta last bs = map_read pos (number_at n bs)
-value_at Signed delta last bs = signed_at 2 bs
-value_at Color delta last bs = map_read pos (high_at 3 bs)
+value_at Coordinate false last bs = little_signed_at 2 bs
+value_at (Number n) delta last bs = map_read pos (little_at n bs)
+value_at Signed delta last bs = little_signed_at 2 bs
+value_at Color delta last bs = map_read pos (big_at 3 bs)
 
 -- a field whose flag is clear has its last value
 abbrev pub field_at : Bool → Kind → Bool → ℤ → List ℕ → Read ℤ
@@ -27,7 +28,7 @@ field_at false k delta last bs = Ok (last, bs)
 
 -- counted bytes are one field: a count byte and that many bytes
 abbrev pub counted_at : Bool → List ℕ → List ℕ → Read (List ℕ)
-counted_at true last bs = then_read (number_at 1 bs) (λ n rest. taken bs n rest)
+counted_at true last bs = then_read (little_at 1 bs) (λ n rest. taken bs n rest)
 counted_at false last bs = Ok (last, bs)
 
 -- the values of an order over the last ones; the lowest flag is that of the first field
@@ -46,7 +47,7 @@ has_bit byte weight = (byte / weight) % 2 == 1
 
 -- an edge that is absolute, that moved, or that stays
 abbrev pub edge_at : Bool → Bool → ℤ → List ℕ → Read ℤ
-edge_at true moved last bs = signed_at 2 bs
+edge_at true moved last bs = little_signed_at 2 bs
 edge_at false true last bs = moved_at last bs
 edge_at false false last bs = Ok (last, bs)
 
@@ -60,7 +61,7 @@ edges_at flags old bs =
 abbrev pub bounds_at : Bool → Bool → Edges → List ℕ → Read (Option Edges)
 bounds_at false same old bs = Ok (None, bs)
 bounds_at true true old bs = Ok (Some old, bs)
-bounds_at true false old bs = then_read (number_at 1 bs) (λ flags rest. map_read Some (edges_at flags old rest))
+bounds_at true false old bs = then_read (little_at 1 bs) (λ flags rest. map_read Some (edges_at flags old rest))
 
 -- ---- an order
 
@@ -83,13 +84,13 @@ seen_primary regs o bounds = seen (Primary o bounds ∷ []) (registers_after reg
 
 -- the type stands there where it changed
 abbrev pub type_at : Bool → ℕ → List ℕ → Read ℕ
-type_at true last bs = number_at 1 bs
+type_at true last bs = little_at 1 bs
 type_at false last bs = Ok (last, bs)
 
 -- the flag bytes, the bounds, the fields; the two top bits of the control byte count the omitted flag bytes
 abbrev pub body_at : Row → Registers → ℕ → List ℕ → Read Seen
 body_at r regs control bs =
-    then_read (number_at (r.flags - control / 64) bs) (λ flags a.
+    then_read (little_at (r.flags - control / 64) bs) (λ flags a.
     then_read (bounds_at (has_bit control 4) (has_bit control 32) regs.bounds a) (λ bounds b.
     map_read (λ vs. seen_primary regs (record { code = r.code; values = vs }) bounds)
     (values_at r.kinds r.counted flags (has_bit control 16) (last_values regs r.code).numbers (last_values regs r.code).bytes b)))

@@ -1,6 +1,8 @@
 -- Secondary orders and the frame marker as they stand in bytes ([MS-RDPEGDI] 2.2.2.2.1.2 and 2.2.2.2.1.3.7).
 use Rattle.std.specs.Prelude.{ℕ, zero, suc, ◌+◌, ◌*◌, ◌/◌, ◌==◌, nat_lt, Bool, true, false, ℤ, List, [], ◌∷◌, ◌++◌, Ok, Err, if◌then◌else◌}
-use Rattle.order_fields.specs.Bytes.{Read, then_read, map_read, bytes_at, number_at, signed_at, given, taken, wanted, colors}
+use Rattle.byte_fields.specs.Field.{Read, then_read, map_read, bytes_at, given, taken, wanted}
+use Rattle.byte_fields.specs.Number.{little_at, little_signed_at}
+use Rattle.byte_fields.specs.Pixels.{pixels_of}
 
 -- a cached bitmap; its pixels are looked at by the client, which also tests its depth and flags
 pub record BitmapOrder : Type 0 where
@@ -38,8 +40,8 @@ pub data Cached : Type 0 where
 -- cache bitmap ([MS-RDPEGDI] 2.2.2.2.1.2.2): cacheId 1, pad 1, width 1, height 1, bits per pixel 1, length 2, cacheIndex 2, bytes
 abbrev pub bitmap_at : ℕ → Bool → List ℕ → Read (List Cached)
 bitmap_at flags packed bs =
-    then_read (number_at 1 bs) (λ cache a. then_read (number_at 1 a) (λ pad b. then_read (number_at 1 b) (λ w c. then_read (number_at 1 c) (λ h d.
-    then_read (number_at 1 d) (λ depth e. then_read (number_at 2 e) (λ count f. then_read (number_at 2 f) (λ index g.
+    then_read (little_at 1 bs) (λ cache a. then_read (little_at 1 a) (λ pad b. then_read (little_at 1 b) (λ w c. then_read (little_at 1 c) (λ h d.
+    then_read (little_at 1 d) (λ depth e. then_read (little_at 2 e) (λ count f. then_read (little_at 2 f) (λ index g.
     map_read (λ xs. Bitmap (record { cache = cache; index = index; w = w; h = h; depth = depth; flags = flags; packed = packed; bytes = xs }) ∷ []) (bytes_at count g))))))))
 
 -- how many bytes the bits of a glyph have
@@ -49,8 +51,8 @@ glyph_length cx cy = 4 * ((((cx + 7) / 8) * cy + 3) / 4)
 -- a glyph: cacheIndex 2, x 2, y 2, cx 2, cy 2, bits
 abbrev pub glyph_at : ℕ → List ℕ → Read Cached
 glyph_at cache bs =
-    then_read (number_at 2 bs) (λ index a. then_read (signed_at 2 a) (λ x b. then_read (signed_at 2 b) (λ y c.
-    then_read (number_at 2 c) (λ cx d. then_read (number_at 2 d) (λ cy e.
+    then_read (little_at 2 bs) (λ index a. then_read (little_signed_at 2 a) (λ x b. then_read (little_signed_at 2 b) (λ y c.
+    then_read (little_at 2 c) (λ cx d. then_read (little_at 2 d) (λ cy e.
     map_read (λ bits. Glyph (record { cache = cache; index = index; x = x; y = y; cx = cx; cy = cy; bits = bits })) (bytes_at (glyph_length cx cy) e))))))
 
 abbrev pub glyphs_at : ℕ → ℕ → List ℕ → Read (List Cached)
@@ -59,13 +61,13 @@ glyphs_at (suc n) cache bs = then_read (glyph_at cache bs) (λ o rest. map_read 
 
 -- cache glyph ([MS-RDPEGDI] 2.2.2.2.1.2.5): cacheId 1, count 1, the glyphs
 abbrev pub glyph_order_at : List ℕ → Read (List Cached)
-glyph_order_at bs = then_read (number_at 1 bs) (λ cache a. then_read (number_at 1 a) (λ n b. glyphs_at n cache b))
+glyph_order_at bs = then_read (little_at 1 bs) (λ cache a. then_read (little_at 1 a) (λ n b. glyphs_at n cache b))
 
 -- cache brush ([MS-RDPEGDI] 2.2.2.2.1.2.7): entry 1, format 05, sides 08 08, style 1, length C0, 64 pixels
 abbrev pub brush_at : List ℕ → Read (List Cached)
 brush_at bs =
-    then_read (number_at 1 bs) (λ entry a. then_read (wanted (5 ∷ []) a) (λ format b. then_read (wanted (8 ∷ 8 ∷ []) b) (λ sides c. then_read (number_at 1 c) (λ style d.
-    then_read (wanted (192 ∷ []) d) (λ count e. map_read (λ xs. Brush (record { entry = entry; pixels = colors xs }) ∷ []) (bytes_at 192 e))))))
+    then_read (little_at 1 bs) (λ entry a. then_read (wanted (5 ∷ []) a) (λ format b. then_read (wanted (8 ∷ 8 ∷ []) b) (λ sides c. then_read (little_at 1 c) (λ style d.
+    then_read (wanted (192 ∷ []) d) (λ count e. map_read (λ xs. Brush (record { entry = entry; pixels = pixels_of xs }) ∷ []) (bytes_at 192 e))))))
 
 -- the secondary orders that are read
 pub data SecondaryKind : Type 0 where
@@ -98,9 +100,9 @@ within_total (Err left) after = Err (left ++ after)
 -- a secondary order after its control byte: its total length less 13, extraFlags 2, type 1, body; a total that doesn't fit is refused at its length
 abbrev pub secondary_at : List ℕ → Read (List Cached)
 secondary_at bs =
-    then_read (number_at 2 bs) (λ n a. then_read (taken bs (n + 10) a) (λ inside after.
-    within_total (then_read (number_at 2 inside) (λ flags c. then_read (number_at 1 c) (λ t d. secondary_body (secondary_kind t) flags c d))) after))
+    then_read (little_at 2 bs) (λ n a. then_read (taken bs (n + 10) a) (λ inside after.
+    within_total (then_read (little_at 2 inside) (λ flags c. then_read (little_at 1 c) (λ t d. secondary_body (secondary_kind t) flags c d))) after))
 
 -- a frame marker after its control byte: action 4, 0 where a frame begins and 1 where it ends
 abbrev pub marker_at : List ℕ → Read (List Cached)
-marker_at bs = then_read (number_at 4 bs) (λ n rest. given (nat_lt n 2) (Marker (n == 1) ∷ []) rest bs)
+marker_at bs = then_read (little_at 4 bs) (λ n rest. given (nat_lt n 2) (Marker (n == 1) ∷ []) rest bs)

@@ -1,6 +1,7 @@
 ghost use Rattle.std.specs.Prelude.{◌≡◌, ◌≤◌, ◌++◌, OnOk, OnErr, true, ◌-ℤ◌};
 ghost use Rattle.wire_num.specs.Written.{AppendsFront};
-ghost use Rattle.order_fields.specs.Bytes.{low_bytes, unsigned};
+ghost use Rattle.byteorder.specs.Endian.{little_bytes};
+ghost use Rattle.byte_fields.specs.Number.{unsigned};
 ghost use Rattle.order_fields.specs.OrderTable.{fits_coordinate};
 ghost use Rattle.order_fields.specs.OrderDelta.{is_byte};
 
@@ -9,8 +10,8 @@ use wire_num::OutOfMemory;
 /// Writes the lowest bytes of a number, the lowest first.
 pub fn put_low(out: &mut Vec<u8>, size: usize, number: u64) -> Result<(), OutOfMemory>
     requires { size ≤ 8 }
-    ensures ok { OnOk result (out.new.items ≡ out.old.items ++ low_bytes size number) }
-    ensures memory { OnErr result (AppendsFront out.old.items (low_bytes size number) out.new.items) }
+    ensures ok { OnOk result (out.new.items ≡ out.old.items ++ little_bytes size number) }
+    ensures memory { OnErr result (AppendsFront out.old.items (little_bytes size number) out.new.items) }
 {
     let bytes = number.to_le_bytes();
     out.extend_from_slice(&bytes[..size])?;

@@ -10,10 +10,10 @@
 
 ghost use Rattle.std.specs.Prelude.{◌≡◌, ◌≤◌, ◌<◌, ◌++◌, ◌∷◌, [], length, not, ◌==◌, OnOk, OnErr, true, ◌-ℤ◌};
 ghost use Rattle.wire_num.specs.Written.{AppendsFront};
-ghost use Rattle.order_fields.specs.Bytes.{low_bytes};
+ghost use Rattle.byteorder.specs.Endian.{little_bytes, big_bytes};
 ghost use Rattle.order_fields.specs.Kept.{IsSized, AreSized, edges_in, optional_edges, registers_of};
 ghost use Rattle.order_fields.specs.OrderTable.{FitKinds, FitsKind, FitEdges, FitBounds, AreRegisters, IsFieldList};
-ghost use Rattle.order_fields.specs.OrderDelta.{Field, fields_of, is_near as near_field, value_bytes, field_bytes, present_bytes, counted_bytes, color_bytes, all_near, control_byte as control_of, has_bounds, order_bytes, type_bytes, shown as shown_of, bounds_bytes};
+ghost use Rattle.order_fields.specs.OrderDelta.{Field, fields_of, is_near as near_field, value_bytes, field_bytes, present_bytes, counted_bytes, all_near, control_byte as control_of, has_bounds, order_bytes, type_bytes, shown as shown_of, bounds_bytes};
 
 use crate::bounds::{Bounds, keeps_bounds, put_bounds};
 use crate::delta::{are_kept, changed_flags, shown, takes_deltas};
@@ -62,8 +62,8 @@ fn put_value(
 /// Writes a colour: red, green, blue.
 fn put_color(out: &mut Vec<u8>, color: u32) -> Result<(), OutOfMemory>
     requires { color < 16777216 }
-    ensures ok { OnOk result (out.new.items ≡ out.old.items ++ color_bytes color) }
-    ensures memory { OnErr result (AppendsFront out.old.items (color_bytes color) out.new.items) }
+    ensures ok { OnOk result (out.new.items ≡ out.old.items ++ big_bytes 3 color) }
+    ensures memory { OnErr result (AppendsFront out.old.items (big_bytes 3 color) out.new.items) }
 {
     let [_, red, green, blue] = color.to_be_bytes();
     out.extend_from_slice(&[red, green, blue])?;

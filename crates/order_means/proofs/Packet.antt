@@ -3,8 +3,11 @@ use Rattle.std.proofs.Common.{◌≡◌, ℕ, suc, ◌+◌, ◌-◌, ◌*◌, �
 use Rattle.std.specs.Prelude.{Ok, nat_lt, nat_le, ◌&&◌, ◌==◌, if◌then◌else◌}
 use Rattle.std.proofs.lemmas.List.{append-nil}
 use Rattle.std.proofs.lemmas.Bool.Decides.{nat_tests}
-use Rattle.order_fields.specs.Bytes.{then_read, map_read, taken, low_bytes, low_number}
-use Rattle.order_fields.proofs.Numbers.{low_back}
+use Rattle.byte_fields.specs.Field.{then_read, map_read, taken}
+use Rattle.byteorder.specs.Endian.{little_bytes}
+use Rattle.byte_fields.specs.Number.{little_value}
+use Rattle.byte_fields.proofs.Bytes.{taken_all}
+use Rattle.byte_fields.proofs.Numbers.{little_back}
 use Rattle.order_means.specs.WirePixels.{turned}
 use Rattle.order_means.specs.HostBytes.{share_bytes, per_length_bytes, indication_bytes, update_packet}
 use Rattle.order_means.specs.Updates.{cutting, updates_from, before_updates, whole_packet, packet_at, per_length_at, share_at, counted_share}
@@ -35,19 +38,15 @@ packet_cut at second high low b tail more total enough =
 
 -- ---- what stands in it
 
-taken_all : (whole xs : List ℕ) → taken whole (length xs) xs ≡ Ok (xs, [])
-taken_all whole [] = refl
-taken_all whole (x ∷ xs) = ap (map_read (λ ys. x ∷ ys)) (taken_all whole xs)
-
 -- what stands behind the total
 abbrev headers : List ℕ → List ℕ
-headers body = 0x17 ∷ 0 ∷ 0xEA ∷ 3 ∷ 0xEA ∷ 3 ∷ 1 ∷ 0 ∷ 0 ∷ 1 ∷ (low_bytes 2 (4 + length body) ++ 2 ∷ 0 ∷ 0 ∷ 0 ∷ body)
+headers body = 0x17 ∷ 0 ∷ 0xEA ∷ 3 ∷ 0xEA ∷ 3 ∷ 1 ∷ 0 ∷ 0 ∷ 1 ∷ (little_bytes 2 (4 + length body) ++ 2 ∷ 0 ∷ 0 ∷ 0 ∷ body)
 
 share_back : (body : List ℕ) → 18 + length body < 65536 → share_at (share_bytes body) ≡ Ok (record { bytes = body; behind = length body }, [])
 share_back body h =
     let fits : (nat_le 6 (18 + length body) && nat_le (18 + length body) (length (share_bytes body))) ≡ true = grind (arith, nat_tests) in
     let left : (18 + length body) - 2 ≡ length (headers body) = omega arith in
-    let value : low_number (low_bytes 2 (18 + length body)) ≡ 18 + length body = low_back 2 (18 + length body) h in
+    let value : little_value (little_bytes 2 (18 + length body)) ≡ 18 + length body = little_back 2 (18 + length body) h in
     rw (value, fits, left, taken_all (share_bytes body) (headers body)) (ap (λ n. Ok (record { bytes = body; behind = n }, [])) (ap length (append-nil body)))
 
 per_by : (n : ℕ) (rest : List ℕ) (b : Bool) → nat_lt n 128 ≡ b → n < 16384 → per_length_at ((if b then n ∷ [] else (128 + n / 256) ∷ n % 256 ∷ []) ++ rest) ≡ Ok (n, rest)

@@ -12,7 +12,8 @@ use Rattle.caps_sets.specs.Confirmed.{cache_size}
 use Rattle.draw_ops.specs.Content.{ImageOf, GlyphOf}
 use Rattle.draw_ops.specs.Slots.{Slots, empty_slots, filled_slot, lookup}
 use Rattle.draw_ops.specs.Formulas.{Operand, solid, rastered, replaced, absent, brushed, shifted, imaged, image_rows, run_area, run_cells, joint_of, Painting, over_rect, picture_after}
-use Rattle.order_fields.specs.Bytes.{bind, colors}
+use Rattle.byte_fields.specs.Field.{bind}
+use Rattle.byte_fields.specs.Pixels.{pixels_of}
 use Rattle.order_fields.specs.OrderTable.{Edges, Registers, first_registers}
 use Rattle.order_fields.specs.Secondary.{Cached, BitmapOrder, GlyphOrder, BrushOrder}
 use Rattle.order_fields.specs.Secondary.Cached.{Bitmap, Glyph, Brush, Marker}
@@ -230,7 +231,7 @@ unless_refused (Err place) = Err Broken
 
 -- the pixels of raw or packed bytes, rows from the bottom up
 abbrev pub wire_pixels : Bool → ℕ → ℕ → List ℕ → Result (List ℕ) Fault
-wire_pixels false w h bytes = needs (length bytes == 3 * (w * h)) Broken (Ok (colors bytes))
+wire_pixels false w h bytes = needs (length bytes == 3 * (w * h)) Broken (Ok (pixels_of bytes))
 wire_pixels true w h bytes = unless_refused (unrle bytes w h)
 
 -- the flags of a cached bitmap: 0 where it is raw, NO_BITMAP_COMPRESSION_HDR where it is packed

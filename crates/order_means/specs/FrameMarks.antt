@@ -7,7 +7,8 @@ use Rattle.px_core.specs.Rectangle.{boxed, is_inside}
 use Rattle.rop3_core.specs.Palette.{client_colors}
 use Rattle.caps_sets.specs.declared.confirmed.Confirmed.{Confirmed}
 use Rattle.draw_ops.specs.Formulas.{replaced, imaged, Painting, over_rect}
-use Rattle.order_fields.specs.Bytes.{Read, bind, then_read, map_read, bytes_at, number_at, wanted, all_of}
+use Rattle.byte_fields.specs.Field.{Read, bind, then_read, map_read, bytes_at, wanted, all_of}
+use Rattle.byte_fields.specs.Number.{little_at}
 use Rattle.order_fields.specs.OrderTable.{Registers}
 use Rattle.order_fields.specs.Secondary.{Cached}
 use Rattle.order_fields.specs.Secondary.Cached.{Bitmap, Glyph, Brush, Marker}
@@ -35,8 +36,8 @@ pub record Tile : Type 0 where
 
 abbrev pub tile_at : List ℕ → Read Tile
 tile_at bs =
-    then_read (number_at 2 bs) (λ l a. then_read (number_at 2 a) (λ t b. then_read (number_at 2 b) (λ r c. then_read (number_at 2 c) (λ m d.
-    then_read (number_at 2 d) (λ w e. then_read (number_at 2 e) (λ h f. then_read (number_at 2 f) (λ depth g. then_read (number_at 2 g) (λ flags i. then_read (number_at 2 i) (λ n j.
+    then_read (little_at 2 bs) (λ l a. then_read (little_at 2 a) (λ t b. then_read (little_at 2 b) (λ r c. then_read (little_at 2 c) (λ m d.
+    then_read (little_at 2 d) (λ w e. then_read (little_at 2 e) (λ h f. then_read (little_at 2 f) (λ depth g. then_read (little_at 2 g) (λ flags i. then_read (little_at 2 i) (λ n j.
     map_read (λ xs. record { left = l; top = t; right = r; bottom = m; w = w; h = h; depth = depth; flags = flags; bytes = xs }) (bytes_at n j))))))))))
 
 abbrev pub tiles_at : ℕ → List ℕ → Read (List Tile)
@@ -60,11 +61,11 @@ update_kind t = if t == 0 then OrdersKind else (if t == 1 then TilesKind else (i
 
 -- pad 2, numberOrders 2, pad 2, the orders
 abbrev pub orders_update_at : List ℕ → Read Update
-orders_update_at bs = then_read (bytes_at 2 bs) (λ pad a. then_read (number_at 2 a) (λ n b. then_read (bytes_at 2 b) (λ more c. Ok (Orders n c, []))))
+orders_update_at bs = then_read (bytes_at 2 bs) (λ pad a. then_read (little_at 2 a) (λ n b. then_read (bytes_at 2 b) (λ more c. Ok (Orders n c, []))))
 
 -- numberRectangles 2, the rectangles, which fill the body
 abbrev pub tiles_update_at : List ℕ → Read Update
-tiles_update_at bs = then_read (number_at 2 bs) (λ n a. all_of (map_read Tiles (tiles_at n a)))
+tiles_update_at bs = then_read (little_at 2 bs) (λ n a. all_of (map_read Tiles (tiles_at n a)))
 
 -- a Synchronize update is one field
 abbrev pub synchronize_at : List ℕ → Read Update
@@ -78,7 +79,7 @@ update_by NoKind whole bs = Err whole
 
 -- updateType 2, and what stands behind it
 abbrev pub update_at : List ℕ → Read Update
-update_at bs = then_read (number_at 2 bs) (λ t a. update_by (update_kind t) bs a)
+update_at bs = then_read (little_at 2 bs) (λ t a. update_by (update_kind t) bs a)
 
 -- ---- the viewer
 

@@ -1,6 +1,7 @@
 -- The updates of a host's bytes: each whole packet is a Send Data Indication on channel 1003 with a share data PDU of an update ([RFC 1006] 6, [X.224] 13.7, [T.125] 11.33, [MS-RDPBCGR] 2.2.8.1.1.1 and 2.2.9.1.1).
 use Rattle.std.specs.Prelude.{ℕ, zero, suc, ◌+◌, ◌-◌, ◌*◌, ◌%◌, ◌==◌, nat_lt, nat_le, Bool, true, false, ◌&&◌, List, [], ◌∷◌, ◌++◌, length, Option, Some, None, Ok, Err}
-use Rattle.order_fields.specs.Bytes.{Read, then_read, taken, bytes_at, number_at, given, kept, wanted}
+use Rattle.byte_fields.specs.Field.{Read, then_read, taken, bytes_at, given, kept, wanted}
+use Rattle.byte_fields.specs.Number.{little_at}
 use Rattle.order_means.specs.WirePixels.{turned}
 
 -- ---- a whole packet
@@ -46,7 +47,7 @@ body_within (Err left) after = Err (left ++ after)
 -- a share data PDU of an update: its total is at least 6 and at most what is there, and bytes behind it are dropped
 abbrev pub share_at : List ℕ → Read Within
 share_at bs =
-    then_read (number_at 2 bs) (λ total a. then_read (kept (nat_le 6 total && nat_le total (length bs)) (taken bs (total - 2) a) bs) (λ inside after. body_within (headers_at inside) after))
+    then_read (little_at 2 bs) (λ total a. then_read (kept (nat_le 6 total && nat_le total (length bs)) (taken bs (total - 2) a) bs) (λ inside after. body_within (headers_at inside) after))
 
 -- user data that the length before it counts
 abbrev pub counted_share : ℕ → List ℕ → Read Within

@@ -4,7 +4,7 @@ use Rattle.px_core.specs.Picture.{item, rows_of}
 use Rattle.draw_ops.specs.Content.{ImageOf, GlyphOf}
 use Rattle.draw_ops.specs.Formulas.{image_rows}
 use Rattle.run_lengths.specs.Packer.{packed}
-use Rattle.order_fields.specs.Bytes.{low_bytes}
+use Rattle.byte_fields.specs.Pixels.{pixels_bytes}
 
 -- ---- rows from the bottom up
 
@@ -50,10 +50,6 @@ glyph_cell_bytes glyph = padded (length glyph.bits)
 
 -- ---- pixels in bytes
 
--- pixels as blue, green, red
-abbrev pub pixel_bytes : List ℕ → List ℕ
-pixel_bytes pixels = flat_map (low_bytes 3) pixels
-
 -- the bytes of pixels, and whether they are packed
 pub record PixelData : Type 0 where
   pub is_packed : Bool
@@ -67,5 +63,5 @@ packed_if_shorter packed raw = if nat_lt (length packed) (length raw) then pixel
 
 -- pixels from the bottom up in rows of w: packed exactly where the viewer confirmed bitmaps without a header and that is shorter than three bytes a pixel
 abbrev pub data_of : Bool → ℕ → List ℕ → PixelData
-data_of false w pixels = pixel_data false (pixel_bytes pixels)
-data_of true w pixels = packed_if_shorter (packed w pixels) (pixel_bytes pixels)
+data_of false w pixels = pixel_data false (pixels_bytes pixels)
+data_of true w pixels = packed_if_shorter (packed w pixels) (pixels_bytes pixels)

@@ -2,7 +2,7 @@ ghost use Rattle.std.specs.Prelude.{◌≡◌, ◌<◌, ◌+◌, ◌-◌, ◌++�
 ghost use Rattle.px_core.specs.declared.surface.Size.{Size};
 ghost use Rattle.px_core.specs.declared.rectangle.Rect.{Rect};
 ghost use Rattle.caps_sets.specs.declared.confirmed.Confirmed.{Confirmed};
-ghost use Rattle.order_fields.specs.Bytes.{bind};
+ghost use Rattle.byte_fields.specs.Field.{bind};
 ghost use Rattle.order_fields.specs.OrderTable.{Registers, FieldList, Edges, AreRegisters, IsFieldList, FitBounds, registers_after};
 ghost use Rattle.order_fields.specs.OrderStream.{orders_in, with_orders};
 ghost use Rattle.order_fields.specs.OrderStream.Order.{Primary};

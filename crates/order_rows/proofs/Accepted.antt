@@ -1,7 +1,7 @@
 -- Bytes that are accepted, and what they mean beside the pictures: counts, unread bytes, and registers after a refusal.
 use Rattle.std.proofs.Common.{◌≡◌, ℕ, List, [], ◌∷◌, refl, Some, None, replicate, pos, false}
 use Rattle.std.specs.Prelude.{Ok, Result, length}
-use Rattle.order_fields.specs.Bytes.{bind}
+use Rattle.byte_fields.specs.Field.{bind}
 use Rattle.order_fields.specs.OrderTable.{first_registers, registers_after, field_list}
 use Rattle.order_fields.specs.OrderStream.{orders_in}
 use Rattle.order_means.specs.FrameMarks.{Reading, Refusal, read_stream, pictures_at_marks, unread}

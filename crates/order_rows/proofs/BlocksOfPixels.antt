@@ -1,7 +1,7 @@
 -- What a viewer makes of SaveBitmap: blocks that are saved and restored. A coordinate with a sign is added to the last one.
 use Rattle.std.proofs.Common.{◌≡◌, ℕ, List, [], ◌∷◌, ◌++◌, refl, Some, None, replicate, true, false}
 use Rattle.std.specs.Prelude.{Result, Ok}
-use Rattle.order_fields.specs.Bytes.{bind}
+use Rattle.byte_fields.specs.Field.{bind}
 use Rattle.order_means.specs.ClientState.Fault.{Broken}
 use Rattle.order_means.specs.FrameMarks.{Refusal, read_stream}
 use Rattle.order_rows.proofs.Viewer.{size_of}

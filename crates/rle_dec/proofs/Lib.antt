@@ -1,4 +1,3 @@
-pub mod Fields
 pub mod Drawn
 pub mod Places
 pub mod CopyLaws

@@ -1,6 +1,7 @@
 //! Reads the fields of orders from the front of a stream. A refusal carries the bytes from the refused field on.
 ghost use Rattle.std.specs.Prelude.{◌≡◌, ◌≤◌, [], ◌∷◌, IfOk};
-ghost use Rattle.run_lengths.specs.Bytes.{number_at, bytes_at, low_number};
+ghost use Rattle.byte_fields.specs.Number.{little_at, little_value};
+ghost use Rattle.byte_fields.specs.Field.{bytes_at};
 ghost use Rattle.run_lengths.specs.RunLength.{length_if, length_at};
 ghost use Rattle.rle_dec.specs.Reads.{read_of, itself, list_of};
 
@@ -21,7 +22,7 @@ pub fn read_bytes(stream: &[u8], n: usize) -> Read<'_, &[u8]>
 
 /// A number of one byte.
 pub fn read_byte(stream: &[u8]) -> Read<'_, u8>
-    ensures { read_of itself result ≡ number_at 1 stream.now }
+    ensures { read_of itself result ≡ little_at 1 stream.now }
 {
     match stream {
         [low, rest @ ..] => Ok((*low, rest)),
@@ -31,7 +32,7 @@ pub fn read_byte(stream: &[u8]) -> Read<'_, u8>
 
 /// A number of two bytes, the low one first.
 pub fn read_two_bytes(stream: &[u8]) -> Read<'_, u16>
-    ensures { read_of itself result ≡ number_at 2 stream.now }
+    ensures { read_of itself result ≡ little_at 2 stream.now }
 {
     match stream {
         [low, high, rest @ ..] => Ok((u16::from(*low) + 256 * u16::from(*high), rest)),
@@ -41,7 +42,7 @@ pub fn read_two_bytes(stream: &[u8]) -> Read<'_, u16>
 
 /// A pixel: blue, green, red.
 pub fn read_pixel(stream: &[u8]) -> Read<'_, u32>
-    ensures { read_of itself result ≡ number_at 3 stream.now }
+    ensures { read_of itself result ≡ little_at 3 stream.now }
 {
     match stream {
         [blue, green, red, rest @ ..] => Ok((pixel(*blue, *green, *red), rest)),
@@ -51,7 +52,7 @@ pub fn read_pixel(stream: &[u8]) -> Read<'_, u32>
 
 /// The number of a pixel.
 pub fn pixel(blue: u8, green: u8, red: u8) -> u32
-    ensures { result ≡ low_number (blue ∷ green ∷ red ∷ []) }
+    ensures { result ≡ little_value (blue ∷ green ∷ red ∷ []) }
 {
     u32::from(blue) + 256 * (u32::from(green) + 256 * u32::from(red))
 }

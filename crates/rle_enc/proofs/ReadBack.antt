@@ -5,7 +5,10 @@ use Rattle.std.proofs.lemmas.Bool.Decides.{nat_tests}
 use Rattle.std.proofs.lemmas.Bool.{and_parts, cases_lt}
 use Rattle.px_core.specs.Colors.{is_color, are_colors}
 use Rattle.px_core.proofs.Colors.{color_below}
-use Rattle.run_lengths.specs.Bytes.{Read, then_read, map_read, read_if, bytes_of, bytes_at, pixels_of, low_number, low_bytes}
+use Rattle.byte_fields.specs.Field.{Read, then_read, map_read, given, taken, bytes_at}
+use Rattle.byte_fields.specs.Pixels.{pixels_of, pixel_bytes}
+use Rattle.byte_fields.specs.Number.{little_value}
+use Rattle.byteorder.specs.Endian.{little_bytes}
 use Rattle.run_lengths.specs.Codes.{row_of, row, run}
 use Rattle.run_lengths.specs.declared.codes.Kind.TheVariants.{BackgroundRun, ColorRun, ColorImage}
 use Rattle.run_lengths.specs.declared.codes.Kind.{Kind}
@@ -13,7 +16,7 @@ use Rattle.run_lengths.specs.declared.codes.Length.{Length}
 use Rattle.run_lengths.specs.declared.codes.Length.TheVariants.{TwoBytes}
 use Rattle.run_lengths.specs.RunLength.{Run, Order, run_size, greatest_length, foreground_at, length_if, length_at, run_at, order_in_row, order_at, onto_orders, orders_after, orders_in}
 use Rattle.run_lengths.specs.RunLength.Run.{Background, Foreground, Mask, Color, Image, Dithered}
-use Rattle.run_lengths.specs.Packer.{length_bytes, pixel_bytes, run_bytes}
+use Rattle.run_lengths.specs.Packer.{length_bytes, run_bytes}
 use Rattle.run_lengths.proofs.Laws.{orders_in_next}
 
 -- ---- codes
@@ -29,27 +32,27 @@ image_code code l h = grind (arith, nat_tests, l, h)
 
 -- ---- numbers
 
-pixel_back : (c : ℕ) → is_color c ≡ true → low_number (low_bytes 3 c) ≡ c
+pixel_back : (c : ℕ) → is_color c ≡ true → little_value (little_bytes 3 c) ≡ c
 pixel_back c h = omega (arith, color_below c h)
 
-two_bytes_back : (n : ℕ) → n < 65536 → low_number (low_bytes 2 n) ≡ n
+two_bytes_back : (n : ℕ) → n < 65536 → little_value (little_bytes 2 n) ≡ n
 two_bytes_back n h = omega (arith, h)
 
 -- ---- lengths
 
 -- a length that is accepted
 accepted : (n greatest : ℕ) (rest field : List ℕ) → 1 ≤ n → n ≤ greatest → length_if greatest n rest field ≡ Ok (n, rest)
-accepted n greatest rest field l h = let e : (nat_lt 0 n && nat_le n greatest) ≡ true = grind (arith, nat_tests, l, h) in ap (λ t. read_if t n rest field) e
+accepted n greatest rest field l h = let e : (nat_lt 0 n && nat_le n greatest) ≡ true = grind (arith, nat_tests, l, h) in ap (λ t. given t n rest field) e
 
 length_in_code : (n greatest : ℕ) (stream rest : List ℕ) → 1 ≤ n → n ≤ greatest → length_at run n greatest stream rest ≡ Ok (n, rest)
 length_in_code zero greatest stream rest l h = absurd (omega (arith, l))
 length_in_code (suc n) greatest stream rest l h = let one : 1 * suc n ≡ suc n = omega arith in ap (λ m. length_if greatest m rest stream) one ∙ accepted (suc n) greatest rest stream l h
 
 length_in_byte : (n greatest : ℕ) (stream rest : List ℕ) → 32 ≤ n → n ≤ greatest → length_at run 0 greatest stream ((n - 32) ∷ rest) ≡ Ok (n, rest)
-length_in_byte n greatest stream rest l h = let all : low_number ((n - 32) ∷ []) + 32 ≡ n = omega (arith, l) in ap (λ m. length_if greatest m rest ((n - 32) ∷ rest)) all ∙ accepted n greatest rest ((n - 32) ∷ rest) (omega (arith, l)) h
+length_in_byte n greatest stream rest l h = let all : little_value ((n - 32) ∷ []) + 32 ≡ n = omega (arith, l) in ap (λ m. length_if greatest m rest ((n - 32) ∷ rest)) all ∙ accepted n greatest rest ((n - 32) ∷ rest) (omega (arith, l)) h
 
-length_in_two : (n greatest low : ℕ) (stream rest : List ℕ) → 1 ≤ n → n < 65536 → n ≤ greatest → length_at TwoBytes low greatest stream (low_bytes 2 n ++ rest) ≡ Ok (n, rest)
-length_in_two n greatest low stream rest l k h = ap (λ m. length_if greatest m rest (low_bytes 2 n ++ rest)) (two_bytes_back n k) ∙ accepted n greatest rest (low_bytes 2 n ++ rest) l h
+length_in_two : (n greatest low : ℕ) (stream rest : List ℕ) → 1 ≤ n → n < 65536 → n ≤ greatest → length_at TwoBytes low greatest stream (little_bytes 2 n ++ rest) ≡ Ok (n, rest)
+length_in_two n greatest low stream rest l k h = ap (λ m. length_if greatest m rest (little_bytes 2 n ++ rest)) (two_bytes_back n k) ∙ accepted n greatest rest (little_bytes 2 n ++ rest) l h
 
 -- ---- runs
 
@@ -75,7 +78,7 @@ headed first last long n left k more wide short two l h fits = ⊎_elim in_code 
       let e : nat_lt n 32 ≡ true = grind (arith, nat_tests, lt) in
       let low : (first + n) - first ≡ n = omega arith in
       let read : length_at run ((first + n) - first) (greatest_length k left) ((first + n) ∷ more) more ≡ Ok (n, more) = ap (λ m. length_at run m (greatest_length k left) ((first + n) ∷ more) more) low ∙ length_in_code n (greatest_length k left) ((first + n) ∷ more) more l fits in
-      ap (λ t. order_at left (cond t ((first + n) ∷ []) (cond (nat_lt n 288) (first ∷ (n - 32) ∷ []) (long ∷ low_bytes 2 n)) ++ more)) e
+      ap (λ t. order_at left (cond t ((first + n) ∷ []) (cond (nat_lt n 288) (first ∷ (n - 32) ∷ []) (long ∷ little_bytes 2 n)) ++ more)) e
       ∙ in_row first last (first + n) n left k run more more (short (first + n) (omega arith) (omega (arith, lt, wide))) read
 
   longer : 32 ≤ n → order_at left (length_bytes first long n ++ more) ≡ after_length k n more
@@ -88,18 +91,18 @@ headed first last long n left k more wide short two l h fits = ⊎_elim in_code 
         let f : nat_lt n 288 ≡ true = grind (arith, nat_tests, lt) in
         let none : first - first ≡ 0 = omega arith in
         let read : length_at run (first - first) (greatest_length k left) (first ∷ (n - 32) ∷ more) ((n - 32) ∷ more) ≡ Ok (n, more) = ap (λ m. length_at run m (greatest_length k left) (first ∷ (n - 32) ∷ more) ((n - 32) ∷ more)) none ∙ length_in_byte n (greatest_length k left) (first ∷ (n - 32) ∷ more) more ge fits in
-        ap (λ t. order_at left (cond t ((first + n) ∷ []) (cond (nat_lt n 288) (first ∷ (n - 32) ∷ []) (long ∷ low_bytes 2 n)) ++ more)) e
-        ∙ ap (λ t. order_at left (cond t (first ∷ (n - 32) ∷ []) (long ∷ low_bytes 2 n) ++ more)) f
+        ap (λ t. order_at left (cond t ((first + n) ∷ []) (cond (nat_lt n 288) (first ∷ (n - 32) ∷ []) (long ∷ little_bytes 2 n)) ++ more)) e
+        ∙ ap (λ t. order_at left (cond t (first ∷ (n - 32) ∷ []) (long ∷ little_bytes 2 n) ++ more)) f
         ∙ in_row first last first n left k run ((n - 32) ∷ more) more (short first (omega arith) (omega (arith, wide))) read
 
     in_two : 288 ≤ n → order_at left (length_bytes first long n ++ more) ≡ after_length k n more
     in_two gt =
         let f : nat_lt n 288 ≡ false = grind (arith, nat_tests, gt) in
-        ap (λ t. order_at left (cond t ((first + n) ∷ []) (cond (nat_lt n 288) (first ∷ (n - 32) ∷ []) (long ∷ low_bytes 2 n)) ++ more)) e
-        ∙ ap (λ t. order_at left (cond t (first ∷ (n - 32) ∷ []) (long ∷ low_bytes 2 n) ++ more)) f
-        ∙ in_row long long long n left k TwoBytes (low_bytes 2 n ++ more) more two (length_in_two n (greatest_length k left) (long - long) (long ∷ low_bytes 2 n ++ more) more l h fits)
+        ap (λ t. order_at left (cond t ((first + n) ∷ []) (cond (nat_lt n 288) (first ∷ (n - 32) ∷ []) (long ∷ little_bytes 2 n)) ++ more)) e
+        ∙ ap (λ t. order_at left (cond t (first ∷ (n - 32) ∷ []) (long ∷ little_bytes 2 n) ++ more)) f
+        ∙ in_row long long long n left k TwoBytes (little_bytes 2 n ++ more) more two (length_in_two n (greatest_length k left) (long - long) (long ∷ little_bytes 2 n ++ more) more l h fits)
 
-bytes_back : (field xs rest : List ℕ) → bytes_of field (length xs) (xs ++ rest) ≡ Ok (xs, rest)
+bytes_back : (field xs rest : List ℕ) → taken field (length xs) (xs ++ rest) ≡ Ok (xs, rest)
 bytes_back field [] rest = refl
 bytes_back field (x ∷ xs) rest = ap (map_read (λ bs. x ∷ bs)) (bytes_back field xs rest)
 

@@ -1,6 +1,7 @@
 //! Writes the orders of the packer: background runs, colour runs and colour images.
 ghost use Rattle.std.specs.Prelude.{◌≡◌, ◌/◌, ◌%◌, ◌<◌, ◌≤◌, ◌++◌, OnOk, flat_map, length};
-ghost use Rattle.run_lengths.specs.Packer.{length_bytes, pixel_bytes, run_bytes};
+ghost use Rattle.run_lengths.specs.Packer.{length_bytes, run_bytes};
+ghost use Rattle.byte_fields.specs.Pixels.{pixel_bytes};
 ghost use Rattle.rle_enc.specs.Stretch.{literal_bytes};
 ghost use Rattle.run_lengths.specs.RunLength as runs;
 
@@ -67,9 +68,9 @@ fn green(color: u32) -> u8
 
 /// The third byte of a pixel.
 fn red(color: u32) -> u8
-    ensures { result ≡ color / 256 / 256 % 256 }
+    ensures { result ≡ color / 65536 % 256 }
 {
-    (color / 256 / 256 % 256) as u8
+    (color / 65536 % 256) as u8
 }
 
 /// A pixel as blue, green, red.

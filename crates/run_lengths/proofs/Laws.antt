@@ -3,7 +3,10 @@ use Rattle.std.proofs.Common.{◌≡◌, ℕ, zero, suc, ◌+◌, ◌-◌, ◌*�
 use Rattle.std.proofs.lemmas.List.{length-drop, length-map, length-replicate, take-append-drop, length-take-le, drop_at, get_or_append_left, get_or-replicate, get_or-append_right}
 use Rattle.std.proofs.lemmas.Bool.Decides.{nat_tests}
 use Rattle.std.specs.Prelude.{flat_map, IfOk, IfErr, MatchResult, nat_le, nat_lt, ◌&&◌}
-use Rattle.run_lengths.specs.Bytes.{Read, then_read, map_read, read_if, bytes_of, bytes_at, number_at, pixels_of, low_number}
+use Rattle.byte_fields.specs.Field.{Read, then_read, map_read, given, taken, bytes_at}
+use Rattle.byte_fields.specs.Number.{little_at, little_value}
+use Rattle.byte_fields.specs.Pixels.{pixels_of}
+use Rattle.byte_fields.proofs.Pixels.{length-pixels_of}
 use Rattle.run_lengths.specs.Codes.{row_of}
 use Rattle.run_lengths.specs.declared.codes.Kind.{Kind}
 use Rattle.run_lengths.specs.declared.codes.Length.{Length}
@@ -68,28 +71,20 @@ leaves_map : {A B : Type 0} (P : A → Type 0) (Q : B → Type 0) (n : ℕ) (r :
 leaves_map P Q n (Ok v) f h g = (g v.0 h.0, h.1)
 leaves_map P Q n (Err refused) f h g = h
 
-leaves_if : {A : Type 0} (P : A → Type 0) (n : ℕ) (test : Bool) (a : A) (rest field : List ℕ) → (test ≡ true → P a) → length rest ≤ n → length field ≤ suc n → Leaves P n (read_if test a rest field)
+leaves_if : {A : Type 0} (P : A → Type 0) (n : ℕ) (test : Bool) (a : A) (rest field : List ℕ) → (test ≡ true → P a) → length rest ≤ n → length field ≤ suc n → Leaves P n (given test a rest field)
 leaves_if P n true a rest field h less l = (h refl, less)
 leaves_if P n false a rest field h less l = l
 
-leaves_bytes : (k n : ℕ) (field bytes : List ℕ) → length bytes ≤ n → length field ≤ n → Leaves (λ xs. length xs ≡ k) n (bytes_of field k bytes)
+leaves_bytes : (k n : ℕ) (field bytes : List ℕ) → length bytes ≤ n → length field ≤ n → Leaves (λ xs. length xs ≡ k) n (taken field k bytes)
 leaves_bytes zero n field bytes le l = (refl, le)
 leaves_bytes (suc k) n field [] le l = omega arith
-leaves_bytes (suc k) n field (b ∷ bytes) le l = leaves_map (λ xs. length xs ≡ k) (λ xs. length xs ≡ suc k) n (bytes_of field k bytes) (λ xs. b ∷ xs) (leaves_bytes k n field bytes (omega (arith, le)) l) (λ xs e. ap suc e)
+leaves_bytes (suc k) n field (b ∷ bytes) le l = leaves_map (λ xs. length xs ≡ k) (λ xs. length xs ≡ suc k) n (taken field k bytes) (λ xs. b ∷ xs) (leaves_bytes k n field bytes (omega (arith, le)) l) (λ xs e. ap suc e)
 
 abbrev pub Any : {A : Type 0} → A → Type 0
 Any a = Unit {0}
 
-leaves_number : (k n : ℕ) (bytes : List ℕ) → length bytes ≤ n → Leaves (Any {A = ℕ}) n (number_at k bytes)
-leaves_number k n bytes le = leaves_map (λ xs. length xs ≡ k) (Any {A = ℕ}) n (bytes_at k bytes) low_number (leaves_bytes k n bytes bytes le le) (λ xs e. tt)
-
-pub length-pixels_of : (n : ℕ) (bytes : List ℕ) → length bytes ≡ 3 * n → length (pixels_of bytes) ≡ n
-length-pixels_of zero [] e = refl
-length-pixels_of zero (b ∷ bytes) e = absurd (omega (arith, e))
-length-pixels_of (suc n) [] e = absurd (omega (arith, e))
-length-pixels_of (suc n) (b ∷ []) e = absurd (omega (arith, e))
-length-pixels_of (suc n) (b ∷ g ∷ []) e = absurd (omega (arith, e))
-length-pixels_of (suc n) (b ∷ g ∷ r ∷ bytes) e = let f : length bytes ≡ 3 * n = omega (arith, e) in ap suc (length-pixels_of n bytes f)
+leaves_number : (k n : ℕ) (bytes : List ℕ) → length bytes ≤ n → Leaves (Any {A = ℕ}) n (little_at k bytes)
+leaves_number k n bytes le = leaves_map (λ xs. length xs ≡ k) (Any {A = ℕ}) n (bytes_at k bytes) little_value (leaves_bytes k n bytes bytes le le) (λ xs e. tt)
 
 pub length-bits_of : (n x : ℕ) → length (bits_of n x) ≡ n
 length-bits_of zero x = refl
@@ -113,9 +108,9 @@ leaves_length_if : (greatest n : ℕ) (rest field : List ℕ) (m : ℕ) → leng
 leaves_length_if greatest n rest field m less l = leaves_if (InRange greatest) m (nat_lt 0 n && nat_le n greatest) n rest field (in_range greatest n) less l
 
 leaves_length : (l : Length) (low greatest code : ℕ) (rest : List ℕ) → Leaves (InRange greatest) (length rest) (length_at l low greatest (code ∷ rest) rest)
-leaves_length (InCode scale more) zero greatest code rest = leaves_then (Any {A = ℕ}) (InRange greatest) (length rest) (number_at 1 rest) (λ n after. length_if greatest (n + more) after rest) (leaves_number 1 (length rest) rest (omega arith)) (λ n after t le. leaves_length_if greatest (n + more) after rest (length rest) le (omega arith))
+leaves_length (InCode scale more) zero greatest code rest = leaves_then (Any {A = ℕ}) (InRange greatest) (length rest) (little_at 1 rest) (λ n after. length_if greatest (n + more) after rest) (leaves_number 1 (length rest) rest (omega arith)) (λ n after t le. leaves_length_if greatest (n + more) after rest (length rest) le (omega arith))
 leaves_length (InCode scale more) (suc low) greatest code rest = leaves_length_if greatest (scale * suc low) rest (code ∷ rest) (length rest) (omega arith) (omega arith)
-leaves_length TwoBytes low greatest code rest = leaves_then (Any {A = ℕ}) (InRange greatest) (length rest) (number_at 2 rest) (λ n after. length_if greatest n after rest) (leaves_number 2 (length rest) rest (omega arith)) (λ n after t le. leaves_length_if greatest n after rest (length rest) le (omega arith))
+leaves_length TwoBytes low greatest code rest = leaves_then (Any {A = ℕ}) (InRange greatest) (length rest) (little_at 2 rest) (λ n after. length_if greatest n after rest) (leaves_number 2 (length rest) rest (omega arith)) (λ n after t le. leaves_length_if greatest n after rest (length rest) le (omega arith))
 leaves_length (Fixed n) low greatest code rest = leaves_length_if greatest n rest (code ∷ rest) (length rest) (omega arith) (omega arith)
 
 leaves_foreground : (sets : Bool) (n : ℕ) (bytes : List ℕ) → length bytes ≤ n → Leaves (Any {A = Option ℕ}) n (foreground_at sets bytes)

@@ -1,4 +1,3 @@
-pub mod Bytes
 pub mod Codes
 pub mod RunLength
 pub mod Packer

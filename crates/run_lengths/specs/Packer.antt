@@ -1,6 +1,7 @@
 -- The packer (profile): the bytes that stand for pixels of rows of w, the bottom row first.
 use Rattle.std.specs.Prelude.{ℕ, zero, suc, ◌+◌, ◌-◌, ◌==◌, nat_lt, nat_le, ◌&&◌, List, [], ◌∷◌, ◌++◌, length, flat_map, take, drop, zip, replicate, if◌then◌else◌}
-use Rattle.run_lengths.specs.Bytes.{low_bytes}
+use Rattle.byteorder.specs.Endian.{little_bytes}
+use Rattle.byte_fields.specs.Pixels.{pixel_bytes, pixels_bytes}
 use Rattle.run_lengths.specs.RunLength.{Run, run_size}
 use Rattle.run_lengths.specs.RunLength.Run.{Background, Foreground, Mask, Color, Image, Dithered}
 
@@ -51,17 +52,13 @@ packed_runs spots = joined_images (runs_past 0 spots)
 abbrev pub length_bytes : ℕ → ℕ → ℕ → List ℕ
 length_bytes code long_code n =
     if nat_lt n 32 then (code + n) ∷ []
-    else (if nat_lt n 288 then code ∷ (n - 32) ∷ [] else long_code ∷ low_bytes 2 n)
-
--- a pixel as blue, green, red
-abbrev pub pixel_bytes : ℕ → List ℕ
-pixel_bytes color = low_bytes 3 color
+    else (if nat_lt n 288 then code ∷ (n - 32) ∷ [] else long_code ∷ little_bytes 2 n)
 
 -- the bytes of a run; the packer writes three kinds alone
 abbrev pub run_bytes : Run → List ℕ
 run_bytes (Background n) = length_bytes 0x00 0xF0 n
 run_bytes (Color n color) = length_bytes 0x60 0xF3 n ++ pixel_bytes color
-run_bytes (Image colors) = length_bytes 0x80 0xF4 (length colors) ++ flat_map pixel_bytes colors
+run_bytes (Image colors) = length_bytes 0x80 0xF4 (length colors) ++ pixels_bytes colors
 run_bytes (Foreground n) = []
 run_bytes (Mask bits) = []
 run_bytes (Dithered n first second) = []

@@ -1,6 +1,8 @@
 -- Run-length bitmaps ([MS-RDPBCGR] 2.2.9.1.1.3.1.2.4 and 3.1.9): the orders that a byte stream is cut into, and the pixels that they draw, the bottom row first.
 use Rattle.std.specs.Prelude.{◌≡◌, ℕ, zero, suc, ◌+◌, ◌-◌, ◌*◌, ◌/◌, ◌%◌, ◌==◌, nat_lt, nat_le, Bool, true, false, ◌&&◌, List, [], ◌∷◌, ◌++◌, length, map, flat_map, take, drop, replicate, Option, Some, None, unwrap_or, Result, Ok, Err, bit_xor, if◌then◌else◌}
-use Rattle.run_lengths.specs.Bytes.{Read, then_read, map_read, read_if, bytes_at, number_at, pixels_of, place_in}
+use Rattle.byte_fields.specs.Field.{Read, then_read, map_read, given, bytes_at, place_in}
+use Rattle.byte_fields.specs.Number.{little_at}
+use Rattle.byte_fields.specs.Pixels.{pixels_of}
 use Rattle.run_lengths.specs.Codes.{row_of, white}
 use Rattle.run_lengths.specs.declared.codes.Kind.{Kind}
 use Rattle.run_lengths.specs.declared.codes.Length.{Length}
@@ -59,18 +61,18 @@ greatest_length (FixedColor c) left = left
 
 -- a length from 1 to the greatest, refused at its own field
 abbrev pub length_if : ℕ → ℕ → List ℕ → List ℕ → Read ℕ
-length_if greatest n rest field = read_if (nat_lt 0 n && nat_le n greatest) n rest field
+length_if greatest n rest field = given (nat_lt 0 n && nat_le n greatest) n rest field
 
 -- the length of an order by the low bits of its code; `stream` begins with the code, `rest` after it
 abbrev pub length_at : Length → ℕ → ℕ → List ℕ → List ℕ → Read ℕ
-length_at (InCode scale more) zero greatest stream rest = then_read (number_at 1 rest) (λ n after. length_if greatest (n + more) after rest)
+length_at (InCode scale more) zero greatest stream rest = then_read (little_at 1 rest) (λ n after. length_if greatest (n + more) after rest)
 length_at (InCode scale more) (suc low) greatest stream rest = length_if greatest (scale * suc low) rest stream
-length_at TwoBytes low greatest stream rest = then_read (number_at 2 rest) (λ n after. length_if greatest n after rest)
+length_at TwoBytes low greatest stream rest = then_read (little_at 2 rest) (λ n after. length_if greatest n after rest)
 length_at (Fixed n) low greatest stream rest = length_if greatest n rest stream
 
 -- a pixel in its three bytes
 abbrev pub pixel_at : List ℕ → Read ℕ
-pixel_at bytes = number_at 3 bytes
+pixel_at bytes = little_at 3 bytes
 
 -- the foreground that an order sets
 abbrev pub foreground_at : Bool → List ℕ → Read (Option ℕ)

@@ -11,7 +11,7 @@ use Rattle.session_rules.specs.declared.entry.Entry.TheVariants.{Join, Draw}
 use Rattle.session_rules.specs.declared.entry.Role.TheVariants.{Owner}
 use Rattle.session_rules.specs.Journal.{reached_at_first, reached_after_entry, reached_after, picture_after_entries}
 use Rattle.session_rules.specs.Steps.{journal_of_steps, frame_numbers}
-use Rattle.order_fields.specs.Bytes.{bind}
+use Rattle.byte_fields.specs.Field.{bind}
 use Rattle.frame_rules.proofs.FrameLaws.{first_are_registers}
 use Rattle.order_means.specs.Updates.{Cutting, cutting, updates_in, refusal_in}
 use Rattle.order_means.specs.Updates.Stage.{Between}

@@ -2,11 +2,10 @@
 use Rattle.std.proofs.Common.{◌≡◌, ℕ, ◌+◌, ◌/◌, ◌%◌, ◌<◌, ◌≤◌, List, [], ◌∷◌, ◌++◌, length, refl, ap, ◌∙◌, arith, Bool, true, false}
 use Rattle.std.specs.Prelude.{nat_lt, if◌then◌else◌}
 use Rattle.std.specs.Int.{byte_at}
-use Rattle.byteorder.specs.Endian.{big_bytes}
+use Rattle.byteorder.specs.Endian.{big_bytes, little_bytes}
 use Rattle.wire_num.specs.Length.{per_len_of}
 use Rattle.tpkt_x224.specs.Data.{data_header, data_packet}
 use Rattle.mcs_dom.specs.SendData.{indication_start, send_data_indication}
-use Rattle.order_fields.specs.Bytes.{low_bytes}
 use Rattle.order_means.specs.HostBytes.{orders_body, synchronize_body, share_bytes, per_length_bytes, indication_bytes, packet_bytes, update_packet, synchronize_packet}
 use Rattle.solo_runs.specs.Headers.{orders_headers}
 
@@ -50,5 +49,5 @@ share_is count orders =
     let body = orders_body count orders in
     let whole : 18 + length body ≡ 26 + length orders = omega arith in
     let part : 4 + length body ≡ 12 + length orders = omega arith in
-    ap (λ n. low_bytes 2 n ++ (0x17 ∷ 0 ∷ 0xEA ∷ 3 ∷ 0xEA ∷ 3 ∷ 1 ∷ 0 ∷ 0 ∷ 1 ∷ (low_bytes 2 (4 + length body) ++ 2 ∷ 0 ∷ 0 ∷ 0 ∷ body))) whole
-    ∙ ap (λ n. low_bytes 2 (26 + length orders) ++ (0x17 ∷ 0 ∷ 0xEA ∷ 3 ∷ 0xEA ∷ 3 ∷ 1 ∷ 0 ∷ 0 ∷ 1 ∷ (low_bytes 2 n ++ 2 ∷ 0 ∷ 0 ∷ 0 ∷ body))) part
+    ap (λ n. little_bytes 2 n ++ (0x17 ∷ 0 ∷ 0xEA ∷ 3 ∷ 0xEA ∷ 3 ∷ 1 ∷ 0 ∷ 0 ∷ 1 ∷ (little_bytes 2 (4 + length body) ++ 2 ∷ 0 ∷ 0 ∷ 0 ∷ body))) whole
+    ∙ ap (λ n. little_bytes 2 (26 + length orders) ++ (0x17 ∷ 0 ∷ 0xEA ∷ 3 ∷ 0xEA ∷ 3 ∷ 1 ∷ 0 ∷ 0 ∷ 1 ∷ (little_bytes 2 n ++ 2 ∷ 0 ∷ 0 ∷ 0 ∷ body))) part

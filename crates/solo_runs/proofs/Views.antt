@@ -14,7 +14,7 @@ use Rattle.draw_ops.specs.Ranges.{is_drawing_in_range, is_rect_in_range}
 use Rattle.draw_ops.specs.Fits.{rect_rule, is_side, first_some}
 use Rattle.session_rules.specs.Journal.{Refusal, unless, most_entries}
 use Rattle.session_rules.specs.Journal.Refusal.{BadDrawing, JournalFull}
-use Rattle.order_fields.specs.Bytes.{bind}
+use Rattle.byte_fields.specs.Field.{bind}
 use Rattle.order_fields.specs.OrderTable.{Registers, AreRegisters, registers_after}
 use Rattle.order_means.specs.Updates.{cutting}
 use Rattle.order_means.specs.Updates.Stage.{Between}

@@ -3,7 +3,7 @@ use Rattle.std.specs.Prelude.{OnOk, OnErr, ◌-◌}
 use Rattle.std.proofs.lemmas.Result.{err_from_is_err_and}
 use Rattle.wire_num.specs.Written.{AppendsFront}
 use Rattle.wire_num.proofs.Fronts.{front_before, front_after}
-use Rattle.order_fields.specs.Bytes.{low_bytes}
+use Rattle.byteorder.specs.Endian.{little_bytes}
 use Rattle.order_fields.specs.OrderTable.{row_of, last_values}
 use Rattle.order_fields.specs.OrderDelta.{fields_of, type_bytes, shown, bounds_bytes, present_bytes, keeps_bytes, control_byte, has_bounds}
 use Rattle.order_fields.specs.Kept.{optional_edges, registers_of, row_flags, is_row_counted}
@@ -63,7 +63,7 @@ returns-in_err-put_head-clause-memory c =
     c.kind-kind.ensures c.kinds_of-kinds.ensures c.values-last.ensures c.values-values.ensures.value c.bytes-bytes.ensures same_keeps c.changed_flags-flags.ensures.flags c.takes_deltas-delta.ensures
     c.is_typed-typed.ensures c.keeps_bounds-keeps_edges.ensures same_control in
     let a = control ∷ type_bytes typed kind in
-    let b = low_bytes (shown flags) flags in
+    let b = little_bytes (shown flags) flags in
     let d = bounds_bytes keeps_edges regs.bounds bounds in
     let e = present_bytes (fields_of kinds last values) delta keeps bytes in
     let old = c.args.out.now.items in
@@ -93,7 +93,7 @@ returns-in_err-put_low-clause-memory c =
     c.kind-kind.ensures c.kinds_of-kinds.ensures c.values-last.ensures c.values-values.ensures.value c.bytes-bytes.ensures same_keeps c.changed_flags-flags.ensures.flags c.takes_deltas-delta.ensures
     c.is_typed-typed.ensures c.keeps_bounds-keeps_edges.ensures same_control in
     let a = control ∷ type_bytes typed kind in
-    let b = low_bytes (shown flags) flags in
+    let b = little_bytes (shown flags) flags in
     let d = bounds_bytes keeps_edges regs.bounds bounds in
     let e = present_bytes (fields_of kinds last values) delta keeps bytes in
     let old = c.args.out.now.items in
@@ -123,7 +123,7 @@ returns-in_err-put_bounds-clause-memory c =
     c.kind-kind.ensures c.kinds_of-kinds.ensures c.values-last.ensures c.values-values.ensures.value c.bytes-bytes.ensures same_keeps c.changed_flags-flags.ensures.flags c.takes_deltas-delta.ensures
     c.is_typed-typed.ensures c.keeps_bounds-keeps_edges.ensures same_control in
     let a = control ∷ type_bytes typed kind in
-    let b = low_bytes (shown flags) flags in
+    let b = little_bytes (shown flags) flags in
     let d = bounds_bytes keeps_edges regs.bounds bounds in
     let e = present_bytes (fields_of kinds last values) delta keeps bytes in
     let old = c.args.out.now.items in
@@ -154,7 +154,7 @@ returns-clause-ok c =
     c.kind-kind.ensures c.kinds_of-kinds.ensures c.values-last.ensures c.values-values.ensures.value c.bytes-bytes.ensures same_keeps c.changed_flags-flags.ensures.flags c.takes_deltas-delta.ensures
     c.is_typed-typed.ensures c.keeps_bounds-keeps_edges.ensures same_control in
     let a = control ∷ type_bytes typed kind in
-    let b = low_bytes (shown flags) flags in
+    let b = little_bytes (shown flags) flags in
     let d = bounds_bytes keeps_edges regs.bounds bounds in
     let e = present_bytes (fields_of kinds last values) delta keeps bytes in
     let old = c.args.out.now.items in
@@ -186,7 +186,7 @@ returns-clause-memory c =
     c.kind-kind.ensures c.kinds_of-kinds.ensures c.values-last.ensures c.values-values.ensures.value c.bytes-bytes.ensures same_keeps c.changed_flags-flags.ensures.flags c.takes_deltas-delta.ensures
     c.is_typed-typed.ensures c.keeps_bounds-keeps_edges.ensures same_control in
     let a = control ∷ type_bytes typed kind in
-    let b = low_bytes (shown flags) flags in
+    let b = little_bytes (shown flags) flags in
     let d = bounds_bytes keeps_edges regs.bounds bounds in
     let e = present_bytes (fields_of kinds last values) delta keeps bytes in
     let old = c.args.out.now.items in

@@ -1,6 +1,6 @@
 use Rattle.std.proofs.Common.{◌≡◌, ◌++◌, take}
 use Rattle.std.specs.Prelude.{flat_map}
-use Rattle.run_lengths.specs.Packer.{pixel_bytes}
+use Rattle.byte_fields.specs.Pixels.{pixel_bytes}
 use Rattle.rle_enc.proofs.orders.write_each.Given as goal
 
 abbrev pub invariant-loop-pixel : goal.invariant-loop-pixel
