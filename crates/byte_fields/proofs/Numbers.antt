@@ -1,14 +1,16 @@
 -- Numbers that are written are read back, and a number in bytes is that of `byteorder`.
 use Rattle.std.proofs.Common.{◌≡◌, ℕ, zero, suc, ◌+◌, ◌*◌, ◌/◌, ◌%◌, ◌^◌, ◌<◌, ◌≤◌, Bool, true, false, List, [], ◌∷◌, ◌++◌, length, take, drop, refl, ap, sym, ◌∙◌, arith, add-mul, mul_comm, mul_assoc, add_assoc}
-use Rattle.std.specs.Prelude.{Ok, Err, nat_lt, slice_index, if◌then◌else◌, All}
+use Rattle.std.specs.Prelude.{Ok, Err, ◌-◌, nat_lt, slice_index, if◌then◌else◌, All, ℤ, pos, negsuc, ◌-ℤ◌}
 use Rattle.std.specs.Int.{byte_at, bytes_low_first, bytes_high_first}
 use Rattle.std.proofs.lemmas.Bool.Decides.{nat_tests}
+use Rattle.std.proofs.lemmas.Int.{ints}
 use Rattle.std.proofs.lemmas.List.Elements.{All-nil, All-cons}
 use Rattle.std.proofs.Math.Seq.{take-length}
 use Rattle.std.proofs.Math.Nat.{div-div-eq-div-mul}
-use Rattle.byteorder.specs.Endian.{little_bytes, big_bytes, little_number, little_from, big_number, big_from}
-use Rattle.byte_fields.specs.Field.{map_read, taken, bytes_at}
-use Rattle.byte_fields.specs.Number.{little_value, big_value, big_after, little_at, big_at}
+use Rattle.byteorder.specs.Endian.{little_bytes, big_bytes, little_number, little_from, big_number, big_from, twos_complement}
+use Rattle.byteorder.proofs.Bytes.{pow256}
+use Rattle.byte_fields.specs.Field.{map_read, taken}
+use Rattle.byte_fields.specs.Number.{little_value, big_value, big_after, little_at, big_at, unsigned, IsSigned, little_signed, little_signed_at}
 use Rattle.byte_fields.proofs.Bytes.{taken_back, taken_enough, taken_few}
 
 -- ---- the bytes of a number
@@ -86,6 +88,33 @@ little_at_back n x rest h =
 pub big_at_back : (n x : ℕ) (rest : List ℕ) → x < 256 ^ n → big_at n (big_bytes n x ++ rest) ≡ Ok (x, rest)
 big_at_back n x rest h =
     ap (map_read big_value) (bytes_taken n (big_bytes n x ++ rest) (big_bytes n x) rest (length-big n x)) ∙ ap (λ y. Ok (y, rest)) (big_back n x h)
+
+-- half of the numbers of n bytes stand for negative ones
+half : (n : ℕ) → 1 ≤ n → 256 ^ n ≡ 2 * 2 ^ (8 * n - 1)
+half zero h = absurd (omega (arith, h))
+half (suc n) h =
+    let next : 8 * suc n ≡ suc (8 * suc n - 1) = omega arith in
+    pow256 (suc n) ∙ ap (λ k. 2 ^ k) next ∙ grind arith
+
+signed_is : (n : ℕ) (z : ℤ) → 1 ≤ n → IsSigned n z → twos_complement n (unsigned n z) ≡ z
+signed_is n (pos x) some h =
+    let low : nat_lt x (2 ^ (8 * n - 1)) ≡ true = grind (arith, nat_tests, h) in
+    ap (λ t. if t then pos x else pos x -ℤ pos (2 ^ (8 * n))) low
+signed_is n (negsuc x) some h =
+    let size = half n some in
+    let whole : 2 ^ (8 * n) ≡ 256 ^ n = sym (pow256 n) in
+    let high : nat_lt (256 ^ n - suc x) (2 ^ (8 * n - 1)) ≡ false = grind (arith, nat_tests, h, size) in
+    let value : pos (256 ^ n - suc x) -ℤ pos (256 ^ n) ≡ negsuc x = grind (arith, ints, h, size) in
+    ap (λ t. if t then pos (256 ^ n - suc x) else pos (256 ^ n - suc x) -ℤ pos (2 ^ (8 * n))) high
+    ∙ ap (λ p. pos (256 ^ n - suc x) -ℤ pos p) whole ∙ value
+
+signed_below : (n : ℕ) (z : ℤ) → 1 ≤ n → IsSigned n z → unsigned n z < 256 ^ n
+signed_below n (pos x) some h = omega (arith, h, half n some)
+signed_below n (negsuc x) some h = omega (arith, h, half n some)
+
+pub little_signed_at_back : (n : ℕ) (z : ℤ) (rest : List ℕ) → 1 ≤ n → IsSigned n z → little_signed_at n (little_signed n z ++ rest) ≡ Ok (z, rest)
+little_signed_at_back n z rest some h =
+    ap (map_read (λ x. twos_complement n x)) (little_at_back n (unsigned n z) rest (signed_below n z some h)) ∙ ap (λ y. Ok (y, rest)) (signed_is n z some h)
 
 -- a field of one byte
 pub byte_at_back : (b : ℕ) (rest : List ℕ) → little_at 1 (b ∷ rest) ≡ Ok (b, rest)

@@ -1,5 +1,5 @@
 -- Numbers in fields. They are written by `little_bytes`, the lowest byte first, and by `big_bytes`, the highest first.
-use Rattle.std.specs.Prelude.{ℕ, suc, ◌+◌, ◌-◌, ◌*◌, ◌^◌, ℤ, pos, negsuc, List, [], ◌∷◌}
+use Rattle.std.specs.Prelude.{◌<◌, ℕ, suc, ◌+◌, ◌-◌, ◌*◌, ◌^◌, ℤ, pos, negsuc, List, [], ◌∷◌}
 use Rattle.byteorder.specs.Endian.{little_bytes, twos_complement}
 use Rattle.byte_fields.specs.Field.{Read, map_read, bytes_at}
 
@@ -29,6 +29,11 @@ big_at n bs = map_read big_value (bytes_at n bs)
 abbrev pub unsigned : ℕ → ℤ → ℕ
 unsigned n (pos x) = x
 unsigned n (negsuc x) = 256 ^ n - suc x
+
+-- a signed number has place in n bytes
+abbrev pub IsSigned : ℕ → ℤ → Type 0
+IsSigned n (pos x) = x < 2 ^ (8 * n - 1)
+IsSigned n (negsuc x) = x < 2 ^ (8 * n - 1)
 
 -- a signed number in n bytes, the lowest first
 abbrev pub little_signed : ℕ → ℤ → List ℕ

@@ -2,3 +2,7 @@
 //!
 //! The definitions stand in specs/, and compute. Numbers are written by `little_bytes` and `big_bytes` of `byteorder`, which compute too.
 #![tactic(auto)]
+
+mod laws;
+
+pub use laws::{fields_are_tests_of_the_length, numbers_are_read_back, pixels_are_read_back};

@@ -1,10 +1,10 @@
 -- The bytes of a patch's order are bytes.
-use Rattle.std.proofs.Common.{ℕ, zero, suc, ◌/◌, ◌%◌, ◌<◌, ◌≤◌, List, [], ◌∷◌, ◌++◌, arith, None, Bool, true, false}
+use Rattle.std.proofs.Common.{ℕ, ◌<◌, ◌≤◌, List, [], ◌∷◌, ◌++◌, arith, None, Bool, true, false}
 use Rattle.std.specs.Prelude.{ℤ, ◌-ℤ◌, All}
 use Rattle.std.proofs.lemmas.List.Elements.{All-nil, All-cons, All-append}
 use Rattle.order_fields.specs.declared.kind.Kind.{Kind}
 use Rattle.order_fields.specs.declared.kind.Kind.TheVariants.{Coordinate, Number, Signed, Color}
-use Rattle.byteorder.specs.Endian.{little_bytes, big_bytes}
+use Rattle.byteorder.specs.Endian.{little_bytes}
 use Rattle.byte_fields.specs.Number.{unsigned}
 use Rattle.byte_fields.proofs.Numbers.{little_are_bytes, big_are_bytes}
 use Rattle.order_fields.specs.OrderTable.{Registers, opaque_rect, last_values}

@@ -1,5 +1,5 @@
 -- A frame of patches is read whole: it isn't refused, it leaves no rest, and it marks the picture with the patches on it.
-use Rattle.std.proofs.Common.{◌≡◌, ℕ, suc, ◌+◌, ◌-◌, ◌/◌, ◌%◌, ◌<◌, ◌≤◌, List, [], ◌∷◌, ◌++◌, length, refl, ap, sym, ◌∙◌, subst, arith, None, Bool, true, false, length-append}
+use Rattle.std.proofs.Common.{◌≡◌, ℕ, suc, ◌+◌, ◌-◌, ◌<◌, ◌≤◌, List, [], ◌∷◌, ◌++◌, length, refl, ap, sym, ◌∙◌, subst, arith, None, Bool, true, false, length-append}
 use Rattle.std.specs.Prelude.{Ok, nat_lt, ◌&&◌, if◌then◌else◌}
 use Rattle.std.proofs.lemmas.Bool.{and_parts}
 use Rattle.std.proofs.lemmas.Bool.Decides.{nat_tests}
@@ -7,13 +7,19 @@ use Rattle.std.proofs.lemmas.List.{append-nil}
 use Rattle.px_core.specs.declared.surface.Size.{Size}
 use Rattle.caps_sets.specs.Confirmed.{plain}
 use Rattle.byte_fields.specs.Field.{bind}
-use Rattle.byteorder.specs.Endian.{little_bytes}
+use Rattle.byteorder.specs.Endian.{little_bytes, big_bytes}
 use Rattle.order_fields.specs.OrderTable.{Registers, AreRegisters, registers_after}
 use Rattle.order_fields.specs.OrderStream.{orders_in}
 use Rattle.order_fields.specs.OrderDelta.{order_bytes}
-use Rattle.byte_fields.proofs.Numbers.{little_back, little_are_bytes}
+use Rattle.byte_fields.proofs.Numbers.{little_back, little_are_bytes, big_are_bytes}
+use Rattle.tpkt_x224.specs.Data.{data_header}
+use Rattle.mcs_dom.specs.SendData.{indication_start}
+use Rattle.share_pdu.proofs.Packet.{carried}
 use Rattle.order_means.proofs.Packet.{update_cut}
-use Rattle.order_means.specs.HostBytes.{orders_body, synchronize_body, share_bytes, per_length_bytes, indication_bytes, update_packet, synchronize_packet}
+use Rattle.host_bytes.specs.UpdateBodies.{orders_body, synchronize_body, synchronize_packet}
+use Rattle.share_pdu.specs.Share.{share_bytes}
+use Rattle.wire_num.specs.Length.{per_len_of}
+use Rattle.share_pdu.specs.Packet.{update_packet}
 use Rattle.order_means.specs.Updates.{Body, cutting, updates, updates_from, before_updates}
 use Rattle.order_means.specs.Updates.Stage.{Between}
 use Rattle.order_means.specs.FrameMarks.{View, update_at, view_after_read, view_after_body, view_after_bodies, view_after_stream, with_registers, marked_if, meant, reading, reading_after, read_on}
@@ -96,12 +102,12 @@ frame_is_read size v at regs p ps same are h few =
 
 -- ---- the bytes of a frame are bytes
 
-per_length_are_bytes : (n : ℕ) → n < 16384 → AreBytes (per_length_bytes n)
-per_length_are_bytes n h = by (nat_lt n 128) refl
+per_length_are_bytes : (n : ℕ) → AreBytes (per_len_of n)
+per_length_are_bytes n = by (nat_lt n 128) refl
   where
-    by : (b : Bool) → nat_lt n 128 ≡ b → AreBytes (if b then n ∷ [] else (128 + n / 256) ∷ n % 256 ∷ [])
+    by : (b : Bool) → nat_lt n 128 ≡ b → AreBytes (if b then n ∷ [] else big_bytes 2 (32768 + n))
     by true e = let small : n < 128 = grind (arith, nat_tests, e) in bytes_cons n [] (omega arith) bytes_nil
-    by false e = bytes_cons (128 + n / 256) (n % 256 ∷ []) (omega arith) (bytes_cons (n % 256) [] (omega arith) bytes_nil)
+    by false e = big_are_bytes 2 (32768 + n)
 
 literal_bytes : (bytes : List ℕ) → all_small bytes ≡ true → AreBytes bytes
 literal_bytes [] e = bytes_nil
@@ -115,19 +121,15 @@ share_are_bytes body h =
     (bytes_append middle (little_bytes 2 (4 + length body) ++ end) (literal_bytes middle refl)
     (bytes_append (little_bytes 2 (4 + length body)) end (little_are_bytes 2 (4 + length body)) (bytes_append (2 ∷ 0 ∷ 0 ∷ 0 ∷ []) body (literal_bytes (2 ∷ 0 ∷ 0 ∷ 0 ∷ []) refl) h)))
 
-length-share : (body : List ℕ) → length (share_bytes body) ≡ 18 + length body
-length-share body = omega arith
-
-update_are_bytes : (body : List ℕ) → 18 + length body < 16384 → AreBytes body → AreBytes (update_packet body)
-update_are_bytes body short h =
+update_are_bytes : (body : List ℕ) → AreBytes body → AreBytes (update_packet body)
+update_are_bytes body h =
     let share = share_bytes body in
-    let mcs = indication_bytes share in
-    let per = per_length_are_bytes (length share) (omega (arith, short, length-share body)) in
-    let inner : AreBytes mcs = bytes_append (0x68 ∷ 0 ∷ 1 ∷ 3 ∷ 0xEB ∷ 0x70 ∷ []) (per_length_bytes (length share) ++ share) (literal_bytes (0x68 ∷ 0 ∷ 1 ∷ 3 ∷ 0xEB ∷ 0x70 ∷ []) refl)
-    (bytes_append (per_length_bytes (length share)) share per (share_are_bytes body h)) in
-    bytes_append (3 ∷ 0 ∷ []) (((7 + length mcs) / 256) % 256 ∷ (7 + length mcs) % 256 ∷ 2 ∷ 0xF0 ∷ 0x80 ∷ mcs) (literal_bytes (3 ∷ 0 ∷ []) refl)
-    (bytes_cons (((7 + length mcs) / 256) % 256) ((7 + length mcs) % 256 ∷ 2 ∷ 0xF0 ∷ 0x80 ∷ mcs) (omega arith)
-    (bytes_cons ((7 + length mcs) % 256) (2 ∷ 0xF0 ∷ 0x80 ∷ mcs) (omega arith) (bytes_append (2 ∷ 0xF0 ∷ 0x80 ∷ []) mcs (literal_bytes (2 ∷ 0xF0 ∷ 0x80 ∷ []) refl) inner)))
+    let whole = 4 + length (data_header ++ carried body) in
+    bytes_append (3 ∷ 0 ∷ big_bytes 2 whole) (data_header ++ carried body)
+    (bytes_append (3 ∷ 0 ∷ []) (big_bytes 2 whole) (literal_bytes (3 ∷ 0 ∷ []) refl) (big_are_bytes 2 whole))
+    (bytes_append data_header (carried body) (literal_bytes data_header refl)
+    (bytes_append indication_start (per_len_of (length share) ++ share) (literal_bytes indication_start refl)
+    (bytes_append (per_len_of (length share)) share (per_length_are_bytes (length share)) (share_are_bytes body h))))
 
 orders_are_bytes : (n : ℕ) (bytes : List ℕ) → AreBytes bytes → AreBytes (orders_body n bytes)
 orders_are_bytes n bytes h = bytes_append (0 ∷ 0 ∷ 0 ∷ 0 ∷ []) (little_bytes 2 n ++ 0 ∷ 0 ∷ bytes) (literal_bytes (0 ∷ 0 ∷ 0 ∷ 0 ∷ []) refl)
@@ -142,10 +144,9 @@ pub frame_is_bytes : (regs : Registers) (ps : List Patch) → 0 < length ps → 
 frame_is_bytes regs [] some few = absurd (omega arith)
 frame_is_bytes regs (p ∷ ps) some few =
     let body = orders_body (length (p ∷ ps)) (joined_bytes (bytes_of_patches regs (p ∷ ps))) in
-    let short : 18 + length body < 16384 = omega (arith, few, joined_short (p ∷ ps) regs) in
     let whole = bytes_append (update_packet body) (update_packet synchronize_body)
-    (update_are_bytes body short (orders_are_bytes (length (p ∷ ps)) (joined_bytes (bytes_of_patches regs (p ∷ ps))) (joined_are_bytes (p ∷ ps) regs)))
-    (update_are_bytes synchronize_body (omega arith) (literal_bytes synchronize_body refl)) in (
+    (update_are_bytes body (orders_are_bytes (length (p ∷ ps)) (joined_bytes (bytes_of_patches regs (p ∷ ps))) (joined_are_bytes (p ∷ ps) regs)))
+    (update_are_bytes synchronize_body (literal_bytes synchronize_body refl)) in (
       subst AreBytes (sym (bytes_are regs p ps few)) whole,
       subst (λ bytes. 0 < length bytes) (sym (bytes_are regs p ps few)) (omega (arith, length-append (update_packet body) (update_packet synchronize_body))),
     )

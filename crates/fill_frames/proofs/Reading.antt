@@ -10,8 +10,8 @@ use Rattle.order_fields.specs.OrderTable.{Registers, AreRegisters, registers_aft
 use Rattle.order_fields.specs.OrderStream.{orders_in, with_orders}
 use Rattle.order_fields.specs.OrderDelta.{order_bytes}
 use Rattle.order_means.proofs.Orders.{order_then}
-use Rattle.order_means.proofs.Named.{named_again}
-use Rattle.order_means.specs.NamedDrawing.NamedDrawing.{Opaque}
+use Rattle.order_fields.proofs.Named.{named_again}
+use Rattle.order_fields.specs.NamedDrawing.NamedDrawing.{Opaque}
 use Rattle.order_means.specs.ClientState.{client_after_drawing, found}
 use Rattle.order_means.specs.ClientState.Fault.{Broken}
 use Rattle.order_means.specs.FrameMarks.{View, view_after_order, view_after_orders, counted_order, view_with}

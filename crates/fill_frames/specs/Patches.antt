@@ -11,8 +11,8 @@ use Rattle.draw_ops.specs.Fits.{rect_rule}
 use Rattle.order_fields.specs.OrderTable.{FieldList}
 use Rattle.order_fields.specs.OrderStream.Order.{Primary}
 use Rattle.order_fields.specs.OrderStream.{Order}
-use Rattle.order_means.specs.NamedDrawing.{fields_of}
-use Rattle.order_means.specs.NamedDrawing.NamedDrawing.{Opaque}
+use Rattle.order_fields.specs.NamedDrawing.{drawing_fields}
+use Rattle.order_fields.specs.NamedDrawing.NamedDrawing.{Opaque}
 use Rattle.fill_frames.specs.declared.patch.Patch.{Patch}
 use Rattle.frame_rules.specs.FrameOrders.{SentOrder}
 use Rattle.frame_rules.specs.FrameOrders.SentOrder.{Drawn}
@@ -32,7 +32,7 @@ patch_order p = Drawn p.rect (Opaque p.rect p.color) None
 
 -- its fields
 abbrev pub patch_fields : Patch → FieldList
-patch_fields p = fields_of p.rect (Opaque p.rect p.color)
+patch_fields p = drawing_fields p.rect (Opaque p.rect p.color)
 
 -- as an order that is read
 abbrev pub read_patch : Patch → Order

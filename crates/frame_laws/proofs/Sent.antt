@@ -18,11 +18,11 @@ use Rattle.draw_ops.specs.Drawing.{painting_of, slots_after, state_after_drawing
 use Rattle.caps_sets.specs.declared.confirmed.Confirmed.{Confirmed}
 use Rattle.byte_fields.specs.Field.{bind}
 use Rattle.order_fields.specs.OrderDelta.{edges_of_optional}
-use Rattle.order_means.specs.NamedDrawing.{NamedDrawing, HasPixel}
-use Rattle.order_means.specs.NamedDrawing.NamedDrawing.{Opaque, Dst as DstBlt, Scr}
+use Rattle.order_fields.specs.NamedDrawing.{NamedDrawing, HasPixel}
+use Rattle.order_fields.specs.NamedDrawing.NamedDrawing.{Opaque, Dst as DstBlt, Scr}
 use Rattle.order_means.specs.ClientState.{ClientState, Fault, found, needs, in_bounds, after_painting, no_operand, mixing, client_after_drawing, client_after_order}
 use Rattle.order_means.specs.ClientState.Fault.{Broken}
-use Rattle.order_means.proofs.Named.{named_again}
+use Rattle.order_fields.proofs.Named.{named_again}
 use Rattle.frame_rules.specs.FrameOrders.{bounds_of}
 use Rattle.frame_rules.specs.FrameOrders.SentOrder.{Drawn}
 use Rattle.frame_rules.specs.FrameRead.{as_read}

@@ -15,7 +15,7 @@ use Rattle.draw_ops.specs.Content.{ImageOf}
 use Rattle.draw_ops.specs.Slots.{SurfaceState, lookup, flattened}
 use Rattle.draw_ops.specs.Drawing.{state_after_drawing, block_of as session_block}
 use Rattle.caps_sets.specs.declared.confirmed.Confirmed.{Confirmed}
-use Rattle.order_means.specs.NamedDrawing.NamedDrawing.{SaveBlock}
+use Rattle.order_fields.specs.NamedDrawing.NamedDrawing.{SaveBlock}
 use Rattle.order_means.specs.ClientState.{ClientState, Block, needs, with_block as client_with_block, block_of, block_at, chosen_block, are_apart, apart_from, positions}
 use Rattle.order_means.specs.ClientState.Fault.{Broken}
 use Rattle.frame_rules.specs.Blocks.{Place, placed, positions_of, has_room, least_free, place_of, without_slot}

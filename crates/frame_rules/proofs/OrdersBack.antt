@@ -7,10 +7,10 @@ use Rattle.order_fields.specs.OrderStream.{seen, seen_others, order_at, then_ord
 use Rattle.order_fields.specs.OrderDelta.{edges_of_optional}
 use Rattle.order_fields.specs.Secondary.Cached.{Bitmap}
 use Rattle.order_fields.proofs.OrderBack.{order_back}
-use Rattle.order_means.specs.NamedDrawing.{fields_of}
-use Rattle.order_means.specs.WirePixels.{pixel_data, padded_image, padded_glyph, turned_over}
+use Rattle.order_fields.specs.NamedDrawing.{drawing_fields}
+use Rattle.host_bytes.specs.WirePixels.{pixel_data, padded_image, padded_glyph, turned_over}
 use Rattle.byte_fields.specs.Pixels.{pixels_bytes}
-use Rattle.order_means.specs.HostBytes.{cache_bitmap_body, cache_bitmap_data}
+use Rattle.host_bytes.specs.CacheOrders.{cache_bitmap_body, cache_bitmap_data}
 use Rattle.order_means.specs.ClientState.{bitmap_flags}
 use Rattle.byteorder.specs.Endian.{little_bytes}
 use Rattle.byte_fields.specs.Number.{little_signed}
@@ -33,7 +33,7 @@ bitmap_order_back regs cache index w h false bytes rest hi few =
 -- an order at the front of bytes
 pub sent_back : (c : Confirmed) (regs : Registers) (o : SentOrder) (rest : List ℕ) → AreRegisters regs → FitsOrder c o
     → order_at regs (bytes_of_order c regs o ++ rest) ≡ Ok (seen (as_read c o ∷ []) (registers_after_order regs o), rest)
-sent_back c regs (Drawn touched d bounds) rest are fits = order_back regs c.zero_bounds (fields_of touched d) (edges_of_optional bounds) rest are fits.0 fits.1
+sent_back c regs (Drawn touched d bounds) rest are fits = order_back regs c.zero_bounds (drawing_fields touched d) (edges_of_optional bounds) rest are fits.0 fits.1
 sent_back c regs (CacheImage cache index image) rest are fits =
     bitmap_order_back regs cache index (padded_image image).w (padded_image image).h (image_data c image).is_packed (image_data c image).bytes rest fits.index_fits fits.few
 sent_back c regs (CacheGlyph cache index glyph) rest are fits =
@@ -49,7 +49,7 @@ sent_back c regs (FrameMarker true) rest are fits = refl
 sent_back c regs (FrameMarker false) rest are fits = refl
 
 pub sent_registers : (c : Confirmed) (regs : Registers) (o : SentOrder) → AreRegisters regs → FitsOrder c o → AreRegisters (registers_after_order regs o)
-sent_registers c regs (Drawn touched d bounds) are fits = registers_kept regs (fields_of touched d) (edges_of_optional bounds) are fits.0 fits.1
+sent_registers c regs (Drawn touched d bounds) are fits = registers_kept regs (drawing_fields touched d) (edges_of_optional bounds) are fits.0 fits.1
 sent_registers c regs (CacheImage cache index image) are fits = are
 sent_registers c regs (CacheGlyph cache index glyph) are fits = are
 sent_registers c regs (CacheBrush entry brush) are fits = are

@@ -1,5 +1,5 @@
 -- Cache orders and markers that are written are read back.
-use Rattle.std.proofs.Common.{◌≡◌, ℕ, suc, ◌+◌, ◌-◌, ◌*◌, ◌/◌, ◌%◌, ◌^◌, ◌<◌, ◌≤◌, List, [], ◌∷◌, ◌++◌, length, refl, ap, ◌∙◌, arith, Bool, true}
+use Rattle.std.proofs.Common.{◌≡◌, ℕ, ◌+◌, ◌-◌, ◌*◌, ◌^◌, ◌<◌, ◌≤◌, List, [], ◌∷◌, ◌++◌, length, refl, ap, ◌∙◌, arith, Bool, true}
 use Rattle.std.specs.Prelude.{Ok, Err, ℤ, pos, All}
 use Rattle.byte_fields.specs.Number.{little_signed_at, little_at, little_signed}
 use Rattle.byte_fields.specs.Field.{Read, then_read, map_read, taken}
@@ -13,7 +13,7 @@ use Rattle.order_fields.proofs.Numbers.{signed_back}
 use Rattle.byte_fields.proofs.Bytes.{taken_back, taken_all}
 use Rattle.byte_fields.proofs.Numbers.{little_back, little_at_back, byte_at_back}
 use Rattle.byte_fields.proofs.Pixels.{pixels_back, length-pixels_bytes}
-use Rattle.order_means.specs.HostBytes.{secondary_bytes, cache_bitmap_body}
+use Rattle.host_bytes.specs.CacheOrders.{secondary_bytes, cache_bitmap_body}
 
 inside_bytes : ℕ → ℕ → List ℕ → List ℕ
 inside_bytes flags kind body = little_bytes 2 flags ++ kind ∷ body

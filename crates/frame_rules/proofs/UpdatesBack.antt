@@ -8,7 +8,9 @@ use Rattle.byte_fields.specs.Field.{bind}
 use Rattle.order_fields.specs.OrderTable.{Registers, AreRegisters}
 use Rattle.order_fields.specs.OrderStream.{Order}
 use Rattle.byte_fields.proofs.Numbers.{little_back}
-use Rattle.order_means.specs.HostBytes.{update_packet, orders_body, synchronize_body, synchronize_packet, frame_marker_bytes}
+use Rattle.host_bytes.specs.UpdateBodies.{orders_body, synchronize_body, synchronize_packet}
+use Rattle.share_pdu.specs.Packet.{update_packet}
+use Rattle.host_bytes.specs.CacheOrders.{frame_marker_bytes}
 use Rattle.order_means.specs.Updates.{Body, cutting}
 use Rattle.order_means.specs.Updates.Stage.{Between}
 use Rattle.order_means.specs.ClientState.{Fault}

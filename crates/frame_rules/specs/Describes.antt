@@ -10,7 +10,7 @@ use Rattle.draw_ops.specs.Content.{ImageOf, GlyphOf}
 use Rattle.draw_ops.specs.Slots.{SurfaceState, lookup}
 use Rattle.caps_sets.specs.declared.confirmed.Confirmed.{Confirmed}
 use Rattle.order_fields.specs.OrderTable.{AreRegisters}
-use Rattle.order_means.specs.WirePixels.{padded_image, padded_glyph}
+use Rattle.host_bytes.specs.WirePixels.{padded_image, padded_glyph}
 use Rattle.order_means.specs.ClientState.{ClientState, Block, cached, block_at, brush_entries}
 use Rattle.order_means.specs.Updates.{cutting}
 use Rattle.order_means.specs.Updates.Stage.{Between}

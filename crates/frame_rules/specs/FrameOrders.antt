@@ -13,8 +13,8 @@ use Rattle.caps_sets.specs.Confirmed.{cache_size}
 use Rattle.cache_use.specs.CacheUse.{misses, cache_index, uses_of}
 use Rattle.frame_rules.specs.Support.{used_bitmap_entries, used_glyph_entries, image_cache, run_cache}
 use Rattle.frame_rules.specs.Frame.{Sent, FrameOf}
-use Rattle.order_means.specs.NamedDrawing.{NamedDrawing}
-use Rattle.order_means.specs.NamedDrawing.NamedDrawing.{Dst as DstBlt, Pat as PatBlt, Scr as ScrBlt, Opaque as OpaqueRect, SaveBlock, RestoreBlock, Mem as MemBlt, Mem3 as Mem3Blt, Glyphs as GlyphIndex}
+use Rattle.order_fields.specs.NamedDrawing.{NamedDrawing}
+use Rattle.order_fields.specs.NamedDrawing.NamedDrawing.{Dst as DstBlt, Pat as PatBlt, Scr as ScrBlt, Opaque as OpaqueRect, SaveBlock, RestoreBlock, Mem as MemBlt, Mem3 as Mem3Blt, Glyphs as GlyphIndex}
 
 -- ---- what is sent
 

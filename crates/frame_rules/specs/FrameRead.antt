@@ -8,8 +8,8 @@ use Rattle.order_fields.specs.OrderStream.Order.{Primary, Other}
 use Rattle.order_fields.specs.OrderDelta.{edges_of_optional}
 use Rattle.order_fields.specs.Secondary.{Cached, glyph_length}
 use Rattle.order_fields.specs.Secondary.Cached.{Bitmap, Glyph, Brush, Marker}
-use Rattle.order_means.specs.NamedDrawing.{fields_of}
-use Rattle.order_means.specs.WirePixels.{turned_over, padded_image, padded_glyph, PixelData, data_of}
+use Rattle.order_fields.specs.NamedDrawing.{drawing_fields}
+use Rattle.host_bytes.specs.WirePixels.{turned_over, padded_image, padded_glyph, PixelData, data_of}
 use Rattle.order_means.specs.ClientState.{bitmap_flags}
 use Rattle.frame_rules.specs.FrameOrders.{SentOrder}
 use Rattle.order_fields.specs.OrderTable.{Registers}
@@ -38,7 +38,7 @@ cached_bitmap cache index image pixels = Bitmap (record {
 
 -- an order that was sent, as it is read: a cached image with the columns that were added to its width, a cached glyph with its padded bits, a cached brush with its rows from the bottom up
 abbrev pub as_read : Confirmed → SentOrder → Order
-as_read c (Drawn touched d bounds) = Primary (fields_of touched d) (edges_of_optional bounds)
+as_read c (Drawn touched d bounds) = Primary (drawing_fields touched d) (edges_of_optional bounds)
 as_read c (CacheImage cache index image) = Other (cached_bitmap cache index image (image_data c image))
 as_read c (CacheGlyph cache index glyph) = Other (Glyph (record { cache = cache; index = index; x = glyph.x; y = glyph.y; cx = glyph.cx; cy = glyph.cy; bits = (padded_glyph glyph).bits }))
 as_read c (CacheBrush entry brush) = Other (Brush (record { entry = entry; pixels = turned_over 8 8 brush }))
@@ -64,7 +64,7 @@ pub record FitsBrush (brush : List ℕ) : Type 0 where
 
 -- an order whose values its fields can hold
 abbrev pub FitsOrder : Confirmed → SentOrder → Type 0
-FitsOrder c (Drawn touched d bounds) = IsFieldList (fields_of touched d) × FitBounds (edges_of_optional bounds)
+FitsOrder c (Drawn touched d bounds) = IsFieldList (drawing_fields touched d) × FitBounds (edges_of_optional bounds)
 FitsOrder c (CacheImage cache index image) = FitsImage c index image
 FitsOrder c (CacheGlyph cache index glyph) = FitsGlyph index glyph
 FitsOrder c (CacheBrush entry brush) = FitsBrush brush

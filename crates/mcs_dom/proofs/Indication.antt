@@ -16,7 +16,7 @@ framed per body =
     ap (λ n. (3 ∷ 0 ∷ big_bytes 2 n) ++ (data_header ++ (indication_start ++ (per ++ body)))) e
 
 pub indication_is : (body : List ℕ) → send_data_indication body ≡ indication_headers (length body) ++ body
-unfolding send_data_indication indication_headers
+unfolding indication_headers
 indication_is body = framed (per_len_of (length body)) body
 
 pub indication_whole : (old body middle new : List ℕ) → middle ≡ old ++ indication_headers (length body) → new ≡ middle ++ body → new ≡ old ++ send_data_indication body

@@ -55,7 +55,6 @@ unfolding ultimatum wanted_at passing_at big_at end_at
 fifth_reason = refl
 
 indicated : send_data_indication (7 ∷ 8 ∷ []) ≡ 3 ∷ 0 ∷ 0 ∷ 16 ∷ 2 ∷ 240 ∷ 128 ∷ 104 ∷ 0 ∷ 1 ∷ 3 ∷ 235 ∷ 112 ∷ 2 ∷ 7 ∷ 8 ∷ []
-unfolding send_data_indication
 indicated = refl
 
 ended : ultimatum_packet 1 ≡ 3 ∷ 0 ∷ 0 ∷ 9 ∷ 2 ∷ 240 ∷ 128 ∷ 32 ∷ 128 ∷ []

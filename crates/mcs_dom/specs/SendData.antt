@@ -32,5 +32,5 @@ unfoldable pub indication_headers : ℕ → List ℕ
 indication_headers n =
     (3 ∷ 0 ∷ big_bytes 2 (13 + length (per_len_of n) + n)) ++ (data_header ++ (indication_start ++ per_len_of n))
 
-unfoldable pub send_data_indication : List ℕ → List ℕ
+abbrev pub send_data_indication : List ℕ → List ℕ
 send_data_indication body = data_packet (indication_start ++ (per_len_of (length body) ++ body))

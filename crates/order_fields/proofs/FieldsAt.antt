@@ -1,5 +1,5 @@
 -- The fields of an order from a place on.
-use Rattle.std.proofs.Common.{◌≡◌, ℕ, zero, suc, ◌/◌, ◌^◌, ◌<◌, ℤ, List, [], ◌∷◌, length, get_or, drop, refl, ap, sym, ◌∙◌, ◌%◌, arith}
+use Rattle.std.proofs.Common.{◌≡◌, ℕ, zero, suc, ◌<◌, ℤ, List, [], ◌∷◌, length, get_or, drop, refl, arith}
 use Rattle.std.specs.Prelude.{Bool, true, false, ◌&&◌}
 use Rattle.std.proofs.lemmas.Bool.{false≢true}
 use Rattle.order_fields.specs.declared.kind.Kind.{Kind}

@@ -6,3 +6,4 @@ pub mod OrderBack
 pub mod FieldsAt
 pub mod Sent
 pub mod Parts
+pub mod Named

@@ -4,3 +4,4 @@ pub mod OrderStream
 pub mod OrderDelta
 pub mod Kept
 pub mod OpaqueRect
+pub mod NamedDrawing

@@ -20,7 +20,7 @@ mod write;
 
 pub use fields::Fields;
 pub use kind::Kind;
-pub use laws::written_order_is_read_back;
+pub use laws::{fields_give_their_drawing_back, written_order_is_read_back};
 pub use opaque::opaque_rect;
 pub use order::{write_bounds, write_order};
 pub use regs::Regs;

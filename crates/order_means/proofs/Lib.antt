@@ -1,4 +1,3 @@
 pub mod Pieces
-pub mod Named
 pub mod Packet
 pub mod Orders

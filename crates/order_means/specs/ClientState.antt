@@ -19,9 +19,9 @@ use Rattle.order_fields.specs.Secondary.{Cached, BitmapOrder, GlyphOrder, BrushO
 use Rattle.order_fields.specs.Secondary.Cached.{Bitmap, Glyph, Brush, Marker}
 use Rattle.order_fields.specs.OrderStream.{Order}
 use Rattle.order_fields.specs.OrderStream.Order.{Primary, Other}
-use Rattle.order_means.specs.WirePixels.{turned_over}
-use Rattle.order_means.specs.NamedDrawing.{NamedDrawing, drawing_of}
-use Rattle.order_means.specs.NamedDrawing.NamedDrawing.{Dst, Pat, Scr, Opaque, SaveBlock, RestoreBlock, Mem, Mem3, Glyphs}
+use Rattle.host_bytes.specs.WirePixels.{turned_over}
+use Rattle.order_fields.specs.NamedDrawing.{NamedDrawing, drawing_of}
+use Rattle.order_fields.specs.NamedDrawing.NamedDrawing.{Dst, Pat, Scr, Opaque, SaveBlock, RestoreBlock, Mem, Mem3, Glyphs}
 
 -- ---- the state
 

@@ -14,7 +14,7 @@ use Rattle.order_fields.specs.Secondary.{Cached}
 use Rattle.order_fields.specs.Secondary.Cached.{Bitmap, Glyph, Brush, Marker}
 use Rattle.order_fields.specs.OrderStream.{Order, Stream, orders_in}
 use Rattle.order_fields.specs.OrderStream.Order.{Primary, Other}
-use Rattle.order_means.specs.WirePixels.{turned_over}
+use Rattle.host_bytes.specs.WirePixels.{turned_over}
 use Rattle.order_means.specs.ClientState.{ClientState, Fault, first_client, client_after_order, after_painting, needs, is_bitmap, wire_pixels}
 use Rattle.order_means.specs.ClientState.Fault.{Broken}
 use Rattle.order_means.specs.Updates.{Body, Cutting, cutting, Updates, updates_from, updates_in, refusal_in, rest_of}

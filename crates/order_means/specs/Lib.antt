@@ -1,6 +1,3 @@
-pub mod WirePixels
-pub mod HostBytes
-pub mod NamedDrawing
 pub mod ClientState
 pub mod Updates
 pub mod FrameMarks

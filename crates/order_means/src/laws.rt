@@ -1,14 +1,12 @@
-ghost use Rattle.std.specs.Prelude.{◌≡◌, ◌<◌, ◌+◌, ◌-◌, ◌++◌, ◌∷◌, [], length, ℕ, suc, Bool, List, Option, Some};
+ghost use Rattle.std.specs.Prelude.{◌≡◌, ◌<◌, ◌+◌, ◌-◌, ◌++◌, ◌∷◌, [], length, ℕ, suc, Bool, List, Option};
 ghost use Rattle.px_core.specs.declared.surface.Size.{Size};
-ghost use Rattle.px_core.specs.declared.rectangle.Rect.{Rect};
 ghost use Rattle.caps_sets.specs.declared.confirmed.Confirmed.{Confirmed};
 ghost use Rattle.byte_fields.specs.Field.{bind};
 ghost use Rattle.order_fields.specs.OrderTable.{Registers, FieldList, Edges, AreRegisters, IsFieldList, FitBounds, registers_after};
 ghost use Rattle.order_fields.specs.OrderStream.{orders_in, with_orders};
 ghost use Rattle.order_fields.specs.OrderStream.Order.{Primary};
 ghost use Rattle.order_fields.specs.OrderDelta.{order_bytes};
-ghost use Rattle.order_means.specs.HostBytes.{update_packet};
-ghost use Rattle.order_means.specs.NamedDrawing.{NamedDrawing, HasPixel, drawing_of, fields_of};
+ghost use Rattle.share_pdu.specs.Packet.{update_packet};
 ghost use Rattle.order_means.specs.Updates.{Cutting, cutting, updates_from, before_updates};
 ghost use Rattle.order_means.specs.Updates.Stage.{Between};
 ghost use Rattle.order_means.specs.FrameMarks.{Reading, read_on};
@@ -28,11 +26,6 @@ pub fn update_is_read_from_its_packet()
     ensures { (at : ℕ) (body more : List ℕ) → 18 + length body < 16384 →
         updates_from (cutting at Between) (update_packet body ++ more)
         ≡ before_updates (record { place = (at + length (update_packet body)) - length body; bytes = body } ∷ []) (updates_from (cutting (at + length (update_packet body)) Between) more) }
-{}
-
-/// The fields of a drawing give that drawing back: all eight orders, with both operations of SaveBitmap.
-pub fn fields_give_their_drawing_back()
-    ensures { (area : Rect) (d : NamedDrawing) → HasPixel d → drawing_of (fields_of area d) ≡ Some d }
 {}
 
 /// A primary order that is written at the front of an update's orders is read there with its fields and bounds, and the others with the registers after it.

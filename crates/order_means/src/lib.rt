@@ -6,6 +6,6 @@
 mod laws;
 
 pub use laws::{
-    fields_give_their_drawing_back, order_is_read_before_others, pieces_are_read_as_joined,
-    update_is_read_from_its_packet, updates_of_pieces_are_those_joined,
+    order_is_read_before_others, pieces_are_read_as_joined, update_is_read_from_its_packet,
+    updates_of_pieces_are_those_joined,
 };

@@ -1,7 +1,7 @@
 -- The bytes of a frame of patches: its update, and its mark.
 use Rattle.std.proofs.Common.{◌≡◌, ℕ, zero, suc, ◌<◌, ◌≤◌, List, [], ◌∷◌, ◌++◌, length, take, drop, sym, ap, ◌∙◌, subst, arith}
 use Rattle.order_fields.specs.OrderTable.{Registers}
-use Rattle.order_means.specs.HostBytes.{orders_packet, synchronize_packet}
+use Rattle.host_bytes.specs.UpdateBodies.{orders_packet, synchronize_packet}
 use Rattle.frame_rules.specs.FrameBytes.{joined_bytes}
 use Rattle.fill_frames.specs.declared.patch.Patch.{Patch}
 use Rattle.fill_frames.specs.Patches.{ArePatches}

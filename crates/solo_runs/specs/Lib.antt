@@ -1,4 +1,3 @@
 pub mod Solo
 pub mod Small
 pub mod SoloScript
-pub mod Headers

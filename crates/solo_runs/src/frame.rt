@@ -2,13 +2,7 @@
 //!
 //! | offset | size | field | value |
 //! |---|---|---|---|
-//! | 0 | 2 | totalLength | of the whole user data, the lowest byte first |
-//! | 2 | 2 | pduType | `17 00`, a data PDU |
-//! | 4 | 2 | pduSource | `EA 03`, the host's 1002 |
-//! | 6 | 4 | shareId | `EA 03 01 00` |
-//! | 10 | 2 | pad1, streamId | `00 01` |
-//! | 12 | 2 | uncompressedLength | of what stands from pduType2 on |
-//! | 14 | 4 | pduType2, compressedType, compressedLength | `02 00 00 00`, an update that isn't compressed |
+//! | 0 | 18 | the headers of a share data PDU | |
 //! | 18 | 4 | updateType, pad2Octets | `00 00 00 00`, orders |
 //! | 22 | 2 | numberOrders | the lowest byte first |
 //! | 24 | 2 | pad2Octets | `00 00` |
@@ -22,33 +16,22 @@ ghost use Rattle.px_core.specs.declared.surface.Size.{Size};
 ghost use Rattle.px_core.specs.Rectangle.{is_session_size};
 ghost use Rattle.order_fields.specs.OrderTable.{registers_after};
 ghost use Rattle.order_fields.specs.OrderDelta.{order_bytes};
-ghost use Rattle.order_means.specs.HostBytes.{share_bytes, orders_body, orders_packet, synchronize_packet};
+ghost use Rattle.host_bytes.specs.UpdateBodies.{orders_head, orders_body, orders_packet, synchronize_packet};
+ghost use Rattle.share_pdu.specs.Share.{share_bytes};
 ghost use Rattle.frame_rules.specs.FrameBytes.{joined_bytes};
 ghost use Rattle.fill_frames.specs.Patches.{IsPatch, ArePatches, patch_fields, black_patch, frame_patches};
 ghost use Rattle.fill_frames.specs.Views.{bytes_of_patches, registers_after_patches, patches_bytes};
-ghost use Rattle.solo_runs.specs.Headers.{orders_headers};
 
 use fill_frames::Patch;
 use mcs_dom::write_indication;
 use order_fields::{Regs, opaque_rect, write_order};
 use px_core::{Rect, Size};
+use share_pdu::put_share_headers;
 use std::alloc::Global;
 use wire_num::OutOfMemory;
 
-/// How many bytes of user data stand before the orders.
-const HEADERS: u16 = 26;
-
-/// How many of them stand before pduType2.
-const BEFORE_TYPE: u16 = 14;
-
-/// pduType, pduSource, shareId, pad1 and streamId.
-const SHARE: [u8; 10] = [0x17, 0, 0xEA, 3, 0xEA, 3, 1, 0, 0, 1];
-
-/// pduType2, compressedType and compressedLength, updateType and its padding.
-const UPDATE: [u8; 8] = [2, 0, 0, 0, 0, 0, 0, 0];
-
-/// What stands between the number of orders and the orders.
-const PAD: [u8; 2] = [0, 0];
+/// How many bytes of an update's body stand before its orders.
+const BEFORE_ORDERS: u16 = 8;
 
 /// The user data of a Synchronize update.
 const SYNCHRONIZE: [u8; 22] = [
@@ -94,17 +77,12 @@ pub(crate) fn write_patches(
     Ok(())
 }
 
-/// Writes the headers of an Orders update with so many orders, which have so many bytes.
-fn put_headers(out: &mut Vec<u8>, count: u16, length: u16) -> Result<(), OutOfMemory>
-    requires { length ≤ 16357 }
-    ensures { OnOk result (out.new.items ≡ out.old.items ++ orders_headers count length) }
+/// Writes what stands before so many orders of an update.
+fn put_orders_head(out: &mut Vec<u8>, count: u16) -> Result<(), OutOfMemory>
+    ensures { OnOk result (out.new.items ≡ out.old.items ++ orders_head count) }
 {
-    out.extend_from_slice(&(HEADERS + length).to_le_bytes())?;
-    out.extend_from_slice(&SHARE)?;
-    out.extend_from_slice(&(HEADERS - BEFORE_TYPE + length).to_le_bytes())?;
-    out.extend_from_slice(&UPDATE)?;
-    out.extend_from_slice(&count.to_le_bytes())?;
-    out.extend_from_slice(&PAD)?;
+    let [low, high] = count.to_le_bytes();
+    out.extend_from_slice(&[0, 0, 0, 0, low, high, 0, 0])?;
     Ok(())
 }
 
@@ -114,7 +92,8 @@ fn update_data(alloc: Global, count: u16, orders: &[u8]) -> Result<Vec<u8>, OutO
     ensures { IfOk result (λ bytes. bytes.items ≡ share_bytes (orders_body count orders.now)) }
 {
     let mut data = Vec::new(alloc);
-    put_headers(&mut data, count, orders.len() as u16)?;
+    put_share_headers(&mut data, BEFORE_ORDERS + orders.len() as u16)?;
+    put_orders_head(&mut data, count)?;
     data.extend_from_slice(orders)?;
     Ok(data)
 }

@@ -3,7 +3,7 @@ use Rattle.std.proofs.lemmas.Result.{err_from_is_err_and}
 use Rattle.wire_num.specs.Written.{AppendsFront}
 use Rattle.wire_num.proofs.Fronts.{front_before}
 use Rattle.order_fields.proofs.Sent.{both_sent, both_cut}
-use Rattle.order_means.specs.HostBytes.{orders_packet, synchronize_packet}
+use Rattle.host_bytes.specs.UpdateBodies.{orders_packet, synchronize_packet}
 use Rattle.frame_rules.specs.FrameBytes.{joined_bytes}
 use Rattle.fill_frames.specs.Patches.{frame_patches}
 use Rattle.fill_frames.specs.Views.{bytes_of_patches}

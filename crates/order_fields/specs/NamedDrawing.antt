@@ -107,16 +107,16 @@ zeros zero = []
 zeros (suc n) = pos 0 ∷ zeros n
 
 -- the fields of a drawing order; `area` is the rectangle of a run of glyphs, and back and fore colours are 0 (profile)
-abbrev pub fields_of : Rect → NamedDrawing → FieldList
-fields_of area (Dst r code) = field_list 0 (box r ++ pos code ∷ []) []
-fields_of area (Pat r code entry) = field_list 1 (box r ++ (pos code ∷ pos 0 ∷ pos 0 ∷ cached_brush entry)) []
-fields_of area (Scr r code sx sy) = field_list 2 (box r ++ (pos code ∷ sx ∷ sy ∷ [])) []
-fields_of area (Opaque r color) = field_list 10 (box r ++ (pos (color / 65536) ∷ pos ((color / 256) % 256) ∷ pos (color % 256) ∷ [])) []
-fields_of area (SaveBlock position r) = field_list 11 (pos position ∷ (closed_box r ++ pos 0 ∷ [])) []
-fields_of area (RestoreBlock position r) = field_list 11 (pos position ∷ (closed_box r ++ pos 1 ∷ [])) []
-fields_of area (Mem cache index r code sx sy) = field_list 13 (pos cache ∷ (box r ++ (pos code ∷ sx ∷ sy ∷ pos index ∷ []))) []
-fields_of area (Mem3 cache index r code sx sy entry) = field_list 14 (pos cache ∷ (box r ++ (pos code ∷ sx ∷ sy ∷ pos 0 ∷ pos 0 ∷ (cached_brush entry ++ pos index ∷ [])))) []
-fields_of area (Glyphs cache x y color run) = field_list 27 (pos cache ∷ pos 3 ∷ pos 0 ∷ pos 1 ∷ pos color ∷ pos 0 ∷ (open_box area ++ (zeros 9 ++ x ∷ y ∷ []))) run
+abbrev pub drawing_fields : Rect → NamedDrawing → FieldList
+drawing_fields area (Dst r code) = field_list 0 (box r ++ pos code ∷ []) []
+drawing_fields area (Pat r code entry) = field_list 1 (box r ++ (pos code ∷ pos 0 ∷ pos 0 ∷ cached_brush entry)) []
+drawing_fields area (Scr r code sx sy) = field_list 2 (box r ++ (pos code ∷ sx ∷ sy ∷ [])) []
+drawing_fields area (Opaque r color) = field_list 10 (box r ++ (pos (color / 65536) ∷ pos ((color / 256) % 256) ∷ pos (color % 256) ∷ [])) []
+drawing_fields area (SaveBlock position r) = field_list 11 (pos position ∷ (closed_box r ++ pos 0 ∷ [])) []
+drawing_fields area (RestoreBlock position r) = field_list 11 (pos position ∷ (closed_box r ++ pos 1 ∷ [])) []
+drawing_fields area (Mem cache index r code sx sy) = field_list 13 (pos cache ∷ (box r ++ (pos code ∷ sx ∷ sy ∷ pos index ∷ []))) []
+drawing_fields area (Mem3 cache index r code sx sy entry) = field_list 14 (pos cache ∷ (box r ++ (pos code ∷ sx ∷ sy ∷ pos 0 ∷ pos 0 ∷ (cached_brush entry ++ pos index ∷ [])))) []
+drawing_fields area (Glyphs cache x y color run) = field_list 27 (pos cache ∷ pos 3 ∷ pos 0 ∷ pos 1 ∷ pos color ∷ pos 0 ∷ (open_box area ++ (zeros 9 ++ x ∷ y ∷ []))) run
 
 -- a drawing whose rectangle has a pixel
 abbrev pub HasPixel : NamedDrawing → Type 0

@@ -1,0 +1,3 @@
+pub mod WirePixels
+pub mod CacheOrders
+pub mod UpdateBodies

@@ -1,5 +1,0 @@
-use Rattle.order_means.proofs.Named.{named_again}
-use Rattle.order_means.proofs.laws.fields_give_their_drawing_back.Goals as goal
-
-pub returns : goal.returns
-returns c = named_again

@@ -1,0 +1,24 @@
+-- A share data PDU that is written is read.
+use Rattle.std.proofs.Common.{◌≡◌, ℕ, ◌+◌, ◌-◌, ◌<◌, List, [], ◌∷◌, ◌++◌, length, ap, arith, true}
+use Rattle.std.specs.Prelude.{Ok, nat_le, ◌&&◌}
+use Rattle.std.proofs.lemmas.List.{append-nil}
+use Rattle.std.proofs.lemmas.Bool.Decides.{nat_tests}
+use Rattle.byteorder.specs.Endian.{little_bytes}
+use Rattle.byte_fields.specs.Number.{little_value}
+use Rattle.byte_fields.proofs.Bytes.{taken_all}
+use Rattle.byte_fields.proofs.Numbers.{little_back}
+use Rattle.share_pdu.specs.Share.{share_bytes, share_at}
+
+-- what stands behind the total
+abbrev headers : List ℕ → List ℕ
+headers body = 0x17 ∷ 0 ∷ 0xEA ∷ 3 ∷ 0xEA ∷ 3 ∷ 1 ∷ 0 ∷ 0 ∷ 1 ∷ (little_bytes 2 (4 + length body) ++ 2 ∷ 0 ∷ 0 ∷ 0 ∷ body)
+
+pub length_share : (body : List ℕ) → length (share_bytes body) ≡ 18 + length body
+length_share body = omega arith
+
+pub share_back : (body : List ℕ) → 18 + length body < 65536 → share_at (share_bytes body) ≡ Ok (record { bytes = body; behind = length body }, [])
+share_back body h =
+    let fits : (nat_le 6 (18 + length body) && nat_le (18 + length body) (length (share_bytes body))) ≡ true = grind (arith, nat_tests) in
+    let left : (18 + length body) - 2 ≡ length (headers body) = omega arith in
+    let value : little_value (little_bytes 2 (18 + length body)) ≡ 18 + length body = little_back 2 (18 + length body) h in
+    rw (value, fits, left, taken_all (share_bytes body) (headers body)) (ap (λ n. Ok (record { bytes = body; behind = n }, [])) (ap length (append-nil body)))

@@ -1,0 +1,38 @@
+//! The headers of a share data PDU with an update ([MS-RDPBCGR] 2.2.8.1.1.1 and 2.2.9.1.1).
+//!
+//! | offset | size | field | value |
+//! |---|---|---|---|
+//! | 0 | 2 | totalLength | of the whole PDU, the lowest byte first |
+//! | 2 | 2 | pduType | `17 00`, a data PDU |
+//! | 4 | 2 | pduSource | `EA 03`, the host's 1002 |
+//! | 6 | 4 | shareId | `EA 03 01 00` |
+//! | 10 | 2 | pad1, streamId | `00 01` |
+//! | 12 | 2 | uncompressedLength | of what stands from pduType2 on |
+//! | 14 | 4 | pduType2, compressedType, compressedLength | `02 00 00 00`, an update that isn't compressed |
+//! | 18 | | the update's body | to the end |
+
+ghost use Rattle.std.specs.Prelude.{◌≡◌, ◌≤◌, ◌++◌, OnOk, OnErr};
+ghost use Rattle.wire_num.specs.Written.{AppendsFront};
+ghost use Rattle.share_pdu.specs.Share.{share_headers};
+
+use wire_num::OutOfMemory;
+
+/// How many bytes stand before the body.
+const HEADERS: u16 = 18;
+
+/// How many of them stand from pduType2 on.
+const FROM_TYPE: u16 = 4;
+
+/// Writes the headers before a body of so many bytes at the end. An `Err` leaves a front of them there.
+pub fn put_share_headers(out: &mut Vec<u8>, length: u16) -> Result<(), OutOfMemory>
+    requires { length ≤ 65517 }
+    ensures ok { OnOk result (out.new.items ≡ out.old.items ++ share_headers length) }
+    ensures memory { OnErr result (AppendsFront out.old.items (share_headers length) out.new.items) }
+{
+    let [total, total_high] = (HEADERS + length).to_le_bytes();
+    let [part, part_high] = (FROM_TYPE + length).to_le_bytes();
+    out.extend_from_slice(&[
+        total, total_high, 0x17, 0, 0xEA, 3, 0xEA, 3, 1, 0, 0, 1, part, part_high, 2, 0, 0, 0,
+    ])?;
+    Ok(())
+}
