@@ -1,8 +1,10 @@
 -- Each packet of the sample client is read, and its Connect-Initial is answered.
 use Rattle.std.proofs.Common.{◌≡◌, [], ◌∷◌, refl}
-use Rattle.wire_num.specs.Field.{bytes_at, big_at, little_at, passing_at, end_at, at_least, rest_count_at}
+use Rattle.wire_num.specs.Field.{passing_at, end_at, at_least, rest_count_at}
+use Rattle.byte_fields.specs.Field.{bytes_at, wanted}
+use Rattle.byte_fields.specs.Number.{big_at, little_at}
 use Rattle.wire_num.specs.Length.{per_len_at, ber_len_at}
-use Rattle.wire_num.specs.Layout.{wanted_at, exactly_at}
+use Rattle.wire_num.specs.Layout.{exactly_at}
 use Rattle.tpkt_x224.specs.Request.{references, request_header, after_cookie, asked_protocols}
 use Rattle.mcs_ber.specs.ConnectInitial.{user_data, three_parameters, upward_flag, initial_fields, connect_initial}
 use Rattle.mcs_ber.specs.ConnectResponse.{connect_response}
@@ -22,27 +24,27 @@ packet : answer_of NextPacket (sample NextPacket) ≡ 19
 packet = refl
 
 request : answer_of ConnectionRequest (sample ConnectionRequest) ≡ 0
-unfolding references request_header after_cookie asked_protocols wanted_at passing_at at_least rest_count_at big_at bytes_at
+unfolding references request_header after_cookie asked_protocols passing_at at_least rest_count_at
 request = refl
 
 initial : answer_of ConnectInitial (sample ConnectInitial) ≡ 106
-unfolding connect_initial initial_fields upward_flag three_parameters user_data wanted_at passing_at ber_len_at big_at bytes_at end_at
+unfolding connect_initial initial_fields upward_flag three_parameters user_data passing_at
 initial = refl
 
 client : answer_of ClientUserData (sample ClientUserData) ≡ 115
-unfolding create_request client_data_at user_data_at client_blocks_at blocks_at block_at kind_at length_at channels_at channel_count_at desktop_of wanted_at passing_at per_len_at little_at bytes_at end_at
+unfolding create_request client_data_at user_data_at client_blocks_at blocks_at block_at kind_at length_at channels_at channel_count_at desktop_of passing_at
 client = refl
 
 erect : answer_of ErectDomain (sample ErectDomain) ≡ 1
-unfolding erect_domain_request wanted_at passing_at big_at bytes_at
+unfolding erect_domain_request passing_at
 erect = refl
 
 join : answer_of ChannelJoin (sample ChannelJoin) ≡ 1007
-unfolding channel_join_request wanted_at passing_at big_at bytes_at end_at
+unfolding channel_join_request passing_at
 join = refl
 
 send : answer_of SendData (sample SendData) ≡ 7
-unfolding send_data_request wanted_at passing_at per_len_at big_at bytes_at exactly_at end_at
+unfolding send_data_request passing_at exactly_at
 send = refl
 
 -- the whole packet with the host's answer

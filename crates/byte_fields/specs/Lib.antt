@@ -1,3 +1,4 @@
 pub mod Field
 pub mod Number
 pub mod Pixels
+pub mod Caused

@@ -5,7 +5,9 @@ use Rattle.std.specs.Prelude.{nat_le, ◌&&◌, Option, Some, None, Ok, Err}
 use Rattle.std.proofs.lemmas.Bool.Decides.{nat_tests}
 use Rattle.std.proofs.lemmas.List.{length-take-le}
 use Rattle.byteorder.specs.Endian.{little_number}
-use Rattle.wire_num.specs.Field.{Read, then_read, passing_at, bytes_at, little_at}
+use Rattle.wire_num.specs.Field.{passing_at}
+use Rattle.byte_fields.specs.Field.{Read, then_read, bytes_at}
+use Rattle.byte_fields.specs.Number.{little_at}
 use Rattle.wire_num.specs.Layout.{fields_at}
 use Rattle.wire_num.specs.Refusal.{Missing}
 use Rattle.wire_num.proofs.Steps.{little_taken}
@@ -21,13 +23,15 @@ use Rattle.gcc_per.specs.declared.client_core.Desktop.{Desktop}
 use Rattle.gcc_per.specs.declared.client_blocks.BlockKind.{BlockKind}
 use Rattle.gcc_per.specs.declared.client_blocks.BlockKind.TheVariants.{ClientCore, ClientNetwork, Other}
 use Rattle.gcc_per.specs.declared.client_blocks.ClientBlocks.{ClientBlocks}
-use Rattle.gcc_per.specs.Checked.{Checked, plain, then_checked, map_checked, before_checked}
+use Rattle.gcc_per.specs.Checked.{Checked, plain}
+use Rattle.byte_fields.specs.Caused.{then_caused, map_caused, before_caused}
 use Rattle.gcc_per.specs.ClientCore.{desktop_of}
 use Rattle.gcc_per.specs.ClientNetwork.{channel_definitions, channel_count_at, channels_at}
 use Rattle.gcc_per.specs.ClientBlocks.{kind_of, least_length, is_new, kind_at, length_at, with_core, with_channels, with_block, block_at}
 use Rattle.gcc_per.specs.Grammar.{Block}
 use Rattle.gcc_per.specs.Faults.{IsType, IsSize, HasBadHeader, HasNetworkFault, BeginsWith, HasBlockFault}
-use Rattle.gcc_per.proofs.Checked.{Same, go_on, go_on_plain, stop_plain, then_err, plain_err, plain_step, map_err, before_err}
+use Rattle.byte_fields.proofs.Caused.{Same, go_on, then_err, map_err, before_err}
+use Rattle.gcc_per.proofs.Checked.{go_on_plain, stop_plain, plain_err, plain_step}
 use Rattle.gcc_per.proofs.Blocks.{with_content, with_length, to_block, kind_ok, length_ok, Header, header_ok, grouped}
 use Rattle.gcc_per.proofs.BlockText.{count_ok, kind_there, size_there, length_there}
 
@@ -75,7 +79,7 @@ count_fault bs left cause e =
     ]
 
 abbrev then_channels : ℕ → List ℕ → Checked ℕ
-then_channels count more = map_checked (λ _. count) (plain (fields_at (channel_definitions count) more))
+then_channels count more = map_caused (λ _. count) (plain (fields_at (channel_definitions count) more))
 
 pub channels_fault : (bs left : List ℕ) (cause : Cause) → channels_at bs ≡ Err (cause, left) → HasNetworkFault cause bs left
 unfolding channels_at
@@ -121,19 +125,19 @@ unfolding channels_at
 fault_channels bs left cause f =
     let tail : ℕ → List ℕ → Checked ℕ = λ count more. then_channels count more in
     elim f [
-      | inl m ↦ ap (λ r. then_checked r tail) (fault_count bs left m.1) ∙ ap (λ c. no_channels c left) (sym m.0)
+      | inl m ↦ ap (λ r. then_caused r tail) (fault_count bs left m.1) ∙ ap (λ c. no_channels c left) (sym m.0)
       | inr g ↦ elim g [
         | inl h ↦
             let n = little_number 4 h.1 in
             let low = h.4 in
             let few_yes : nat_le n 31 ≡ true = grind (arith, nat_tests, low) in
             go_on (channel_count_at bs) tail n h.2 (few_there bs h.1 h.2 true h.3 h.5 few_yes)
-            ∙ ap (λ r. map_checked (λ _. n) (plain r)) (refusal_is_read (channel_definitions n) h.2 left h.6)
+            ∙ ap (λ r. map_caused (λ _. n) (plain r)) (refusal_is_read (channel_definitions n) h.2 left h.6)
             ∙ ap (λ c. no_channels c left) (sym h.0)
         | inr h ↦
             let high = h.4 in
             let few_no : nat_le (little_number 4 h.1) 31 ≡ false = grind (arith, nat_tests, high) in
-            ap (λ r. then_checked r tail) (few_there bs h.1 h.2 false h.3 h.5 few_no)
+            ap (λ r. then_caused r tail) (few_there bs h.1 h.2 false h.3 h.5 few_no)
             ∙ ap (λ c. no_channels c bs) (sym h.0)
             ∙ ap (no_channels cause) (sym h.6)
       ]
@@ -216,7 +220,7 @@ content_fault ClientCore found bs content behind left cause h e =
     let c = core_err found bs behind left cause (desktop_of content) e in
     inr (inl (c.1, block_of h.type h.size content, behind, begins found ClientCore bs content behind h, c.0, c.2))
 content_fault ClientNetwork found bs content behind left cause h e =
-    let inner = map_err (with_channels found) (before_checked behind (channels_at content)) (cause, left) e in
+    let inner = map_err (with_channels found) (before_caused behind (channels_at content)) (cause, left) e in
     let s = before_err behind (channels_at content) (cause, left) inner in
     inr (inr (block_of h.type h.size content, behind, s.0, begins found ClientNetwork bs content behind h, channels_fault content s.0 cause s.1, s.2))
 content_fault Other found bs content behind left cause h e = absurd (let k : ⊥ = cc in k)
@@ -288,7 +292,7 @@ fault_block found bs left cause f =
             ∙ ap (no_blocks_read cause) (sym h.5)
         | inr h ↦
             whole_read found ClientNetwork bs h.0 h.1 h.3
-            ∙ ap (λ r. map_checked (with_channels found) (before_checked h.1 r)) (fault_channels h.0.content h.2 cause h.4)
+            ∙ ap (λ r. map_caused (with_channels found) (before_caused h.1 r)) (fault_channels h.0.content h.2 cause h.4)
             ∙ ap (no_blocks_read cause) (sym h.5)
       ]
     ]

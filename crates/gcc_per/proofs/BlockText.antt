@@ -4,7 +4,9 @@ use Rattle.std.specs.Prelude.{nat_le, ◌&&◌, Option, Some, None, is_none, Ok,
 use Rattle.std.proofs.lemmas.Bool.Decides.{nat_tests}
 use Rattle.std.proofs.lemmas.List.{length-take-le}
 use Rattle.byteorder.specs.Endian.{little_number}
-use Rattle.wire_num.specs.Field.{then_read, map_read, passing_at, little_at}
+use Rattle.wire_num.specs.Field.{passing_at}
+use Rattle.byte_fields.specs.Field.{then_read, map_read}
+use Rattle.byte_fields.specs.Number.{little_at}
 use Rattle.wire_num.specs.Layout.{fields_at}
 use Rattle.wire_num.specs.Grammar.{IsText}
 use Rattle.wire_num.proofs.Steps.{little_taken}
@@ -16,12 +18,14 @@ use Rattle.gcc_per.specs.declared.client_blocks.BlockKind.TheVariants.{ClientCor
 use Rattle.gcc_per.specs.declared.client_blocks.ClientBlocks.{ClientBlocks}
 use Rattle.gcc_per.specs.declared.gcc_fault.Cause.{Cause}
 use Rattle.gcc_per.specs.declared.gcc_fault.Cause.TheVariants.{Crowded}
-use Rattle.gcc_per.specs.Checked.{plain, map_checked, before_checked}
+use Rattle.gcc_per.specs.Checked.{plain}
+use Rattle.byte_fields.specs.Caused.{map_caused, before_caused}
 use Rattle.gcc_per.specs.ClientCore.{desktop_of}
 use Rattle.gcc_per.specs.ClientNetwork.{channel_definitions, channel_count_at, channels_at}
 use Rattle.gcc_per.specs.ClientBlocks.{kind_of, least_length, is_new, kind_at, length_at, with_desktop, with_core, with_channels, with_block, block_at}
 use Rattle.gcc_per.specs.Grammar.{Block, block_bytes, kind_in, IsBlock, HasChannels}
-use Rattle.gcc_per.proofs.Checked.{then_ok, plain_ok, map_ok, before_ok, go_on, go_on_plain}
+use Rattle.byte_fields.proofs.Caused.{then_ok, map_ok, before_ok, go_on}
+use Rattle.gcc_per.proofs.Checked.{plain_ok, go_on_plain}
 use Rattle.gcc_per.proofs.Blocks.{grouped, block_ok, to_block}
 
 -- ---- the content of a CS_NET
@@ -48,7 +52,7 @@ count_ok bs y e =
 pub channels_ok : (bs : List ℕ) (y : ℕ × List ℕ) → channels_at bs ≡ Ok y → HasChannels bs y.0
 unfolding channels_at
 channels_ok bs y e =
-    let s = then_ok (channel_count_at bs) (λ count more. map_checked (λ _. count) (plain (fields_at (channel_definitions count) more))) y e in
+    let s = then_ok (channel_count_at bs) (λ count more. map_caused (λ _. count) (plain (fields_at (channel_definitions count) more))) y e in
     let n = s.0.0 in
     let more = s.0.1 in
     let c = count_ok bs s.0 s.1 in
@@ -71,8 +75,8 @@ channels_again bs n h =
     ∙ ap (λ b. cond b (Ok (little_number 4 count, definitions)) (Err (Crowded, count ++ definitions))) few in (
       left,
       ap channels_at h.6
-          ∙ go_on (channel_count_at (count ++ definitions)) (λ k more. map_checked (λ _. k) (plain (fields_at (channel_definitions k) more))) n definitions (read ∙ ap (λ k. Ok (k, definitions)) h.4)
-          ∙ ap (λ r. map_checked (λ _. n) (plain r)) (text_is_read (channel_definitions n) definitions [] left h.7),
+          ∙ go_on (channel_count_at (count ++ definitions)) (λ k more. map_caused (λ _. k) (plain (fields_at (channel_definitions k) more))) n definitions (read ∙ ap (λ k. Ok (k, definitions)) h.4)
+          ∙ ap (λ r. map_caused (λ _. n) (plain r)) (text_is_read (channel_definitions n) definitions [] left h.7),
     )
 
 -- ---- what a block adds
@@ -98,7 +102,7 @@ adds_ok : (kind : BlockKind) (found : ClientBlocks) (bs content after : List ℕ
 adds_ok ClientCore found bs content after y e new =
     let d = core_adds found bs after (desktop_of content) y e in (d.0, none_is found.desktop new, d.1, d.2)
 adds_ok ClientNetwork found bs content after y e new =
-    let s = map_ok (with_channels found) (before_checked after (channels_at content)) y e in
+    let s = map_ok (with_channels found) (before_caused after (channels_at content)) y e in
     let t = before_ok after (channels_at content) s.0 s.1 in
     (t.0.0, none_is found.channels new, channels_ok content t.0 t.1, sym (ap (with_channels found) t.2 ∙ s.2))
 adds_ok Other found bs content after y e new =
@@ -109,7 +113,7 @@ adds_again ClientCore found more bs content after a =
     (ap (with_core found bs after) a.2 ∙ ap (λ m. Ok (m, after)) (sym a.3), ap is_none a.1)
 adds_again ClientNetwork found more bs content after a =
     let read = channels_again content a.0 a.2 in
-    (ap (λ r. map_checked (with_channels found) (before_checked after r)) read.1 ∙ ap (λ m. Ok (m, after)) (sym a.3), ap is_none a.1)
+    (ap (λ r. map_caused (with_channels found) (before_caused after r)) read.1 ∙ ap (λ m. Ok (m, after)) (sym a.3), ap is_none a.1)
 adds_again Other found more bs content after a = (ap (λ m. Ok (m, after)) (sym a), refl)
 
 -- ---- a block

@@ -4,7 +4,9 @@ use Rattle.std.specs.Prelude.{nat_le, ◌&&◌, Option, Some, None, Ok, Err}
 use Rattle.std.proofs.lemmas.Bool.Decides.{nat_tests}
 use Rattle.std.proofs.lemmas.List.{length-take-le}
 use Rattle.byteorder.specs.Endian.{little_number}
-use Rattle.wire_num.specs.Field.{passing_at, bytes_at, little_at}
+use Rattle.wire_num.specs.Field.{passing_at}
+use Rattle.byte_fields.specs.Field.{bytes_at}
+use Rattle.byte_fields.specs.Number.{little_at}
 use Rattle.wire_num.proofs.Steps.{passed_ok, little_taken}
 use Rattle.wire_num.proofs.Steps as steps
 use Rattle.wire_num.proofs.ReadIsText.{bytes_ok, little_ok, passing_ok, regroup}
@@ -13,19 +15,21 @@ use Rattle.gcc_per.specs.declared.client_core.Desktop.{Desktop}
 use Rattle.gcc_per.specs.declared.client_blocks.BlockKind.{BlockKind}
 use Rattle.gcc_per.specs.declared.client_blocks.BlockKind.TheVariants.{ClientCore, ClientNetwork, Other}
 use Rattle.gcc_per.specs.declared.client_blocks.ClientBlocks.{ClientBlocks}
-use Rattle.gcc_per.specs.Checked.{Checked, plain, then_checked, map_checked, before_checked}
+use Rattle.gcc_per.specs.Checked.{Checked, plain}
+use Rattle.byte_fields.specs.Caused.{then_caused, map_caused, before_caused}
 use Rattle.gcc_per.specs.ClientCore.{desktop_of}
 use Rattle.gcc_per.specs.ClientNetwork.{channels_at}
 use Rattle.gcc_per.specs.ClientBlocks.{kind_of, least_length, is_new, kind_at, length_at, with_desktop, with_core, with_channels, with_block, block_at}
 use Rattle.gcc_per.specs.Grammar.{IsBlock}
-use Rattle.gcc_per.proofs.Checked.{go_on_plain, then_ok, plain_ok, map_ok, before_ok}
+use Rattle.byte_fields.proofs.Caused.{then_ok, map_ok, before_ok}
+use Rattle.gcc_per.proofs.Checked.{go_on_plain, plain_ok}
 use Rattle.gcc_per.proofs.Within.{content_size}
 
 abbrev pub with_content : BlockKind → ClientBlocks → List ℕ → ℕ → List ℕ → Checked ClientBlocks
-with_content kind found bs n more = then_checked (plain (bytes_at (n - 4) more)) (λ content after. with_block kind found bs content after)
+with_content kind found bs n more = then_caused (plain (bytes_at (n - 4) more)) (λ content after. with_block kind found bs content after)
 
 abbrev pub with_length : BlockKind → ClientBlocks → List ℕ → List ℕ → Checked ClientBlocks
-with_length kind found bs sized = then_checked (plain (length_at kind sized)) (λ n more. with_content kind found bs n more)
+with_length kind found bs sized = then_caused (plain (length_at kind sized)) (λ n more. with_content kind found bs n more)
 
 -- the block's fields, where its header and its content are there
 pub to_block : (found : ClientBlocks) (bs sized more content after : List ℕ) (kind : BlockKind) (n : ℕ) → kind_at found bs ≡ Ok (kind, sized)
@@ -43,7 +47,7 @@ pub network_refused : (found : ClientBlocks) (bs sized more content after left p
 network_refused found bs sized more content after left place kind n cause k l b is h p =
     to_block found bs sized more content after kind n k l b
     ∙ ap (λ x. with_block x found bs content after) is
-    ∙ ap (λ r. map_checked (with_channels found) (before_checked after r)) h
+    ∙ ap (λ r. map_caused (with_channels found) (before_caused after r)) h
     ∙ ap (λ xs. Err (cause, xs)) p
 
 -- ---- the parts of a block that was read
@@ -89,7 +93,7 @@ core_after found bs after None y e = absurd (let h : ⊥ = cc in h)
 block_after : (kind : BlockKind) (found : ClientBlocks) (bs content after : List ℕ) (y : ClientBlocks × List ℕ) → with_block kind found bs content after ≡ Ok y → after ≡ y.1
 block_after ClientCore found bs content after y e = core_after found bs after (desktop_of content) y e
 block_after ClientNetwork found bs content after y e =
-    let s = map_ok (with_channels found) (before_checked after (channels_at content)) y e in
+    let s = map_ok (with_channels found) (before_caused after (channels_at content)) y e in
     (before_ok after (channels_at content) s.0 s.1).3 ∙ s.3
 block_after Other found bs content after y e = let h : (found, after) ≡ y = cc in ap (λ p. p.1) h
 

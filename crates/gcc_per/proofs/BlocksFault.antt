@@ -12,12 +12,13 @@ use Rattle.gcc_per.specs.declared.client_blocks.BlockKind.{BlockKind}
 use Rattle.gcc_per.specs.declared.client_blocks.BlockKind.TheVariants.{ClientCore, ClientNetwork, Other}
 use Rattle.gcc_per.specs.declared.client_blocks.ClientBlocks.{ClientBlocks}
 use Rattle.gcc_per.specs.declared.client_data.ClientData.{ClientData}
-use Rattle.gcc_per.specs.Checked.{Checked, then_checked}
+use Rattle.gcc_per.specs.Checked.{Checked}
+use Rattle.byte_fields.specs.Caused.{then_caused}
 use Rattle.gcc_per.specs.ClientBlocks.{kind_of, block_at, blocks_from, no_blocks, blocks_at}
 use Rattle.gcc_per.specs.ClientData.{channels_of, data_with, client_blocks_at}
 use Rattle.gcc_per.specs.Grammar.{Block, block_bytes, IsBlock, core_blocks, network_blocks, IsCore, IsNetwork}
 use Rattle.gcc_per.specs.Faults.{IsType, HasBadHeader, BeginsWith, HasBlockFault, MayFollow}
-use Rattle.gcc_per.proofs.Checked.{Same, go_on, then_err}
+use Rattle.byte_fields.proofs.Caused.{Same, go_on, then_err}
 use Rattle.gcc_per.proofs.BlockText.{none_is, block_stands, block_again}
 use Rattle.gcc_per.proofs.BlocksText.{AddAll, CoreAfter, NetworkAfter, blocks_stand, blocks_again, one_more, core_side, network_side, both_sides, one_core}
 use Rattle.gcc_per.proofs.BlocksText.{is_network_of, network_of}
@@ -120,7 +121,7 @@ blocks_fault (suc n) found (b ∷ bs) left cause e =
 refused_at_once : (n : ℕ) (found : ClientBlocks) (bs left : List ℕ) (cause : Cause) → length bs ≤ n → 0 < length bs → block_at found bs ≡ Err (cause, left)
     → blocks_from n found bs ≡ Err (cause, left)
 refused_at_once zero found bs left cause fits some e = absurd (omega (arith, fits, some))
-refused_at_once (suc n) found bs left cause fits some e = one_more n found bs some ∙ ap (λ r. then_checked r (λ more after. blocks_from n more after)) e
+refused_at_once (suc n) found bs left cause fits some e = one_more n found bs some ∙ ap (λ r. then_caused r (λ more after. blocks_from n more after)) e
 
 fault_blocks : (n : ℕ) (blocks : List Block) (found more : ClientBlocks) (rest left : List ℕ) (cause : Cause)
     → length (flat_map block_bytes blocks ++ rest) ≤ n → AllByRecursion IsBlock blocks
@@ -262,7 +263,7 @@ fault_client bs left blocks rest cause first some f =
     let bytes : List ℕ = flat_map block_bytes blocks ++ rest in
     let new = same_fault (MayFollow blocks) (New all) cause rest left (is_new_there blocks all found.adds) (follows blocks all found.adds) f in
     let fault = fault_block all rest left cause new in
-    ap (λ r. then_checked r (λ found after. data_with found.desktop found.channels after))
+    ap (λ r. then_caused r (λ found after. data_with found.desktop found.channels after))
     (ap (blocks_from (length bs) no_blocks) first.whole
     ∙ fault_blocks (length bs) blocks no_blocks all rest left cause (omega (arith, ap length first.whole)) first.each found.adds some fault)
 

@@ -6,12 +6,12 @@ use Rattle.gcc_per.specs.declared.client_core.Desktop.{Desktop}
 use Rattle.gcc_per.specs.declared.client_blocks.BlockKind.{BlockKind}
 use Rattle.gcc_per.specs.declared.client_blocks.BlockKind.TheVariants.{ClientCore, ClientNetwork, Other}
 use Rattle.gcc_per.specs.declared.client_blocks.ClientBlocks.{ClientBlocks}
-use Rattle.gcc_per.specs.Checked.{then_checked}
+use Rattle.byte_fields.specs.Caused.{then_caused}
 use Rattle.gcc_per.specs.ClientCore.{desktop_of}
 use Rattle.gcc_per.specs.ClientBlocks.{with_desktop, with_channels, block_at, blocks_from}
 use Rattle.gcc_per.specs.ClientData.{channels_of}
 use Rattle.gcc_per.specs.Grammar.{Block, block_bytes, kind_in, IsBlock, is_core, is_network, core_blocks, network_blocks, HasChannels, IsCore, IsNetwork}
-use Rattle.gcc_per.proofs.Checked.{then_ok, go_on}
+use Rattle.byte_fields.proofs.Caused.{then_ok, go_on}
 use Rattle.gcc_per.proofs.Blocks.{block_shorter}
 use Rattle.gcc_per.proofs.BlockText.{Adds, block_stands, block_again}
 
@@ -49,7 +49,7 @@ blocks_stand (suc n) found (b ∷ bs) y fits e =
 
 -- ---- blocks that stand there are read
 
-pub one_more : (n : ℕ) (found : ClientBlocks) (bs : List ℕ) → 0 < length bs → blocks_from (suc n) found bs ≡ then_checked (block_at found bs) (λ more after. blocks_from n more after)
+pub one_more : (n : ℕ) (found : ClientBlocks) (bs : List ℕ) → 0 < length bs → blocks_from (suc n) found bs ≡ then_caused (block_at found bs) (λ more after. blocks_from n more after)
 one_more n found [] some = absurd (omega (arith, some))
 one_more n found (b ∷ bs) some = refl
 

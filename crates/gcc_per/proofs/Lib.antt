@@ -1,5 +1,5 @@
-pub mod Channels
 pub mod Checked
+pub mod Channels
 pub mod Within
 pub mod Blocks
 pub mod Loop

@@ -3,7 +3,7 @@ use Rattle.std.proofs.Common.{◌≡◌, ℕ, zero, suc, ◌≤◌, ◌<◌, Lis
 use Rattle.std.specs.Prelude.{Ok, Err}
 use Rattle.gcc_per.specs.declared.gcc_fault.Cause.{Cause}
 use Rattle.gcc_per.specs.declared.client_blocks.ClientBlocks.{ClientBlocks}
-use Rattle.gcc_per.specs.Checked.{then_checked}
+use Rattle.byte_fields.specs.Caused.{then_caused}
 use Rattle.gcc_per.specs.ClientBlocks.{block_at, blocks_from, no_blocks, blocks_at}
 use Rattle.gcc_per.proofs.Blocks.{block_shorter}
 
@@ -33,7 +33,7 @@ step_ok zero found more (b ∷ bs) after whole fits same some e = absurd (omega 
 step_ok (suc n) found more (b ∷ bs) after whole fits same some e = record {
   most = n;
   enough = omega (arith, fits, block_shorter found (b ∷ bs) (more, after) e);
-  same = sym (ap (λ r. then_checked r (λ found after. blocks_from n found after)) e) ∙ same;
+  same = sym (ap (λ r. then_caused r (λ found after. blocks_from n found after)) e) ∙ same;
 }
 
 -- a block is there
@@ -44,7 +44,7 @@ step_err : (most : ℕ) (found : ClientBlocks) (bs whole : List ℕ) (e : Cause 
     → block_at found bs ≡ Err e → blocks_at whole ≡ Err e
 step_err most found [] whole e fits same some h = absurd (omega (arith, some))
 step_err zero found (b ∷ bs) whole e fits same some h = absurd (omega (arith, fits))
-step_err (suc n) found (b ∷ bs) whole e fits same some h = sym same ∙ ap (λ r. then_checked r (λ found after. blocks_from n found after)) h
+step_err (suc n) found (b ∷ bs) whole e fits same some h = sym same ∙ ap (λ r. then_caused r (λ found after. blocks_from n found after)) h
 
 -- a block is refused
 pub block_refused : (found : ClientBlocks) (bs whole : List ℕ) (e : Cause × List ℕ) → Left found bs whole → 0 < length bs → block_at found bs ≡ Err e → blocks_at whole ≡ Err e

@@ -2,7 +2,8 @@
 use Rattle.std.proofs.Common.{◌≡◌, ℕ, ◌<◌, inl, inr, List, [], ◌++◌, length, refl, ap, ◌∙◌, sym}
 use Rattle.std.proofs.Common.{append-nil, subst}
 use Rattle.std.specs.Prelude.{None, Ok, Err, flat_map}
-use Rattle.wire_num.specs.Field.{Read, is_any, then_read, passing_at, bytes_at, end_at}
+use Rattle.wire_num.specs.Field.{is_any, passing_at, end_at}
+use Rattle.byte_fields.specs.Field.{Read, then_read, bytes_at}
 use Rattle.wire_num.specs.Length.{per_len_at}
 use Rattle.wire_num.specs.Layout.{Packed, count_at, fields_at}
 use Rattle.wire_num.specs.Grammar.{IsText, IsPacked}
@@ -15,12 +16,14 @@ use Rattle.gcc_per.specs.declared.gcc_fault.Cause.{Cause}
 use Rattle.gcc_per.specs.declared.gcc_fault.Cause.TheVariants.{Broken}
 use Rattle.gcc_per.specs.declared.client_core.Desktop.{Desktop}
 use Rattle.gcc_per.specs.declared.client_data.ClientData.{ClientData}
-use Rattle.gcc_per.specs.Checked.{Checked, plain, then_checked, map_checked, before_checked}
+use Rattle.gcc_per.specs.Checked.{Checked, plain}
+use Rattle.byte_fields.specs.Caused.{then_caused, map_caused, before_caused}
 use Rattle.gcc_per.specs.ClientBlocks.{no_blocks}
 use Rattle.gcc_per.specs.ClientData.{create_request, client_blocks_at, user_data_at, client_data_at}
 use Rattle.gcc_per.specs.Grammar.{Block, block_bytes, core_blocks, IsCore}
 use Rattle.gcc_per.specs.Faults.{IsFront, counted_bytes, HasBadFrame, HasUserFault, HasFault}
-use Rattle.gcc_per.proofs.Checked.{go_on_plain, stop_plain, then_err, plain_err, plain_step, map_err, before_ok, before_err}
+use Rattle.byte_fields.proofs.Caused.{then_err, map_err, before_ok, before_err}
+use Rattle.gcc_per.proofs.Checked.{go_on_plain, stop_plain, plain_err, plain_step}
 use Rattle.gcc_per.proofs.Within.{content_size}
 use Rattle.gcc_per.proofs.Blocks.{content_of}
 use Rattle.gcc_per.proofs.UserData.{to_end, in_content, counted}
@@ -122,7 +125,7 @@ user_fault user left cause e =
                 let c = count_ok Packed user p.0 p.1 in
                 let whole : user ≡ c.0 ++ (content ++ after) = c.2 ∙ ap (λ xs. c.0 ++ xs) (content_of n more content after q.1) in
                 let packed : IsPacked c.0 (length content) = subst (IsPacked c.0) (sym (content_size n more content after q.1)) c.1 in
-                elim (then_err (before_checked after (client_blocks_at content)) (λ client end. to_end client end) (cause, left) q.2) [
+                elim (then_err (before_caused after (client_blocks_at content)) (λ client end. to_end client end) (cause, left) q.2) [
                   | inl h ↦
                       let d = before_err after (client_blocks_at content) (cause, left) h in
                       elim (client_fault content d.0 cause d.1) [
@@ -154,7 +157,7 @@ to_content user count content after whole packed =
     ∙ go_on_plain (bytes_at n (content ++ after)) (λ content after. in_content content after) content after (bytes_again content after)
 
 abbrev behind_blocks : List ℕ → Checked ClientData → Checked ClientData
-behind_blocks after r = then_checked (before_checked after r) (λ client end. to_end client end)
+behind_blocks after r = then_caused (before_caused after r) (λ client end. to_end client end)
 
 frame_user : (user left : List ℕ) → HasBadFrame user left → user_data_at user ≡ no_data Broken left
 frame_user user left b =
@@ -170,7 +173,7 @@ frame_user user left b =
             let s = some_client content h.0 h.1 (first_of user h.0 [] left h.2) h.3 in
             to_content user h.2.count content left h.2.whole h.2.counted
             ∙ ap (behind_blocks left) s.1
-            ∙ ap (λ r. map_checked (λ _. s.0) (plain r)) (end_over left h.4)
+            ∙ ap (λ r. map_caused (λ _. s.0) (plain r)) (end_over left h.4)
       ]
     ]
 

@@ -3,35 +3,33 @@ use Rattle.std.proofs.Common.{◌≡◌, ℕ, ◌≤◌, true, false, List, [], 
 use Rattle.std.specs.Prelude.{nat_lt, ◌==◌, Option, Some, None, Ok, Err, flat_map}
 use Rattle.std.specs.List.{AllByRecursion}
 use Rattle.std.proofs.lemmas.Bool.Decides.{nat_tests}
-use Rattle.wire_num.specs.Field.{bytes_at, end_at}
+use Rattle.wire_num.specs.Field.{end_at}
+use Rattle.byte_fields.specs.Field.{bytes_at}
 use Rattle.wire_num.specs.Length.{per_len_at}
 use Rattle.wire_num.specs.Layout.{Packed, fields_at}
 use Rattle.wire_num.specs.Grammar.{IsText, IsPacked}
-use Rattle.wire_num.proofs.Steps.{passed_ok, same_count}
 use Rattle.wire_num.proofs.ReadIsText.{count_ok, read_is_text}
 use Rattle.wire_num.proofs.TextIsRead.{bytes_there, text_is_read}
 use Rattle.gcc_per.specs.declared.client_core.Desktop.{Desktop}
 use Rattle.gcc_per.specs.declared.client_blocks.ClientBlocks.{ClientBlocks}
 use Rattle.gcc_per.specs.declared.client_data.ClientData.{ClientData}
-use Rattle.gcc_per.specs.Checked.{Checked, plain, then_checked, map_checked, before_checked, placed_checked}
+use Rattle.gcc_per.specs.Checked.{Checked, plain, placed_checked}
+use Rattle.byte_fields.specs.Caused.{then_caused, map_caused, before_caused}
 use Rattle.gcc_per.specs.ClientBlocks.{blocks_from, no_blocks, blocks_at}
 use Rattle.gcc_per.specs.ClientData.{create_request, channels_of, data_with, client_blocks_at, user_data_at, client_data_at, client_data_of}
 use Rattle.gcc_per.specs.Grammar.{Block, block_bytes, IsBlock, core_blocks, network_blocks, IsNetwork, IsRequest}
 use Rattle.gcc_per.proofs.UserData.{to_end, in_content, counted}
-use Rattle.gcc_per.proofs.Checked.{then_ok, plain_ok, map_ok, before_ok, go_on, go_on_plain}
+use Rattle.byte_fields.proofs.Caused.{then_ok, map_ok, before_ok, go_on}
+use Rattle.gcc_per.proofs.Checked.{plain_ok, go_on_plain}
 use Rattle.gcc_per.proofs.Within.{content_size}
 use Rattle.gcc_per.proofs.Blocks.{content_of}
 use Rattle.gcc_per.proofs.BlocksText.{AddAll, AllStand, CoreAfter, blocks_stand, blocks_again, core_side, network_side, both_sides, is_one_core, one_core, is_network_of, network_of}
 
 -- ---- small steps
 
-none_left : (bs : List ℕ) → length bs ≡ 0 → bs ≡ []
-none_left [] h = refl
-none_left (b ∷ bs) h = absurd (omega (arith, h))
-
 end_none : (bs : List ℕ) (y : List ℕ × List ℕ) → end_at bs ≡ Ok y → bs ≡ []
-unfolding end_at
-end_none bs y e = none_left bs (same_count (length bs) 0 (passed_ok (length bs == 0) bs ([], bs) y e).0)
+end_none [] y e = refl
+end_none (b ∷ bs) y e = absurd (let h : ⊥ = cc in h)
 
 nothing_after : (after end : List ℕ) (y : List ℕ × List ℕ) → after ≡ end → end_at end ≡ Ok y → after ≡ []
 nothing_after after end y e h = e ∙ end_none end y h
@@ -40,11 +38,9 @@ same_client : (a b c : ClientData) → a ≡ b → b ≡ c → a ≡ c
 same_client a b c e f = e ∙ f
 
 end_again : end_at [] ≡ Ok ([], [])
-unfolding end_at
 end_again = refl
 
 packed_again : (count : List ℕ) (n : ℕ) (more : List ℕ) → IsPacked count n → per_len_at (count ++ more) ≡ Ok (n, more)
-unfolding per_len_at
 packed_again [] n more p = absurd p
 packed_again (b ∷ []) n more p =
     let low = p.0 in
@@ -137,7 +133,7 @@ user_ok bs y e =
     let n = a.0.0 in
     let b = then_ok (plain (bytes_at n a.0.1)) (λ content after. in_content content after) y a.2 in
     let content = b.0.0 in
-    let d = then_ok (before_checked b.0.1 (client_blocks_at content)) (λ client end. to_end client end) y b.2 in
+    let d = then_ok (before_caused b.0.1 (client_blocks_at content)) (λ client end. to_end client end) y b.2 in
     let f = before_ok b.0.1 (client_blocks_at content) d.0 d.1 in
     let g = map_ok (λ _. d.0.0) (plain (end_at d.0.1)) y d.2 in
     let none = nothing_after b.0.1 d.0.1 g.0 f.3 (plain_ok (end_at d.0.1) g.0 g.1) in
@@ -150,8 +146,8 @@ user_again count content client packed e =
     let all : bytes_at (length content) content ≡ Ok (content, []) = ap (bytes_at (length content)) (sym (append-nil content)) ∙ bytes_there (length content) content [] refl in
     go_on_plain (per_len_at (count ++ content)) (λ n more. counted n more) (length content) content (packed_again count (length content) content packed)
     ∙ go_on_plain (bytes_at (length content) content) (λ content after. in_content content after) content [] all
-    ∙ ap (λ r. then_checked (before_checked [] r) (λ client end. to_end client end)) e
-    ∙ ap (λ r. map_checked (λ _. client) (plain r)) end_again
+    ∙ ap (λ r. then_caused (before_caused [] r) (λ client end. to_end client end)) e
+    ∙ ap (λ r. map_caused (λ _. client) (plain r)) end_again
 
 -- ---- the request
 

@@ -1,9 +1,10 @@
 -- The definitions on a sample client's user data, on others that break a rule, and on the answer.
 use Rattle.std.proofs.Common.{◌≡◌, ℕ, List, [], ◌∷◌, ◌++◌, replicate, refl}
 use Rattle.std.specs.Prelude.{Result, Ok, Err}
-use Rattle.wire_num.specs.Field.{bytes_at, little_at, passing_at, end_at}
+use Rattle.wire_num.specs.Field.{passing_at, end_at}
+use Rattle.byte_fields.specs.Field.{bytes_at, wanted}
+use Rattle.byte_fields.specs.Number.{little_at}
 use Rattle.wire_num.specs.Length.{per_len_at}
-use Rattle.wire_num.specs.Layout.{wanted_at}
 use Rattle.gcc_per.specs.declared.gcc_fault.GccFault.{GccFault}
 use Rattle.gcc_per.specs.declared.gcc_fault.GccFault.TheVariants.{BadGcc, DepthNotOffered, TooManyChannels}
 use Rattle.gcc_per.specs.declared.client_data.ClientData.{ClientData}
@@ -34,61 +35,61 @@ abbrev answer : ℕ → Result ClientData GccFault
 answer channels = Ok (record { channels = channels; asked_width = 64; asked_height = 48 })
 
 sample : client_data_of (request 200 ++ (core 7 ++ (security ++ network 3))) ≡ answer 3
-unfolding create_request client_data_at user_data_at client_blocks_at blocks_at block_at kind_at length_at channels_at channel_count_at desktop_of wanted_at passing_at per_len_at little_at bytes_at end_at
+unfolding create_request client_data_at user_data_at client_blocks_at blocks_at block_at kind_at length_at channels_at channel_count_at desktop_of passing_at
 sample = refl
 
 another_order : client_data_of (request 200 ++ (network 2 ++ (security ++ core 7))) ≡ answer 2
-unfolding create_request client_data_at user_data_at client_blocks_at blocks_at block_at kind_at length_at channels_at channel_count_at desktop_of wanted_at passing_at per_len_at little_at bytes_at end_at
+unfolding create_request client_data_at user_data_at client_blocks_at blocks_at block_at kind_at length_at channels_at channel_count_at desktop_of passing_at
 another_order = refl
 
 core_alone : client_data_of (request 144 ++ core 1) ≡ answer 0
-unfolding create_request client_data_at user_data_at client_blocks_at blocks_at block_at kind_at length_at channels_at channel_count_at desktop_of wanted_at passing_at per_len_at little_at bytes_at end_at
+unfolding create_request client_data_at user_data_at client_blocks_at blocks_at block_at kind_at length_at channels_at channel_count_at desktop_of passing_at
 core_alone = refl
 
 no_core : client_data_of (request 56 ++ (security ++ network 3)) ≡ Err (BadGcc 79)
-unfolding create_request client_data_at user_data_at client_blocks_at blocks_at block_at kind_at length_at channels_at channel_count_at desktop_of wanted_at passing_at per_len_at little_at bytes_at end_at
+unfolding create_request client_data_at user_data_at client_blocks_at blocks_at block_at kind_at length_at channels_at channel_count_at desktop_of passing_at
 no_core = refl
 
 -- refused at the second CS_CORE's type, although it doesn't offer 24 bits either
 core_repeated : client_data_of (request 200 ++ (core 7 ++ (core 6 ++ security))) ≡ Err (BadGcc 167)
-unfolding create_request client_data_at user_data_at client_blocks_at blocks_at block_at kind_at length_at channels_at channel_count_at desktop_of wanted_at passing_at per_len_at little_at bytes_at end_at
+unfolding create_request client_data_at user_data_at client_blocks_at blocks_at block_at kind_at length_at channels_at channel_count_at desktop_of passing_at
 core_repeated = refl
 
 no_depth : client_data_of (request 188 ++ (network 3 ++ core 14)) ≡ Err (DepthNotOffered 67)
-unfolding create_request client_data_at user_data_at client_blocks_at blocks_at block_at kind_at length_at channels_at channel_count_at desktop_of wanted_at passing_at per_len_at little_at bytes_at end_at
+unfolding create_request client_data_at user_data_at client_blocks_at blocks_at block_at kind_at length_at channels_at channel_count_at desktop_of passing_at
 no_depth = refl
 
 crowded : client_data_of (request 188 ++ (network 32 ++ core 14)) ≡ Err (TooManyChannels 27)
-unfolding create_request client_data_at user_data_at client_blocks_at blocks_at block_at kind_at length_at channels_at channel_count_at desktop_of wanted_at passing_at per_len_at little_at bytes_at end_at
+unfolding create_request client_data_at user_data_at client_blocks_at blocks_at block_at kind_at length_at channels_at channel_count_at desktop_of passing_at
 crowded = refl
 
 fourth_channel : client_data_of (request 188 ++ (network 4 ++ core 7)) ≡ Err (BadGcc 67)
-unfolding create_request client_data_at user_data_at client_blocks_at blocks_at block_at kind_at length_at channels_at channel_count_at desktop_of wanted_at passing_at per_len_at little_at bytes_at end_at
+unfolding create_request client_data_at user_data_at client_blocks_at blocks_at block_at kind_at length_at channels_at channel_count_at desktop_of passing_at
 fourth_channel = refl
 
 left_over : client_data_of (request 144 ++ (core 7 ++ (9 ∷ []))) ≡ Err (BadGcc 167)
-unfolding create_request client_data_at user_data_at client_blocks_at blocks_at block_at kind_at length_at channels_at channel_count_at desktop_of wanted_at passing_at per_len_at little_at bytes_at end_at
+unfolding create_request client_data_at user_data_at client_blocks_at blocks_at block_at kind_at length_at channels_at channel_count_at desktop_of passing_at
 left_over = refl
 
 too_few : client_data_of (request 145 ++ core 6) ≡ Err (BadGcc 23)
-unfolding create_request client_data_at user_data_at client_blocks_at blocks_at block_at kind_at length_at channels_at channel_count_at desktop_of wanted_at passing_at per_len_at little_at bytes_at end_at
+unfolding create_request client_data_at user_data_at client_blocks_at blocks_at block_at kind_at length_at channels_at channel_count_at desktop_of passing_at
 too_few = refl
 
 -- another key than "Duca"; no length of the user data; a CS_CORE of 131 bytes; a CS_NET that ends in its count
 another_key : client_data_of (0 ∷ 5 ∷ 0 ∷ 20 ∷ 124 ∷ 0 ∷ 1 ∷ 14 ∷ 0 ∷ 8 ∷ 0 ∷ 16 ∷ 0 ∷ 1 ∷ 192 ∷ 0 ∷ 68 ∷ 117 ∷ 99 ∷ 98 ∷ 0 ∷ []) ≡ Err (BadGcc 16)
-unfolding create_request client_data_at user_data_at client_blocks_at blocks_at block_at kind_at length_at channels_at channel_count_at desktop_of wanted_at passing_at per_len_at little_at bytes_at end_at
+unfolding create_request client_data_at user_data_at client_blocks_at blocks_at block_at kind_at length_at channels_at channel_count_at desktop_of passing_at
 another_key = refl
 
 no_length : client_data_of (0 ∷ 5 ∷ 0 ∷ 20 ∷ 124 ∷ 0 ∷ 1 ∷ 13 ∷ 0 ∷ 8 ∷ 0 ∷ 16 ∷ 0 ∷ 1 ∷ 192 ∷ 0 ∷ 68 ∷ 117 ∷ 99 ∷ 97 ∷ []) ≡ Err (BadGcc 20)
-unfolding create_request client_data_at user_data_at client_blocks_at blocks_at block_at kind_at length_at channels_at channel_count_at desktop_of wanted_at passing_at per_len_at little_at bytes_at end_at
+unfolding create_request client_data_at user_data_at client_blocks_at blocks_at block_at kind_at length_at channels_at channel_count_at desktop_of passing_at
 no_length = refl
 
 short_core : client_data_of (request 131 ++ ((1 ∷ 192 ∷ 131 ∷ 0 ∷ []) ++ replicate 127 0)) ≡ Err (BadGcc 25)
-unfolding create_request client_data_at user_data_at client_blocks_at blocks_at block_at kind_at length_at channels_at channel_count_at desktop_of wanted_at passing_at per_len_at little_at bytes_at end_at
+unfolding create_request client_data_at user_data_at client_blocks_at blocks_at block_at kind_at length_at channels_at channel_count_at desktop_of passing_at
 short_core = refl
 
 cut_count : client_data_of (request 6 ++ (3 ∷ 192 ∷ 6 ∷ 0 ∷ 1 ∷ 0 ∷ [])) ≡ Err (BadGcc 27)
-unfolding create_request client_data_at user_data_at client_blocks_at blocks_at block_at kind_at length_at channels_at channel_count_at desktop_of wanted_at passing_at per_len_at little_at bytes_at end_at
+unfolding create_request client_data_at user_data_at client_blocks_at blocks_at block_at kind_at length_at channels_at channel_count_at desktop_of passing_at
 cut_count = refl
 
 -- the answer to the sample client

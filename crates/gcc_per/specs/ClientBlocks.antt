@@ -1,12 +1,15 @@
 -- The client's data blocks ([MS-RDPBCGR] 2.2.1.3.1), each a header and its content.
 use Rattle.std.specs.Prelude.{ℕ, zero, suc, ◌+◌, ◌-◌, ◌==◌, nat_le, Bool, true, ◌&&◌, List, [], ◌∷◌, length, Option, Some, None, is_none, Ok, Err, if◌then◌else◌}
-use Rattle.wire_num.specs.Field.{Read, then_read, map_read, passing_at, bytes_at, little_at}
+use Rattle.wire_num.specs.Field.{passing_at}
+use Rattle.byte_fields.specs.Field.{Read, then_read, map_read, bytes_at}
+use Rattle.byte_fields.specs.Number.{little_at}
 use Rattle.gcc_per.specs.declared.gcc_fault.Cause.TheVariants.{NoDepth}
 use Rattle.gcc_per.specs.declared.client_core.Desktop.{Desktop}
 use Rattle.gcc_per.specs.declared.client_blocks.BlockKind.{BlockKind}
 use Rattle.gcc_per.specs.declared.client_blocks.BlockKind.TheVariants.{ClientCore, ClientNetwork, Other}
 use Rattle.gcc_per.specs.declared.client_blocks.ClientBlocks.{ClientBlocks}
-use Rattle.gcc_per.specs.Checked.{Checked, plain, then_checked, map_checked, before_checked}
+use Rattle.gcc_per.specs.Checked.{Checked, plain}
+use Rattle.byte_fields.specs.Caused.{then_caused, map_caused, before_caused}
 use Rattle.gcc_per.specs.ClientCore.{desktop_of}
 use Rattle.gcc_per.specs.ClientNetwork.{channels_at}
 
@@ -51,22 +54,22 @@ with_core found bs after None = Err (NoDepth, bs)
 -- what is found with a block that begins with bs, by its content and the bytes after it
 abbrev pub with_block : BlockKind → ClientBlocks → List ℕ → List ℕ → List ℕ → Checked ClientBlocks
 with_block ClientCore found bs content after = with_core found bs after (desktop_of content)
-with_block ClientNetwork found bs content after = map_checked (with_channels found) (before_checked after (channels_at content))
+with_block ClientNetwork found bs content after = map_caused (with_channels found) (before_caused after (channels_at content))
 with_block Other found bs content after = Ok (found, after)
 
 -- type; length; content
 unfoldable pub block_at : ClientBlocks → List ℕ → Checked ClientBlocks
 block_at found bs =
-    then_checked (plain (kind_at found bs)) (λ kind sized.
-    then_checked (plain (length_at kind sized)) (λ n more.
-    then_checked (plain (bytes_at (n - 4) more)) (λ content after.
+    then_caused (plain (kind_at found bs)) (λ kind sized.
+    then_caused (plain (length_at kind sized)) (λ n more.
+    then_caused (plain (bytes_at (n - 4) more)) (λ content after.
     with_block kind found bs content after)))
 
 -- blocks to the end, in any order, at most so many
 abbrev pub blocks_from : ℕ → ClientBlocks → List ℕ → Checked ClientBlocks
 blocks_from n found [] = Ok (found, [])
 blocks_from zero found (b ∷ bs) = Ok (found, b ∷ bs)
-blocks_from (suc n) found (b ∷ bs) = then_checked (block_at found (b ∷ bs)) (λ more after. blocks_from n more after)
+blocks_from (suc n) found (b ∷ bs) = then_caused (block_at found (b ∷ bs)) (λ more after. blocks_from n more after)
 
 -- before the first block
 abbrev pub no_blocks : ClientBlocks

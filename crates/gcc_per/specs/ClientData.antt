@@ -1,14 +1,16 @@
 -- The GCC Conference Create Request (T.124, 8.7; [MS-RDPBCGR] 2.2.1.3): the key of T.124, the request with its fixed
 -- choices, and the client's data blocks as its user data.
 use Rattle.std.specs.Prelude.{ℕ, List, [], ◌∷◌, Option, Some, None, Result, Ok, Err}
-use Rattle.wire_num.specs.Field.{bytes_at, end_at}
+use Rattle.wire_num.specs.Field.{end_at}
+use Rattle.byte_fields.specs.Field.{bytes_at}
 use Rattle.wire_num.specs.Length.{per_len_at}
 use Rattle.wire_num.specs.Layout.{Layout, Open, Bytes, Length, Packed, ◌▸◌, fields_at}
 use Rattle.gcc_per.specs.declared.gcc_fault.GccFault.{GccFault}
 use Rattle.gcc_per.specs.declared.gcc_fault.Cause.TheVariants.{Broken}
 use Rattle.gcc_per.specs.declared.client_core.Desktop.{Desktop}
 use Rattle.gcc_per.specs.declared.client_data.ClientData.{ClientData}
-use Rattle.gcc_per.specs.Checked.{Checked, plain, then_checked, map_checked, before_checked, placed_checked}
+use Rattle.gcc_per.specs.Checked.{Checked, plain, placed_checked}
+use Rattle.byte_fields.specs.Caused.{then_caused, map_caused, before_caused}
 use Rattle.gcc_per.specs.ClientBlocks.{blocks_at}
 
 -- the key, object 0.0.20.124.0.1; the length of the connectPDU; conferenceCreateRequest with its conference name "1"
@@ -34,19 +36,19 @@ data_with None channels after = Err (Broken, after)
 
 -- the client's data blocks, all of the bytes
 unfoldable pub client_blocks_at : List ℕ → Checked ClientData
-client_blocks_at bs = then_checked (blocks_at bs) (λ found after. data_with found.desktop found.channels after)
+client_blocks_at bs = then_caused (blocks_at bs) (λ found after. data_with found.desktop found.channels after)
 
 -- the blocks in exactly so many bytes, and nothing after them
 unfoldable pub user_data_at : List ℕ → Checked ClientData
 user_data_at bs =
-    then_checked (plain (per_len_at bs)) (λ n more.
-    then_checked (plain (bytes_at n more)) (λ content after.
-    then_checked (before_checked after (client_blocks_at content)) (λ client end.
-    map_checked (λ _. client) (plain (end_at end)))))
+    then_caused (plain (per_len_at bs)) (λ n more.
+    then_caused (plain (bytes_at n more)) (λ content after.
+    then_caused (before_caused after (client_blocks_at content)) (λ client end.
+    map_caused (λ _. client) (plain (end_at end)))))
 
 -- the fields before the user data, and these
 unfoldable pub client_data_at : List ℕ → Checked ClientData
-client_data_at bs = then_checked (plain (fields_at create_request bs)) (λ _ more. user_data_at more)
+client_data_at bs = then_caused (plain (fields_at create_request bs)) (λ _ more. user_data_at more)
 
 -- what the user data of a Connect-Initial say
 abbrev pub client_data_of : List ℕ → Result ClientData GccFault

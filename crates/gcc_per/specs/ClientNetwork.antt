@@ -1,8 +1,9 @@
 -- Client Network Data ([MS-RDPBCGR] 2.2.1.3.4), behind the header.
 use Rattle.std.specs.Prelude.{ℕ, zero, suc, nat_le, List, Ok, Err, if◌then◌else◌}
-use Rattle.wire_num.specs.Field.{little_at}
+use Rattle.byte_fields.specs.Number.{little_at}
 use Rattle.wire_num.specs.Layout.{Layout, Open, Any, ◌▸◌, fields_at}
-use Rattle.gcc_per.specs.Checked.{Checked, plain, then_checked, map_checked}
+use Rattle.gcc_per.specs.Checked.{Checked, plain}
+use Rattle.byte_fields.specs.Caused.{then_caused, map_caused}
 use Rattle.gcc_per.specs.declared.gcc_fault.Cause.TheVariants.{Crowded}
 
 -- so many channels of twelve bytes; what follows them isn't read
@@ -15,9 +16,9 @@ channel_definitions (suc n) =
 -- channelCount, at most 31
 unfoldable pub channel_count_at : List ℕ → Checked ℕ
 channel_count_at bs =
-    then_checked (plain (little_at 4 bs)) (λ count more. if nat_le count 31 then Ok (count, more) else Err (Crowded, bs))
+    then_caused (plain (little_at 4 bs)) (λ count more. if nat_le count 31 then Ok (count, more) else Err (Crowded, bs))
 
 -- channelCount; channelDefArray
 unfoldable pub channels_at : List ℕ → Checked ℕ
 channels_at bs =
-    then_checked (channel_count_at bs) (λ count more. map_checked (λ _. count) (plain (fields_at (channel_definitions count) more)))
+    then_caused (channel_count_at bs) (λ count more. map_caused (λ _. count) (plain (fields_at (channel_definitions count) more)))

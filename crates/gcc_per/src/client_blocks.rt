@@ -7,9 +7,9 @@
 //! | 4 | | content | by the type |
 
 ghost use Rattle.std.specs.Prelude.{◌≡◌, ◌≤◌, IfOk};
-ghost use Rattle.wire_num.specs.Field.{passing_at, little_at};
-ghost use Rattle.wire_num.specs.Cursor.{ReadsField, rest};
-ghost use Rattle.gcc_per.specs.Checked.{ReadsChecked};
+ghost use Rattle.wire_num.specs.Field.{passing_at};
+ghost use Rattle.byte_fields.specs.Number.{little_at};
+ghost use Rattle.wire_num.specs.Cursor.{rest, ReadsField, ReadsCaused};
 ghost use Rattle.gcc_per.specs.ClientBlocks.{kind_of, least_length, is_new, kind_at, length_at, block_at, blocks_at};
 
 use crate::client_core::{Desktop, desktop_of};
@@ -46,7 +46,7 @@ pub struct ClientBlocks {
 
 /// Reads blocks to the end.
 pub fn read_blocks(cursor: &mut Cursor<'_>) -> Result<ClientBlocks, Cause>
-    ensures { ReadsChecked blocks_at result cursor.old cursor.new }
+    ensures { ReadsCaused blocks_at result cursor.old cursor.new }
 {
     let mut found = ClientBlocks {
         desktop: None,
@@ -61,7 +61,7 @@ pub fn read_blocks(cursor: &mut Cursor<'_>) -> Result<ClientBlocks, Cause>
 /// Reads the next block, and gives what is found with it.
 #[tactic(auto, unfolding(crate::specs::ClientBlocks::block_at))]
 fn read_block(found: ClientBlocks, cursor: &mut Cursor<'_>) -> Result<ClientBlocks, Cause>
-    ensures { ReadsChecked (block_at found) result cursor.old cursor.new }
+    ensures { ReadsCaused (block_at found) result cursor.old cursor.new }
 {
     let at = cursor.at();
     let kind = read_kind(found, cursor)?;

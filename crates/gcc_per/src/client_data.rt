@@ -10,8 +10,7 @@
 
 ghost use Rattle.std.specs.Prelude.{◌≡◌, ◌≤◌, ◌↔◌, ℕ, List, [], ◌∷◌, Ok, Err, IfOk};
 ghost use Rattle.wire_num.specs.Layout.{fields_at};
-ghost use Rattle.wire_num.specs.Cursor.{ReadsFieldsAs, rest};
-ghost use Rattle.gcc_per.specs.Checked.{ReadsChecked};
+ghost use Rattle.wire_num.specs.Cursor.{rest, ReadsFieldsAs, ReadsCaused};
 ghost use Rattle.gcc_per.specs.ClientData.{create_request, client_blocks_at, user_data_at, client_data_at, client_data_of, channels_of};
 ghost use Rattle.gcc_per.specs.Grammar.{IsRequest};
 ghost use Rattle.gcc_per.specs.Refusals.{CoreWithoutDepth, CrowdedNetwork};
@@ -67,7 +66,7 @@ pub fn requests_are_read_exactly()
 /// Reads all fields.
 #[tactic(auto, unfolding(crate::specs::ClientData::client_data_at))]
 fn read_client_data(cursor: &mut Cursor<'_>) -> Result<ClientData, Cause>
-    ensures { ReadsChecked client_data_at result cursor.old cursor.new }
+    ensures { ReadsCaused client_data_at result cursor.old cursor.new }
 {
     read_create_request(cursor)?;
     read_user_data(cursor)
@@ -88,7 +87,7 @@ fn read_create_request(cursor: &mut Cursor<'_>) -> Result<(), Short>
 /// Reads the user data, and nothing after them.
 #[tactic(auto, unfolding(crate::specs::ClientData::user_data_at))]
 fn read_user_data(cursor: &mut Cursor<'_>) -> Result<ClientData, Cause>
-    ensures { ReadsChecked user_data_at result cursor.old cursor.new }
+    ensures { ReadsCaused user_data_at result cursor.old cursor.new }
 {
     let size = cursor.per_len()?;
     let mut content = cursor.within(size as usize)?;
@@ -107,7 +106,7 @@ fn read_user_data(cursor: &mut Cursor<'_>) -> Result<ClientData, Cause>
 /// Reads the client's data blocks, which are all that is left.
 #[tactic(auto, unfolding(crate::specs::ClientData::client_blocks_at))]
 fn read_client_blocks(cursor: &mut Cursor<'_>) -> Result<ClientData, Cause>
-    ensures { ReadsChecked client_blocks_at result cursor.old cursor.new }
+    ensures { ReadsCaused client_blocks_at result cursor.old cursor.new }
 {
     let found = read_blocks(cursor)?;
     match found.desktop {

@@ -8,8 +8,7 @@
 
 ghost use Rattle.std.specs.Prelude.{[]};
 ghost use Rattle.wire_num.specs.Layout.{fields_at};
-ghost use Rattle.wire_num.specs.Cursor.{ReadsFieldsAs, rest};
-ghost use Rattle.gcc_per.specs.Checked.{ReadsChecked};
+ghost use Rattle.wire_num.specs.Cursor.{rest, ReadsFieldsAs, ReadsCaused};
 ghost use Rattle.gcc_per.specs.ClientNetwork.{channel_count_at, channel_definitions, channels_at};
 
 use crate::gcc_fault::Cause;
@@ -23,7 +22,7 @@ const CHANNEL_DEF_SIZE: usize = 12;
 /// Reads the content of a CS_NET, and gives the number of channels. What follows the channels isn't read.
 #[tactic(auto, unfolding(crate::specs::ClientNetwork::channels_at))]
 pub fn read_channels(cursor: &mut Cursor<'_>) -> Result<u16, Cause>
-    ensures { ReadsChecked channels_at result cursor.old cursor.new }
+    ensures { ReadsCaused channels_at result cursor.old cursor.new }
 {
     let count = read_channel_count(cursor)?;
     skip_definitions(count, cursor)?;
@@ -33,7 +32,7 @@ pub fn read_channels(cursor: &mut Cursor<'_>) -> Result<u16, Cause>
 /// Reads the number of channels.
 #[tactic(auto, unfolding(crate::specs::ClientNetwork::channel_count_at))]
 fn read_channel_count(cursor: &mut Cursor<'_>) -> Result<u16, Cause>
-    ensures { ReadsChecked channel_count_at result cursor.old cursor.new }
+    ensures { ReadsCaused channel_count_at result cursor.old cursor.new }
 {
     let at = cursor.at();
     let count = cursor.u32_le()?;

@@ -1,9 +1,9 @@
 -- Domain parameters, field by field.
 use Rattle.std.proofs.Common.{◌≡◌, ℕ, suc, ◌+◌, ◌<◌, ◌-◌, List, [], ◌∷◌, ◌++◌, ap, sym, ◌∙◌, arith}
 use Rattle.std.specs.Prelude.{Ok, Err}
-use Rattle.wire_num.specs.Field.{then_read, bytes_at}
+use Rattle.byte_fields.specs.Field.{then_read, bytes_at, wanted}
 use Rattle.wire_num.specs.Length.{ber_len_at}
-use Rattle.wire_num.specs.Layout.{Layout, Within, Basic, wanted_at, fields_at}
+use Rattle.wire_num.specs.Layout.{Layout, Within, Basic, fields_at}
 use Rattle.mcs_ber.specs.DomainParameters.{integer, integers, domain_parameters}
 use Rattle.mcs_ber.proofs.Within.{within_ok, within_err, map_same}
 
@@ -17,17 +17,17 @@ pub one_integer : (k : ℕ) (bs rest : List ℕ) → k < 8 → ((next : Layout) 
 one_integer k bs rest h e =
     sym (e (integers (8 - (k + 1)))) ∙ ap (λ l. fields_at l bs) (sym (integers_step k h))
 
-after_tag : (next : Layout) (bs tagged : List ℕ) → wanted_at (48 ∷ []) bs ≡ Ok ([], tagged)
+after_tag : (next : Layout) (bs tagged : List ℕ) → wanted (48 ∷ []) bs ≡ Ok ([], tagged)
     → fields_at (domain_parameters next) bs ≡ fields_at (Within Basic (integers 8) next) tagged
 after_tag next bs tagged t = ap (λ r. then_read r (λ _ rest. fields_at (Within Basic (integers 8) next) rest)) t
 
-pub parameters_ok : (bs tagged counted content after left : List ℕ) (n : ℕ) → wanted_at (48 ∷ []) bs ≡ Ok ([], tagged) → ber_len_at tagged ≡ Ok (n, counted)
+pub parameters_ok : (bs tagged counted content after left : List ℕ) (n : ℕ) → wanted (48 ∷ []) bs ≡ Ok ([], tagged) → ber_len_at tagged ≡ Ok (n, counted)
     → bytes_at n counted ≡ Ok (content, after) → fields_at (integers 8) content ≡ Ok ([], left) → left ≡ []
     → (next : Layout) → fields_at (domain_parameters next) bs ≡ fields_at next after
 parameters_ok bs tagged counted content after left n t e h f g next =
     after_tag next bs tagged t ∙ within_ok (integers 8) next tagged counted content after [] left n e h f g ∙ map_same (fields_at next after)
 
-pub parameters_err : (bs tagged counted content after left place : List ℕ) (n : ℕ) → wanted_at (48 ∷ []) bs ≡ Ok ([], tagged) → ber_len_at tagged ≡ Ok (n, counted)
+pub parameters_err : (bs tagged counted content after left place : List ℕ) (n : ℕ) → wanted (48 ∷ []) bs ≡ Ok ([], tagged) → ber_len_at tagged ≡ Ok (n, counted)
     → bytes_at n counted ≡ Ok (content, after) → fields_at (integers 8) content ≡ Err left → left ++ after ≡ place
     → (next : Layout) → fields_at (domain_parameters next) bs ≡ Err place
 parameters_err bs tagged counted content after left place n t e h f g next =

@@ -3,25 +3,20 @@ use Rattle.std.proofs.Common.{◌≡◌, ℕ, ◌+◌, ◌≤◌, List, [], ◌�
 use Rattle.std.specs.Prelude.{◌==◌, Result, Ok, Err, OnOk}
 use Rattle.std.proofs.lemmas.List.{length-take-le}
 use Rattle.wire_num.specs.declared.short.Short.{Short}
-use Rattle.wire_num.specs.Field.{Read, then_read, map_read, bytes_at, end_at}
+use Rattle.wire_num.specs.Field.{end_at}
+use Rattle.byte_fields.specs.Field.{Read, then_read, map_read, bytes_at}
 use Rattle.wire_num.specs.Length.{ber_len_at}
 use Rattle.wire_num.specs.Layout.{Layout, Within, Basic, before, fields_at}
 use Rattle.wire_num.specs.Cursor.{Reading, rest, ReadsFieldAs, ReadsFieldsAs}
-use Rattle.wire_num.proofs.Steps.{passed_ok, same_count}
 use Rattle.wire_num.proofs.Content.{rest_of_content}
 
 -- ---- the end
 
-none_left : (bs : List ℕ) → length bs ≡ 0 → bs ≡ []
-none_left [] h = refl
-none_left (b ∷ bs) h = absurd (omega (arith, h))
-
 pub end_none : (bs : List ℕ) (y : List ℕ × List ℕ) → end_at bs ≡ Ok y → bs ≡ []
-unfolding end_at
-end_none bs y e = none_left bs (same_count (length bs) 0 (passed_ok (length bs == 0) bs ([], bs) y e).0)
+end_none [] y e = refl
+end_none (b ∷ bs) y e = absurd (let h : ⊥ = cc in h)
 
 end_again : end_at [] ≡ Ok ([], [])
-unfolding end_at
 end_again = refl
 
 pub at_end : {X : Type 0} (r : Result X Short) (c : Reading) → ReadsFieldAs (λ _. []) end_at r c c → OnOk r (rest c ≡ [])

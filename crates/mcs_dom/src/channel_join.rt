@@ -15,7 +15,7 @@
 //! | 6 | 2 | channelId | the same |
 
 ghost use Rattle.std.specs.Prelude.{◌≡◌, ◌≤◌, ◌++◌, OnOk, OnErr};
-ghost use Rattle.wire_num.specs.Field.{map_read};
+ghost use Rattle.byte_fields.specs.Field.{map_read};
 ghost use Rattle.wire_num.specs.Layout.{fields_at};
 ghost use Rattle.wire_num.specs.Cursor.{ReadsFields, rest};
 ghost use Rattle.wire_num.specs.Written.{AppendsFront};

@@ -11,7 +11,7 @@
 //! an integer of one byte, and a byte that is left over.
 
 ghost use Rattle.std.specs.Prelude.{◌≡◌, []};
-ghost use Rattle.wire_num.specs.Field.{map_read};
+ghost use Rattle.byte_fields.specs.Field.{map_read};
 ghost use Rattle.wire_num.specs.Layout.{Rest, fields_at};
 ghost use Rattle.wire_num.specs.Cursor.{ReadsFields, ReadsFieldsAs, rest};
 ghost use Rattle.mcs_dom.specs.ErectDomain.{erect_domain_request};
@@ -37,7 +37,7 @@ pub fn read_erect_domain(cursor: &mut Cursor<'_>) -> Result<DomainPdu, Short>
 }
 
 /// Reads the bytes that are left, whatever they are.
-#[tactic(auto, unfolding(wire_num::specs::Field::bytes_at))]
+#[tactic(auto, using(byte_fields::proofs::Bytes::bytes_at_is))]
 fn read_rest(cursor: &mut Cursor<'_>) -> Result<(), Short>
     ensures { ReadsFieldsAs (λ _. []) (fields_at Rest) result cursor.old cursor.new }
 {

@@ -7,7 +7,7 @@ use Rattle.run_lengths.specs.RunLength.{Run, run_size}
 use Rattle.run_lengths.specs.RunLength.Run.{Background, Foreground, Mask, Color, Image, Dithered}
 use Rattle.run_lengths.specs.Packer.{Spot, background_count, color_count, first_run, runs_past, onto_runs, joined_images, packed_runs, first_stretch, later_stretch, packed, run_bytes, length_bytes, color_runs, color_runs_after, color_runs_in}
 use Rattle.byte_fields.specs.Pixels.{pixel_bytes}
-use Rattle.rle_enc.proofs.ReadBack.{length-image}
+use Rattle.byte_fields.proofs.Pixels.{length-pixels_bytes}
 use Rattle.rle_enc.proofs.Runs.{pixels, chosen}
 use Rattle.rle_enc.proofs.Stretches.{pixels-zip}
 
@@ -47,7 +47,7 @@ short_length code long n = by_tests (nat_lt n 32) (nat_lt n 288) where
 run_bytes_few : (r : Run) → IsFull r → length (run_bytes r) ≤ 6 * weight r
 run_bytes_few (Background n) h = omega (arith, short_length 0 240 n)
 run_bytes_few (Color n c) h = omega (arith, short_length 96 243 n, length-append (length_bytes 96 243 n) (pixel_bytes c))
-run_bytes_few (Image cs) h = omega (arith, h, short_length 128 244 (length cs), length-append (length_bytes 128 244 (length cs)) (flat_map pixel_bytes cs), length-image cs)
+run_bytes_few (Image cs) h = omega (arith, h, short_length 128 244 (length cs), length-append (length_bytes 128 244 (length cs)) (flat_map pixel_bytes cs), length-pixels_bytes cs)
 run_bytes_few (Foreground n) h = omega arith
 run_bytes_few (Mask bits) h = omega arith
 run_bytes_few (Dithered n a b) h = omega arith

@@ -4,10 +4,12 @@ use Rattle.std.specs.Prelude.{flat_map, map, nat_le, nat_lt, ◌&&◌}
 use Rattle.std.proofs.lemmas.Bool.Decides.{nat_tests}
 use Rattle.std.proofs.lemmas.Bool.{and_parts, cases_lt}
 use Rattle.px_core.specs.Colors.{is_color, are_colors}
-use Rattle.px_core.proofs.Colors.{color_below}
+use Rattle.px_core.proofs.Colors.{color_below, colors_are_below}
 use Rattle.byte_fields.specs.Field.{Read, then_read, map_read, given, taken, bytes_at}
 use Rattle.byte_fields.specs.Pixels.{pixels_of, pixel_bytes}
 use Rattle.byte_fields.specs.Number.{little_value}
+use Rattle.byte_fields.proofs.Bytes.{taken_back}
+use Rattle.byte_fields.proofs.Pixels.{pixels_back, length-pixels_bytes}
 use Rattle.byteorder.specs.Endian.{little_bytes}
 use Rattle.run_lengths.specs.Codes.{row_of, row, run}
 use Rattle.run_lengths.specs.declared.codes.Kind.TheVariants.{BackgroundRun, ColorRun, ColorImage}
@@ -102,18 +104,8 @@ headed first last long n left k more wide short two l h fits = ⊎_elim in_code 
         ∙ ap (λ t. order_at left (cond t (first ∷ (n - 32) ∷ []) (long ∷ little_bytes 2 n) ++ more)) f
         ∙ in_row long long long n left k TwoBytes (little_bytes 2 n ++ more) more two (length_in_two n (greatest_length k left) (long - long) (long ∷ little_bytes 2 n ++ more) more l h fits)
 
-bytes_back : (field xs rest : List ℕ) → taken field (length xs) (xs ++ rest) ≡ Ok (xs, rest)
-bytes_back field [] rest = refl
-bytes_back field (x ∷ xs) rest = ap (map_read (λ bs. x ∷ bs)) (bytes_back field xs rest)
-
-pub length-image : (cs : List ℕ) → length (flat_map pixel_bytes cs) ≡ 3 * length cs
-length-image [] = refl
-length-image (c ∷ cs) = omega (arith, length-image cs)
-
 image_back : (cs : List ℕ) → are_colors cs ≡ true → pixels_of (flat_map pixel_bytes cs) ≡ cs
-image_back [] h = refl
-image_back (c ∷ cs) h = let k = and_parts (is_color c) (are_colors cs) h in
-    ap (λ x. x ∷ pixels_of (flat_map pixel_bytes cs)) (pixel_back c k.0) ∙ ap (λ xs. c ∷ xs) (image_back cs k.1)
+image_back cs h = pixels_back cs (colors_are_below cs h)
 
 -- what the packer writes: lengths of 1 to 65,535, and colours
 abbrev pub IsPacked : Run → Type 0
@@ -133,7 +125,7 @@ run_back (Color n c) left rest h fits =
     ∙ ap (λ x. Ok (plain (Color n x), rest)) (pixel_back c h.2)
 run_back (Image cs) left rest h fits =
     let bytes : List ℕ = flat_map pixel_bytes cs in
-    let read : bytes_at (3 * length cs) (bytes ++ rest) ≡ Ok (bytes, rest) = ap (λ m. bytes_at m (bytes ++ rest)) (sym (length-image cs)) ∙ bytes_back (bytes ++ rest) bytes rest in
+    let read : bytes_at (3 * length cs) (bytes ++ rest) ≡ Ok (bytes, rest) = ap (λ m. bytes_at m (bytes ++ rest)) (sym (length-pixels_bytes cs)) ∙ taken_back (bytes ++ rest) bytes rest in
     ap (order_at left) (append_assoc (length_bytes 128 244 (length cs)) bytes rest)
     ∙ headed 128 159 244 (length cs) left ColorImage (bytes ++ rest) (omega arith) image_code refl h.0 h.1 fits
     ∙ ap (λ t. map_read plain (map_read (λ xs. Image (pixels_of xs)) t)) read

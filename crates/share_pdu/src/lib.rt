@@ -5,5 +5,5 @@ mod headers;
 mod laws;
 
 pub use headers::put_share_headers;
-pub use laws::{packed_lengths_are_those_of_layouts, share_is_read_from_its_bytes};
+pub use laws::share_is_read_from_its_bytes;
 pub use wire_num::OutOfMemory;

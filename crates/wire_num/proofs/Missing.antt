@@ -4,10 +4,14 @@ use Rattle.std.specs.Prelude.{nat_lt, nat_eq, ◌==◌, Ok, Err}
 use Rattle.std.specs.List.{starts_with}
 use Rattle.std.proofs.lemmas.Bool.Decides.{nat_tests}
 use Rattle.std.proofs.lemmas.List.{length-take-le}
+use Rattle.byte_fields.proofs.Bytes.{bytes_at_is, wanted_is, taken_few}
+use Rattle.byte_fields.proofs.Numbers.{big_at_is, little_at_is}
 use Rattle.byteorder.specs.Endian.{big_number, little_number}
-use Rattle.wire_num.specs.Field.{Read, then_read, as_one_field, passing_at, bytes_at, big_at, little_at, end_at, at_least, rest_count_at}
+use Rattle.wire_num.specs.Field.{as_one_field, passing_at, end_at, at_least, rest_count_at}
+use Rattle.byte_fields.specs.Field.{Read, then_read, bytes_at, wanted}
+use Rattle.byte_fields.specs.Number.{big_at, little_at}
 use Rattle.wire_num.specs.Length.{per_len_at, long_per_at, ber_len_at}
-use Rattle.wire_num.specs.Layout.{Count, OneByte, Packed, Basic, count_at, wanted_at, exactly_at}
+use Rattle.wire_num.specs.Layout.{Count, OneByte, Packed, Basic, count_at, exactly_at}
 use Rattle.wire_num.specs.Refusal.{Missing, IsSomeCount, IsPassingCount}
 use Rattle.wire_num.proofs.Steps.{big_taken, little_taken}
 use Rattle.wire_num.proofs.ReadIsText.{bytes_ok, big_ok, little_ok, passing_ok, wanted_ok, rest_count_ok, count_ok, regroup}
@@ -28,19 +32,16 @@ one_err whole (Ok v) left e = absurd (let h : ⊥ = cc in h)
 one_err whole (Err l) left e = cc
 
 pub bytes_err : (n : ℕ) (bs left : List ℕ) → bytes_at n bs ≡ Err left → (length bs < n) × (bs ≡ left)
-unfolding bytes_at
 bytes_err n bs left e =
-    let s = short_err (nat_lt (length bs) n) bs left (take n bs, drop n bs) e in
+    let s = short_err (nat_lt (length bs) n) bs left (take n bs, drop n bs) (sym (bytes_at_is n bs) ∙ e) in
     let short = s.0 in
     (grind (arith, nat_tests, short), s.1)
 
 big_err : (n : ℕ) (bs left : List ℕ) → big_at n bs ≡ Err left → bs ≡ left
-unfolding big_at
-big_err n bs left e = (short_err (nat_lt (length bs) n) bs left (big_number n bs, drop n bs) e).1
+big_err n bs left e = (short_err (nat_lt (length bs) n) bs left (big_number n bs, drop n bs) (sym (big_at_is n bs) ∙ e)).1
 
 pub little_err : (n : ℕ) (bs left : List ℕ) → little_at n bs ≡ Err left → bs ≡ left
-unfolding little_at
-little_err n bs left e = (short_err (nat_lt (length bs) n) bs left (little_number n bs, drop n bs) e).1
+little_err n bs left e = (short_err (nat_lt (length bs) n) bs left (little_number n bs, drop n bs) (sym (little_at_is n bs) ∙ e)).1
 
 passing_by : (r : Read ℕ) (test : ℕ → Bool) (bs left : List ℕ) → ((l : List ℕ) → r ≡ Err l → bs ≡ l)
     → then_read r (λ v rest. cond (test v) (Ok (v, rest)) (Err bs)) ≡ Err left → bs ≡ left
@@ -52,16 +53,12 @@ pub passing_err : (test : ℕ → Bool) (read : List ℕ → Read ℕ) (bs left 
 unfolding passing_at
 passing_err test read bs left at e = passing_by (read bs) test bs left at e
 
-wanted_err : (ws bs left : List ℕ) → wanted_at ws bs ≡ Err left → bs ≡ left
-unfolding wanted_at
-wanted_err ws bs left e = (passed_err (starts_with nat_eq bs ws) bs left ([], drop (length ws) bs) e).1
+wanted_err : (ws bs left : List ℕ) → wanted ws bs ≡ Err left → bs ≡ left
+wanted_err ws bs left e = (passed_err (starts_with nat_eq bs ws) bs left ([], drop (length ws) bs) (sym (wanted_is ws bs) ∙ e)).1
 
 pub end_err : (bs left : List ℕ) → end_at bs ≡ Err left → (0 < length bs) × (bs ≡ left)
-unfolding end_at
-end_err bs left e =
-    let s = passed_err (length bs == 0) bs left ([], bs) e in
-    let some = s.0 in
-    (grind (arith, nat_tests, some), s.1)
+end_err [] left e = absurd (let h : ⊥ = cc in h)
+end_err (b ∷ bs) left e = (omega arith, cc)
 
 pub at_least_err : (n : ℕ) (bs left : List ℕ) → at_least n bs ≡ Err left → (length bs < n) × ([] ≡ left)
 unfolding at_least
@@ -84,7 +81,6 @@ packed_err_by true b bs left e = absurd (let h : ⊥ = cc in h)
 packed_err_by false b bs left e = one_err (b ∷ bs) (long_per_at b bs) left e
 
 packed_err : (bs left : List ℕ) → per_len_at bs ≡ Err left → bs ≡ left
-unfolding per_len_at
 packed_err [] left e = cc
 packed_err (b ∷ bs) left e = packed_err_by (nat_lt b 128) b bs left e
 
@@ -97,7 +93,6 @@ basic_err_by false false true b bs left e = one_err (b ∷ bs) (big_at 2 bs) lef
 basic_err_by false false false b bs left e = cc
 
 basic_err : (bs left : List ℕ) → ber_len_at bs ≡ Err left → bs ≡ left
-unfolding ber_len_at
 basic_err [] left e = cc
 basic_err (b ∷ bs) left e = basic_err_by (nat_lt b 128) (b == 129) (b == 130) b bs left e
 
@@ -109,10 +104,7 @@ count_err Basic bs left e = basic_err bs left e
 -- ---- where bytes are too few, or left over
 
 pub bytes_short : (n : ℕ) (bs : List ℕ) → length bs < n → bytes_at n bs ≡ Err bs
-unfolding bytes_at
-bytes_short n bs h =
-    let short : nat_lt (length bs) n ≡ true = grind (arith, nat_tests, h) in
-    rw short refl
+bytes_short n bs h = taken_few n bs bs h
 
 pub at_least_short : (n : ℕ) (bs : List ℕ) → length bs < n → at_least n bs ≡ Err []
 unfolding at_least
@@ -121,10 +113,8 @@ at_least_short n bs h =
     rw short refl
 
 pub end_over : (bs : List ℕ) → 0 < length bs → end_at bs ≡ Err bs
-unfolding end_at
-end_over bs h =
-    let over : (length bs == 0) ≡ false = grind (arith, nat_tests, h) in
-    rw over refl
+end_over [] h = absurd (omega (arith, h))
+end_over (b ∷ bs) h = refl
 
 other_by : {A : Type 0} (b : Bool) (bs : List ℕ) (x : A × List ℕ) → (b ≡ true → ⊥) → cond b (Ok x) (Err bs) ≡ Err bs
 other_by true bs x h = absurd (h refl)
@@ -183,9 +173,9 @@ CountsMore text more = text ≡ length more ∷ []
 abbrev pub IsTested : Count → (ℕ → Bool) → List ℕ → List ℕ → Type 0
 IsTested form test text more = (n : ℕ) × IsPassingCount form test text n
 
-pub wanted_exact : (ws : List ℕ) → Exact (IsWanted ws) (wanted_at ws)
+pub wanted_exact : (ws : List ℕ) → Exact (IsWanted ws) (wanted ws)
 wanted_exact ws = record {
-  there = λ text more is. ([], ap (λ xs. wanted_at ws (xs ++ more)) is ∙ wanted_again ws more);
+  there = λ text more is. ([], ap (λ xs. wanted ws (xs ++ more)) is ∙ wanted_again ws more);
   found = λ bytes y e. (ws, wanted_ok ws bytes y e, refl);
   place = wanted_err ws;
 }

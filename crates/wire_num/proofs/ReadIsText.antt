@@ -5,31 +5,32 @@ use Rattle.std.specs.List.{starts_with}
 use Rattle.std.specs.Cmp.Lexicographic.{same_text}
 use Rattle.std.proofs.lemmas.Bool.Decides.{nat_tests}
 use Rattle.std.proofs.lemmas.List.{take-append-drop, length-take-le}
+use Rattle.byte_fields.proofs.Bytes.{bytes_at_is, wanted_is}
+use Rattle.byte_fields.proofs.Numbers.{big_at_is, little_at_is}
 use Rattle.byteorder.specs.Endian.{big_number, little_number}
-use Rattle.wire_num.specs.Field.{Read, then_read, map_read, as_one_field, passing_at, bytes_at, big_at, little_at, end_at, at_least, rest_count_at}
+use Rattle.wire_num.specs.Field.{as_one_field, passing_at, end_at, at_least, rest_count_at}
+use Rattle.byte_fields.specs.Field.{Read, then_read, map_read, bytes_at, wanted}
+use Rattle.byte_fields.specs.Number.{big_at, little_at}
 use Rattle.wire_num.specs.Length.{per_len_at, long_per_at, ber_len_at}
-use Rattle.wire_num.specs.Layout.{Layout, Open, End, Rest, Body, Content, Bytes, Any, Big, Little, CountsRest, AtLeast, Length, Counted, Within, Count, OneByte, Packed, Basic, count_at, wanted_at, exactly_at, before, fields_at}
+use Rattle.wire_num.specs.Layout.{Layout, Open, End, Rest, Body, Content, Bytes, Any, Big, Little, CountsRest, AtLeast, Length, Counted, Within, Count, OneByte, Packed, Basic, count_at, exactly_at, before, fields_at}
 use Rattle.wire_num.specs.Grammar.{IsPacked, IsBasic, IsCount, IsText}
 use Rattle.wire_num.proofs.Steps.{then_ok, map_ok, short_ok, passed_ok, one_ok, fits, same_count, big_taken, little_taken}
 
 -- ---- fields that were read
 
 pub bytes_ok : (n : ℕ) (bs : List ℕ) (y : List ℕ × List ℕ) → bytes_at n bs ≡ Ok y → (n ≤ length bs) × (take n bs ≡ y.0) × (drop n bs ≡ y.1)
-unfolding bytes_at
 bytes_ok n bs y e =
-    let s = short_ok (nat_lt (length bs) n) bs (take n bs, drop n bs) y e in
+    let s = short_ok (nat_lt (length bs) n) bs (take n bs, drop n bs) y (sym (bytes_at_is n bs) ∙ e) in
     (fits n (length bs) s.0, ap (λ p. p.0) s.1, ap (λ p. p.1) s.1)
 
 pub big_ok : (n : ℕ) (bs : List ℕ) (y : ℕ × List ℕ) → big_at n bs ≡ Ok y → (n ≤ length bs) × (big_number n bs ≡ y.0) × (drop n bs ≡ y.1)
-unfolding big_at
 big_ok n bs y e =
-    let s = short_ok (nat_lt (length bs) n) bs (big_number n bs, drop n bs) y e in
+    let s = short_ok (nat_lt (length bs) n) bs (big_number n bs, drop n bs) y (sym (big_at_is n bs) ∙ e) in
     (fits n (length bs) s.0, ap (λ p. p.0) s.1, ap (λ p. p.1) s.1)
 
 pub little_ok : (n : ℕ) (bs : List ℕ) (y : ℕ × List ℕ) → little_at n bs ≡ Ok y → (n ≤ length bs) × (little_number n bs ≡ y.0) × (drop n bs ≡ y.1)
-unfolding little_at
 little_ok n bs y e =
-    let s = short_ok (nat_lt (length bs) n) bs (little_number n bs, drop n bs) y e in
+    let s = short_ok (nat_lt (length bs) n) bs (little_number n bs, drop n bs) y (sym (little_at_is n bs) ∙ e) in
     (fits n (length bs) s.0, ap (λ p. p.0) s.1, ap (λ p. p.1) s.1)
 
 pub passing_ok : (test : ℕ → Bool) (read : List ℕ → Read ℕ) (bs : List ℕ) (y : ℕ × List ℕ) → passing_at test read bs ≡ Ok y → (read bs ≡ Ok y) × (test y.0 ≡ true)
@@ -41,10 +42,9 @@ passing_ok test read bs y e =
     let same : v ≡ y = t.1 in
     (s.1 ∙ ap Ok same, sym (ap (λ p. test p.0) same) ∙ t.0)
 
-pub wanted_ok : (ws bs : List ℕ) (y : List ℕ × List ℕ) → wanted_at ws bs ≡ Ok y → bs ≡ ws ++ y.1
-unfolding wanted_at
+pub wanted_ok : (ws bs : List ℕ) (y : List ℕ × List ℕ) → wanted ws bs ≡ Ok y → bs ≡ ws ++ y.1
 wanted_ok ws bs y e =
-    let s = passed_ok (starts_with nat_eq bs ws) bs ([], drop (length ws) bs) y e in
+    let s = passed_ok (starts_with nat_eq bs ws) bs ([], drop (length ws) bs) y (sym (wanted_is ws bs) ∙ e) in
     let front : ws ≡ take (length ws) bs = same_text ws (take (length ws) bs) (sym s.0) in
     sym (take-append-drop (length ws) bs) ∙ ap (λ xs. xs ++ drop (length ws) bs) (sym front) ∙ ap (λ xs. ws ++ xs) (ap (λ p. p.1) s.1)
 
@@ -54,15 +54,9 @@ same_read r s = r ≡ s
 ok_same : {A : Type 0} (x y : A × List ℕ) → same_read (Ok x) (Ok y) → x ≡ y
 ok_same x y e = cc
 
-none_left : (bs : List ℕ) → length bs ≡ 0 → bs ≡ []
-none_left [] h = refl
-none_left (b ∷ bs) h = absurd (omega (arith, h))
-
 pub end_ok : (bs : List ℕ) (y : List ℕ × List ℕ) → end_at bs ≡ Ok y → (bs ≡ []) × ([] ≡ y.0) × (bs ≡ y.1)
-unfolding end_at
-end_ok bs y e =
-    let s = passed_ok (length bs == 0) bs ([], bs) y e in
-    (none_left bs (same_count (length bs) 0 s.0), ap (λ p. p.0) s.1, ap (λ p. p.1) s.1)
+end_ok [] y e = let s = ok_same ([], []) y e in (refl, ap (λ p. p.0) s, ap (λ p. p.1) s)
+end_ok (b ∷ bs) y e = absurd (let h : ⊥ = cc in h)
 
 pub exactly_ok : (n : ℕ) (bs : List ℕ) (y : List ℕ × List ℕ) → exactly_at n bs ≡ Ok y → (length bs ≡ n) × ([] ≡ y.1)
 unfolding exactly_at
@@ -106,7 +100,6 @@ packed_by false b (c ∷ cs) y t e =
     (b ∷ c ∷ [], (grind (arith, nat_tests, t), grind (arith, nat_tests, low), sym (ap (λ p. p.0) s.1)), ap (λ p. b ∷ c ∷ p.1) s.1)
 
 packed_ok : (bs : List ℕ) (y : ℕ × List ℕ) → per_len_at bs ≡ Ok y → (count : List ℕ) × IsPacked count y.0 × (bs ≡ count ++ y.1)
-unfolding per_len_at
 packed_ok [] y e = absurd (let h : ⊥ = cc in h)
 packed_ok (b ∷ bs) y e = packed_by (nat_lt b 128) b bs y refl e
 
@@ -142,7 +135,6 @@ basic_first true b bs y t e =
 basic_first false b bs y t e = basic_second (b == 129) b bs y refl e
 
 basic_ok : (bs : List ℕ) (y : ℕ × List ℕ) → ber_len_at bs ≡ Ok y → (count : List ℕ) × IsBasic count y.0 × (bs ≡ count ++ y.1)
-unfolding ber_len_at
 basic_ok [] y e = absurd (let h : ⊥ = cc in h)
 basic_ok (b ∷ bs) y e = basic_first (nat_lt b 128) b bs y refl e
 
@@ -191,7 +183,7 @@ read_is_text (Content form) bytes values left e =
     let P : ℕ → Type 0 = λ n. IsCount form c.0 n in
     (c.0, v.1, subst P (sym size) c.1, c.2, sym m.2 ∙ ap (λ n. n ∷ []) (sym size), sym m.3 ∙ sym h.2 ∙ h.0)
 read_is_text (Bytes ws next) bytes values left e =
-    let s = then_ok (wanted_at ws bytes) (λ _ rest. fields_at next rest) (values, left) e in
+    let s = then_ok (wanted ws bytes) (λ _ rest. fields_at next rest) (values, left) e in
     (s.0.1, wanted_ok ws bytes s.0 s.1, read_is_text next s.0.1 values left s.2)
 read_is_text (Any n next) bytes values left e =
     let s = then_ok (bytes_at n bytes) (λ _ rest. fields_at next rest) (values, left) e in

@@ -2,9 +2,10 @@
 use Rattle.std.proofs.Common.{◌≡◌, ℕ, inl, inr, List, [], ◌∷◌, ◌++◌, length, ap, sym, ◌∙◌}
 use Rattle.std.specs.Prelude.{Ok, Err}
 use Rattle.byteorder.specs.Endian.{big_number, little_number}
-use Rattle.wire_num.specs.Field.{Read, then_read, map_read, passing_at, bytes_at, big_at, little_at, end_at, at_least, rest_count_at}
-use Rattle.wire_num.specs.Layout.{Layout, Open, End, Rest, Body, Content, Bytes, Any, Big, Little, CountsRest, AtLeast, Length, Counted, Within, count_at}
-use Rattle.wire_num.specs.Layout.{wanted_at, exactly_at, before, fields_at}
+use Rattle.wire_num.specs.Field.{passing_at, end_at, at_least, rest_count_at}
+use Rattle.byte_fields.specs.Field.{Read, then_read, map_read, bytes_at, wanted}
+use Rattle.byte_fields.specs.Number.{big_at, little_at}
+use Rattle.wire_num.specs.Layout.{count_at, Within, Counted, Length, AtLeast, CountsRest, Little, Big, Any, Bytes, Content, Body, Rest, End, Open, Layout, exactly_at, before, fields_at}
 use Rattle.wire_num.specs.Grammar.{IsText}
 use Rattle.wire_num.specs.Refusal.{IsSomeCount, IsRefusedAt}
 use Rattle.wire_num.proofs.TextIsRead.{then_again, bytes_again, bytes_there, big_there, little_there, passing_again, wanted_again, end_again, at_least_again}
@@ -56,10 +57,10 @@ refusal_is_read (Content form) bytes left p =
 refusal_is_read (Bytes ws next) bytes left p =
     let tail : List ℕ → List ℕ → Read (List ℕ) = λ _ rest. fields_at next rest in
     elim p [
-      | inl m ↦ stop (wanted_at ws bytes) tail left (refuses (IsWanted ws) (wanted_at ws) (wanted_exact ws) bytes left m)
+      | inl m ↦ stop (wanted ws bytes) tail left (refuses (IsWanted ws) (wanted ws) (wanted_exact ws) bytes left m)
       | inr q ↦
           ap (fields_at (Bytes ws next)) q.1
-          ∙ then_again (wanted_at ws (ws ++ q.0)) [] q.0 tail (no_text left) (wanted_again ws q.0) (refusal_is_read next q.0 left q.2)
+          ∙ then_again (wanted ws (ws ++ q.0)) [] q.0 tail (no_text left) (wanted_again ws q.0) (refusal_is_read next q.0 left q.2)
     ]
 refusal_is_read (Any n next) bytes left p =
     let tail : List ℕ → List ℕ → Read (List ℕ) = λ _ rest. fields_at next rest in

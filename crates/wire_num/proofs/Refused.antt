@@ -2,9 +2,10 @@
 use Rattle.std.proofs.Common.{◌≡◌, ℕ, ◌<◌, ◌⊎◌, inl, inr, List, [], ◌∷◌, ◌++◌, length, refl, ap, sym, ◌∙◌, subst}
 use Rattle.std.specs.Prelude.{Ok, Err}
 use Rattle.std.proofs.lemmas.List.{length-take-le}
-use Rattle.wire_num.specs.Field.{Read, then_read, map_read, passing_at, bytes_at, big_at, little_at, end_at, at_least, rest_count_at}
-use Rattle.wire_num.specs.Layout.{Layout, Open, End, Rest, Body, Content, Bytes, Any, Big, Little, CountsRest, AtLeast, Length, Counted, Within, count_at}
-use Rattle.wire_num.specs.Layout.{wanted_at, exactly_at, before, fields_at}
+use Rattle.wire_num.specs.Field.{passing_at, end_at, at_least, rest_count_at}
+use Rattle.byte_fields.specs.Field.{Read, then_read, map_read, bytes_at, wanted}
+use Rattle.byte_fields.specs.Number.{big_at, little_at}
+use Rattle.wire_num.specs.Layout.{count_at, Within, Counted, Length, AtLeast, CountsRest, Little, Big, Any, Bytes, Content, Body, Rest, End, Open, Layout, exactly_at, before, fields_at}
 use Rattle.wire_num.specs.Grammar.{IsCount, IsText}
 use Rattle.wire_num.specs.Refusal.{IsSomeCount, IsPassingCount, TooFew, IsRefusedAt}
 use Rattle.wire_num.proofs.Steps.{then_ok, map_ok}
@@ -112,8 +113,8 @@ refused (Content form) bytes left e =
           ]
     ]
 refused (Bytes ws next) bytes left e =
-    elim (step (wanted_at ws bytes) (λ _ rest. fields_at next rest) left e) [
-      | inl h ↦ inl (missing (IsWanted ws) (wanted_at ws) (wanted_exact ws) bytes left h)
+    elim (step (wanted ws bytes) (λ _ rest. fields_at next rest) left e) [
+      | inl h ↦ inl (missing (IsWanted ws) (wanted ws) (wanted_exact ws) bytes left h)
       | inr p ↦ inr (p.0.1, wanted_ok ws bytes p.0 p.1, refused next p.0.1 left p.2)
     ]
 refused (Any n next) bytes left e =

@@ -1,11 +1,12 @@
 -- Steps of reading, and the numbers of the first bytes.
-use Rattle.std.proofs.Common.{◌≡◌, ℕ, zero, suc, ◌+◌, ◌*◌, ◌^◌, ◌≤◌, Bool, true, false, cond, List, ◌++◌, length, take, drop, refl, ap, sym, ◌∙◌, arith}
+use Rattle.std.proofs.Common.{◌≡◌, ℕ, zero, suc, ◌+◌, ◌*◌, ◌^◌, ◌≤◌, Bool, true, false, cond, List, [], ◌∷◌, ◌++◌, length, take, drop, refl, ap, sym, ◌∙◌, arith}
 use Rattle.std.specs.Prelude.{nat_lt, ◌==◌, Ok, Err, slice_index}
 use Rattle.std.proofs.lemmas.Bool.Decides.{nat_tests}
 use Rattle.std.proofs.lemmas.List.{take-append-drop, length-take-le}
 use Rattle.std.proofs.Math.ListN.{get_or-append}
 use Rattle.byteorder.specs.Endian.{big_number, big_from, little_number, little_from}
-use Rattle.wire_num.specs.Field.{Read, then_read, map_read, as_one_field}
+use Rattle.wire_num.specs.Field.{as_one_field, end_at}
+use Rattle.byte_fields.specs.Field.{Read, then_read, map_read}
 
 -- ---- steps of reading
 
@@ -68,3 +69,9 @@ big_taken n bs h =
 pub little_taken : (n : ℕ) (bs : List ℕ) → n ≤ length bs → little_number n bs ≡ little_number n (take n bs)
 little_taken n bs h =
     ap (little_number n) (sym (take-append-drop n bs)) ∙ little_front n (take n bs) (drop n bs) (omega (arith, length-take-le n bs h))
+
+-- ---- the end, as a test of the length
+
+pub end_is : (bs : List ℕ) → end_at bs ≡ cond (length bs == 0) (Ok ([], bs)) (Err bs)
+end_is [] = refl
+end_is (b ∷ bs) = let some : (length (b ∷ bs) == 0) ≡ false = grind (arith, nat_tests) in rw some refl

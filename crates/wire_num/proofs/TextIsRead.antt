@@ -1,17 +1,21 @@
 -- A text is read: each field that stands there is read.
-use Rattle.std.proofs.Common.{◌≡◌, ℕ, ◌≤◌, Bool, true, false, cond, List, [], ◌∷◌, ◌++◌, length, take, drop, refl, ap, sym, ◌∙◌, arith, length-append, append-nil, subst}
+use Rattle.std.proofs.Common.{◌≡◌, ℕ, ◌≤◌, Bool, true, false, cond, List, [], ◌∷◌, ◌++◌, length, take, refl, ap, sym, ◌∙◌, arith, append-nil, subst}
 use Rattle.std.specs.Prelude.{nat_lt, nat_eq, ◌==◌, Ok, Err}
 use Rattle.std.specs.List.{starts_with}
 use lib.Pointwise.{pointwise}
 use Rattle.std.specs.Cmp.Lexicographic.{other_text}
 use Rattle.std.proofs.lemmas.Bool.Decides.{nat_tests}
 use Rattle.std.proofs.Math.Seq.{take-append_seam, drop-append_seam}
+use Rattle.byte_fields.specs.Number.{little_value, big_value, big_at, little_at}
+use Rattle.byte_fields.proofs.Bytes.{taken_back, wanted_is}
+use Rattle.byte_fields.proofs.Numbers.{big_number_is, little_number_is}
 use Rattle.byteorder.specs.Endian.{big_number, little_number}
-use Rattle.wire_num.specs.Field.{Read, then_read, map_read, as_one_field, passing_at, bytes_at, big_at, little_at, end_at, at_least, rest_count_at}
+use Rattle.wire_num.specs.Field.{as_one_field, passing_at, end_at, at_least, rest_count_at}
+use Rattle.byte_fields.specs.Field.{Read, then_read, map_read, bytes_at, wanted}
 use Rattle.wire_num.specs.Length.{per_len_at, ber_len_at}
-use Rattle.wire_num.specs.Layout.{Layout, Open, End, Rest, Body, Content, Bytes, Any, Big, Little, CountsRest, AtLeast, Length, Counted, Within, Count, OneByte, Packed, Basic, count_at, wanted_at, exactly_at, before, fields_at}
+use Rattle.wire_num.specs.Layout.{Layout, Open, End, Rest, Body, Content, Bytes, Any, Big, Little, CountsRest, AtLeast, Length, Counted, Within, Count, OneByte, Packed, Basic, count_at, exactly_at, before, fields_at}
 use Rattle.wire_num.specs.Grammar.{IsOneByte, IsPacked, IsBasic, IsCount, IsText}
-use Rattle.wire_num.proofs.Steps.{not_short, counts, big_front, little_front}
+use Rattle.wire_num.proofs.Steps.{not_short, counts}
 
 -- ---- fields that stand there are read
 
@@ -25,10 +29,7 @@ pub then_again : {A B : Type 0} (r : Read A) (v : A) (rest : List ℕ) (f : A �
 then_again r v rest f y e h = ap (λ x. then_read x f) e ∙ h
 
 pub bytes_again : (text more : List ℕ) → bytes_at (length text) (text ++ more) ≡ Ok (text, more)
-unfolding bytes_at
-bytes_again text more =
-    let short : nat_lt (length (text ++ more)) (length text) ≡ false = not_short (length text) (length (text ++ more)) (omega (arith, length-append text more)) in
-    rw short (ap (λ xs. Ok (xs, drop (length text) (text ++ more))) (take-append_seam text more) ∙ ap (λ xs. Ok (text, xs)) (drop-append_seam text more))
+bytes_again text more = taken_back (text ++ more) text more
 
 pub bytes_all : (bs : List ℕ) → bytes_at (length bs) bs ≡ Ok (bs, [])
 bytes_all bs = ap (bytes_at (length bs)) (sym (append-nil bs)) ∙ bytes_again bs []
@@ -38,22 +39,14 @@ bytes_there n text more h =
     let P : ℕ → Type 0 = λ k. bytes_at k (text ++ more) ≡ Ok (text, more) in subst P h (bytes_again text more)
 
 big_again : (text more : List ℕ) → big_at (length text) (text ++ more) ≡ Ok (big_number (length text) text, more)
-unfolding big_at
-big_again text more =
-    let short : nat_lt (length (text ++ more)) (length text) ≡ false = not_short (length text) (length (text ++ more)) (omega (arith, length-append text more)) in
-    let value = big_front (length text) text more (omega arith) in
-    rw short (ap (λ n. Ok (n, drop (length text) (text ++ more))) value ∙ ap (λ xs. Ok (big_number (length text) text, xs)) (drop-append_seam text more))
+big_again text more = ap (map_read big_value) (taken_back (text ++ more) text more) ∙ ap (λ n. Ok (n, more)) (sym (big_number_is text))
 
 pub big_there : (n : ℕ) (text more : List ℕ) → length text ≡ n → big_at n (text ++ more) ≡ Ok (big_number n text, more)
 big_there n text more h =
     let P : ℕ → Type 0 = λ k. big_at k (text ++ more) ≡ Ok (big_number k text, more) in subst P h (big_again text more)
 
 little_again : (text more : List ℕ) → little_at (length text) (text ++ more) ≡ Ok (little_number (length text) text, more)
-unfolding little_at
-little_again text more =
-    let short : nat_lt (length (text ++ more)) (length text) ≡ false = not_short (length text) (length (text ++ more)) (omega (arith, length-append text more)) in
-    let value = little_front (length text) text more (omega arith) in
-    rw short (ap (λ n. Ok (n, drop (length text) (text ++ more))) value ∙ ap (λ xs. Ok (little_number (length text) text, xs)) (drop-append_seam text more))
+little_again text more = ap (map_read little_value) (taken_back (text ++ more) text more) ∙ ap (λ n. Ok (n, more)) (sym (little_number_is text))
 
 pub little_there : (n : ℕ) (text more : List ℕ) → length text ≡ n → little_at n (text ++ more) ≡ Ok (little_number n text, more)
 little_there n text more h =
@@ -72,13 +65,10 @@ told false xs ys same e = absurd (other_text xs ys e same)
 starts : (ws more : List ℕ) → starts_with nat_eq (ws ++ more) ws ≡ true
 starts ws more = told (starts_with nat_eq (ws ++ more) ws) ws (take (length ws) (ws ++ more)) (sym (take-append_seam ws more)) refl
 
-pub wanted_again : (ws more : List ℕ) → wanted_at ws (ws ++ more) ≡ Ok ([], more)
-unfolding wanted_at
-wanted_again ws more =
-    rw (starts ws more) (ap (λ xs. Ok ([], xs)) (drop-append_seam ws more))
+pub wanted_again : (ws more : List ℕ) → wanted ws (ws ++ more) ≡ Ok ([], more)
+wanted_again ws more = wanted_is ws (ws ++ more) ∙ rw (starts ws more) (ap (λ xs. Ok ([], xs)) (drop-append_seam ws more))
 
 pub end_again : end_at [] ≡ Ok ([], [])
-unfolding end_at
 end_again = refl
 
 pub exactly_again : (bs : List ℕ) → exactly_at (length bs) bs ≡ Ok (bs, [])
@@ -101,7 +91,6 @@ rest_count_again bs =
     (byte_again (length bs) bs) (ap (λ b. cond b (Ok (length bs, bs)) (Err (length bs ∷ bs))) (counts (length bs)))
 
 packed_again : (count : List ℕ) (n : ℕ) (more : List ℕ) → IsPacked count n → per_len_at (count ++ more) ≡ Ok (n, more)
-unfolding per_len_at
 packed_again [] n more p = absurd p
 packed_again (b ∷ []) n more p =
     let low = p.0 in
@@ -115,7 +104,6 @@ packed_again (b ∷ c ∷ []) n more p =
 packed_again (b ∷ c ∷ d ∷ bs) n more p = absurd p
 
 basic_again : (count : List ℕ) (n : ℕ) (more : List ℕ) → IsBasic count n → ber_len_at (count ++ more) ≡ Ok (n, more)
-unfolding ber_len_at
 basic_again [] n more p = absurd p
 basic_again (b ∷ []) n more p =
     let low = p.0 in
@@ -161,7 +149,7 @@ text_is_read (Content form) bytes values left p =
     ∙ same_answer (size ∷ []) values [] left (sym p.4) (sym p.5)
 text_is_read (Bytes ws next) bytes values left p =
     ap (fields_at (Bytes ws next)) p.1
-    ∙ then_again (wanted_at ws (ws ++ p.0)) [] p.0 (λ _ rest. fields_at next rest) (got values left) (wanted_again ws p.0) (text_is_read next p.0 values left p.2)
+    ∙ then_again (wanted ws (ws ++ p.0)) [] p.0 (λ _ rest. fields_at next rest) (got values left) (wanted_again ws p.0) (text_is_read next p.0 values left p.2)
 text_is_read (Any n next) bytes values left p =
     ap (fields_at (Any n next)) p.3
     ∙ then_again (bytes_at n (p.0 ++ p.1)) p.0 p.1 (λ _ rest. fields_at next rest) (got values left) (bytes_there n p.0 p.1 p.2) (text_is_read next p.1 values left p.4)

@@ -1,7 +1,8 @@
 -- A cursor, seen as a slice and a place in it, and what a call that reads says.
 use Rattle.std.specs.Prelude.{◌≡◌, ℕ, List, drop, Result, Ok, Err}
 use Rattle.wire_num.specs.declared.short.Short.{Short}
-use Rattle.wire_num.specs.Field.{Read}
+use Rattle.byte_fields.specs.Field.{Read}
+use Rattle.byte_fields.specs.Caused.{Caused}
 use Rattle.wire_num.specs.Layout.{Layout, fields_at}
 
 pub record Reading : Type 0 where
@@ -37,3 +38,8 @@ ReadsRows rows (Ok v) old new =
     ((next : Layout) → fields_at (rows next) (rest old) ≡ fields_at next (rest new)) × (new.bytes ≡ old.bytes)
 ReadsRows rows (Err short) old new =
     ((next : Layout) → fields_at (rows next) (rest old) ≡ Err (rest new)) × (new.bytes ≡ old.bytes) × (short.at ≡ new.at)
+
+-- The call read what stands at the cursor, and went past it; or it refused a field for this cause, and the cursor stands there.
+abbrev pub ReadsCaused : {C A : Type 0} → (List ℕ → Caused C A) → Result A C → Reading → Reading → Type 0
+ReadsCaused read (Ok v) old new = (read (rest old) ≡ Ok (v, rest new)) × (new.bytes ≡ old.bytes)
+ReadsCaused read (Err cause) old new = (read (rest old) ≡ Err (cause, rest new)) × (new.bytes ≡ old.bytes)

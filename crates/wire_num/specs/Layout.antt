@@ -1,7 +1,8 @@
 -- A grammar as a table: the fields of a text, in their order.
-use Rattle.std.specs.Prelude.{ℕ, ◌==◌, nat_eq, Bool, List, [], ◌∷◌, ◌++◌, length, drop, Ok, Err, if◌then◌else◌}
-use Rattle.std.specs.List.{starts_with}
-use Rattle.wire_num.specs.Field.{Read, then_read, map_read, passing_at, bytes_at, big_at, little_at, end_at, at_least, rest_count_at}
+use Rattle.std.specs.Prelude.{ℕ, ◌==◌, Bool, List, [], ◌∷◌, ◌++◌, length, Ok, Err, if◌then◌else◌}
+use Rattle.byte_fields.specs.Field.{Read, then_read, map_read, bytes_at, wanted}
+use Rattle.byte_fields.specs.Number.{big_at, little_at}
+use Rattle.wire_num.specs.Field.{passing_at, end_at, at_least, rest_count_at}
 use Rattle.wire_num.specs.Length.{per_len_at, ber_len_at}
 
 infixr 4 ◌▸◌
@@ -49,10 +50,6 @@ count_at OneByte bs = big_at 1 bs
 count_at Packed bs = per_len_at bs
 count_at Basic bs = ber_len_at bs
 
--- these bytes, as one field
-unfoldable pub wanted_at : List ℕ → List ℕ → Read (List ℕ)
-wanted_at ws bs = if starts_with nat_eq bs ws then Ok ([], drop (length ws) bs) else Err bs
-
 -- n bytes of any value, and nothing after them
 unfoldable pub exactly_at : ℕ → List ℕ → Read (List ℕ)
 exactly_at n bs = if length bs == n then Ok (bs, []) else Err bs
@@ -71,7 +68,7 @@ fields_at (Body form) bs =
     then_read (count_at form bs) (λ n rest. map_read (λ _. n ∷ []) (exactly_at n rest))
 fields_at (Content form) bs =
     then_read (count_at form bs) (λ n rest. then_read (bytes_at n rest) (λ _ after. map_read (λ _. n ∷ []) (end_at after)))
-fields_at (Bytes ws next) bs = then_read (wanted_at ws bs) (λ _ rest. fields_at next rest)
+fields_at (Bytes ws next) bs = then_read (wanted ws bs) (λ _ rest. fields_at next rest)
 fields_at (Any n next) bs = then_read (bytes_at n bs) (λ _ rest. fields_at next rest)
 fields_at (Big n test next) bs =
     then_read (passing_at test (big_at n) bs) (λ v rest. map_read (λ vs. v ∷ vs) (fields_at next rest))

@@ -1,7 +1,9 @@
 -- The two forms of lengths: the packed encoding rules' (X.691, 10.9) and the basic encoding rules' (X.690, 8.1.3).
 use Rattle.std.specs.Prelude.{ℕ, ◌+◌, ◌-◌, ◌*◌, ◌==◌, List, [], ◌∷◌, nat_lt, Ok, Err, if◌then◌else◌}
 use Rattle.byteorder.specs.Endian.{big_bytes}
-use Rattle.wire_num.specs.Field.{Read, as_one_field, big_at}
+use Rattle.byte_fields.specs.Field.{Read}
+use Rattle.byte_fields.specs.Number.{big_at}
+use Rattle.wire_num.specs.Field.{as_one_field}
 
 -- the second byte of a packed length whose first one is b
 abbrev pub long_per_at : ℕ → List ℕ → Read ℕ
@@ -9,12 +11,12 @@ long_per_at b [] = Err []
 long_per_at b (c ∷ bs) = if nat_lt b 192 then Ok (256 * (b - 128) + c, bs) else Err (c ∷ bs)
 
 -- a packed length: one byte below 128, or two whose top bits are 10 (X.691, 10.9.3.6 and 10.9.3.7)
-unfoldable pub per_len_at : List ℕ → Read ℕ
+abbrev pub per_len_at : List ℕ → Read ℕ
 per_len_at [] = Err []
 per_len_at (b ∷ bs) = if nat_lt b 128 then Ok (b, bs) else as_one_field (b ∷ bs) (long_per_at b bs)
 
 -- a basic length: one byte below 128, 81 and one byte, or 82 and two (X.690, 8.1.3.4 and 8.1.3.5)
-unfoldable pub ber_len_at : List ℕ → Read ℕ
+abbrev pub ber_len_at : List ℕ → Read ℕ
 ber_len_at [] = Err []
 ber_len_at (b ∷ bs) =
     if nat_lt b 128 then Ok (b, bs)

@@ -3,8 +3,10 @@
 ghost use Rattle.std.specs.Prelude.{◌≡◌, ℕ, ◌+◌, ◌-◌, ◌≤◌, ◌<◌, ◌↔◌, length, drop, take, IfOk, OnOk, List, []};
 ghost use Rattle.byteorder.specs.Endian.{big_number, little_number};
 ghost use Rattle.wire_num.specs.Cursor.{Reading, rest, ReadsField, ReadsFieldAs, ReadsFieldsAs};
-ghost use Rattle.wire_num.specs.Field.{big_at, little_at, bytes_at, end_at, at_least, rest_count_at, passing_at, has_bits, is_at_most};
-ghost use Rattle.wire_num.specs.Layout.{wanted_at, exactly_at};
+ghost use Rattle.wire_num.specs.Field.{end_at, at_least, rest_count_at, passing_at, has_bits, is_at_most};
+ghost use Rattle.byte_fields.specs.Number.{big_at, little_at};
+ghost use Rattle.byte_fields.specs.Field.{bytes_at, wanted as wanted_at};
+ghost use Rattle.wire_num.specs.Layout.{exactly_at};
 ghost use Rattle.wire_num.specs.Length.{per_len_at, ber_len_at};
 
 use crate::Short;
@@ -68,7 +70,6 @@ impl<'a> Cursor<'a> {
     }
 
     /// `n` bytes of any value.
-    #[tactic(auto, unfolding(crate::specs::Field::bytes_at))]
     pub fn bytes(&mut self, n: usize) -> Result<&'a [u8], Short>
         ensures { ReadsFieldAs (λ part. part.now) (bytes_at n) result self.old self.new }
     {
@@ -81,7 +82,7 @@ impl<'a> Cursor<'a> {
     }
 
     /// One byte.
-    #[tactic(auto, unfolding(crate::specs::Field::big_at))]
+    #[tactic(auto, using(byte_fields::proofs::Numbers::big_at_is))]
     pub fn u8(&mut self) -> Result<u8, Short>
         ensures { ReadsField (big_at 1) result self.old self.new }
     {
@@ -94,7 +95,7 @@ impl<'a> Cursor<'a> {
     }
 
     /// A number of two bytes, the lowest first.
-    #[tactic(auto, unfolding(crate::specs::Field::little_at))]
+    #[tactic(auto, using(byte_fields::proofs::Numbers::little_at_is))]
     pub fn u16_le(&mut self) -> Result<u16, Short>
         ensures { ReadsField (little_at 2) result self.old self.new }
     {
@@ -107,7 +108,7 @@ impl<'a> Cursor<'a> {
     }
 
     /// A number of two bytes, the highest first.
-    #[tactic(auto, unfolding(crate::specs::Field::big_at))]
+    #[tactic(auto, using(byte_fields::proofs::Numbers::big_at_is))]
     pub fn u16_be(&mut self) -> Result<u16, Short>
         ensures { ReadsField (big_at 2) result self.old self.new }
     {
@@ -120,7 +121,7 @@ impl<'a> Cursor<'a> {
     }
 
     /// A number of four bytes, the lowest first.
-    #[tactic(auto, unfolding(crate::specs::Field::little_at))]
+    #[tactic(auto, using(byte_fields::proofs::Numbers::little_at_is))]
     pub fn u32_le(&mut self) -> Result<u32, Short>
         ensures { ReadsField (little_at 4) result self.old self.new }
     {
@@ -133,7 +134,6 @@ impl<'a> Cursor<'a> {
     }
 
     /// A length of the packed encoding rules: one byte, or two up to 16,383 (X.691, 10.9).
-    #[tactic(auto, unfolding(crate::specs::Length::per_len_at))]
     pub fn per_len(&mut self) -> Result<u16, Short>
         ensures { ReadsField per_len_at result self.old self.new }
     {
@@ -151,7 +151,6 @@ impl<'a> Cursor<'a> {
     }
 
     /// A length of the basic encoding rules: one byte, `81` and one, or `82` and two (X.690, 8.1.3).
-    #[tactic(auto, unfolding(crate::specs::Length::ber_len_at, crate::specs::Field::big_at))]
     pub fn ber_len(&mut self) -> Result<u16, Short>
         ensures { ReadsField ber_len_at result self.old self.new }
     {
@@ -173,7 +172,6 @@ impl<'a> Cursor<'a> {
     }
 
     /// Exactly these bytes, as one field.
-    #[tactic(auto, unfolding(crate::specs::Layout::wanted_at))]
     pub fn expect(&mut self, wanted: &[u8]) -> Result<(), Short>
         ensures { ReadsFieldAs (λ _. []) (wanted_at wanted.now) result self.old self.new }
     {
@@ -186,7 +184,6 @@ impl<'a> Cursor<'a> {
     }
 
     /// Nothing is left; else the refusal is at the first byte that is left.
-    #[tactic(auto, unfolding(crate::specs::Field::end_at))]
     pub fn end(&self) -> Result<(), Short>
         ensures { ReadsFieldAs (λ _. []) end_at result self.now self.now }
     {
@@ -209,7 +206,7 @@ impl<'a> Cursor<'a> {
     }
 
     /// One byte in which these bits are set.
-    #[tactic(auto, unfolding(crate::specs::Field::big_at, crate::specs::Field::passing_at))]
+    #[tactic(auto, using(byte_fields::proofs::Numbers::big_at_is), unfolding(crate::specs::Field::passing_at))]
     pub fn u8_with(&mut self, bits: u8) -> Result<u8, Short>
         ensures { ReadsField (passing_at (has_bits bits) (big_at 1)) result self.old self.new }
     {
@@ -222,7 +219,7 @@ impl<'a> Cursor<'a> {
     }
 
     /// A number of two bytes, the highest first, that is at most `most`.
-    #[tactic(auto, unfolding(crate::specs::Field::big_at, crate::specs::Field::passing_at))]
+    #[tactic(auto, using(byte_fields::proofs::Numbers::big_at_is), unfolding(crate::specs::Field::passing_at))]
     pub fn u16_be_up_to(&mut self, most: u16) -> Result<u16, Short>
         ensures { ReadsField (passing_at (is_at_most most) (big_at 2)) result self.old self.new }
     {
@@ -250,7 +247,7 @@ impl<'a> Cursor<'a> {
     }
 
     /// One byte, which counts those after it.
-    #[tactic(auto, unfolding(crate::specs::Field::rest_count_at, crate::specs::Field::big_at))]
+    #[tactic(auto, using(byte_fields::proofs::Numbers::big_at_is), unfolding(crate::specs::Field::rest_count_at))]
     pub fn rest_count(&mut self) -> Result<u8, Short>
         ensures { ReadsField rest_count_at result self.old self.new }
     {
@@ -263,7 +260,6 @@ impl<'a> Cursor<'a> {
     }
 
     /// The next `n` bytes, as a cursor with the same offsets that ends behind them.
-    #[tactic(auto, unfolding(crate::specs::Field::bytes_at))]
     pub fn within(&mut self, n: usize) -> Result<Cursor<'a>, Short>
         ensures field { ReadsFieldAs (λ content. rest content) (bytes_at n) result self.old self.new }
         ensures fits { OnOk result (self.old.at + n ≤ length self.old.bytes) }

@@ -1,4 +1,5 @@
-use Rattle.std.proofs.Common.{length, ap, ◌∙◌, arith}
+use Rattle.std.proofs.Common.{length, ap, ◌∙◌, ◌-◌, arith}
+use Rattle.wire_num.specs.Cursor.{rest}
 use Rattle.gcc_per.specs.ClientBlocks.{least_length}
 use Rattle.gcc_per.proofs.Within.{content_size, refused_in_content}
 use Rattle.gcc_per.proofs.Blocks.{network_refused}
@@ -6,7 +7,7 @@ use Rattle.gcc_per.proofs.client_blocks.read_block.Goals as goal
 
 pub desktop_of-requires : goal.desktop_of-requires
 desktop_of-requires c =
-    let size = content_size _ _ _ _ c.in_ok-content.ensures.field.0 in
+    let size = content_size (c.in_ok-length.length - 4) (rest c.read_length.new.cursor) (rest c.in_ok-content.content) (rest c.within.new.self) c.in_ok-content.ensures.field.0 in
     let least = ap least_length c.in-ClientCore.is in
     omega (arith, size, least, c.in_ok-length.ensures.least, ap length c.rest.ensures)
 
