@@ -1,0 +1,5 @@
+pub mod Lacking
+pub mod Lines
+pub mod PresetWords
+pub mod Numbered
+pub mod Runs
