@@ -3,3 +3,4 @@ pub mod Lines
 pub mod PresetWords
 pub mod Numbered
 pub mod Runs
+pub mod Scripts
