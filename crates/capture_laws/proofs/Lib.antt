@@ -10,3 +10,6 @@ pub mod TextFronts
 pub mod CaptureFronts
 pub mod GoesOn
 pub mod CutCaptures
+pub mod OrderBytes
+pub mod FrameBytes
+pub mod SentBytes

@@ -9,9 +9,14 @@ ghost use Rattle.order_means.specs.FrameMarks.{Reading, read_stream, pictures_at
 ghost use Rattle.script_rules.specs.Script.{Asked, Script, whole_grammar, first_grammar, opening_of};
 ghost use Rattle.script_rules.specs.Capture.{viewer_of, viewer_bytes};
 ghost use Rattle.script_rules.specs.CaptureText.{Run, bytes_of_answer, run_after_all, lines_from, sent_from, capture_of, capture_of_script};
+ghost use Rattle.frame_rules.specs.Frame.{FrameOf};
+ghost use Rattle.frame_rules.specs.FrameOrders.{Uses, orders_before_tiles};
+ghost use Rattle.frame_rules.specs.FrameBytes.{frame_bytes};
 ghost use Rattle.frame_rules.specs.Encoder.{Encoder};
+ghost use Rattle.order_fields.specs.OrderTable.{Registers};
 ghost use Rattle.script_rules.specs.Headline.{encoder_frames, AreByPresentViewers, IfOpened, EveryViewerOfCapture};
 ghost use Rattle.capture_laws.specs.Sent.{AreBytes, sent_to, run_of, SendsBytes, PresetsConfirm, EveryViewerIsSentTheJournal};
+ghost use Rattle.capture_laws.specs.OrderBytes.{HoldBytes, FramesHoldBytes};
 ghost use Rattle.capture_laws.specs.Fronts.{IsFront, ReadsFront, ShowsFirst, IsSentWhatIsWritten, EveryViewerOfOpeningFront};
 
 /// The bytes of each viewer in the capture of any steps are those that it was sent, whatever line ends the capture.
@@ -80,4 +85,11 @@ pub fn bytes_are_sent_step_by_step()
     ensures next { (head : Head) (asked : List Asked) (a : Asked) → SendsBytes head asked
         → AreBytes (bytes_of_answer encoder_frames head.size (run_of head asked) (viewer_of a.step) (outcome head (run_of head asked).play a.step).answer)
         → SendsBytes head (asked ++ a ∷ []) }
+{}
+
+/// The bytes of a frame are bytes, where the contents of its orders fit into bytes; and so is what steps send, where those of each frame do.
+pub fn frames_are_sent_as_bytes()
+    ensures frame { (size : Size) (c : Confirmed) (regs : Registers) (uses : Uses) (f : FrameOf) → HoldBytes (orders_before_tiles size c uses f)
+        → AreBytes (frame_bytes size c regs uses f) }
+    ensures steps { (head : Head) (asked : List Asked) → FramesHoldBytes head (run_of head []) asked → SendsBytes head asked }
 {}
