@@ -1,6 +1,6 @@
 -- A request that was read stands there, and one that stands there is read.
 use Rattle.std.proofs.Common.{◌≡◌, ℕ, ◌≤◌, true, false, List, [], ◌∷◌, ◌++◌, length, refl, ap, ◌∙◌, sym, arith, append-nil, subst}
-use Rattle.std.specs.Prelude.{nat_lt, ◌==◌, Option, Some, None, Ok, Err, flat_map}
+use Rattle.std.specs.Prelude.{nat_lt, Option, Some, None, Ok, Err, flat_map}
 use Rattle.std.specs.List.{AllByRecursion}
 use Rattle.std.proofs.lemmas.Bool.Decides.{nat_tests}
 use Rattle.wire_num.specs.Field.{end_at}

@@ -2,8 +2,6 @@
 use Rattle.std.proofs.Common.{◌≡◌, [], ◌∷◌, refl}
 use Rattle.std.specs.Prelude.{Ok, Err, Some, None}
 use Rattle.wire_num.specs.Field.{passing_at, at_least, rest_count_at}
-use Rattle.byte_fields.specs.Field.{bytes_at, wanted}
-use Rattle.byte_fields.specs.Number.{big_at}
 use Rattle.tpkt_x224.specs.declared.tpkt.Packet.TheVariants.{Whole}
 use Rattle.tpkt_x224.specs.Tpkt.{packet_at}
 use Rattle.tpkt_x224.specs.Request.{references, request_header, after_cookie, asked_protocols, request_of}
