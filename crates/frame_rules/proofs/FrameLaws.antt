@@ -82,6 +82,7 @@ DescribesClient-first size c j = record {
   sized = record { images = lengths_of_empty _ c.bitmaps; glyphs = lengths_of_empty _ c.glyphs; brushes = length-replicate (brush_entries c.brush) None };
   caches = record { images = λ cache key few held. absurd (cc held); glyphs = λ cache key few held. absurd (cc held); brushes = λ key held. absurd (cc held) };
   blocks = λ slot place h. absurd (cc h);
+  apart = tt;
   pixels = length-replicate (pixel_count size) None;
   picture = λ h. absurd (omega (arith, h));
 }

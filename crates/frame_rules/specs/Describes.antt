@@ -16,6 +16,7 @@ use Rattle.order_means.specs.Updates.{cutting}
 use Rattle.order_means.specs.Updates.Stage.{Between}
 use Rattle.order_means.specs.FrameMarks.{View, reading, read_on}
 use Rattle.cache_use.specs.CacheUse.{misses, last_index, uses_of}
+use Rattle.saved_blocks.specs.Blocks.{AreApart}
 use Rattle.session_rules.specs.declared.entry.Entry.{Entry}
 use Rattle.session_rules.specs.Board.{Board, opening_board}
 use Rattle.session_rules.specs.Journal.{Head, state_after, drawings_of, board_after, IsLegalJournal}
@@ -129,13 +130,14 @@ BlocksAgree st held client = (slot : ℕ) (place : Place) → place_of slot held
 
 -- ---- the encoder and the client
 
--- an encoder whose viewer has a journal's first entries, so many, describes the client: its registers, its caches, its blocks, and, from the first frame on, its picture
+-- an encoder whose viewer has a journal's first entries, so many, describes the client: its registers, its caches, its blocks, which stand apart within the positions, and, from the first frame on, its picture
 pub record DescribesClient (size : Size) (c : Confirmed) (j : List Entry) (number : ℕ) (e : Encoder) (client : ClientState) : Type 0 where
   pub registers : client.registers ≡ e.registers
   pub are_registers : AreRegisters e.registers
   pub sized : IsSized c client
   pub caches : CachesAgree size c j e.uses client
   pub blocks : BlocksAgree (state_after size j number).surface e.held client
+  pub apart : AreApart e.held
   pub pixels : length client.picture ≡ pixel_count size
   pub picture : 0 < number → client.picture ≡ map Some (state_after size j number).surface.picture
 
