@@ -2,8 +2,8 @@
 use Rattle.std.specs.Prelude.{ℕ, ◌==◌, nat_lt, Bool, true, false, ◌&&◌, not, List, [], ◌∷◌, ◌++◌, length, Option, Some, None, if◌then◌else◌}
 use Rattle.px_core.specs.declared.surface.Size.{Size}
 use Rattle.px_core.specs.declared.rectangle.Rect.{Rect}
-use Rattle.px_core.specs.Rectangle.{boxed, clipped}
-use Rattle.px_core.specs.Tiles.{Tiles, no_tiles, all_tiles, either_tiles, tiles_of, tiles_in, share_tile}
+use Rattle.px_core.specs.Rectangle.{boxed, whole, clipped}
+use Rattle.px_core.specs.Tiles.{Tiles, no_tiles, either_tiles, tiles_of, tiles_in, share_tile}
 use Rattle.draw_ops.specs.declared.shape.Shape.{Shape}
 use Rattle.draw_ops.specs.declared.shape.Shape.TheVariants.{Fill, Dst, Pat, Copy, Blit, Blit3, Text, Line, Save, Restore, LoadImage, LoadBrush, LoadGlyph}
 use Rattle.caps_sets.specs.declared.confirmed.Confirmed.{Confirmed}
@@ -162,9 +162,9 @@ pub record FrameOf : Type 0 where
   pub held : Held
   pub picture : List ℕ
 
--- a frame without a viewer's support for PatBlt can't begin with a black fill, so its first one begins with every tile dirty
-abbrev pub first_dirty : Bool → Confirmed → Tiles
-first_dirty first c = if first && not c.pat then all_tiles else no_tiles
+-- a frame without a viewer's support for PatBlt can't begin with a black fill, so its first one begins with every tile of the picture dirty
+abbrev pub first_dirty : Size → Bool → Confirmed → Tiles
+first_dirty size first c = if first && not c.pat then tiles_of size (whole size) else no_tiles
 
 abbrev pub framed : Size → Bool → Tiles → List ℕ → List Sent → Walk → FrameOf
 framed size first asked picture sent w = record { first = first; sent = sent; tiles = tiles_in size (either_tiles w.dirty asked); held = w.held; picture = picture }
@@ -176,7 +176,7 @@ framed_by false size c first w asked picture ps = framed size first asked pictur
 -- the frame over these pending drawings: whether it is the first, the blocks held before it, the tiles that were asked for, and the picture that it is to show
 abbrev pub frame_over : Size → Confirmed → Bool → Held → Tiles → List ℕ → List Pending → FrameOf
 frame_over size c first held asked picture ps =
-    framed_by (nat_lt most_orders (length ps)) size c first (record { dirty = first_dirty first c; held = held }) asked picture ps
+    framed_by (nat_lt most_orders (length ps)) size c first (record { dirty = first_dirty size first c; held = held }) asked picture ps
 
 -- whether a take is its viewer's first
 abbrev pub is_first : TakeOf → Bool

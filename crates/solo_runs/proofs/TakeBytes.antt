@@ -58,9 +58,9 @@ no_tile_is_shared size = none_shared (picture_tiles size)
 abbrev pub patches_frame : Bool → List Patch → List ℕ → FrameOf
 patches_frame first ps picture = record { first = first; sent = map sent_patch ps; tiles = []; held = []; picture = picture }
 
-clean_at_first : (first : Bool) → first_dirty first plain ≡ no_tiles
-clean_at_first true = refl
-clean_at_first false = refl
+clean_at_first : (size : Size) (first : Bool) → first_dirty size first plain ≡ no_tiles
+clean_at_first size true = refl
+clean_at_first size false = refl
 
 length-pending : (ps : List Patch) → length (map pending_patch ps) ≡ length ps
 length-pending [] = refl
@@ -69,10 +69,10 @@ length-pending (p ∷ ps) = ap suc (length-pending ps)
 over_patches : (size : Size) (first : Bool) (picture : List ℕ) (ps : List Patch) → length ps ≤ 256 →
     frame_over size plain first [] no_tiles picture (map pending_patch ps) ≡ patches_frame first ps picture
 over_patches size first picture ps few =
-    let w : Walk = record { dirty = first_dirty first plain; held = [] } in
+    let w : Walk = record { dirty = first_dirty size first plain; held = [] } in
     let clean : Walk = record { dirty = no_tiles; held = [] } in
     let fits : nat_lt 256 (length (map pending_patch ps)) ≡ false = grind (arith, nat_tests, few, length-pending ps) in
-    let walks : w ≡ clean = ap (λ tiles. let x : Walk = record { dirty = tiles; held = [] } in x) (clean_at_first first) in
+    let walks : w ≡ clean = ap (λ tiles. let x : Walk = record { dirty = tiles; held = [] } in x) (clean_at_first size first) in
     ap (λ b. framed_by b size plain first w no_tiles picture (map pending_patch ps)) fits
     ∙ ap (λ x. framed size first no_tiles picture (sent_from size plain x (map pending_patch ps)) (walk_after size plain x (map pending_patch ps))) walks
     ∙ ap (λ sent. framed size first no_tiles picture sent (walk_after size plain clean (map pending_patch ps))) (all_sent size clean ps)
