@@ -273,3 +273,8 @@ client_after_cached confirmed c (Marker ends) = Ok c
 abbrev pub client_after_order : Confirmed → Size → ClientState → Order → Result ClientState Fault
 client_after_order confirmed size c (Primary o bounds) = bind (found (drawing_of o) Broken) (client_after_drawing confirmed size bounds c)
 client_after_order confirmed size c (Other o) = client_after_cached confirmed c o
+
+-- the client after orders, one by one
+abbrev pub client_after_orders : Confirmed → Size → ClientState → List Order → Result ClientState Fault
+client_after_orders confirmed size c [] = Ok c
+client_after_orders confirmed size c (o ∷ os) = bind (client_after_order confirmed size c o) (λ after. client_after_orders confirmed size after os)
