@@ -1,0 +1,4 @@
+pub mod Sound
+pub mod Uses
+pub mod Run
+pub mod Tile
