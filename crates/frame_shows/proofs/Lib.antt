@@ -1,0 +1,15 @@
+pub mod FrameReads
+pub mod FrameFits
+pub mod JournalShown
+pub mod OrdersFit
+pub mod CachesFit
+pub mod OrderValues
+pub mod TextRect
+pub mod HeldApart
+pub mod SoundGood
+pub mod WalkKeeps
+pub mod FrameShown
+pub mod SentKeeps
+pub mod TileRects
+pub mod FrameObeys
+pub mod FrameWhole

@@ -1,0 +1,42 @@
+//! Laws of the definitions, each as the contract of a function that does nothing.
+
+ghost use Rattle.std.specs.Prelude.{◌≡◌, ℕ, ◌^◌, ◌≤◌, ◌<◌, true, List, length};
+ghost use Rattle.px_core.specs.declared.surface.Size.{Size};
+ghost use Rattle.px_core.specs.Rectangle.{is_session_size};
+ghost use Rattle.caps_sets.specs.declared.confirmed.Confirmed.{Confirmed};
+ghost use Rattle.session_rules.specs.declared.entry.Entry.{Entry};
+ghost use Rattle.session_rules.specs.Journal.{Head, IsLegalJournal};
+ghost use Rattle.session_rules.specs.Steps.{TakeOf};
+ghost use Rattle.order_means.specs.ClientState.{ClientState};
+ghost use Rattle.frame_rules.specs.FrameOrders.{orders_before_tiles};
+ghost use Rattle.frame_rules.specs.FrameRead.{FitOrders, AreShort};
+ghost use Rattle.frame_rules.specs.Encoder.{Encoder, encoder_frame};
+ghost use Rattle.frame_rules.specs.Describes.{DescribesClient, HasAllCaches, FrameShowsJournal};
+ghost use Rattle.frame_rules.specs.OrdersOfBytes.{FramesReadAsTheirOrders};
+
+/// Every frame shows the journal: for every session and every viewer, what a take sends is read without a refusal and without a rest, has one mark,
+/// which shows the picture after the entries that the take found, and leaves a client that the encoder describes.
+pub fn every_frame_shows_the_journal()
+    ensures { (head : Head) (c : Confirmed) → FrameShowsJournal head c }
+{}
+
+/// The orders of a frame have values that their fields hold, each fits into an update of its own, and there are fewer than an update counts.
+pub fn frame_orders_go_whole()
+    ensures fit { (head : Head) (c : Confirmed) (j : List Entry) (e : Encoder) (t : TakeOf) (client : ClientState)
+        → is_session_size head.size.w head.size.h ≡ true → HasAllCaches c
+        → IsLegalJournal head j → t.before ≤ t.number → DescribesClient head.size c j t.before e client
+        → FitOrders c (orders_before_tiles head.size c e.uses (encoder_frame head.size c j e t)) }
+    ensures short { (head : Head) (c : Confirmed) (j : List Entry) (e : Encoder) (t : TakeOf) (client : ClientState)
+        → is_session_size head.size.w head.size.h ≡ true → HasAllCaches c
+        → IsLegalJournal head j → t.before ≤ t.number → DescribesClient head.size c j t.before e client
+        → AreShort c e.registers (orders_before_tiles head.size c e.uses (encoder_frame head.size c j e t)) }
+    ensures few { (head : Head) (c : Confirmed) (j : List Entry) (e : Encoder) (t : TakeOf) (client : ClientState)
+        → is_session_size head.size.w head.size.h ≡ true → HasAllCaches c
+        → IsLegalJournal head j → t.before ≤ t.number → DescribesClient head.size c j t.before e client
+        → length (orders_before_tiles head.size c e.uses (encoder_frame head.size c j e t)) < 2 ^ 16 }
+{}
+
+/// The bytes of a frame are read as exactly its orders, its tiles and its mark, each once and in order, and leave the registers of the encoder after it.
+pub fn frames_are_read_as_their_orders()
+    ensures { (head : Head) (c : Confirmed) → FramesReadAsTheirOrders head c }
+{}
