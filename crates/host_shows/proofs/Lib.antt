@@ -1,0 +1,5 @@
+pub mod Takes
+pub mod Runs
+pub mod Numbered
+pub mod SentBytes
+pub mod Interleaved
