@@ -6,7 +6,7 @@ ghost use Rattle.rle_enc.specs.Result.{IsPacked};
 ghost use Rattle.bench_codec.specs.Jobs.{raster_times};
 
 use crate::requests::Request;
-use crate::tiles::{Kind, SIDE, tile};
+use crate::tiles::{SIDE, TileKind, tile};
 use rle_dec::{RleFault, unpack};
 use rle_enc::{OutOfMemory, Packed, pack};
 use rop3_core::rop_row;
@@ -51,7 +51,7 @@ pub fn run(alloc: Global, request: Request) -> Result<Done, Fault> {
 }
 
 /// Packs a tile.
-fn pack_tile(alloc: Global, kind: Kind, more: u32) -> Result<Done, Fault> {
+fn pack_tile(alloc: Global, kind: TileKind, more: u32) -> Result<Done, Fault> {
     let pixels = tile(alloc, kind)?;
     match pack_often(alloc, pixels.as_slice(), more)? {
         Packed::Packed(bytes) => Ok(Done::Bytes(bytes.len())),
@@ -60,7 +60,7 @@ fn pack_tile(alloc: Global, kind: Kind, more: u32) -> Result<Done, Fault> {
 }
 
 /// Unpacks a packed tile.
-fn unpack_tile(alloc: Global, kind: Kind, more: u32) -> Result<Done, Fault> {
+fn unpack_tile(alloc: Global, kind: TileKind, more: u32) -> Result<Done, Fault> {
     let pixels = tile(alloc, kind)?;
     let Packed::Packed(bytes) = pack(alloc, pixels.as_slice(), SIDE)? else {
         return Ok(Done::Raw);

@@ -1,15 +1,15 @@
 //! What a line asks for.
 ghost use Rattle.std.specs.Prelude.{◌<◌};
 
-use crate::tiles::Kind;
+use crate::tiles::TileKind;
 
 /// What is to be done, and how often.
 #[derive(Clone, Copy)]
 pub enum Request {
     /// To pack a tile.
-    Pack(Kind, u32),
+    Pack(TileKind, u32),
     /// To unpack a packed tile.
-    Unpack(Kind, u32),
+    Unpack(TileKind, u32),
     /// To make a row by the raster operation of a code.
     Rop(u8, u32),
 }
@@ -28,14 +28,14 @@ pub fn read_request(line: &str) -> Option<Request> {
 }
 
 /// The kind of tile with a name.
-fn find_kind(name: &str) -> Option<Kind> {
+fn find_kind(name: &str) -> Option<TileKind> {
     match name {
-        "flat" => Some(Kind::Flat),
-        "window" => Some(Kind::Window),
-        "grey_text" => Some(Kind::GreyText),
-        "bit_text" => Some(Kind::BitText),
-        "photo" => Some(Kind::Photo),
-        "noise" => Some(Kind::Noise),
+        "flat" => Some(TileKind::Flat),
+        "window" => Some(TileKind::Window),
+        "grey_text" => Some(TileKind::GreyText),
+        "bit_text" => Some(TileKind::BitText),
+        "photo" => Some(TileKind::Photo),
+        "noise" => Some(TileKind::Noise),
         _ => None,
     }
 }

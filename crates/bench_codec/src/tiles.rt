@@ -11,7 +11,7 @@ const PIXELS: usize = SIDE * SIDE;
 
 /// What a tile shows.
 #[derive(Clone, Copy)]
-pub enum Kind {
+pub enum TileKind {
     /// One colour.
     Flat,
     /// A white window with a title bar and a frame.
@@ -44,7 +44,7 @@ const SCATTER: u32 = 0x9E3779B1;
 
 /// The pixels of a tile, the bottom row first.
 #[tactic(auto, using(px_core::proofs::Colors::pushed_are_colors))]
-pub fn tile(alloc: Global, kind: Kind) -> Result<Vec<u32>, AllocError>
+pub fn tile(alloc: Global, kind: TileKind) -> Result<Vec<u32>, AllocError>
     ensures size { IfOk result (λ pixels. length pixels.items ≡ 4096) }
     ensures colors { IfOk result (λ pixels. IsTrue (are_colors pixels.items)) }
 {
@@ -56,22 +56,22 @@ pub fn tile(alloc: Global, kind: Kind) -> Result<Vec<u32>, AllocError>
 }
 
 /// The colour of a tile at a column and a row.
-fn color_at(kind: Kind, x: u32, y: u32) -> u32
+fn color_at(kind: TileKind, x: u32, y: u32) -> u32
     requires column { x < 64 }
     requires row { y < 64 }
     ensures { result < 2 ^ 24 }
 {
     match kind {
-        Kind::Flat => RED,
-        Kind::Window => window_color(x, y),
-        Kind::GreyText => 0x010101 * (255 - ink_at(x, y)),
-        Kind::BitText if ink_at(x, y) >= HALF_INK => BLACK,
-        Kind::BitText => WHITE,
-        Kind::Photo => {
+        TileKind::Flat => RED,
+        TileKind::Window => window_color(x, y),
+        TileKind::GreyText => 0x010101 * (255 - ink_at(x, y)),
+        TileKind::BitText if ink_at(x, y) >= HALF_INK => BLACK,
+        TileKind::BitText => WHITE,
+        TileKind::Photo => {
             0x10000 * (64 + (3 * x + y) / 4) + 0x100 * (96 + (x + 2 * y) / 4) + (200 - (x + y) / 4)
         }
-        Kind::Noise if y == 0 => BLACK,
-        Kind::Noise => (64 * y + x).wrapping_mul(SCATTER) >> 8,
+        TileKind::Noise if y == 0 => BLACK,
+        TileKind::Noise => (64 * y + x).wrapping_mul(SCATTER) >> 8,
     }
 }
 

@@ -4,8 +4,8 @@ use Rattle.std.specs.Prelude.{Option, Bool, true, false, ◌&&◌, ◌==◌, nat
 use Rattle.px_core.specs.declared.surface.Size.{Size}
 use Rattle.draw_ops.specs.declared.shape.Drawing.{Drawing}
 use Rattle.draw_ops.specs.declared.shape.Shape.{Shape}
-use Rattle.session_rules.specs.declared.event.Event.{Event}
-use Rattle.session_rules.specs.declared.event.Event.TheVariants.{Sync, Scan, Unicode, Mouse, MouseX}
+use Rattle.input_events.specs.declared.event.Event.{Event}
+use Rattle.input_events.specs.declared.event.Event.TheVariants.{Sync, Scan, Unicode, Mouse, MouseX}
 use Rattle.session_rules.specs.Board.{Board, Point, Reaction, opening, stroking, closing, dotting, lifting, popup_place, popup_removal, is_down, is_button_1, is_button_2, is_move, mouse_lines, key_lines, sign_lines, clearing, inverting, scrolling, patterning, stamping, writing_sign, load_unless, is_member, point_on, mouse_reaction, board_reaction}
 use Rattle.board_laws.proofs.Reactions.{first_holds, line_if, line_of, stroke_by, opened_drawings}
 

@@ -17,8 +17,8 @@ use Rattle.draw_ops.specs.Formulas.{painted_area}
 use Rattle.draw_ops.specs.Drawing.{slots_after, state_after_drawing, state_after_drawings, painting_of, loaded, block_of}
 use Rattle.draw_ops.specs.Fits.{FitsState, AllFitState, is_corner, rect_rule, place_rule, line_rule, copied_rule, broken_if}
 use Rattle.draw_laws.proofs.Painted.{length-painted_from}
-use Rattle.session_rules.specs.declared.event.Event.{Event}
-use Rattle.session_rules.specs.declared.event.Event.TheVariants.{Sync, Scan, Unicode, Mouse, MouseX}
+use Rattle.input_events.specs.declared.event.Event.{Event}
+use Rattle.input_events.specs.declared.event.Event.TheVariants.{Sync, Scan, Unicode, Mouse, MouseX}
 use Rattle.session_rules.specs.Board.{Board, Point, Reaction, idle, only_if, first_fitting, unclipped, board_image, board_brush, board_font, board_block, popup_rect, popup_removal, chosen_ink, closing, dotting, lifting, opening, popup_place, ink_field, ink_color, stroking, mouse_lines, mouse_reaction, point_on, is_down, is_button_1, is_button_2, is_move, clearing, inverting, scrolling, patterning, stamping, key_lines, is_member, sign_place, sign_text, writing_sign, sign_lines, load_unless, checkered, shaded, board_reaction}
 use Rattle.session_rules.specs.Agreement.{BoardAgrees, IsPointOn, IsPopupKept, IsBrushKept, IsImageKept, AreGlyphsKept, HoldsSides, HoldsLoadedSides, is_on_surface}
 use Rattle.board_laws.proofs.Slots.{lookup-other, lookup-filled, length-filled}

@@ -7,7 +7,7 @@ ghost use Rattle.draw_ops.specs.declared.shape.Drawing.{Drawing};
 ghost use Rattle.draw_ops.specs.Slots.{SurfaceState, opening_surface};
 ghost use Rattle.draw_ops.specs.Drawing.{state_after_drawing, state_after_drawings};
 ghost use Rattle.draw_ops.specs.Fits.{FitsState, AllFitState};
-ghost use Rattle.session_rules.specs.declared.event.Event.{Event};
+ghost use Rattle.input_events.specs.declared.event.Event.{Event};
 ghost use Rattle.session_rules.specs.Board.{Board, opening_board, board_reaction};
 ghost use Rattle.session_rules.specs.Journal.{names_board_slot};
 ghost use Rattle.session_rules.specs.Agreement.{BoardAgrees};

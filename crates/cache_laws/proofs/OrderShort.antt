@@ -3,12 +3,12 @@ use Rattle.std.proofs.Common.{ℕ, suc, ◌+◌, ◌≤◌, List, [], ◌∷◌,
 use Rattle.std.specs.Prelude.{ℤ, Option}
 use Rattle.std.proofs.lemmas.Bool.Decides.{nat_tests}
 use Rattle.px_core.specs.declared.rectangle.Rect.{Rect}
-use Rattle.order_fields.specs.declared.kind.Kind.{Kind}
-use Rattle.order_fields.specs.declared.kind.Kind.TheVariants.{Coordinate, Number, Signed, Color}
+use Rattle.order_fields.specs.declared.kind.FieldKind.{FieldKind}
+use Rattle.order_fields.specs.declared.kind.FieldKind.TheVariants.{Coordinate, Number, Signed, Color}
 use Rattle.byteorder.specs.Endian.{little_bytes}
 use Rattle.byte_fields.proofs.Numbers.{length-little}
 use Rattle.order_fields.specs.OrderTable.{Row, Edges, Registers, Values, last_values, dst_blt, pat_blt, scr_blt, opaque_rect, save_bitmap, mem_blt, mem3_blt, glyph_index}
-use Rattle.order_fields.specs.OrderDelta.{Field, fields_of, is_same, value_bytes, unless_same, field_bytes, present_bytes, shown, change, edge_bytes, later_edges, far_edges, bounds_bytes, keeps_bounds, type_bytes, row_bytes, order_bytes, flags_of, fields_in, keeps_bytes_in, takes_deltas, is_typed}
+use Rattle.order_fields.specs.OrderDelta.{Field, fields_of, is_unchanged, value_bytes, unless_same, field_bytes, present_bytes, shown, change, edge_bytes, later_edges, far_edges, bounds_bytes, keeps_bounds, type_bytes, row_bytes, order_bytes, flags_of, fields_in, keeps_bytes_in, takes_deltas, is_typed}
 use Rattle.order_fields.specs.declared.change.Change.{Change}
 use Rattle.order_fields.specs.declared.change.Change.TheVariants.{Same, Moved, Anew}
 use Rattle.order_fields.specs.NamedDrawing as named
@@ -16,17 +16,17 @@ use Rattle.order_fields.specs.NamedDrawing.{NamedDrawing}
 use Rattle.order_fields.specs.NamedDrawing.NamedDrawing.{Dst, Pat, Scr, Opaque, SaveBlock, RestoreBlock, Mem, Mem3, Glyphs}
 
 -- the most bytes of a field
-abbrev width : Kind → ℕ
+abbrev width : FieldKind → ℕ
 width Coordinate = 2
 width (Number n) = n
 width Signed = 2
 width Color = 3
 
-abbrev widths : List Kind → ℕ
+abbrev widths : List FieldKind → ℕ
 widths [] = 0
 widths (k ∷ ks) = width k + widths ks
 
-value_short : (k : Kind) (delta : Bool) (last z : ℤ) → length (value_bytes k delta last z) ≤ width k
+value_short : (k : FieldKind) (delta : Bool) (last z : ℤ) → length (value_bytes k delta last z) ≤ width k
 value_short Coordinate true last z = omega arith
 value_short Coordinate false last z = omega arith
 value_short (Number n) delta last z = omega (arith, length-little n)
@@ -37,14 +37,14 @@ unless_short : (b : Bool) (bytes : List ℕ) (n : ℕ) → length bytes ≤ n �
 unless_short true bytes n h = omega arith
 unless_short false bytes n h = h
 
-present_short : (ks : List Kind) (ls zs : List ℤ) (delta keeps : Bool) (bytes : List ℕ)
+present_short : (ks : List FieldKind) (ls zs : List ℤ) (delta keeps : Bool) (bytes : List ℕ)
     → length (present_bytes (fields_of ks ls zs) delta keeps bytes) ≤ widths ks + suc (length bytes)
 present_short [] ls zs delta keeps bytes = let c = unless_short keeps (length bytes ∷ bytes) (suc (length bytes)) (omega arith) in omega (arith, c)
 present_short (k ∷ ks) [] zs delta keeps bytes = let c = unless_short keeps (length bytes ∷ bytes) (suc (length bytes)) (omega arith) in omega (arith, c)
 present_short (k ∷ ks) (l ∷ ls) [] delta keeps bytes = let c = unless_short keeps (length bytes ∷ bytes) (suc (length bytes)) (omega arith) in omega (arith, c)
 present_short (k ∷ ks) (l ∷ ls) (z ∷ zs) delta keeps bytes =
     let f : Field = record { kind = k; last = l; value = z } in
-    let head = unless_short (is_same f) (value_bytes k delta l z) (width k) (value_short k delta l z) in
+    let head = unless_short (is_unchanged f) (value_bytes k delta l z) (width k) (value_short k delta l z) in
     omega (arith, head, present_short ks ls zs delta keeps bytes, length-append (field_bytes delta f) (present_bytes (fields_of ks ls zs) delta keeps bytes))
 
 shown_short : (n : ℕ) → shown n ≤ 3

@@ -1,9 +1,5 @@
 //! Why a cache isn't made, or isn't used.
 
-/// No memory was left for what a call had to make.
-#[derive(Clone, Copy, Debug, PartialEq, Eq)]
-pub struct OutOfMemory;
-
 /// Why a cache isn't made.
 #[derive(Clone, Copy, Debug, PartialEq, Eq)]
 pub enum CacheFault {

@@ -9,5 +9,6 @@ mod tests;
 mod uses;
 
 pub use cache::Cache;
-pub use fault::{CacheFault, OutOfMemory};
+pub use fault::CacheFault;
+pub use out_of_memory::OutOfMemory;
 pub use uses::Use;

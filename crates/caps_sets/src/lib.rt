@@ -2,11 +2,9 @@
 #![tactic(auto)]
 
 mod cache_size;
-mod caches10;
-mod caches3;
+mod caches;
 mod confirmed;
 
 pub use cache_size::CacheSize;
-pub use caches3::Caches3;
-pub use caches10::Caches10;
+pub use caches::{BITMAP_CACHES, Caches, Caches3, Caches10, GLYPH_CACHES};
 pub use confirmed::Confirmed;

@@ -11,13 +11,12 @@ use Rattle.std.proofs.lemmas.List.Splits.{length-slice_split}
 use Rattle.px_core.specs.declared.surface.Size.{Size}
 use Rattle.caps_sets.specs.declared.confirmed.Confirmed.{Confirmed}
 use Rattle.line_text.specs.Lines.{line_feed, lines_of}
-use Rattle.line_text.specs.Words.{words_of}
+use Rattle.line_text.specs.Words.{words_of, is_same_word}
 use Rattle.line_text.specs.Numbers.{number_of}
 use Rattle.line_text.specs.Hexadecimal.{hexadecimal_text}
 use Rattle.session_rules.specs.Journal.{Refusal}
 use Rattle.session_rules.specs.Journal.Refusal.{NotInvited, RoomFull, JoinsSpent, NotHolder, BadDrawing, EmptySlot, SlotSize, JournalFull, Unfit}
-use Rattle.session_rules.specs.Steps.{is_same_name}
-use Rattle.script_rules.specs.Presets.{presets, confirmed_by}
+use Rattle.caps_sets.specs.Presets.{presets, confirmed_by}
 use Rattle.script_rules.specs.Script.{LineRefusal, size_with, viewer_limit}
 use Rattle.script_rules.specs.Capture.{ended, spaced, of_viewer, refusal_line, refused_with, joined_line, broken_line, last_line, viewer_word, bytes_word}
 use Rattle.script_rules.specs.Capture.{is_step_refusal, viewer_line, is_broken_line, is_nobody_line, said_of_viewer, capture_line, joined_words, bytes_of_line}
@@ -67,12 +66,12 @@ other_is_silent v u true = refl
 other_is_silent v u false = refl
 
 viewer_line_is_silent : (v u : ℕ) (word next : List ℕ) (words : List (List ℕ)) → bytes_of_line v (viewer_line u (word ∷ next ∷ words)) ≡ []
-viewer_line_is_silent v u word next words = by (is_same_name word (codes "joined"))
+viewer_line_is_silent v u word next words = by (is_same_word word (codes "joined"))
   where
     by : (b : Bool) → bytes_of_line v
-        (if b then joined_words u (next ∷ words) else then_some (is_same_name word (codes "refused") && is_step_refusal (next ∷ words)) (OtherLine u)) ≡ []
+        (if b then joined_words u (next ∷ words) else then_some (is_same_word word (codes "refused") && is_step_refusal (next ∷ words)) (OtherLine u)) ≡ []
     by true = joined_is_silent v u (next ∷ words)
-    by false = other_is_silent v u (is_same_name word (codes "refused") && is_step_refusal (next ∷ words))
+    by false = other_is_silent v u (is_same_word word (codes "refused") && is_step_refusal (next ∷ words))
 
 -- a line by what it says after its viewer's number
 said_is_silent : (v : ℕ) (number word : List ℕ) (words : List (List ℕ)) → ((u : ℕ) → bytes_of_line v (viewer_line u (word ∷ words)) ≡ [])
@@ -160,12 +159,12 @@ not_a_digit b byte h other = let d : b / 16 < 16 = omega arith in grind (arith, 
 
 -- hexadecimal digits aren't the other words of a viewer's line
 no_word : (bytes : List ℕ) → 0 < length bytes → AreBytes bytes
-    → (is_same_name (hexadecimal_text bytes) (codes "left") || is_same_name (hexadecimal_text bytes) (codes "nothing")) ≡ false
+    → (is_same_word (hexadecimal_text bytes) (codes "left") || is_same_word (hexadecimal_text bytes) (codes "nothing")) ≡ false
 no_word [] some h = absurd (omega arith)
 no_word (b ∷ bs) some h =
     let small = All-head (λ x. x < 256) b bs h in
-    let after_first = digit_char (b % 16) == 111 && is_same_name (hexadecimal_text bs) (codes "thing") in
-    ap (λ t. (t && (digit_char (b % 16) == 101 && is_same_name (hexadecimal_text bs) (codes "ft"))) || (digit_char (b / 16) == 110 && after_first))
+    let after_first = digit_char (b % 16) == 111 && is_same_word (hexadecimal_text bs) (codes "thing") in
+    ap (λ t. (t && (digit_char (b % 16) == 101 && is_same_word (hexadecimal_text bs) (codes "ft"))) || (digit_char (b / 16) == 110 && after_first))
     (not_a_digit b 108 small (omega arith))
     ∙ ap (λ t. t && after_first) (not_a_digit b 110 small (omega arith))
 
@@ -180,7 +179,7 @@ bytes_are_said : (u : ℕ) (bytes : List ℕ) → 0 < u → u ≤ viewer_limit �
 bytes_are_said u bytes first most some h =
     let text = hexadecimal_text bytes in
     ap (λ b. if b || false then Some NobodyLine else said_of_viewer (decimal u ∷ text ∷ []))
-    (neither (is_same_name (decimal u) (codes "0")) (is_same_name text (codes "refused")))
+    (neither (is_same_word (decimal u) (codes "0")) (is_same_word text (codes "refused")))
     ∙ ap (λ o. option_and_then (λ w. viewer_line w (text ∷ [])) o) (viewer_is_read u first most)
     ∙ ap (λ b. if b then Some (OtherLine u) else option_map (BytesLine u) (bytes_word text)) (no_word bytes some h)
     ∙ ap (option_map (BytesLine u)) (bytes_word-text bytes some h)

@@ -7,7 +7,7 @@ use Rattle.draw_ops.specs.Fits.{first_some}
 use Rattle.session_rules.specs.declared.entry.Role.{Role}
 use Rattle.session_rules.specs.declared.entry.Entry.{Entry}
 use Rattle.session_rules.specs.declared.entry.Entry.TheVariants.{Join, Leave, Give, Input, Draw}
-use Rattle.session_rules.specs.declared.event.Event.{Event}
+use Rattle.input_events.specs.declared.event.Event.{Event}
 use Rattle.session_rules.specs.Journal.{Head, Viewer, Reached, Refusal, is_present, without_viewer, viewers_after, reached_at_first, reached_after_entry}
 use Rattle.session_rules.specs.Journal.{refusal_of, is_f12, has_role, unless, is_entry_in_range, most_viewers, most_joins}
 use Rattle.session_rules.specs.Journal.Refusal.{RoomFull, JoinsSpent, Unfit}

@@ -8,8 +8,8 @@ use Rattle.px_core.specs.Picture.{nat_of}
 use Rattle.run_lengths.specs.RunLength.{Run}
 use Rattle.run_lengths.specs.RunLength.Run.{Background, Foreground, Mask, Color, Image, Dithered}
 use Rattle.run_lengths.specs.Packer.{length_bytes, run_bytes, packed_runs, first_stretch, later_stretch, packed}
-use Rattle.order_fields.specs.declared.kind.Kind.{Kind}
-use Rattle.order_fields.specs.declared.kind.Kind.TheVariants.{Coordinate, Number, Signed, Color as ColorKind}
+use Rattle.order_fields.specs.declared.kind.FieldKind.{FieldKind}
+use Rattle.order_fields.specs.declared.kind.FieldKind.TheVariants.{Coordinate, Number, Signed, Color as ColorKind}
 use Rattle.order_fields.specs.declared.change.Change.{Change}
 use Rattle.order_fields.specs.declared.change.Change.TheVariants.{Same, Moved, Anew}
 use Rattle.byteorder.specs.Endian.{little_bytes}
@@ -17,7 +17,7 @@ use Rattle.byte_fields.specs.Number.{unsigned, little_signed}
 use Rattle.byte_fields.specs.Pixels.{pixel_bytes, pixels_bytes}
 use Rattle.byte_fields.proofs.Numbers.{little_are_bytes, big_are_bytes}
 use Rattle.order_fields.specs.OrderTable.{Row, row_of, row_in, chosen_row, table, Registers, Values, Edges}
-use Rattle.order_fields.specs.OrderDelta.{Field, is_same, value_bytes, unless_same, field_bytes, present_bytes, shown, flags_of, change, is_anew, is_moved}
+use Rattle.order_fields.specs.OrderDelta.{Field, is_unchanged, value_bytes, unless_same, field_bytes, present_bytes, shown, flags_of, change, is_anew, is_moved}
 use Rattle.order_fields.specs.OrderDelta.{edge_bytes, edge_flags, flags_between, far_edges, later_edges, edges_bytes, bounds_bytes, bit, control_byte}
 use Rattle.order_fields.specs.OrderDelta.{type_bytes, has_bounds, keeps_bounds, takes_deltas, fields_in, keeps_bytes_in, is_typed, omitted_in, bytes_by_row}
 use Rattle.order_fields.specs.OrderDelta.{edges_of_optional}
@@ -63,7 +63,7 @@ signed_are_bytes n z = little_are_bytes n (unsigned n z)
 
 -- ---- primary orders
 
-value_are_bytes : (k : Kind) (delta : Bool) (last z : ℤ) → AreBytes (value_bytes k delta last z)
+value_are_bytes : (k : FieldKind) (delta : Bool) (last z : ℤ) → AreBytes (value_bytes k delta last z)
 value_are_bytes Coordinate true last z = signed_are_bytes 1 (z -ℤ last)
 value_are_bytes Coordinate false last z = signed_are_bytes 2 z
 value_are_bytes (Number n) delta last z = little_are_bytes n (nat_of z)
@@ -79,7 +79,7 @@ present_are_bytes : (fs : List Field) (delta keeps : Bool) (bytes : List ℕ) �
 present_are_bytes [] delta keeps bytes h few = unless_are_bytes keeps (length bytes ∷ bytes) (bytes_cons (length bytes) bytes few h)
 present_are_bytes (f ∷ fs) delta keeps bytes h few =
     bytes_append (field_bytes delta f) (present_bytes fs delta keeps bytes)
-    (unless_are_bytes (is_same f) (value_bytes f.kind delta f.last f.value) (value_are_bytes f.kind delta f.last f.value))
+    (unless_are_bytes (is_unchanged f) (value_bytes f.kind delta f.last f.value) (value_are_bytes f.kind delta f.last f.value))
     (present_are_bytes fs delta keeps bytes h few)
 
 type_are_bytes : (b : Bool) (code : ℕ) → code < 256 → AreBytes (type_bytes b code)

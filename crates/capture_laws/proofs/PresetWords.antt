@@ -10,10 +10,9 @@ use Rattle.std.proofs.lemmas.List.Splits.{join_with_byte-slice_split}
 use Rattle.caps_sets.specs.declared.confirmed.Confirmed.{Confirmed}
 use Rattle.caps_sets.specs.declared.cache_size.CacheSize.{CacheSize}
 use Rattle.caps_sets.specs.Confirmed.{sized, with_bitmap_cache, with_glyph_cache}
-use Rattle.line_text.specs.Words.{parts_at}
+use Rattle.line_text.specs.Words.{parts_at, is_same_word}
 use Rattle.line_text.specs.Numbers.{digits_behind, number_of, number_up_to}
-use Rattle.session_rules.specs.Steps.{is_same_name}
-use Rattle.script_rules.specs.Presets.{Preset, presets, preset_named, cache_limit, size_by, with_cache, overridden, overridden_by, confirmed_by}
+use Rattle.caps_sets.specs.Presets.{Preset, presets, preset_named, cache_limit, size_by, with_cache, overridden, overridden_by, confirmed_by}
 use Rattle.script_rules.proofs.ReadBack.{Lacks}
 use Rattle.capture_laws.proofs.Lacking.{lacks_nil, lacks_cons, lacks_append, lacks_by}
 use Rattle.capture_laws.proofs.Lines.{AreOneLine}
@@ -27,12 +26,12 @@ mapped_is f None e = absurd (cc e)
 mapped_is f (Some x) e = refl
 
 -- a word that is a known one
-pub same_word : (a b : List ℕ) → is_same_name a b ≡ true → a ≡ b
+pub same_word : (a b : List ℕ) → is_same_word a b ≡ true → a ≡ b
 same_word [] [] e = refl
 same_word [] (b ∷ bs) e = absurd (cc e)
 same_word (a ∷ word) [] e = absurd (cc e)
 same_word (a ∷ word) (b ∷ bs) e =
-    let p = and_parts (a == b) (is_same_name word bs) e in
+    let p = and_parts (a == b) (is_same_word word bs) e in
     let head : a ≡ b = grind (arith, nat_tests, p.0) in
     ap (λ x. x ∷ word) head ∙ ap (λ xs. b ∷ xs) (same_word word bs p.1)
 
@@ -80,13 +79,13 @@ sizes_lack (entries ∷ cell ∷ more ∷ parts) e = absurd (cc e)
 rest_lacks : (rest : List ℕ) → is_some (size_by (parts_at 44 rest)) ≡ true → Lacks 10 rest
 rest_lacks rest e = subst (Lacks 10) (join_with_byte-slice_split 44 rest) (sizes_lack (parts_at 44 rest) e)
 
-named : (kind word : List ℕ) (more : Bool) → (is_same_name kind word && more) ≡ true → Lacks 10 word → Lacks 10 kind
-named kind word more e h = subst (Lacks 10) (sym (same_word kind word (and_parts (is_same_name kind word) more e).0)) h
+named : (kind word : List ℕ) (more : Bool) → (is_same_word kind word && more) ≡ true → Lacks 10 word → Lacks 10 kind
+named kind word more e h = subst (Lacks 10) (sym (same_word kind word (and_parts (is_same_word kind word) more e).0)) h
 
 kind_lacks : (c : Confirmed) (kind : List ℕ) (cache : ℕ) (size : CacheSize) → is_some (with_cache c kind cache size) ≡ true → Lacks 10 kind
-kind_lacks c kind cache size e = by (is_same_name kind (codes "bc") && nat_le cache 2) refl (is_same_name kind (codes "gc") && nat_le cache 9) refl e
+kind_lacks c kind cache size e = by (is_same_word kind (codes "bc") && nat_le cache 2) refl (is_same_word kind (codes "gc") && nat_le cache 9) refl e
   where
-    by : (b : Bool) → (is_same_name kind (codes "bc") && nat_le cache 2) ≡ b → (g : Bool) → (is_same_name kind (codes "gc") && nat_le cache 9) ≡ g
+    by : (b : Bool) → (is_same_word kind (codes "bc") && nat_le cache 2) ≡ b → (g : Bool) → (is_same_word kind (codes "gc") && nat_le cache 9) ≡ g
         → is_some (if b then Some (with_bitmap_cache cache size c) else (if g then Some (with_glyph_cache cache size c) else None)) ≡ true → Lacks 10 kind
     by true is g other more = named kind (codes "bc") (nat_le cache 2) is (lacks_by 10 (codes "bc") refl)
     by false other true is more = named kind (codes "gc") (nat_le cache 9) is (lacks_by 10 (codes "gc") refl)
@@ -135,9 +134,9 @@ presets_name =
 
 preset_lacks : (ps : List Preset) (word : List ℕ) → NameOneLine ps → is_some (preset_named ps word) ≡ true → Lacks 10 word
 preset_lacks [] word h e = absurd (cc e)
-preset_lacks (p ∷ ps) word h e = by (is_same_name word p.word) refl e (λ more. preset_lacks ps word h.1 more)
+preset_lacks (p ∷ ps) word h e = by (is_same_word word p.word) refl e (λ more. preset_lacks ps word h.1 more)
   where
-    by : (t : Bool) → is_same_name word p.word ≡ t → is_some (if t then Some p.confirmed else preset_named ps word) ≡ true
+    by : (t : Bool) → is_same_word word p.word ≡ t → is_some (if t then Some p.confirmed else preset_named ps word) ≡ true
         → (is_some (preset_named ps word) ≡ true → Lacks 10 word) → Lacks 10 word
     by true is more rest = subst (Lacks 10) (sym (same_word word p.word is)) h.0
     by false is more rest = rest more

@@ -11,7 +11,7 @@ use Rattle.line_text.specs.Lines.{lines_of}
 use Rattle.session_rules.specs.declared.entry.Role.{Role}
 use Rattle.session_rules.specs.declared.entry.Entry.{Entry}
 use Rattle.session_rules.specs.declared.entry.Entry.TheVariants.{Join, Leave, Give, Input, Draw}
-use Rattle.session_rules.specs.declared.event.Event.{Event}
+use Rattle.input_events.specs.declared.event.Event.{Event}
 use Rattle.session_rules.specs.Journal.{Head, Refusal, refusal_of, is_f12}
 use Rattle.session_rules.specs.Steps.{Step, Answer, TakeOf, entered, outcome_of, outcome, join_effect, row_role, input_effect, is_release, receiver_of}
 use Rattle.session_rules.specs.Steps.{has_work, take_effect, take_of}

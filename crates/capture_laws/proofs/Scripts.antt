@@ -6,11 +6,11 @@ use Rattle.px_core.specs.declared.surface.Size.{Size}
 use Rattle.caps_sets.specs.declared.confirmed.Confirmed.{Confirmed}
 use Rattle.caps_sets.specs.Confirmed.{plain, full, marked, bare}
 use Rattle.line_text.specs.Lines.{Line, line_bytes, lines_of}
-use Rattle.line_text.specs.Words.{words_of}
-use Rattle.session_rules.specs.Steps.{Step, is_same_name, journal_of_steps, frame_numbers}
+use Rattle.line_text.specs.Words.{words_of, is_same_word}
+use Rattle.session_rules.specs.Steps.{Step, journal_of_steps, frame_numbers}
 use Rattle.session_rules.specs.Steps.Step.{JoinStep, LeaveStep, InputStep, DrawStep, RefreshStep, SuppressStep, TakeStep}
-use Rattle.script_rules.specs.Presets.{Preset, preset, presets, first_presets, preset_named, overridden_by, confirmed_by}
-use Rattle.script_rules.specs.Script.{Grammar, whole_grammar, first_grammar, Script, Reading, LineForm, LineOutcome, Opening, without_preset, broken_if}
+use Rattle.caps_sets.specs.Presets.{Preset, preset, presets, preset_named, overridden_by, confirmed_by}
+use Rattle.script_rules.specs.Script.{Grammar, whole_grammar, first_grammar, Script, ScriptReading, LineForm, LineOutcome, Opening, without_preset, broken_if, first_presets}
 use Rattle.script_rules.specs.Script.{unless_broken, join_outcome, form_outcome, line_outcome, line_form, is_name, name_rule, text_rule, breaks_text_rule}
 use Rattle.script_rules.specs.Script.{with_row, after_step, proceeding, script_from, size_of_words, opened_reading, begins_with_invite, solo_rows, solo_join}
 use Rattle.script_rules.specs.Script.{invited_script, solo_script, script_after, opening_by, opening_of_lines, opening_of}
@@ -36,7 +36,7 @@ all_presets words c e = e
 plain_is_a_preset : AreAmongPresets first_presets
 plain_is_a_preset [] c e = absurd (cc e)
 plain_is_a_preset (word ∷ words) c e =
-    by (is_same_name word (codes "plain")) (preset_named (preset (codes "full") full ∷ preset (codes "marked") marked ∷ preset (codes "bare") bare ∷ []) word) e
+    by (is_same_word word (codes "plain")) (preset_named (preset (codes "full") full ∷ preset (codes "marked") marked ∷ preset (codes "bare") bare ∷ []) word) e
   where
     by : (b : Bool) (other : Option Confirmed)
         → option_and_then (λ d. overridden_by d words) (if b then Some plain else None) ≡ Some c
@@ -69,7 +69,7 @@ unless_confirms : (o : Option ℕ) (outcome : LineOutcome) → Confirms outcome 
 unless_confirms None outcome h = h
 unless_confirms (Some rule) outcome h = tt
 
-form_confirms : (g : Grammar) (r : Reading) (o : Option LineForm) → AreAmongPresets g.presets → IfSome o IsFormOfItsViewer → Confirms (form_outcome g r o)
+form_confirms : (g : Grammar) (r : ScriptReading) (o : Option LineForm) → AreAmongPresets g.presets → IfSome o IsFormOfItsViewer → Confirms (form_outcome g r o)
 form_confirms g r None among is = tt
 form_confirms g r (Some (InviteForm name role)) among is = unless_confirms _ (Invites (record { name = name; role = role })) tt
 form_confirms g r (Some (JoinForm name words)) among is =
@@ -78,20 +78,20 @@ form_confirms g r (Some (JoinForm name words)) among is =
 form_confirms g r (Some (StepForm v step)) among is =
     unless_confirms _ (Asks (without_preset step)) (step_has_no_preset v step is)
 
-line_confirms : (g : Grammar) (at : ℕ) (r : Reading) (line : Line) → AreAmongPresets g.presets → AreOfTheirViewers g.forms → Confirms (line_outcome g at r line)
+line_confirms : (g : Grammar) (at : ℕ) (r : ScriptReading) (line : Line) → AreAmongPresets g.presets → AreOfTheirViewers g.forms → Confirms (line_outcome g at r line)
 line_confirms g at r line among are =
     unless_confirms (broken_if (breaks_text_rule at line) text_rule) (form_outcome g r (line_form g (words_of line.text)))
     (form_confirms g r (line_form g (words_of line.text)) among (line_form_is g (words_of line.text) are))
 
 -- ---- the lines of a script
 
-outcome_confirms : (r : Reading) (k : ℕ) (o : LineOutcome) (others : Reading → Script) → Confirms o → ((next : Reading) → PresetsConfirm (others next).asked)
+outcome_confirms : (r : ScriptReading) (k : ℕ) (o : LineOutcome) (others : ScriptReading → Script) → Confirms o → ((next : ScriptReading) → PresetsConfirm (others next).asked)
     → PresetsConfirm (proceeding r k o others).asked
 outcome_confirms r k (Breaks rule) others h rest = tt
 outcome_confirms r k (Invites row) others h rest = rest (with_row r row)
 outcome_confirms r k (Asks a) others h rest = (h, rest (after_step r a.step))
 
-lines_confirm : (g : Grammar) (k at : ℕ) (r : Reading) (lines : List Line) → AreAmongPresets g.presets → AreOfTheirViewers g.forms
+lines_confirm : (g : Grammar) (k at : ℕ) (r : ScriptReading) (lines : List Line) → AreAmongPresets g.presets → AreOfTheirViewers g.forms
     → PresetsConfirm (script_from g k at r lines).asked
 lines_confirm g k at r [] among are = tt
 lines_confirm g k at r (line ∷ lines) among are =

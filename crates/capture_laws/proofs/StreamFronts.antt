@@ -11,7 +11,7 @@ use Rattle.host_bytes.specs.WirePixels.{turned_over}
 use Rattle.order_means.specs.ClientState.{Fault, client_after_order, after_painting, needs}
 use Rattle.order_means.specs.ClientState.Fault.{Broken}
 use Rattle.order_means.specs.Updates.{Body, Cutting, updates_from, refusal_in}
-use Rattle.order_means.specs.FrameMarks.{Tile, Update, View, Reading, Refusal, reading, first_reading, meant, marked_if, is_mark, counted_order, view_with}
+use Rattle.order_means.specs.FrameMarks.{Tile, Update, View, ClientReading, Refusal, reading, first_reading, meant, marked_if, is_mark, counted_order, view_with}
 use Rattle.order_means.specs.FrameMarks.{view_after_order, view_after_orders, is_packed_tile, tile_pixels, is_tile, showing, view_after_tile, view_after_tiles}
 use Rattle.order_means.specs.FrameMarks.{with_registers, obeyed, view_after_update, view_after_read, view_after_body, view_after_bodies, update_at}
 use Rattle.order_means.specs.FrameMarks.{unless_refused_at, read_on, read_stream, pictures_at_marks}
@@ -115,7 +115,7 @@ bodies_extend confirmed size (b ∷ bs) v =
     (read_extends confirmed size b v (update_at b.bytes)) (λ w. bodies_extend confirmed size bs w)
 
 -- a reading that is reached has these pictures first
-abbrev ReadingExtends : Pictures → Result Reading Refusal → Type 0
+abbrev ReadingExtends : Pictures → Result ClientReading Refusal → Type 0
 ReadingExtends pictures (Ok r) = IsFront pictures r.view.pictures
 ReadingExtends pictures (Err e) = ⊤
 
@@ -125,7 +125,7 @@ reading_extends pictures (Ok w) None cut h = h
 reading_extends pictures (Ok w) (Some place) cut h = tt
 reading_extends pictures (Err e) o cut h = tt
 
-reading_on_extends : (confirmed : Confirmed) (size : Size) (r : Reading) (bytes : List ℕ) → ReadingExtends r.view.pictures (read_on confirmed size r bytes)
+reading_on_extends : (confirmed : Confirmed) (size : Size) (r : ClientReading) (bytes : List ℕ) → ReadingExtends r.view.pictures (read_on confirmed size r bytes)
 reading_on_extends confirmed size r bytes =
     let u = updates_from r.cut bytes in
     reading_extends r.view.pictures (view_after_bodies confirmed size r.view u.bodies) (refusal_in u.next.stage) u.next
@@ -133,12 +133,12 @@ reading_on_extends confirmed size r bytes =
 
 -- ---- fronts of streams
 
-pub stream_front : (confirmed : Confirmed) (size : Size) (front rest : List ℕ) (whole : Reading) → read_stream confirmed size (front ++ rest) ≡ Ok whole
+pub stream_front : (confirmed : Confirmed) (size : Size) (front rest : List ℕ) (whole : ClientReading) → read_stream confirmed size (front ++ rest) ≡ Ok whole
     → ReadsFront confirmed size front rest whole
 stream_front confirmed size front rest whole e =
     by (read_stream confirmed size front) refl (sym (read_joined confirmed size (first_reading confirmed size) front rest) ∙ e)
   where
-    by : (r : Result Reading Refusal) → read_stream confirmed size front ≡ r → bind r (λ s. read_on confirmed size s rest) ≡ Ok whole
+    by : (r : Result ClientReading Refusal) → read_stream confirmed size front ≡ r → bind r (λ s. read_on confirmed size s rest) ≡ Ok whole
         → ReadsFront confirmed size front rest whole
     by (Ok s) is more = record {
       reached = s;
@@ -158,7 +158,7 @@ pub marks_front : (confirmed : Confirmed) (size : Size) (front rest : List ℕ) 
     → ShowsFirst confirmed size front pictures
 marks_front confirmed size front rest pictures e = by (read_stream confirmed size (front ++ rest)) refl e
   where
-    by : (r : Result Reading Refusal) → read_stream confirmed size (front ++ rest) ≡ r → bind r (λ s. Ok s.view.pictures) ≡ Ok pictures
+    by : (r : Result ClientReading Refusal) → read_stream confirmed size (front ++ rest) ≡ r → bind r (λ s. Ok s.view.pictures) ≡ Ok pictures
         → ShowsFirst confirmed size front pictures
     by (Ok whole) is more =
         let reads = stream_front confirmed size front rest whole is in

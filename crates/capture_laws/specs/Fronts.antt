@@ -5,7 +5,7 @@ use Rattle.caps_sets.specs.declared.confirmed.Confirmed.{Confirmed}
 use Rattle.session_rules.specs.declared.entry.Entry.{Entry}
 use Rattle.session_rules.specs.Journal.{Head}
 use Rattle.session_rules.specs.Steps.{journal_of_steps, frame_numbers}
-use Rattle.order_means.specs.FrameMarks.{Reading, read_on, read_stream, pictures_at_marks}
+use Rattle.order_means.specs.FrameMarks.{ClientReading, read_on, read_stream, pictures_at_marks}
 use Rattle.script_rules.specs.Script.{Asked, LineRefusal, Script, Opening}
 use Rattle.script_rules.specs.Script.Opening.{NoSize, Unended, Opened}
 use Rattle.script_rules.specs.Capture.{viewer_bytes}
@@ -19,8 +19,8 @@ pub record IsFront {A : Type 0} (front whole : List A) : Type 0 where
   pub joined : whole ≡ front ++ rest
 
 -- a front of a stream is read without a refusal; what comes after it is read on from there; the pictures at its marks are the first ones
-pub record ReadsFront (confirmed : Confirmed) (size : Size) (front rest : List ℕ) (whole : Reading) : Type 0 where
-  pub reached : Reading
+pub record ReadsFront (confirmed : Confirmed) (size : Size) (front rest : List ℕ) (whole : ClientReading) : Type 0 where
+  pub reached : ClientReading
   pub front_is_read : read_stream confirmed size front ≡ Ok reached
   pub rest_is_read : read_on confirmed size reached rest ≡ Ok whole
   pub pictures_are_first : IsFront reached.view.pictures whole.view.pictures

@@ -5,7 +5,7 @@ use Rattle.session_rules.specs.Journal.{Head}
 use Rattle.session_rules.specs.Steps.{Step}
 use Rattle.session_rules.specs.Steps.Step.{JoinStep, LeaveStep, InputStep, DrawStep, RefreshStep, SuppressStep, TakeStep}
 use Rattle.frame_rules.specs.Encoder.{Encoder}
-use Rattle.script_rules.specs.Presets.{presets, confirmed_by}
+use Rattle.caps_sets.specs.Presets.{presets, confirmed_by}
 use Rattle.script_rules.specs.Script.{Asked, Script}
 use Rattle.script_rules.specs.CaptureText.{Run, run_at_first, run_after_all, sent_from}
 use Rattle.script_rules.specs.Headline.{encoder_frames, EveryViewerOfSteps}

@@ -5,7 +5,7 @@ ghost use Rattle.px_core.specs.declared.surface.Size.{Size};
 ghost use Rattle.caps_sets.specs.declared.confirmed.Confirmed.{Confirmed};
 ghost use Rattle.session_rules.specs.Journal.{Head};
 ghost use Rattle.session_rules.specs.Steps.{outcome};
-ghost use Rattle.order_means.specs.FrameMarks.{Reading, read_stream, pictures_at_marks};
+ghost use Rattle.order_means.specs.FrameMarks.{ClientReading, read_stream, pictures_at_marks};
 ghost use Rattle.script_rules.specs.Script.{Asked, Script, whole_grammar, first_grammar, opening_of};
 ghost use Rattle.script_rules.specs.Capture.{viewer_of, viewer_bytes};
 ghost use Rattle.script_rules.specs.CaptureText.{Run, bytes_of_answer, run_after_all, lines_from, sent_from, capture_of, capture_of_script};
@@ -41,7 +41,7 @@ pub fn captures_of_scripts_show_the_journal()
 
 /// Each front of bytes that a client reads without a refusal is read without one, and the pictures at its marks are the first ones, wherever it is cut.
 pub fn fronts_of_a_stream_are_read()
-    ensures reading { (confirmed : Confirmed) (size : Size) (front rest : List ℕ) (whole : Reading) → read_stream confirmed size (front ++ rest) ≡ Ok whole
+    ensures reading { (confirmed : Confirmed) (size : Size) (front rest : List ℕ) (whole : ClientReading) → read_stream confirmed size (front ++ rest) ≡ Ok whole
         → ReadsFront confirmed size front rest whole }
     ensures marks { (confirmed : Confirmed) (size : Size) (front rest : List ℕ) (pictures : List (List (Option ℕ)))
         → pictures_at_marks confirmed size (front ++ rest) ≡ Ok pictures → ShowsFirst confirmed size front pictures }

@@ -1,7 +1,7 @@
 ghost use Rattle.std.specs.Prelude.{◌≡◌, IfOk};
 ghost use Rattle.draw_ops.specs.Content.{GlyphOf};
 
-use crate::fault::OutOfMemory;
+use crate::OutOfMemory;
 use std::alloc::Global;
 use std::marker::Model;
 

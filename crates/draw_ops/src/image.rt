@@ -2,7 +2,7 @@ ghost use Rattle.std.specs.Prelude.{◌≡◌, IfOk, IsTrue};
 ghost use Rattle.draw_ops.specs.Content.{ImageOf};
 ghost use Rattle.px_core.specs.Colors.{are_colors};
 
-use crate::fault::OutOfMemory;
+use crate::OutOfMemory;
 use std::alloc::Global;
 use std::marker::Model;
 

@@ -7,13 +7,16 @@ mod brush;
 mod fault;
 mod glyph;
 mod image;
+mod rect_rule;
 mod run;
 mod shape;
 
 pub use brush::Brush;
-pub use fault::{BadDrawing, OutOfMemory};
+pub use fault::BadDrawing;
 pub use glyph::Glyph;
 pub use image::Image;
+pub use out_of_memory::OutOfMemory;
+pub use rect_rule::keeps_rect_rule;
 pub use run::Run;
 pub use shape::{Drawing, Shape};
 

@@ -1,6 +1,6 @@
 ghost use Rattle.std.specs.Prelude.{◌≡◌, ℕ, List, IfOk};
 
-use crate::fault::OutOfMemory;
+use crate::OutOfMemory;
 use std::alloc::Global;
 use std::marker::Model;
 

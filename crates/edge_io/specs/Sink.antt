@@ -7,7 +7,7 @@ use Rattle.edge_io.specs.declared.sink.Wrote.TheVariants.{All, Failed, OutOfMemo
 use Rattle.edge_io.specs.Faults.{Rose}
 
 -- a front of these bytes was appended, and the rest wasn't
-pub record AppendsFront (old new : Option (List ℕ)) (bytes : List ℕ) : Type 0 where
+pub record WritesFront (old new : Option (List ℕ)) (bytes : List ℕ) : Type 0 where
   pub front : List ℕ
   pub rest : List ℕ
   pub whole : bytes ≡ front ++ rest
@@ -16,8 +16,8 @@ pub record AppendsFront (old new : Option (List ℕ)) (bytes : List ℕ) : Type 
 -- exactly the bytes were appended; after a failure or want of memory a front of them
 abbrev pub Appends : Option (List ℕ) → Option (List ℕ) → Wrote → List ℕ → Type 0
 Appends old new All bytes = known.Appends old new bytes
-Appends old new Failed bytes = AppendsFront old new bytes
-Appends old new OutOfMemory bytes = AppendsFront old new bytes
+Appends old new Failed bytes = WritesFront old new bytes
+Appends old new OutOfMemory bytes = WritesFront old new bytes
 
 -- a write fails only where the count of faults rose, and any other answer leaves it
 abbrev pub WriteCause : Wrote → ℕ → ℕ → Type 0

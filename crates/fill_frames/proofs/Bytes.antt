@@ -2,13 +2,13 @@
 use Rattle.std.proofs.Common.{ℕ, ◌<◌, ◌≤◌, List, [], ◌∷◌, ◌++◌, arith, None, Bool, true, false}
 use Rattle.std.specs.Prelude.{ℤ, ◌-ℤ◌, All}
 use Rattle.std.proofs.lemmas.List.Elements.{All-nil, All-cons, All-append}
-use Rattle.order_fields.specs.declared.kind.Kind.{Kind}
-use Rattle.order_fields.specs.declared.kind.Kind.TheVariants.{Coordinate, Number, Signed, Color}
+use Rattle.order_fields.specs.declared.kind.FieldKind.{FieldKind}
+use Rattle.order_fields.specs.declared.kind.FieldKind.TheVariants.{Coordinate, Number, Signed, Color}
 use Rattle.byteorder.specs.Endian.{little_bytes}
 use Rattle.byte_fields.specs.Number.{unsigned}
 use Rattle.byte_fields.proofs.Numbers.{little_are_bytes, big_are_bytes}
 use Rattle.order_fields.specs.OrderTable.{Registers, opaque_rect, last_values}
-use Rattle.order_fields.specs.OrderDelta.{Field, fields_of, is_same, value_bytes, unless_same, field_bytes, present_bytes, shown, type_bytes, order_bytes, flags_of, fields_in, takes_deltas, is_typed, bit, control_byte, omitted_in}
+use Rattle.order_fields.specs.OrderDelta.{Field, fields_of, is_unchanged, value_bytes, unless_same, field_bytes, present_bytes, shown, type_bytes, order_bytes, flags_of, fields_in, takes_deltas, is_typed, bit, control_byte, omitted_in}
 use Rattle.fill_frames.specs.declared.patch.Patch.{Patch}
 use Rattle.fill_frames.specs.Patches.{patch_fields}
 
@@ -24,7 +24,7 @@ bytes_cons b bs h hs = All-cons (λ b. b < 256) b bs h hs
 pub bytes_append : (xs ys : List ℕ) → AreBytes xs → AreBytes ys → AreBytes (xs ++ ys)
 bytes_append xs ys hx hy = All-append (λ b. b < 256) xs ys hx hy
 
-value_are_bytes : (k : Kind) (delta : Bool) (last z : ℤ) → AreBytes (value_bytes k delta last z)
+value_are_bytes : (k : FieldKind) (delta : Bool) (last z : ℤ) → AreBytes (value_bytes k delta last z)
 value_are_bytes Coordinate true last z = little_are_bytes 1 (unsigned 1 (z -ℤ last))
 value_are_bytes Coordinate false last z = little_are_bytes 2 (unsigned 2 z)
 value_are_bytes (Number n) delta last z = little_are_bytes n _
@@ -35,14 +35,14 @@ unless_are_bytes : (b : Bool) (bytes : List ℕ) → AreBytes bytes → AreBytes
 unless_are_bytes true bytes h = bytes_nil
 unless_are_bytes false bytes h = h
 
-present_are_bytes : (ks : List Kind) (ls zs : List ℤ) (delta : Bool) → AreBytes (present_bytes (fields_of ks ls zs) delta true [])
+present_are_bytes : (ks : List FieldKind) (ls zs : List ℤ) (delta : Bool) → AreBytes (present_bytes (fields_of ks ls zs) delta true [])
 present_are_bytes [] ls zs delta = bytes_nil
 present_are_bytes (k ∷ ks) [] zs delta = bytes_nil
 present_are_bytes (k ∷ ks) (l ∷ ls) [] delta = bytes_nil
 present_are_bytes (k ∷ ks) (l ∷ ls) (z ∷ zs) delta =
     let f : Field = record { kind = k; last = l; value = z } in
     bytes_append (field_bytes delta f) (present_bytes (fields_of ks ls zs) delta true [])
-    (unless_are_bytes (is_same f) (value_bytes k delta l z) (value_are_bytes k delta l z)) (present_are_bytes ks ls zs delta)
+    (unless_are_bytes (is_unchanged f) (value_bytes k delta l z) (value_are_bytes k delta l z)) (present_are_bytes ks ls zs delta)
 
 type_are_bytes : (b : Bool) → AreBytes (type_bytes b 10)
 type_are_bytes true = bytes_cons 10 [] (omega arith) bytes_nil

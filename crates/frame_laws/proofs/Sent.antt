@@ -8,7 +8,7 @@ use Rattle.px_core.specs.declared.surface.Size.{Size}
 use Rattle.px_core.specs.declared.rectangle.Rect.{Rect}
 use Rattle.px_core.specs.Picture.{pixel_count, nat_of, item, rows_of}
 use Rattle.px_core.specs.Rectangle.{boxed, within, in_rect, in_clip, has_pixel, is_inside}
-use Rattle.px_core.specs.Tiles.{Tiles, tile_at, tiles_of, share_tile, any_shared, picture_tiles}
+use Rattle.px_core.specs.Tiles.{Tiles, tile_number, tiles_of, share_tile, any_shared, picture_tiles}
 use Rattle.rop3_core.specs.Palette.{client_colors, maybe_raster}
 use Rattle.draw_ops.specs.declared.shape.Shape.{Shape}
 use Rattle.draw_ops.specs.declared.shape.Shape.TheVariants.{Fill, Dst, Copy}
@@ -98,7 +98,7 @@ not_shared (x ∷ xs) a b t h k q = by (t == x) refl (λ m. not_shared xs a b t 
         ap a same ∙ left_false (a x) (b x) (or_parts (a x && b x) (any_shared xs a b) h).0 (ap b (sym same) ∙ q)
     by false e rest = rest (ap (λ u. u || is_among xs t) (sym e) ∙ k)
 
-pub copy_source : (size : Size) (dirty : Tiles) (canvas : List (Option ℕ)) (picture : List ℕ) (X Y : ℕ) → X < size.w → Y < size.h → ShowsOutside size dirty canvas picture → dirty (tile_at X Y) ≡ false
+pub copy_source : (size : Size) (dirty : Tiles) (canvas : List (Option ℕ)) (picture : List ℕ) (X Y : ℕ) → X < size.w → Y < size.h → ShowsOutside size dirty canvas picture → dirty (tile_number X Y) ≡ false
     → item (item (rows_of size.w size.h canvas) Y []) X None ≡ Some (item (item (rows_of size.w size.h picture) Y []) X 0)
 copy_source size dirty canvas picture X Y hx hy s clean =
     let column : (size.w * Y + X) % size.w ≡ X = column_of size.w X Y hx in
@@ -132,13 +132,13 @@ source_of size r sx sy x y whole here =
 
 -- a source pixel lies in a clean tile
 pub source_clean : (size : Size) (dirty : Tiles) (r : Rect) (sx sy : ℤ) (X Y : ℕ) → size.w ≤ 2048 → share_tile size dirty (tiles_of size (boxed sx sy r.w r.h)) ≡ false → X < size.w → Y < size.h
-    → in_rect (boxed sx sy r.w r.h) (pos X) (pos Y) ≡ true → dirty (tile_at X Y) ≡ false
+    → in_rect (boxed sx sy r.w r.h) (pos X) (pos Y) ≡ true → dirty (tile_number X Y) ≡ false
 source_clean size dirty r sx sy X Y narrow apart hx hy inside =
-    not_shared (picture_tiles size) dirty (tiles_of size (boxed sx sy r.w r.h)) (tile_at X Y) apart (there_is (column_of size.w X Y hx) (row_of size.w X Y hx)) (tiles_of-in_rect size (boxed sx sy r.w r.h) X Y narrow hx hy inside)
+    not_shared (picture_tiles size) dirty (tiles_of size (boxed sx sy r.w r.h)) (tile_number X Y) apart (there_is (column_of size.w X Y hx) (row_of size.w X Y hx)) (tiles_of-in_rect size (boxed sx sy r.w r.h) X Y narrow hx hy inside)
   where
-    there_is : (size.w * Y + X) % size.w ≡ X → (size.w * Y + X) / size.w ≡ Y → is_among (picture_tiles size) (tile_at X Y) ≡ true
-    there_is c d = subst (λ n. is_among (picture_tiles size) (tile_at n Y) ≡ true) c
-        (subst (λ n. is_among (picture_tiles size) (tile_at ((size.w * Y + X) % size.w) n) ≡ true) d (tile_is_there size (size.w * Y + X) narrow (place_below size.w size.h X Y hx hy)))
+    there_is : (size.w * Y + X) % size.w ≡ X → (size.w * Y + X) / size.w ≡ Y → is_among (picture_tiles size) (tile_number X Y) ≡ true
+    there_is c d = subst (λ n. is_among (picture_tiles size) (tile_number n Y) ≡ true) c
+        (subst (λ n. is_among (picture_tiles size) (tile_number ((size.w * Y + X) % size.w) n) ≡ true) d (tile_is_there size (size.w * Y + X) narrow (place_below size.w size.h X Y hx hy)))
 
 -- what the client paints
 abbrev copied : Size → ClientState → Rect → ℕ → ℤ → ℤ → Painting (Option ℕ)

@@ -6,8 +6,8 @@ use Rattle.px_core.specs.declared.surface.Size.{Size}
 use Rattle.px_core.specs.Picture.{pixel_count}
 use Rattle.caps_sets.specs.declared.cache_size.CacheSize.{CacheSize}
 use Rattle.caps_sets.specs.declared.confirmed.Confirmed.{Confirmed}
-use Rattle.order_fields.specs.declared.kind.Kind.{Kind}
-use Rattle.order_fields.specs.declared.kind.Kind.TheVariants.{Coordinate, Number, Signed, Color}
+use Rattle.order_fields.specs.declared.kind.FieldKind.{FieldKind}
+use Rattle.order_fields.specs.declared.kind.FieldKind.TheVariants.{Coordinate, Number, Signed, Color}
 use Rattle.order_fields.specs.OrderTable.{Row, table, FitsKind, FitKinds, BytesFit, AreLasts, zero_fields, first_registers, AreRegisters}
 use Rattle.order_means.specs.ClientState.{first_client, empty_cache, brush_entries}
 use Rattle.session_rules.specs.declared.entry.Entry.{Entry}
@@ -54,13 +54,13 @@ power_positive : (n : ℕ) → 0 < 256 ^ n
 power_positive zero = omega arith
 power_positive (suc n) = let power : 256 ^ suc n ≡ 256 * 256 ^ n = grind arith in omega (arith, power, power_positive n)
 
-zero_fits : (k : Kind) → FitsKind k (pos 0)
+zero_fits : (k : FieldKind) → FitsKind k (pos 0)
 zero_fits Coordinate = refl
 zero_fits (Number n) = power_positive n
 zero_fits Signed = refl
 zero_fits Color = omega arith
 
-zeros_fit : (ks : List Kind) → FitKinds ks (map (λ k. pos 0) ks)
+zeros_fit : (ks : List FieldKind) → FitKinds ks (map (λ k. pos 0) ks)
 zeros_fit [] = tt
 zeros_fit (k ∷ ks) = (zero_fits k, zeros_fit ks)
 

@@ -10,7 +10,7 @@ use Rattle.px_core.specs.declared.surface.Size.{Size}
 use Rattle.px_core.specs.declared.rectangle.Rect.{Rect}
 use Rattle.px_core.specs.Picture.{pixel_count, nat_of, item, Area, Formula, where_chosen, painted_from}
 use Rattle.px_core.specs.Rectangle.{within, in_rect, in_clip, has_pixel, whole, common, clipped}
-use Rattle.px_core.specs.Tiles.{Tiles, either_tiles, tile_rect, tile_at, tiles_of}
+use Rattle.px_core.specs.Tiles.{Tiles, either_tiles, tile_rect, tile_number, tiles_of}
 use Rattle.draw_ops.specs.Formulas.{Painting, painted_area, picture_after}
 use Rattle.frame_rules.specs.Shown.{tile_of_place, ShowsOutside}
 use Rattle.frame_rules.proofs.Paint.{painted_at, item-painted_from, length-painted_from}
@@ -78,20 +78,20 @@ has_pixel-in_rect r x y h = let k = and_parts (within r.x r.w x) (within r.y r.h
 pub within_from : (n m x : ℕ) → n ≤ x → x < n + m → within (pos n) m (pos x) ≡ true
 within_from n m x h k = and_from _ _ (int_le_from (pos n) (pos x) (omega (arith, ints))) (int_lt_from (pos x) (pos n +ℤ pos m) (omega (arith, ints)))
 
-pub in_rect-tile_rect : (x y : ℕ) → x < 2048 → in_rect (tile_rect (tile_at x y)) (pos x) (pos y) ≡ true
-in_rect-tile_rect x y h = and_from _ _ (within_from (64 * (tile_at x y % 32)) 64 x (omega arith) (omega arith)) (within_from (64 * (tile_at x y / 32)) 64 y (omega arith) (omega arith))
+pub in_rect-tile_rect : (x y : ℕ) → x < 2048 → in_rect (tile_rect (tile_number x y)) (pos x) (pos y) ≡ true
+in_rect-tile_rect x y h = and_from _ _ (within_from (64 * (tile_number x y % 32)) 64 x (omega arith) (omega arith)) (within_from (64 * (tile_number x y / 32)) 64 y (omega arith) (omega arith))
 
 pub in_rect-whole : (size : Size) (x y : ℕ) → x < size.w → y < size.h → in_rect (whole size) (pos x) (pos y) ≡ true
 in_rect-whole size x y h k = and_from _ _ (within_from 0 size.w x (omega arith) (omega arith)) (within_from 0 size.h y (omega arith) (omega arith))
 
 -- a pixel of a rectangle lies in one of the rectangle's tiles
-pub tiles_of-in_rect : (size : Size) (r : Rect) (x y : ℕ) → size.w ≤ 2048 → x < size.w → y < size.h → in_rect r (pos x) (pos y) ≡ true → tiles_of size r (tile_at x y) ≡ true
+pub tiles_of-in_rect : (size : Size) (r : Rect) (x y : ℕ) → size.w ≤ 2048 → x < size.w → y < size.h → in_rect r (pos x) (pos y) ≡ true → tiles_of size r (tile_number x y) ≡ true
 tiles_of-in_rect size r x y w h k c =
-    has_pixel-in_rect (common (tile_rect (tile_at x y)) (common r (whole size))) (pos x) (pos y)
-    (in_rect-common (tile_rect (tile_at x y)) (common r (whole size)) (pos x) (pos y) (in_rect-tile_rect x y (omega arith)) (in_rect-common r (whole size) (pos x) (pos y) c (in_rect-whole size x y h k)))
+    has_pixel-in_rect (common (tile_rect (tile_number x y)) (common r (whole size))) (pos x) (pos y)
+    (in_rect-common (tile_rect (tile_number x y)) (common r (whole size)) (pos x) (pos y) (in_rect-tile_rect x y (omega arith)) (in_rect-common r (whole size) (pos x) (pos y) c (in_rect-whole size x y h k)))
 
 pub tiles_of-painted_area : {A : Type 0} (size : Size) (p : Painting A) (clip : Option Rect) (x y : ℕ) → size.w ≤ 2048 → x < size.w → y < size.h
-    → painted_area (in_clip clip) p (pos x) (pos y) ≡ true → tiles_of size (clipped p.rect clip) (tile_at x y) ≡ true
+    → painted_area (in_clip clip) p (pos x) (pos y) ≡ true → tiles_of size (clipped p.rect clip) (tile_number x y) ≡ true
 tiles_of-painted_area size p clip x y w h k e =
     let a = and_parts (in_clip clip (pos x) (pos y)) (in_rect p.rect (pos x) (pos y) && p.area (pos x) (pos y)) e in
     let b = and_parts (in_rect p.rect (pos x) (pos y)) (p.area (pos x) (pos y)) a.1 in

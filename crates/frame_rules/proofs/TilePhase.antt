@@ -5,7 +5,7 @@ use Rattle.std.proofs.lemmas.Bool.Decides.{nat_tests}
 use Rattle.px_core.specs.declared.surface.Size.{Size}
 use Rattle.px_core.specs.Picture.{pixel_count, item, listed}
 use Rattle.px_core.specs.Rectangle.{whole, in_rect}
-use Rattle.px_core.specs.Tiles.{Tiles, tile_at, tile_rect, tile_on, tiles_of, picture_tiles, tiles_in}
+use Rattle.px_core.specs.Tiles.{Tiles, tile_number, tile_rect, tile_on, tiles_of, picture_tiles, tiles_in}
 use Rattle.frame_rules.specs.Shown.{tile_of_place, ShowsOutside, canvas_after_cut, canvas_after_tiles}
 use Rattle.frame_rules.proofs.TileLaws.{column_below, row_below, in_rect-common, in_rect-tile_rect, in_rect-whole, tiles_of-in_rect}
 use Rattle.frame_rules.proofs.TileShown.{ShowsOutside-cut}
@@ -49,8 +49,8 @@ tile_is_there size i w below =
     let y = i / size.w in
     let hx = column_below size i below in
     let hy = row_below size i below in
-    among_filter (tiles_of size (whole size)) (listed (32 * ((size.h + 63) / 64)) 0 (λ tile. tile)) (tile_at x y)
-    (among_listed (32 * ((size.h + 63) / 64)) 0 (tile_at x y) (omega arith) (omega arith))
+    among_filter (tiles_of size (whole size)) (listed (32 * ((size.h + 63) / 64)) 0 (λ tile. tile)) (tile_number x y)
+    (among_listed (32 * ((size.h + 63) / 64)) 0 (tile_number x y) (omega arith) (omega arith))
     (tiles_of-in_rect size (whole size) x y w hx hy (in_rect-whole size x y hx hy))
 
 pub not_true : (b : Bool) → (b ≡ true → ⊥) → b ≡ false

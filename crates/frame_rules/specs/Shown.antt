@@ -4,13 +4,13 @@ use Rattle.px_core.specs.declared.surface.Size.{Size}
 use Rattle.px_core.specs.declared.rectangle.Rect.{Rect}
 use Rattle.px_core.specs.Picture.{pixel_count, item, rows_of, painted}
 use Rattle.px_core.specs.Rectangle.{in_rect, cut_out}
-use Rattle.px_core.specs.Tiles.{Tiles, tile_at, tile_on}
+use Rattle.px_core.specs.Tiles.{Tiles, tile_number, tile_on}
 use Rattle.rop3_core.specs.Palette.{client_colors}
 use Rattle.draw_ops.specs.Formulas.{replaced, imaged}
 
 -- the tile of the pixel at a place of a picture
 abbrev pub tile_of_place : Size → ℕ → ℕ
-tile_of_place size i = tile_at (i % size.w) (i / size.w)
+tile_of_place size i = tile_number (i % size.w) (i / size.w)
 
 -- each pixel whose tile isn't dirty is known, and is the session's
 pub record ShowsOutside (size : Size) (dirty : Tiles) (canvas : List (Option ℕ)) (picture : List ℕ) : Type 0 where

@@ -5,7 +5,7 @@ ghost use Rattle.px_core.specs.declared.surface.Size.{Size};
 ghost use Rattle.px_core.specs.declared.rectangle.Rect.{Rect};
 ghost use Rattle.px_core.specs.Picture.{Area, Formula, pixel_count, painted};
 ghost use Rattle.px_core.specs.Rectangle.{in_clip, clipped};
-ghost use Rattle.px_core.specs.Tiles.{Tiles, either_tiles, tile_at, tiles_of, tiles_in};
+ghost use Rattle.px_core.specs.Tiles.{Tiles, either_tiles, tile_number, tiles_of, tiles_in};
 ghost use Rattle.draw_ops.specs.Formulas.{Painting, painted_area, picture_after};
 ghost use Rattle.caps_sets.specs.declared.confirmed.Confirmed.{Confirmed};
 ghost use Rattle.session_rules.specs.declared.entry.Entry.{Entry};
@@ -44,7 +44,7 @@ pub fn frame_stays_as_the_journal_goes_on()
 /// A pixel that a drawing paints lies in a tile that the drawing touches.
 pub fn painted_pixel_is_in_a_touched_tile()
     ensures { (size : Size) (p : Painting ℕ) (clip : Option Rect) (x y : ℕ) → size.w ≤ 2048 → x < size.w → y < size.h
-        → painted_area (in_clip clip) p (pos x) (pos y) ≡ true → tiles_of size (clipped p.rect clip) (tile_at x y) ≡ true }
+        → painted_area (in_clip clip) p (pos x) (pos y) ≡ true → tiles_of size (clipped p.rect clip) (tile_number x y) ≡ true }
 {}
 
 /// A drawing that isn't sent: once the tiles that it touches are dirty, the client's picture still shows the session's outside the dirty tiles.

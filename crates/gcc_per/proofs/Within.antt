@@ -3,7 +3,7 @@ use Rattle.std.proofs.Common.{◌≡◌, ℕ, ◌+◌, ◌≤◌, List, ◌++◌
 use Rattle.std.specs.Prelude.{Ok}
 use Rattle.std.proofs.lemmas.List.{length-take-le}
 use Rattle.byte_fields.specs.Field.{bytes_at}
-use Rattle.wire_num.specs.Cursor.{Reading, rest}
+use Rattle.wire_num.specs.Cursor.{CursorOf, rest}
 use Rattle.wire_num.proofs.Content.{rest_of_content}
 use Rattle.wire_num.proofs.ReadIsText.{bytes_ok}
 
@@ -14,7 +14,7 @@ content_size n bs content after e =
     sym (ap length there.1) ∙ length-take-le n bs there.0
 
 -- a cursor that was refused in content, and one in the whole at that place
-pub refused_in_content : (old content after refused new : Reading) (n place : ℕ) → old.at + n ≤ length old.bytes
+pub refused_in_content : (old content after refused new : CursorOf) (n place : ℕ) → old.at + n ≤ length old.bytes
     → after ≡ record { bytes = old.bytes; at = old.at + n } → content ≡ record { bytes = take (old.at + n) old.bytes; at = old.at }
     → refused.bytes ≡ content.bytes → place ≡ refused.at → place ≤ length refused.bytes → new ≡ record { bytes = after.bytes; at = place }
     → rest refused ++ rest after ≡ rest new

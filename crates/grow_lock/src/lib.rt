@@ -5,7 +5,6 @@
 
 mod grows;
 mod lock;
-mod memory;
 mod notes;
 mod pass;
 mod rule;
@@ -14,7 +13,7 @@ mod turn;
 
 pub use grows::Grows;
 pub use lock::GrowLock;
-pub use memory::OutOfMemory;
+pub use out_of_memory::OutOfMemory;
 pub use pass::Pass;
 pub use turn::Turn;
 

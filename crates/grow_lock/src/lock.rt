@@ -4,8 +4,8 @@ ghost use Rattle.grow_lock.specs.Journal.{StartsWith, IsDisjoint, added_places, 
 ghost use Rattle.grow_lock.specs.Passes.{IsPassOf, pass_of, pass_after_entering};
 ghost use Rattle.grow_lock.specs.Steps.{HasTaken};
 
+use crate::OutOfMemory;
 use crate::grows::Grows;
-use crate::memory::OutOfMemory;
 use crate::notes::Notes;
 use crate::pass::Pass;
 use crate::rule::{FREE, LENGTH, LockRule, Place, TAKEN, TURN, VALUE};

@@ -5,7 +5,7 @@ use Rattle.std.proofs.lemmas.Bool.Decides.{nat_tests}
 use Rattle.session_rules.specs.declared.entry.Role.{Role}
 use Rattle.session_rules.specs.declared.entry.Entry.{Entry}
 use Rattle.session_rules.specs.declared.entry.Entry.TheVariants.{Join, Leave, Give, Input, Draw}
-use Rattle.session_rules.specs.declared.event.Event.{Event}
+use Rattle.input_events.specs.declared.event.Event.{Event}
 use Rattle.session_rules.specs.Journal.{Head, Viewer, Reached, Refusal, is_present, without_viewer, viewers_after, reached_after_entry, refusal_of, is_f12}
 use Rattle.session_rules.specs.Steps.{Step, Answer, Play, Effect, Outcome, entered, outcome_of, effect_of, outcome, join_effect, row_role, input_effect}
 use Rattle.session_rules.specs.Steps.{is_release, receiver_of, has_work, take_effect, take_in, take_of}

@@ -7,7 +7,7 @@ use Rattle.caps_sets.specs.declared.confirmed.Confirmed.{Confirmed}
 use Rattle.session_rules.specs.declared.entry.Entry.{Entry}
 use Rattle.session_rules.specs.declared.entry.Entry.TheVariants.{Leave, Give, Input, Draw}
 use Rattle.session_rules.specs.declared.entry.Role.{Role}
-use Rattle.session_rules.specs.declared.event.Event.{Event}
+use Rattle.input_events.specs.declared.event.Event.{Event}
 use Rattle.session_rules.specs.Journal.{Head, Refusal, refusal_of, is_f12}
 use Rattle.session_rules.specs.Steps.{Step, Answer, Outcome, row_role, join_effect, is_release, receiver_of, input_effect, has_work, take_effect, effect_of}
 use Rattle.session_rules.specs.Steps.{take_of, entered, outcome_of, outcome, entries_from, take_in, takes_from}

@@ -6,7 +6,7 @@ use Rattle.caps_sets.specs.declared.confirmed.Confirmed.{Confirmed}
 use Rattle.session_rules.specs.declared.entry.Entry.{Entry}
 use Rattle.session_rules.specs.declared.entry.Entry.TheVariants.{Join, Leave, Give, Input, Draw}
 use Rattle.session_rules.specs.declared.entry.Role.{Role}
-use Rattle.session_rules.specs.declared.event.Event.{Event}
+use Rattle.input_events.specs.declared.event.Event.{Event}
 use Rattle.session_rules.specs.Journal.{Head, Refusal, refusal_of, is_f12}
 use Rattle.session_rules.specs.Steps.{Step, Answer, TakeOf, entered, outcome_of, outcome, join_effect, row_role, input_effect, is_release}
 use Rattle.session_rules.specs.Steps.{receiver_of, has_work, take_effect, take_in, take_of}

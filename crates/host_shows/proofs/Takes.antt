@@ -10,7 +10,7 @@ use Rattle.session_rules.specs.Steps.{TakeOf, TakesFollow}
 use Rattle.byte_fields.specs.Field.{bind}
 use Rattle.order_means.specs.Updates.{Cutting, cutting, updates_in, refusal_in}
 use Rattle.order_means.specs.Updates.Stage.{Between}
-use Rattle.order_means.specs.FrameMarks.{View, Refusal, Reading, first_view, reading, unless_refused_at, read_stream, view_after_bodies, EndsBetween}
+use Rattle.order_means.specs.FrameMarks.{View, Refusal, ClientReading, first_view, reading, unless_refused_at, read_stream, view_after_bodies, EndsBetween}
 use Rattle.frame_rules.specs.FrameBytes.{joined_bytes}
 use Rattle.frame_rules.specs.FrameRead.{Reads}
 use Rattle.frame_rules.specs.Encoder.{Encoder, first_encoder, take_bytes, encoder_after, bytes_of_takes, encoder_after_takes}
@@ -21,7 +21,7 @@ use Rattle.script_rules.specs.Headline.{SeesJournal, pictures_after}
 
 -- ---- a stream that was read ends between packets
 
-abbrev stage_of : Result Reading Refusal → Cutting
+abbrev stage_of : Result ClientReading Refusal → Cutting
 stage_of (Ok r) = r.cut
 stage_of (Err refusal) = cutting 0 Between
 

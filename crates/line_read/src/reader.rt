@@ -3,8 +3,9 @@ ghost use Rattle.std.specs.Io.KnownBytes.{Keeps};
 ghost use Rattle.edge_io.specs.Source.{ReadCause};
 ghost use Rattle.line_read.specs.Reading.{new_reading, ahead};
 
-use crate::buffer::{find, move_to_front, read_behind};
+use crate::buffer::{move_to_front, read_behind};
 use edge_io::{Got, OutOfMemory, Source};
+use line_text::find_byte;
 use std::alloc::Global;
 use std::marker::Model;
 
@@ -124,7 +125,7 @@ impl LineReader {
     fn find_line_feed(&self) -> Option<usize>
         ensures { result ≡ position (λ b. b == 10) self.now.held }
     {
-        find(&self.buffer[self.from..self.to], LINE_FEED)
+        find_byte(&self.buffer[self.from..self.to], LINE_FEED)
     }
 
     /// Hands out so many bytes as the text of a line, and with them the line feed that ended it, unless it is past the limits.

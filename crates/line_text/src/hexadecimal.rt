@@ -21,7 +21,7 @@ pub fn read_hexadecimal(word: &[u8], digits: usize) -> Option<u32>
     }
     let mut value = 0;
     for digit in word {
-        value = with_digit(value, *digit)?;
+        value = with_hexadecimal_digit(value, *digit)?;
     }
     Some(value)
 }
@@ -78,7 +78,7 @@ fn digit_char(digit: u8) -> u8
 }
 
 /// A number of at most seven digits with one more digit behind it.
-fn with_digit(value: u32, digit: u8) -> Option<u32>
+fn with_hexadecimal_digit(value: u32, digit: u8) -> Option<u32>
     requires { value < 16 ^ 7 }
     ensures value { result ≡ digits_behind 16 value (digit ∷ []) }
     ensures bound { IfSome result (λ n. n < 16 * value + 16) }

@@ -2,11 +2,12 @@
 #![tactic(auto)]
 
 mod hexadecimal;
-mod memory;
 mod number;
 mod parts;
+mod word;
 
 pub use hexadecimal::{read_hexadecimal, read_hexadecimals, write_hexadecimal};
-pub use memory::OutOfMemory;
 pub use number::{read_coordinate, read_number, write_decimal};
+pub use out_of_memory::OutOfMemory;
 pub use parts::Parts;
+pub use word::{find_byte, is_same_word};

@@ -29,13 +29,13 @@ fn digits_value(digits: &[u8], most: u64) -> Option<u64>
 {
     let mut value = 0;
     for digit in digits {
-        value = with_digit(value, *digit, most)?;
+        value = with_decimal_digit(value, *digit, most)?;
     }
     Some(value)
 }
 
 /// A number with one more decimal digit behind it, where it is at most `most`.
-fn with_digit(value: u64, digit: u8, most: u64) -> Option<u64>
+fn with_decimal_digit(value: u64, digit: u8, most: u64) -> Option<u64>
     ensures value { result ≡ at_most most (digits_behind 10 value (digit ∷ [])) }
     ensures bound { IfSome result (λ n. n ≤ most) }
 {

@@ -1,7 +1,8 @@
-ghost use Rattle.std.specs.Prelude.{◌≡◌, ◌==◌, ◌∷◌, [], ℕ, List, MatchOption, position};
+ghost use Rattle.std.specs.Prelude.{◌≡◌, ◌∷◌, [], ℕ, List, MatchOption};
 ghost use Rattle.std.specs.Option.{option_copied};
 ghost use Rattle.line_text.specs.Words.{parts_at, parts_left, words_of};
 
+use crate::find_byte;
 use std::marker::Model;
 
 /// What separates the words of a line.
@@ -52,15 +53,8 @@ impl<'a> Parts<'a> {
 fn cut(text: &[u8], separator: u8) -> (&[u8], Option<&[u8]>)
     ensures { parts_at separator text.now ≡ result.0.now ∷ parts_left separator (option_copied result.1) }
 {
-    match find(text, separator) {
+    match find_byte(text, separator) {
         Some(at) => (&text[..at], Some(&text[at + 1..])),
         None => (text, None),
     }
-}
-
-/// Where a byte first stands in a text.
-fn find(text: &[u8], byte: u8) -> Option<usize>
-    ensures { result ≡ position (λ b. b == byte) text.now }
-{
-    text.iter().position(|b| *b == byte)
 }

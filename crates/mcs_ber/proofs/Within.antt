@@ -7,7 +7,7 @@ use Rattle.wire_num.specs.Field.{end_at}
 use Rattle.byte_fields.specs.Field.{Read, then_read, map_read, bytes_at}
 use Rattle.wire_num.specs.Length.{ber_len_at}
 use Rattle.wire_num.specs.Layout.{Layout, Within, Basic, before, fields_at}
-use Rattle.wire_num.specs.Cursor.{Reading, rest, ReadsFieldAs, ReadsFieldsAs}
+use Rattle.wire_num.specs.Cursor.{CursorOf, rest, ReadsFieldAs, ReadsFieldsAs}
 use Rattle.wire_num.proofs.Content.{rest_of_content}
 
 -- ---- the end
@@ -19,7 +19,7 @@ end_none (b ∷ bs) y e = absurd (let h : ⊥ = cc in h)
 end_again : end_at [] ≡ Ok ([], [])
 end_again = refl
 
-pub at_end : {X : Type 0} (r : Result X Short) (c : Reading) → ReadsFieldAs (λ _. []) end_at r c c → OnOk r (rest c ≡ [])
+pub at_end : {X : Type 0} (r : Result X Short) (c : CursorOf) → ReadsFieldAs (λ _. []) end_at r c c → OnOk r (rest c ≡ [])
 at_end (Ok v) c p = end_none (rest c) ([], rest c) p.0
 at_end (Err short) c p = tt
 
@@ -69,7 +69,7 @@ map_same (Ok v) = refl
 map_same (Err l) = refl
 
 -- the same of cursors: one behind the content, one refused in it, and one in the whole at that place
-pub refused_in_content : (old content after refused new : Reading) (n place : ℕ) → old.at + n ≤ length old.bytes
+pub refused_in_content : (old content after refused new : CursorOf) (n place : ℕ) → old.at + n ≤ length old.bytes
     → after ≡ record { bytes = old.bytes; at = old.at + n } → content ≡ record { bytes = take (old.at + n) old.bytes; at = old.at }
     → refused.bytes ≡ content.bytes → place ≡ refused.at → place ≤ length refused.bytes → new ≡ record { bytes = after.bytes; at = place }
     → rest refused ++ rest after ≡ rest new
@@ -80,7 +80,7 @@ refused_in_content old content after refused new n place fits behind offsets sam
     ∙ sym (ap rest moved ∙ ap (λ k. drop k after.bytes) there ∙ ap (λ r. drop refused.at r.bytes) behind)
 
 -- rows that were read, and then what a call read after them
-pub onward : {X : Type 0} (view : X → List ℕ) (read later : List ℕ → Read (List ℕ)) (r : Result X Short) (old middle new : Reading)
+pub onward : {X : Type 0} (view : X → List ℕ) (read later : List ℕ → Read (List ℕ)) (r : Result X Short) (old middle new : CursorOf)
     → read (rest old) ≡ later (rest middle) → middle.bytes ≡ old.bytes → ReadsFieldsAs view later r middle new → ReadsFieldsAs view read r old new
 onward view read later (Ok v) old middle new e b p = (e ∙ p.0, p.1 ∙ b)
 onward view read later (Err short) old middle new e b p = (e ∙ p.0, p.1 ∙ b, p.2)

@@ -5,12 +5,12 @@ use Rattle.std.specs.Ordering.{int_eq}
 use Rattle.std.specs.Cmp.{signed_Decides}
 use Rattle.std.proofs.lemmas.Bool.{false≢true}
 use Rattle.std.proofs.lemmas.Bool.Decides.{nat_tests}
-use Rattle.order_fields.specs.declared.kind.Kind.{Kind}
-use Rattle.order_fields.specs.declared.kind.Kind.TheVariants.{Coordinate, Number, Signed, Color}
+use Rattle.order_fields.specs.declared.kind.FieldKind.{FieldKind}
+use Rattle.order_fields.specs.declared.kind.FieldKind.TheVariants.{Coordinate, Number, Signed, Color}
 use Rattle.byte_fields.specs.Field.{map_read, taken}
 use Rattle.order_fields.specs.OrderTable.{values, FitsKind, FitKinds, BytesFit}
 use Rattle.order_fields.specs.OrderStream.{value_at, field_at, counted_at, values_at}
-use Rattle.order_fields.specs.OrderDelta.{Field, fields_of, is_same, is_near, all_near, is_byte, is_coordinate, flag, flags_of, same_list, keeps_bytes, value_bytes, field_bytes, unless_same, counted_bytes, present_bytes}
+use Rattle.order_fields.specs.OrderDelta.{Field, fields_of, is_unchanged, is_near, all_near, is_byte, is_coordinate, flag, flags_of, same_list, keeps_bytes, value_bytes, field_bytes, unless_same, counted_bytes, present_bytes}
 use Rattle.order_fields.proofs.Numbers.{signed_back, moved_back}
 use Rattle.byte_fields.proofs.Bytes.{taken_back}
 use Rattle.byte_fields.proofs.Numbers.{little_at_back}
@@ -18,7 +18,7 @@ use Rattle.byte_fields.proofs.Numbers.{little_at_back}
 color_back : (m : ℕ) → m < 16777216 → 256 * (256 * (256 * 0 + (m / 65536) % 256) + (m / 256) % 256) + m % 256 ≡ m
 color_back m h = omega arith
 
-value_back : (k : Kind) (delta : Bool) (l z : ℤ) (rest : List ℕ) → FitsKind k z → (delta ≡ true → (not (is_coordinate k) || is_byte (z -ℤ l)) ≡ true) → value_at k delta l (value_bytes k delta l z ++ rest) ≡ Ok (z, rest)
+value_back : (k : FieldKind) (delta : Bool) (l z : ℤ) (rest : List ℕ) → FitsKind k z → (delta ≡ true → (not (is_coordinate k) || is_byte (z -ℤ l)) ≡ true) → value_at k delta l (value_bytes k delta l z ++ rest) ≡ Ok (z, rest)
 value_back Coordinate true l z rest fits near = moved_back l z rest (near refl) fits
 value_back Coordinate false l z rest fits near = signed_back z rest fits
 value_back (Number n) delta l (pos m) rest fits near = ap (map_read pos) (little_at_back n m rest fits)
@@ -28,7 +28,7 @@ value_back Color delta l (pos m) rest fits near = ap (λ y. Ok (pos y, rest)) (c
 value_back Color delta l (negsuc m) rest fits near = absurd fits
 
 -- a field, present or not; its flag is the lowest bit
-field_back : (k : Kind) (delta same : Bool) (l z : ℤ) (more : ℕ) (rest : List ℕ) → int_eq l z ≡ same → FitsKind k z → (delta ≡ true → (not (is_coordinate k) || is_byte (z -ℤ l)) ≡ true) →
+field_back : (k : FieldKind) (delta same : Bool) (l z : ℤ) (more : ℕ) (rest : List ℕ) → int_eq l z ≡ same → FitsKind k z → (delta ≡ true → (not (is_coordinate k) || is_byte (z -ℤ l)) ≡ true) →
     field_at ((flag same + 2 * more) % 2 == 1) k delta l (unless_same same (value_bytes k delta l z) ++ rest) ≡ Ok (z, rest)
 field_back k delta true l z more rest eq fits near =
     let even : ((0 + 2 * more) % 2 == 1) ≡ false = grind (arith, nat_tests) in
@@ -78,7 +78,7 @@ near_first delta f fs h d = (and_parts (is_near f) (all_near fs) (h d)).0
 near_others : (delta : Bool) (f : Field) (fs : List Field) → (delta ≡ true → all_near (f ∷ fs) ≡ true) → (delta ≡ true → all_near fs ≡ true)
 near_others delta f fs h d = (and_parts (is_near f) (all_near fs) (h d)).1
 
-pub values_back : (ks : List Kind) (counted delta : Bool) (ls zs : List ℤ) (old new rest : List ℕ) → FitKinds ks ls → FitKinds ks zs → BytesFit counted old → BytesFit counted new →
+pub values_back : (ks : List FieldKind) (counted delta : Bool) (ls zs : List ℤ) (old new rest : List ℕ) → FitKinds ks ls → FitKinds ks zs → BytesFit counted old → BytesFit counted new →
     (delta ≡ true → all_near (fields_of ks ls zs) ≡ true) →
     values_at ks counted (flags_of (fields_of ks ls zs) (keeps_bytes counted old new)) delta ls old (present_bytes (fields_of ks ls zs) delta (keeps_bytes counted old new) new ++ rest) ≡ Ok (values zs new, rest)
 values_back [] counted delta [] [] old new rest last fits before after near = ap (map_read (values [])) (bytes_back counted (keeps_bytes counted old new) old new rest refl before after)
@@ -105,7 +105,7 @@ flags_step : (same : Bool) (more n : ℕ) → more < 2 ^ suc n → flag same + 2
 flags_step true more n h = let power : 2 ^ suc (suc n) ≡ 2 * 2 ^ suc n = grind arith in omega (arith, h, power)
 flags_step false more n h = let power : 2 ^ suc (suc n) ≡ 2 * 2 ^ suc n = grind arith in omega (arith, h, power)
 
-pub fields_length : (ks : List Kind) (ls zs : List ℤ) → FitKinds ks ls → FitKinds ks zs → length (fields_of ks ls zs) ≡ length ks
+pub fields_length : (ks : List FieldKind) (ls zs : List ℤ) → FitKinds ks ls → FitKinds ks zs → length (fields_of ks ls zs) ≡ length ks
 fields_length [] ls zs last fits = refl
 fields_length (k ∷ ks) [] zs last fits = absurd last
 fields_length (k ∷ ks) (l ∷ ls) [] last fits = absurd fits
@@ -114,4 +114,4 @@ fields_length (k ∷ ks) (l ∷ ls) (z ∷ zs) last fits = ap suc (fields_length
 pub flags_below : (fs : List Field) (keeps : Bool) → flags_of fs keeps < 2 ^ suc (length fs)
 flags_below [] true = omega arith
 flags_below [] false = omega arith
-flags_below (f ∷ fs) keeps = flags_step (is_same f) (flags_of fs keeps) (length fs) (flags_below fs keeps)
+flags_below (f ∷ fs) keeps = flags_step (is_unchanged f) (flags_of fs keeps) (length fs) (flags_below fs keeps)

@@ -1,7 +1,7 @@
 -- The parts of a written order, by what its row says.
 use Rattle.std.proofs.Common.{◌≡◌, ◌≤◌, ◌<◌, ◌-◌, ◌^◌, ℕ, suc, ℤ, List, ◌∷◌, ◌++◌, length, refl, ap, sym, arith, Bool, true, false, Some, None}
 use Rattle.std.specs.Prelude.{Option, ◌==◌, not}
-use Rattle.order_fields.specs.declared.kind.Kind.{Kind}
+use Rattle.order_fields.specs.declared.kind.FieldKind.{FieldKind}
 use Rattle.byteorder.specs.Endian.{little_bytes}
 use Rattle.order_fields.specs.OrderTable.{Row, row_of, Values, FieldList, Edges, Registers, last_values, AreRegisters, FitKinds, FitsRow, IsFieldList, BytesFit}
 use Rattle.order_fields.specs.OrderDelta.{fields_of, flags_of, keeps_bytes, takes_deltas, present_bytes, shown, keeps_bounds, bounds_bytes, has_bounds, control_byte, type_bytes, bytes_by_row, order_bytes}
@@ -9,7 +9,7 @@ use Rattle.order_fields.specs.Kept.{row_kinds, row_flags, is_row_counted, AreSiz
 use Rattle.order_fields.proofs.Rows.{sound_row, code_of_row, last_fits, fit_length}
 
 -- an order's bytes by the fields, the flag bytes and the counted bytes of its type
-abbrev pub parts : List Kind → ℕ → Bool → Registers → Bool → FieldList → Option Edges → List ℕ
+abbrev pub parts : List FieldKind → ℕ → Bool → Registers → Bool → FieldList → Option Edges → List ℕ
 parts kinds flag_bytes counted regs confirmed o bounds =
     let old = last_values regs o.code in
     let fs = fields_of kinds old.numbers o.values.numbers in
@@ -30,7 +30,7 @@ order_parts regs confirmed o bounds fits = parts_by (row_of o.code) regs confirm
 
 -- the same of what the code has computed
 pub order_from_parts : (regs : Registers) (confirmed : Bool) (o : FieldList) (bounds : Option Edges) → IsFieldList o →
-    (control : ℕ) (typed delta keeps_edges keeps : Bool) (kind flags : ℕ) (kinds : List Kind) (last values : List ℤ) (bytes : List ℕ) →
+    (control : ℕ) (typed delta keeps_edges keeps : Bool) (kind flags : ℕ) (kinds : List FieldKind) (last values : List ℤ) (bytes : List ℕ) →
     kind ≡ o.code → kinds ≡ row_kinds (row_of kind) → last ≡ (last_values regs kind).numbers → values ≡ o.values.numbers → bytes ≡ o.values.bytes →
     keeps ≡ keeps_bytes (is_row_counted (row_of kind)) (last_values regs kind).bytes bytes → flags ≡ flags_of (fields_of kinds last values) keeps → delta ≡ takes_deltas (fields_of kinds last values) →
     typed ≡ not (regs.last == kind) → keeps_edges ≡ keeps_bounds confirmed regs.bounds bounds →

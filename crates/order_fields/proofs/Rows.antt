@@ -3,18 +3,18 @@ use Rattle.std.proofs.Common.{◌≡◌, ◌≤◌, ◌^◌, ℕ, suc, ℤ, List
 use Rattle.std.specs.Prelude.{Option, is_some, unwrap_or, ◌==◌, ◌&&◌, nat_le, ⊤}
 use Rattle.std.proofs.lemmas.Bool.{false≢true}
 use Rattle.std.proofs.lemmas.Bool.Decides.{nat_tests}
-use Rattle.order_fields.specs.declared.kind.Kind.{Kind}
-use Rattle.order_fields.specs.declared.kind.Kind.TheVariants.{Coordinate, Number, Signed, Color}
+use Rattle.order_fields.specs.declared.kind.FieldKind.{FieldKind}
+use Rattle.order_fields.specs.declared.kind.FieldKind.TheVariants.{Coordinate, Number, Signed, Color}
 use Rattle.order_fields.specs.Kept.{IsSized, AreSized}
 use Rattle.order_fields.specs.OrderTable.{Row, table, row_in, row_of, chosen_row, FitKinds, FitRow, FitsRow, FieldList, IsFieldList, Values, AreLasts, values_in, chosen_values, lasts_after, chosen_fields, registers_after, bounds_after, Edges, FitEdges, FitBounds, AreRegisters, Registers, last_values}
 
-abbrev is_sized : Kind → Bool
+abbrev is_sized : FieldKind → Bool
 is_sized Coordinate = true
 is_sized (Number n) = nat_le n 8
 is_sized Signed = true
 is_sized Color = true
 
-abbrev are_sized : List Kind → Bool
+abbrev are_sized : List FieldKind → Bool
 are_sized [] = true
 are_sized (k ∷ ks) = is_sized k && are_sized ks
 
@@ -22,13 +22,13 @@ and_both : (a b : Bool) → (a && b) ≡ true → (a ≡ true) × (b ≡ true)
 and_both true b h = (refl, h)
 and_both false b h = absurd (false≢true h)
 
-sized_one : (k : Kind) → is_sized k ≡ true → IsSized k
+sized_one : (k : FieldKind) → is_sized k ≡ true → IsSized k
 sized_one Coordinate h = tt
 sized_one (Number n) h = grind (arith, nat_tests, h)
 sized_one Signed h = tt
 sized_one Color h = tt
 
-sized_all : (ks : List Kind) → are_sized ks ≡ true → AreSized ks
+sized_all : (ks : List FieldKind) → are_sized ks ≡ true → AreSized ks
 sized_all [] h = tt
 sized_all (k ∷ ks) h = let p = and_both (is_sized k) (are_sized ks) h in (sized_one k p.0, sized_all ks p.1)
 
@@ -81,7 +81,7 @@ code_of_row code r e = code_in table code r e
 
 -- ---- fields
 
-pub fit_length : (ks : List Kind) (zs : List ℤ) → FitKinds ks zs → length zs ≡ length ks
+pub fit_length : (ks : List FieldKind) (zs : List ℤ) → FitKinds ks zs → length zs ≡ length ks
 fit_length [] [] h = refl
 fit_length [] (z ∷ zs) h = absurd h
 fit_length (k ∷ ks) [] h = absurd h

@@ -1,8 +1,8 @@
 -- What the code's registers and fields stand for.
 use Rattle.std.specs.Prelude.{⊤, ◌≤◌, ℕ, Bool, false, List, [], ◌∷◌, Option, Some, None, Vec, take}
 use Rattle.order_fields.specs.declared.bounds.Bounds.{Bounds}
-use Rattle.order_fields.specs.declared.kind.Kind.{Kind}
-use Rattle.order_fields.specs.declared.kind.Kind.TheVariants.{Coordinate, Number, Signed, Color}
+use Rattle.order_fields.specs.declared.kind.FieldKind.{FieldKind}
+use Rattle.order_fields.specs.declared.kind.FieldKind.TheVariants.{Coordinate, Number, Signed, Color}
 use Rattle.order_fields.specs.declared.lasts.Lasts.{Lasts}
 use Rattle.order_fields.specs.OrderTable.{Row, FieldList, field_list, Edges, edges, Registers}
 
@@ -25,7 +25,7 @@ registers_of last lasts bounds = record { last = last; lasts = lasts_of lasts; b
 
 -- ---- what a row says, where there is one
 
-abbrev pub row_kinds : Option Row → List Kind
+abbrev pub row_kinds : Option Row → List FieldKind
 row_kinds None = []
 row_kinds (Some r) = r.kinds
 
@@ -38,13 +38,13 @@ is_row_counted None = false
 is_row_counted (Some r) = r.counted
 
 -- a number of at most eight bytes
-abbrev pub IsSized : Kind → Type 0
+abbrev pub IsSized : FieldKind → Type 0
 IsSized Coordinate = ⊤
 IsSized (Number n) = n ≤ 8
 IsSized Signed = ⊤
 IsSized Color = ⊤
 
-abbrev pub AreSized : List Kind → Type 0
+abbrev pub AreSized : List FieldKind → Type 0
 AreSized [] = ⊤
 AreSized (k ∷ ks) = IsSized k × AreSized ks
 

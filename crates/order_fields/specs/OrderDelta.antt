@@ -5,27 +5,27 @@ use Rattle.px_core.specs.declared.rectangle.Rect.{Rect}
 use Rattle.px_core.specs.Picture.{nat_of}
 use Rattle.order_fields.specs.declared.change.Change.{Change}
 use Rattle.order_fields.specs.declared.change.Change.TheVariants.{Same, Moved, Anew}
-use Rattle.order_fields.specs.declared.kind.Kind.{Kind}
-use Rattle.order_fields.specs.declared.kind.Kind.TheVariants.{Coordinate, Number, Signed, Color}
+use Rattle.order_fields.specs.declared.kind.FieldKind.{FieldKind}
+use Rattle.order_fields.specs.declared.kind.FieldKind.TheVariants.{Coordinate, Number, Signed, Color}
 use Rattle.byteorder.specs.Endian.{little_bytes, big_bytes}
 use Rattle.byte_fields.specs.Number.{little_signed}
 use Rattle.order_fields.specs.OrderTable.{Row, row_of, Values, FieldList, Edges, edges, Registers, last_values}
 
 -- a field of an order: how it stands in bytes, its last value, and its new one
 pub record Field : Type 0 where
-  pub kind : Kind
+  pub kind : FieldKind
   pub last : ℤ
   pub value : ℤ
 
-abbrev pub fields_of : List Kind → List ℤ → List ℤ → List Field
+abbrev pub fields_of : List FieldKind → List ℤ → List ℤ → List Field
 fields_of [] ls zs = []
 fields_of (k ∷ ks) [] zs = []
 fields_of (k ∷ ks) (l ∷ ls) [] = []
 fields_of (k ∷ ks) (l ∷ ls) (z ∷ zs) = record { kind = k; last = l; value = z } ∷ fields_of ks ls zs
 
 -- a field stands there exactly where its value differs from the last one
-abbrev pub is_same : Field → Bool
-is_same f = int_eq f.last f.value
+abbrev pub is_unchanged : Field → Bool
+is_unchanged f = int_eq f.last f.value
 
 -- ---- the delta form
 
@@ -33,14 +33,14 @@ is_same f = int_eq f.last f.value
 abbrev pub is_byte : ℤ → Bool
 is_byte d = int_le (negsuc 127) d && int_le d (pos 127)
 
-abbrev pub is_coordinate : Kind → Bool
+abbrev pub is_coordinate : FieldKind → Bool
 is_coordinate Coordinate = true
 is_coordinate (Number n) = false
 is_coordinate Signed = false
 is_coordinate Color = false
 
 abbrev pub is_present_coordinate : Field → Bool
-is_present_coordinate f = is_coordinate f.kind && not (is_same f)
+is_present_coordinate f = is_coordinate f.kind && not (is_unchanged f)
 
 -- no coordinate that differs by more than a signed byte
 abbrev pub is_near : Field → Bool
@@ -78,9 +78,9 @@ keeps_bytes counted old new = not counted || same_list old new
 -- the flags of the fields, the first the lowest, and above them that of the counted bytes
 abbrev pub flags_of : List Field → Bool → ℕ
 flags_of [] keeps = flag keeps
-flags_of (f ∷ fs) keeps = flag (is_same f) + 2 * flags_of fs keeps
+flags_of (f ∷ fs) keeps = flag (is_unchanged f) + 2 * flags_of fs keeps
 
-abbrev pub value_bytes : Kind → Bool → ℤ → ℤ → List ℕ
+abbrev pub value_bytes : FieldKind → Bool → ℤ → ℤ → List ℕ
 value_bytes Coordinate true last z = little_signed 1 (z -ℤ last)
 value_bytes Coordinate false last z = little_signed 2 z
 value_bytes (Number n) delta last z = little_bytes n (nat_of z)
@@ -92,7 +92,7 @@ unless_same true bytes = []
 unless_same false bytes = bytes
 
 abbrev pub field_bytes : Bool → Field → List ℕ
-field_bytes delta f = unless_same (is_same f) (value_bytes f.kind delta f.last f.value)
+field_bytes delta f = unless_same (is_unchanged f) (value_bytes f.kind delta f.last f.value)
 
 -- a count byte and the bytes
 abbrev pub counted_bytes : Bool → List ℕ → List ℕ

@@ -1,7 +1,7 @@
 -- The orders of an update, read with registers ([MS-RDPEGDI] 2.2.2.2.1.1.2).
 use Rattle.std.specs.Prelude.{ℕ, zero, suc, ◌-◌, ◌/◌, ◌%◌, ◌==◌, nat_le, Bool, true, false, ◌&&◌, ℤ, pos, ◌+ℤ◌, List, [], ◌∷◌, ◌++◌, map, Option, Some, None, Ok, Err, if◌then◌else◌}
-use Rattle.order_fields.specs.declared.kind.Kind.{Kind}
-use Rattle.order_fields.specs.declared.kind.Kind.TheVariants.{Coordinate, Number, Signed, Color}
+use Rattle.order_fields.specs.declared.kind.FieldKind.{FieldKind}
+use Rattle.order_fields.specs.declared.kind.FieldKind.TheVariants.{Coordinate, Number, Signed, Color}
 use Rattle.byte_fields.specs.Field.{Read, then_read, map_read, taken, given, kept}
 use Rattle.byte_fields.specs.Number.{little_at, big_at, little_signed_at}
 use Rattle.order_fields.specs.OrderTable.{Row, row_of, Values, values, FieldList, Edges, edges, Registers, last_values, registers_after, fits_coordinate}
@@ -14,7 +14,7 @@ abbrev pub moved_at : ℤ → List ℕ → Read ℤ
 moved_at last bs = then_read (little_signed_at 1 bs) (λ d rest. given (fits_coordinate (last +ℤ d)) (last +ℤ d) rest bs)
 
 -- the value of a field that stands there; `delta` says whether coordinates are in the delta form
-abbrev pub value_at : Kind → Bool → ℤ → List ℕ → Read ℤ
+abbrev pub value_at : FieldKind → Bool → ℤ → List ℕ → Read ℤ
 value_at Coordinate true last bs = moved_at last bs
 value_at Coordinate false last bs = little_signed_at 2 bs
 value_at (Number n) delta last bs = map_read pos (little_at n bs)
@@ -22,7 +22,7 @@ value_at Signed delta last bs = little_signed_at 2 bs
 value_at Color delta last bs = map_read pos (big_at 3 bs)
 
 -- a field whose flag is clear has its last value
-abbrev pub field_at : Bool → Kind → Bool → ℤ → List ℕ → Read ℤ
+abbrev pub field_at : Bool → FieldKind → Bool → ℤ → List ℕ → Read ℤ
 field_at true k delta last bs = value_at k delta last bs
 field_at false k delta last bs = Ok (last, bs)
 
@@ -32,7 +32,7 @@ counted_at true last bs = then_read (little_at 1 bs) (λ n rest. taken bs n rest
 counted_at false last bs = Ok (last, bs)
 
 -- the values of an order over the last ones; the lowest flag is that of the first field
-abbrev pub values_at : List Kind → Bool → ℕ → Bool → List ℤ → List ℕ → List ℕ → Read Values
+abbrev pub values_at : List FieldKind → Bool → ℕ → Bool → List ℤ → List ℕ → List ℕ → Read Values
 values_at [] counted flags delta lasts bytes bs = map_read (values []) (counted_at (counted && (flags % 2 == 1)) bytes bs)
 values_at (k ∷ ks) counted flags delta [] bytes bs = Ok (values [] bytes, bs)
 values_at (k ∷ ks) counted flags delta (l ∷ ls) bytes bs =

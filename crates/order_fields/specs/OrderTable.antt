@@ -1,7 +1,7 @@
 -- The eight primary orders as data: a row each ([MS-RDPEGDI] 2.2.2.2.1.1.2).
 use Rattle.std.specs.Prelude.{◌≡◌, ◌<◌, ◌^◌, ◌&&◌, ℕ, ◌==◌, Bool, true, false, ℤ, pos, negsuc, int_le, List, [], ◌∷◌, ◌++◌, length, map, replicate, Option, Some, None, ⊤}
-use Rattle.order_fields.specs.declared.kind.Kind.{Kind}
-use Rattle.order_fields.specs.declared.kind.Kind.TheVariants.{Coordinate, Number, Signed, Color}
+use Rattle.order_fields.specs.declared.kind.FieldKind.{FieldKind}
+use Rattle.order_fields.specs.declared.kind.FieldKind.TheVariants.{Coordinate, Number, Signed, Color}
 
 -- the orders by the standard's names
 pub data OrderName : Type 0 where
@@ -19,18 +19,18 @@ pub record Row : Type 0 where
   pub name : OrderName
   pub code : ℕ
   pub flags : ℕ
-  pub kinds : List Kind
+  pub kinds : List FieldKind
   pub counted : Bool
 
 -- left, top, width, height
-abbrev pub box_kinds : List Kind
+abbrev pub box_kinds : List FieldKind
 box_kinds = Coordinate ∷ Coordinate ∷ Coordinate ∷ Coordinate ∷ []
 
 -- brush origin x, origin y, style, hatch, extra
-abbrev pub brush_kinds : List Kind
+abbrev pub brush_kinds : List FieldKind
 brush_kinds = Number 1 ∷ Number 1 ∷ Number 1 ∷ Number 1 ∷ Number 7 ∷ []
 
-abbrev pub row : OrderName → ℕ → ℕ → List Kind → Bool → Row
+abbrev pub row : OrderName → ℕ → ℕ → List FieldKind → Bool → Row
 row name code flags kinds counted = record { name = name; code = code; flags = flags; kinds = kinds; counted = counted }
 
 -- bRop ([MS-RDPEGDI] 2.2.2.2.1.1.2.1)
@@ -107,14 +107,14 @@ IsBelow n (pos m) = m < n
 IsBelow n (negsuc m) = ⊥
 
 -- a value that a field can hold
-abbrev pub FitsKind : Kind → ℤ → Type 0
+abbrev pub FitsKind : FieldKind → ℤ → Type 0
 FitsKind Coordinate z = fits_coordinate z ≡ true
 FitsKind (Number n) z = IsBelow (256 ^ n) z
 FitsKind Signed z = fits_coordinate z ≡ true
 FitsKind Color z = IsBelow 16777216 z
 
 -- a value for each field, which it can hold
-abbrev pub FitKinds : List Kind → List ℤ → Type 0
+abbrev pub FitKinds : List FieldKind → List ℤ → Type 0
 FitKinds [] [] = ⊤
 FitKinds [] (z ∷ zs) = ⊥
 FitKinds (k ∷ ks) [] = ⊥

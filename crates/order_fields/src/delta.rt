@@ -1,9 +1,9 @@
 ghost use Rattle.std.specs.Prelude.{◌≡◌, ◌≤◌, ◌<◌, ◌^◌, suc, length, true, ◌-ℤ◌};
 ghost use Rattle.std.specs.Ordering.{int_eq};
 ghost use Rattle.order_fields.specs.OrderTable.{FitKinds, FitsKind, fits_coordinate};
-ghost use Rattle.order_fields.specs.OrderDelta.{Field, fields_of, is_same as same_field, is_near as near_field, is_present_coordinate as present_field, is_byte as byte_difference, any_coordinate as has_coordinate, all_near as are_near, takes_deltas as takes, flag as flag_of, flags_of, shown as shown_of, same_list, keeps_bytes};
+ghost use Rattle.order_fields.specs.OrderDelta.{Field, fields_of, is_unchanged as same_field, is_near as near_field, is_present_coordinate as present_field, is_byte as byte_difference, any_coordinate as has_coordinate, all_near as are_near, takes_deltas as takes, flag as flag_of, flags_of, shown as shown_of, same_list, keeps_bytes};
 
-use crate::Kind;
+use crate::FieldKind;
 
 /// Whether two values of two bytes differ by a signed byte.
 pub fn is_byte_apart(last: i64, value: i64) -> bool
@@ -15,29 +15,29 @@ pub fn is_byte_apart(last: i64, value: i64) -> bool
 }
 
 /// Whether a field bears the delta form: it is no coordinate, or one that differs by a signed byte.
-fn is_near(kind: Kind, last: i64, value: i64) -> bool
+fn is_near(kind: FieldKind, last: i64, value: i64) -> bool
     requires last { FitsKind kind last }
     requires value { FitsKind kind value }
     ensures { result ≡ near_field (record { kind = kind; last = last; value = value }) }
 {
     match kind {
-        Kind::Coordinate => is_byte_apart(last, value),
-        Kind::Number(_) | Kind::Signed | Kind::Color => true,
+        FieldKind::Coordinate => is_byte_apart(last, value),
+        FieldKind::Number(_) | FieldKind::Signed | FieldKind::Color => true,
     }
 }
 
 /// Whether a field is a coordinate that stands there.
-fn is_present_coordinate(kind: Kind, last: i64, value: i64) -> bool
+fn is_present_coordinate(kind: FieldKind, last: i64, value: i64) -> bool
     ensures { result ≡ present_field (record { kind = kind; last = last; value = value }) }
 {
     match kind {
-        Kind::Coordinate => last != value,
-        Kind::Number(_) | Kind::Signed | Kind::Color => false,
+        FieldKind::Coordinate => last != value,
+        FieldKind::Number(_) | FieldKind::Signed | FieldKind::Color => false,
     }
 }
 
 /// Whether a coordinate stands there.
-fn any_coordinate(kinds: &[Kind], last: &[i64], values: &[i64]) -> bool
+fn any_coordinate(kinds: &[FieldKind], last: &[i64], values: &[i64]) -> bool
     requires lasts { length last.now ≡ length kinds.now }
     requires count { length values.now ≡ length kinds.now }
     ensures { result ≡ has_coordinate (fields_of kinds.now last.now values.now) }
@@ -51,7 +51,7 @@ fn any_coordinate(kinds: &[Kind], last: &[i64], values: &[i64]) -> bool
 }
 
 /// Whether every field bears the delta form.
-fn all_near(kinds: &[Kind], last: &[i64], values: &[i64]) -> bool
+fn all_near(kinds: &[FieldKind], last: &[i64], values: &[i64]) -> bool
     requires lasts { length last.now ≡ length kinds.now }
     requires count { length values.now ≡ length kinds.now }
     requires last { FitKinds kinds.now last.now }
@@ -67,7 +67,7 @@ fn all_near(kinds: &[Kind], last: &[i64], values: &[i64]) -> bool
 }
 
 /// Whether an order is written in the delta form.
-pub fn takes_deltas(kinds: &[Kind], last: &[i64], values: &[i64]) -> bool
+pub fn takes_deltas(kinds: &[FieldKind], last: &[i64], values: &[i64]) -> bool
     requires lasts { length last.now ≡ length kinds.now }
     requires count { length values.now ≡ length kinds.now }
     requires last { FitKinds kinds.now last.now }
@@ -86,7 +86,7 @@ fn changed_flag(last: i64, value: i64) -> u32
 }
 
 /// The flags of an order's fields, the first the lowest, and above them that of the counted bytes.
-pub fn changed_flags(kinds: &[Kind], last: &[i64], values: &[i64], keeps: bool) -> u32
+pub fn changed_flags(kinds: &[FieldKind], last: &[i64], values: &[i64], keeps: bool) -> u32
     requires lasts { length last.now ≡ length kinds.now }
     requires count { length values.now ≡ length kinds.now }
     requires few { length kinds.now ≤ 21 }

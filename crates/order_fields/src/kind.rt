@@ -1,6 +1,6 @@
 /// How a field of a primary order stands in bytes ([MS-RDPEGDI] 2.2.2.2.1.1.1).
 #[derive(Clone, Copy, Debug, PartialEq, Eq)]
-pub enum Kind {
+pub enum FieldKind {
     /// Two bytes, signed; in the delta form one signed byte that is added to the last value.
     Coordinate,
     /// So many bytes, unsigned.

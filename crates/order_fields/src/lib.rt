@@ -19,7 +19,7 @@ mod table;
 mod write;
 
 pub use fields::Fields;
-pub use kind::Kind;
+pub use kind::FieldKind;
 pub use laws::{fields_give_their_drawing_back, written_order_is_read_back};
 pub use opaque::opaque_rect;
 pub use order::{write_bounds, write_order};

@@ -15,8 +15,8 @@ ghost use Rattle.std.specs.Prelude.{◌≡◌, length};
 ghost use Rattle.order_fields.specs.OrderTable.{row_of};
 ghost use Rattle.order_fields.specs.Kept.{row_kinds, row_flags, is_row_counted};
 
-use crate::Kind;
-use crate::Kind::{Color, Coordinate, Number, Signed};
+use crate::FieldKind;
+use crate::FieldKind::{Color, Coordinate, Number, Signed};
 
 pub const DST_BLT: u8 = 0x00;
 
@@ -34,9 +34,9 @@ pub const MEM3_BLT: u8 = 0x0E;
 
 pub const GLYPH_INDEX: u8 = 0x1B;
 
-const DST_BLT_KINDS: [Kind; 5] = [Coordinate, Coordinate, Coordinate, Coordinate, Number(1)];
+const DST_BLT_KINDS: [FieldKind; 5] = [Coordinate, Coordinate, Coordinate, Coordinate, Number(1)];
 
-const PAT_BLT_KINDS: [Kind; 12] = [
+const PAT_BLT_KINDS: [FieldKind; 12] = [
     Coordinate,
     Coordinate,
     Coordinate,
@@ -51,7 +51,7 @@ const PAT_BLT_KINDS: [Kind; 12] = [
     Number(7),
 ];
 
-const SCR_BLT_KINDS: [Kind; 7] = [
+const SCR_BLT_KINDS: [FieldKind; 7] = [
     Coordinate,
     Coordinate,
     Coordinate,
@@ -61,7 +61,7 @@ const SCR_BLT_KINDS: [Kind; 7] = [
     Coordinate,
 ];
 
-const OPAQUE_RECT_KINDS: [Kind; 7] = [
+const OPAQUE_RECT_KINDS: [FieldKind; 7] = [
     Coordinate,
     Coordinate,
     Coordinate,
@@ -71,7 +71,7 @@ const OPAQUE_RECT_KINDS: [Kind; 7] = [
     Number(1),
 ];
 
-const SAVE_BITMAP_KINDS: [Kind; 6] = [
+const SAVE_BITMAP_KINDS: [FieldKind; 6] = [
     Number(4),
     Coordinate,
     Coordinate,
@@ -80,7 +80,7 @@ const SAVE_BITMAP_KINDS: [Kind; 6] = [
     Number(1),
 ];
 
-const MEM_BLT_KINDS: [Kind; 9] = [
+const MEM_BLT_KINDS: [FieldKind; 9] = [
     Number(2),
     Coordinate,
     Coordinate,
@@ -92,7 +92,7 @@ const MEM_BLT_KINDS: [Kind; 9] = [
     Number(2),
 ];
 
-const MEM3_BLT_KINDS: [Kind; 16] = [
+const MEM3_BLT_KINDS: [FieldKind; 16] = [
     Number(2),
     Coordinate,
     Coordinate,
@@ -111,7 +111,7 @@ const MEM3_BLT_KINDS: [Kind; 16] = [
     Number(2),
 ];
 
-const GLYPH_INDEX_KINDS: [Kind; 21] = [
+const GLYPH_INDEX_KINDS: [FieldKind; 21] = [
     Number(1),
     Number(1),
     Number(1),
@@ -136,7 +136,7 @@ const GLYPH_INDEX_KINDS: [Kind; 21] = [
 ];
 
 /// The fields of a type; none of another type.
-pub fn kinds_of(kind: u8) -> &'static [Kind]
+pub fn kinds_of(kind: u8) -> &'static [FieldKind]
     ensures { result.now ≡ row_kinds (row_of kind) }
 {
     match kind {

@@ -20,7 +20,7 @@ use crate::delta::{are_kept, changed_flags, shown, takes_deltas};
 use crate::lasts::Lasts;
 use crate::number::{difference_byte, put_low, signed_two_bytes};
 use crate::table::{flag_bytes_of, is_counted, kinds_of};
-use crate::{Fields, Kind};
+use crate::{FieldKind, Fields};
 use wire_num::OutOfMemory;
 
 /// The bits of the control byte ([MS-RDPEGDI] 2.2.2.2.1.1.2): TS_STANDARD, TS_BOUNDS, TS_TYPE_CHANGE, TS_DELTA_COORDINATES, TS_ZERO_BOUNDS_DELTAS, and the first of the two that count omitted flag bytes.
@@ -39,7 +39,7 @@ const ZERO_FIELD_BYTE: u8 = 0x40;
 /// Writes the value of a field that stands there.
 fn put_value(
     out: &mut Vec<u8>,
-    kind: Kind,
+    kind: FieldKind,
     delta: bool,
     last: i64,
     value: i64,
@@ -52,10 +52,10 @@ fn put_value(
     ensures memory { OnErr result (AppendsFront out.old.items (value_bytes kind delta last value) out.new.items) }
 {
     match kind {
-        Kind::Coordinate if delta => put_low(out, 1, difference_byte(last, value)),
-        Kind::Coordinate | Kind::Signed => put_low(out, 2, signed_two_bytes(value)),
-        Kind::Number(size) => put_low(out, usize::from(size), value as u64),
-        Kind::Color => put_color(out, value as u32),
+        FieldKind::Coordinate if delta => put_low(out, 1, difference_byte(last, value)),
+        FieldKind::Coordinate | FieldKind::Signed => put_low(out, 2, signed_two_bytes(value)),
+        FieldKind::Number(size) => put_low(out, usize::from(size), value as u64),
+        FieldKind::Color => put_color(out, value as u32),
     }
 }
 
@@ -73,7 +73,7 @@ fn put_color(out: &mut Vec<u8>, color: u32) -> Result<(), OutOfMemory>
 /// Writes a field, where its value changed.
 fn put_field(
     out: &mut Vec<u8>,
-    kind: Kind,
+    kind: FieldKind,
     delta: bool,
     last: i64,
     value: i64,
@@ -108,7 +108,7 @@ fn put_counted(out: &mut Vec<u8>, keeps: bool, bytes: &[u8]) -> Result<(), OutOf
 /// Writes the fields that stand there, and behind them the counted bytes.
 fn put_fields(
     out: &mut Vec<u8>,
-    kinds: &[Kind],
+    kinds: &[FieldKind],
     delta: bool,
     last: &[i64],
     values: &[i64],

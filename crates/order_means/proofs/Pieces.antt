@@ -1,4 +1,4 @@
--- Reading two pieces of a stream one after the other is reading them joined.
+-- ClientReading two pieces of a stream one after the other is reading them joined.
 use Rattle.std.proofs.Common.{◌≡◌, ℕ, ◌+◌, List, [], ◌∷◌, ◌++◌, refl, ap, sym, ◌∙◌, append_assoc}
 use Rattle.std.specs.Prelude.{Ok, Err, Result}
 use Rattle.px_core.specs.declared.surface.Size.{Size}
@@ -6,7 +6,7 @@ use Rattle.caps_sets.specs.declared.confirmed.Confirmed.{Confirmed}
 use Rattle.byte_fields.specs.Field.{bind}
 use Rattle.order_means.specs.Updates.{Body, Stage, Cutting, cutting, Updates, updates, updates_by, before_updates, updates_from, refusal_in}
 use Rattle.order_means.specs.Updates.Stage.{Between, One, Two, Three, Inside, Refused}
-use Rattle.order_means.specs.FrameMarks.{View, Reading, reading, refused, unless_refused_at, view_after_body, view_after_bodies, reading_after, read_on}
+use Rattle.order_means.specs.FrameMarks.{View, ClientReading, reading, refused, unless_refused_at, view_after_body, view_after_bodies, reading_after, read_on}
 
 bind_bind : {A B C E : Type 0} (r : Result A E) (f : A → Result B E) (g : B → Result C E) → bind (bind r f) g ≡ bind r (λ a. bind (f a) g)
 bind_bind (Ok a) f g = refl
@@ -52,7 +52,7 @@ second_piece confirmed size v at (Inside missing second high low front) ys = ref
 second_piece confirmed size v at (Refused place) ys = stays_refused confirmed size v at place ys
 
 -- whatever the pieces
-pub read_joined : (confirmed : Confirmed) (size : Size) (r : Reading) (xs ys : List ℕ) → read_on confirmed size r (xs ++ ys) ≡ bind (read_on confirmed size r xs) (λ s. read_on confirmed size s ys)
+pub read_joined : (confirmed : Confirmed) (size : Size) (r : ClientReading) (xs ys : List ℕ) → read_on confirmed size r (xs ++ ys) ≡ bind (read_on confirmed size r xs) (λ s. read_on confirmed size s ys)
 read_joined confirmed size r xs ys =
     let a = updates_from r.cut xs in
     let b = updates_from a.next ys in

@@ -197,30 +197,30 @@ view_after_bodies confirmed size v (b ∷ bs) = bind (view_after_body confirmed 
 -- ---- a stream
 
 -- a viewer, and how far the packet has come that it reads
-pub record Reading : Type 0 where
+pub record ClientReading : Type 0 where
   pub view : View
   pub cut : Cutting
 
-abbrev pub reading : View → Cutting → Reading
+abbrev pub reading : View → Cutting → ClientReading
 reading view cut = record { view = view; cut = cut }
 
-abbrev pub first_reading : Confirmed → Size → Reading
+abbrev pub first_reading : Confirmed → Size → ClientReading
 first_reading confirmed size = reading (first_view confirmed size) (cutting 0 Between)
 
-abbrev pub unless_refused_at : Option ℕ → Reading → Result Reading Refusal
+abbrev pub unless_refused_at : Option ℕ → ClientReading → Result ClientReading Refusal
 unless_refused_at None r = Ok r
 unless_refused_at (Some place) r = refused place
 
 -- the updates are obeyed in order, and the packet after them may be refused
-abbrev pub reading_after : Confirmed → Size → View → Updates → Result Reading Refusal
+abbrev pub reading_after : Confirmed → Size → View → Updates → Result ClientReading Refusal
 reading_after confirmed size v u = bind (view_after_bodies confirmed size v u.bodies) (λ w. unless_refused_at (refusal_in u.next.stage) (reading w u.next))
 
 -- a viewer that reads on
-abbrev pub read_on : Confirmed → Size → Reading → List ℕ → Result Reading Refusal
+abbrev pub read_on : Confirmed → Size → ClientReading → List ℕ → Result ClientReading Refusal
 read_on confirmed size r bytes = reading_after confirmed size r.view (updates_from r.cut bytes)
 
 -- what a viewer makes of a host's bytes
-abbrev pub read_stream : Confirmed → Size → List ℕ → Result Reading Refusal
+abbrev pub read_stream : Confirmed → Size → List ℕ → Result ClientReading Refusal
 read_stream confirmed size bytes = read_on confirmed size (first_reading confirmed size) bytes
 
 -- the pictures at the marks, or where and why the bytes are refused

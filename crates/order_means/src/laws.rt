@@ -9,7 +9,7 @@ ghost use Rattle.order_fields.specs.OrderDelta.{order_bytes};
 ghost use Rattle.share_pdu.specs.Packet.{update_packet};
 ghost use Rattle.order_means.specs.Updates.{Cutting, cutting, updates_from, before_updates};
 ghost use Rattle.order_means.specs.Updates.Stage.{Between};
-ghost use Rattle.order_means.specs.FrameMarks.{Reading, read_on};
+ghost use Rattle.order_means.specs.FrameMarks.{ClientReading, read_on};
 
 /// The updates of two pieces of a stream, wherever it is cut, are those of the first and then those of the second.
 pub fn updates_of_pieces_are_those_joined()
@@ -18,7 +18,7 @@ pub fn updates_of_pieces_are_those_joined()
 
 /// A viewer that reads two pieces one after the other, wherever the stream is cut, reads what it reads of them joined, and is refused where it is refused of them joined.
 pub fn pieces_are_read_as_joined()
-    ensures { (confirmed : Confirmed) (size : Size) (r : Reading) (xs ys : List ℕ) → read_on confirmed size r (xs ++ ys) ≡ bind (read_on confirmed size r xs) (λ s. read_on confirmed size s ys) }
+    ensures { (confirmed : Confirmed) (size : Size) (r : ClientReading) (xs ys : List ℕ) → read_on confirmed size r (xs ++ ys) ≡ bind (read_on confirmed size r xs) (λ s. read_on confirmed size s ys) }
 {}
 
 /// The packet of an update at the front of a stream gives the update's body, at its place, and then the updates of what follows.

@@ -4,7 +4,7 @@ use Rattle.std.specs.Prelude.{Ok, Result, length}
 use Rattle.byte_fields.specs.Field.{bind}
 use Rattle.order_fields.specs.OrderTable.{first_registers, registers_after, field_list}
 use Rattle.order_fields.specs.OrderStream.{orders_in}
-use Rattle.order_means.specs.FrameMarks.{Reading, Refusal, read_stream, pictures_at_marks, unread}
+use Rattle.order_means.specs.FrameMarks.{ClientReading, Refusal, read_stream, pictures_at_marks, unread}
 use Rattle.order_rows.proofs.Captures.{one_fill, raw_tile}
 use Rattle.order_rows.proofs.Viewer.{small, size_of, known}
 
@@ -14,7 +14,7 @@ pub record Counts : Type 0 where
   pub orders : ℕ
   pub tiles : ℕ
 
-abbrev counted_in : Reading → Counts
+abbrev counted_in : ClientReading → Counts
 counted_in r = record { marks = length r.view.pictures; orders = r.view.orders; tiles = r.view.tiles }
 
 abbrev counts : List ℕ → Result Counts Refusal

@@ -5,7 +5,7 @@ use Rattle.caps_sets.specs.declared.confirmed.Confirmed.{Confirmed}
 use Rattle.caps_sets.specs.Confirmed.{sized, full}
 use Rattle.byte_fields.specs.Field.{bind}
 use Rattle.order_means.specs.ClientState.{Fault}
-use Rattle.order_means.specs.FrameMarks.{Reading, Refusal, read_stream, unread}
+use Rattle.order_means.specs.FrameMarks.{ClientReading, Refusal, read_stream, unread}
 use Rattle.order_rows.proofs.Viewer.{size_of}
 
 -- ---- packets
@@ -127,7 +127,7 @@ pub record Made : Type 0 where
   pub tiles : ℕ
   pub rest : List ℕ
 
-abbrev pub made : List ℕ → Reading → Made
+abbrev pub made : List ℕ → ClientReading → Made
 made bytes r = record { pictures = r.view.pictures; orders = r.view.orders; tiles = r.view.tiles; rest = unread bytes }
 
 -- what a viewer makes of a stream on a surface of 8 by 4

@@ -6,7 +6,7 @@ use Rattle.px_core.specs.Rectangle.{boxed, in_rect}
 use Rattle.caps_sets.specs.declared.confirmed.Confirmed.{Confirmed}
 use Rattle.caps_sets.specs.Confirmed.{sized, full}
 use Rattle.order_means.specs.ClientState.{Fault}
-use Rattle.order_means.specs.FrameMarks.{Reading, Refusal, read_stream}
+use Rattle.order_means.specs.FrameMarks.{ClientReading, Refusal, read_stream}
 
 abbrev pub size_of : ℕ → ℕ → Size
 size_of w h = record { w = w; h = h }
@@ -16,10 +16,10 @@ abbrev pub small : Confirmed
 small = record full { bitmaps = sized 2 48 ∷ sized 1 12 ∷ sized 0 0 ∷ []; glyphs = sized 2 4 ∷ replicate 9 (sized 0 0) }
 
 -- what it makes of bytes on a surface of 8 by 4
-abbrev pub reads : List ℕ → Result Reading Refusal
+abbrev pub reads : List ℕ → Result ClientReading Refusal
 reads bytes = read_stream small (size_of 8 4) bytes
 
-abbrev pub refused_at : ℕ → Fault → Result Reading Refusal
+abbrev pub refused_at : ℕ → Fault → Result ClientReading Refusal
 refused_at place fault = Err (record { place = place; fault = fault })
 
 -- a picture that is known

@@ -9,7 +9,7 @@ use Rattle.px_core.specs.declared.surface.Size.{Size}
 use Rattle.px_core.specs.declared.rectangle.Rect.{Rect}
 use Rattle.px_core.specs.Picture.{nat_of}
 use Rattle.px_core.specs.Rectangle.{within, in_rect, has_pixel, common, common_length, whole}
-use Rattle.px_core.specs.Tiles.{tile_rect, tile_at, tiles_of, HasPixelIn}
+use Rattle.px_core.specs.Tiles.{tile_rect, tile_number, tiles_of, HasPixelIn}
 use Rattle.px_core.proofs.Stretches.{within-low, within-high, within-from, same_test, by_rectangle}
 
 pub pos-nat_of : (z : ℤ) → pos (nat_of z) ≡ int_max (pos 0) z
@@ -88,18 +88,18 @@ pixel_has_tile size r tile w =
     ∙ and_from _ _ w.4 (in_rect-common r (whole size) (pos x) (pos y) ∙ and_from _ _ w.5 (in_whole size x y w.2 w.3)))
 
 -- a pixel is one of its own tile and of no other
-pub tile_of_pixel : (x y tile : ℕ) → in_rect (tile_rect tile) (pos x) (pos y) ≡ true → tile ≡ tile_at x y
+pub tile_of_pixel : (x y tile : ℕ) → in_rect (tile_rect tile) (pos x) (pos y) ≡ true → tile ≡ tile_number x y
 tile_of_pixel x y tile h =
     let p = and_parts (within (pos (64 * (tile % 32))) 64 (pos x)) (within (pos (64 * (tile / 32))) 64 (pos y)) h in
     let xl = within-low (pos (64 * (tile % 32))) 64 (pos x) p.0 in let xh = within-high (pos (64 * (tile % 32))) 64 (pos x) p.0 in
     let yl = within-low (pos (64 * (tile / 32))) 64 (pos y) p.1 in let yh = within-high (pos (64 * (tile / 32))) 64 (pos y) p.1 in
     by (tile % 32) (tile / 32) (omega (arith, ints, xl)) (omega (arith, ints, xh)) (omega (arith, ints, yl)) (omega (arith, ints, yh)) (omega arith)
   where
-    by : (column row : ℕ) → 64 * column ≤ x → x < 64 * column + 64 → 64 * row ≤ y → y < 64 * row + 64 → tile ≡ 32 * row + column → tile ≡ tile_at x y
+    by : (column row : ℕ) → 64 * column ≤ x → x < 64 * column + 64 → 64 * row ≤ y → y < 64 * row + 64 → tile ≡ 32 * row + column → tile ≡ tile_number x y
     by column row a b c d e = omega (arith, a, b, c, d, e)
 
-pub pixel_of_tile : (x y : ℕ) → x < 2048 → in_rect (tile_rect (tile_at x y)) (pos x) (pos y) ≡ true
-pixel_of_tile x y h = and_from _ _ (at (64 * (tile_at x y % 32)) x (omega (arith, h)) (omega (arith, h))) (at (64 * (tile_at x y / 32)) y (omega (arith, h)) (omega (arith, h)))
+pub pixel_of_tile : (x y : ℕ) → x < 2048 → in_rect (tile_rect (tile_number x y)) (pos x) (pos y) ≡ true
+pixel_of_tile x y h = and_from _ _ (at (64 * (tile_number x y % 32)) x (omega (arith, h)) (omega (arith, h))) (at (64 * (tile_number x y / 32)) y (omega (arith, h)) (omega (arith, h)))
   where
     at : (from z : ℕ) → from ≤ z → z < from + 64 → within (pos from) 64 (pos z) ≡ true
     at from z l g = within-from (pos from) 64 (pos z) (omega (arith, ints, l)) (omega (arith, ints, g))

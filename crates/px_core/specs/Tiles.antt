@@ -27,8 +27,8 @@ abbrev pub tile_on : Size → ℕ → Rect
 tile_on size tile = common (tile_rect tile) (whole size)
 
 -- the tile of pixel (x, y)
-abbrev pub tile_at : ℕ → ℕ → ℕ
-tile_at x y = 32 * (y / 64) + x / 64
+abbrev pub tile_number : ℕ → ℕ → ℕ
+tile_number x y = 32 * (y / 64) + x / 64
 
 -- the tiles with a pixel of the rectangle on the picture
 abbrev pub tiles_of : Size → Rect → Tiles

@@ -7,7 +7,7 @@ ghost use Rattle.px_core.specs.declared.rectangle.Rect.{Rect};
 ghost use Rattle.px_core.specs.Colors.{are_colors};
 ghost use Rattle.px_core.specs.Picture.{item, listed, pixel_at, pixel_count, pixel_in, rows_of};
 ghost use Rattle.px_core.specs.Rectangle.{in_rect};
-ghost use Rattle.px_core.specs.Tiles.{HasPixelIn, tile_at, tile_rect, tiles_of};
+ghost use Rattle.px_core.specs.Tiles.{HasPixelIn, tile_number, tile_rect, tiles_of};
 
 /// A picture is its pixels: two of one size whose pixels are the same are one.
 pub fn pictures_are_their_pixels()
@@ -34,7 +34,7 @@ pub fn pixels_are_items()
 /// Pixel (x, y) is one of tile `32 * (y / 64) + x / 64` and of no other.
 pub fn tiles_are_of_pixels()
     ensures tiles { (size : Size) (r : Rect) (tile : ℕ) → IsTrue (tiles_of size r tile) ↔ HasPixelIn size r tile }
-    ensures tile { (x y tile : ℕ) → x < 2048 → IsTrue (in_rect (tile_rect tile) (pos x) (pos y)) ↔ (tile ≡ tile_at x y) }
+    ensures tile { (x y tile : ℕ) → x < 2048 → IsTrue (in_rect (tile_rect tile) (pos x) (pos y)) ↔ (tile ≡ tile_number x y) }
 {}
 
 /// All are colours exactly where each is below 2^24.

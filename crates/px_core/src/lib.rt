@@ -8,7 +8,7 @@ mod rectangle;
 mod surface;
 
 pub use rectangle::{Rect, meet};
-pub use surface::Size;
+pub use surface::{Size, is_session_size};
 
 #[cfg(test)]
 mod tests;

@@ -3,7 +3,7 @@ use Rattle.std.proofs.Common.{◌≡◌, ℕ, suc, ◌+◌, ◌-◌, ◌^◌, �
 use Rattle.std.specs.Prelude.{Option, Result, Ok, Err, if◌then◌else◌}
 use Rattle.std.specs.Io.KnownBytes.{Appends}
 use Rattle.std.proofs.KnownBytes.{Appends-trans, Appends-nil}
-use Rattle.edge_io.specs.Sink.{AppendsFront}
+use Rattle.edge_io.specs.Sink.{WritesFront}
 use Rattle.px_core.specs.declared.surface.Size.{Size}
 use Rattle.line_text.specs.Lines.{lines_of, script_limit}
 use Rattle.script_rules.specs.Script.{LineRefusal}
@@ -53,11 +53,11 @@ some_lines_added before now whole rest last text told mid telling adds w g = rec
 
 -- ---- fronts
 
-pub front_none : (told : Option (List ℕ)) (text : List ℕ) → AppendsFront told told text
+pub front_none : (told : Option (List ℕ)) (text : List ℕ) → WritesFront told told text
 front_none told text = record { front = []; rest = text; whole = refl; written = Appends-nil told }
 
-pub front_extends : (told telling : Option (List ℕ)) (text more whole : List ℕ) → whole ≡ text ++ more → AppendsFront told telling text
-    → AppendsFront told telling whole
+pub front_extends : (told telling : Option (List ℕ)) (text more whole : List ℕ) → whole ≡ text ++ more → WritesFront told telling text
+    → WritesFront told telling whole
 front_extends told telling text more whole is f = record {
   front = f.front;
   rest = f.rest ++ more;
@@ -66,7 +66,7 @@ front_extends told telling text more whole is f = record {
 }
 
 front_after : (told mid telling : Option (List ℕ)) (text more whole : List ℕ) → Appends told mid text → whole ≡ text ++ more
-    → AppendsFront mid telling more → AppendsFront told telling whole
+    → WritesFront mid telling more → WritesFront told telling whole
 front_after told mid telling text more whole w is f = record {
   front = text ++ f.front;
   rest = f.rest;
@@ -88,16 +88,16 @@ front_added (Some bytes) whole rest text told mid telling adds w f =
 
 -- a front of the text that stands first
 pub front_of_first : (before : Option (List ℕ)) (whole rest : CaptureByLines) (text : List ℕ) (told telling : Option (List ℕ))
-    → AddsText before whole text rest → AppendsFront told telling text → WroteAFrontOfLines whole (moment before told) telling
+    → AddsText before whole text rest → WritesFront told telling text → WroteAFrontOfLines whole (moment before told) telling
 front_of_first None whole rest text told telling adds f = tt
 front_of_first (Some bytes) whole rest text told telling adds f =
     front_extends told telling text (rest.writes (lines_of bytes)) (whole.writes (lines_of bytes)) adds.0 f
 
 -- a front of all that the lines come to
 pub front_of_all : (before : Option (List ℕ)) (whole : CaptureByLines) (text : List ℕ) (refused : Option LineRefusal) (told telling : Option (List ℕ))
-    → AllLinesGive before whole text refused → AppendsFront told telling text → WroteAFrontOfLines whole (moment before told) telling
+    → AllLinesGive before whole text refused → WritesFront told telling text → WroteAFrontOfLines whole (moment before told) telling
 front_of_all None whole text refused told telling gives f = tt
-front_of_all (Some bytes) whole text refused told telling gives f = subst (AppendsFront told telling) (sym gives.0) f
+front_of_all (Some bytes) whole text refused told telling gives f = subst (WritesFront told telling) (sym gives.0) f
 
 front_behind : (before between : Option (List ℕ)) (whole rest : CaptureByLines) (text : List ℕ) (told mid telling : Option (List ℕ))
     → Continues before between whole text rest → Appends told mid text → WroteAFrontOfLines rest (moment between mid) telling

@@ -10,14 +10,13 @@ use Rattle.std.proofs.lemmas.Bool.Decides.{nat_tests}
 use Rattle.px_core.specs.declared.surface.Size.{Size}
 use Rattle.px_core.specs.Rectangle.{is_session_size}
 use Rattle.line_text.specs.Lines.{Line, line_bytes, lines_of, is_past_limits}
-use Rattle.line_text.specs.Words.{words_of}
+use Rattle.line_text.specs.Words.{words_of, is_same_word}
 use Rattle.line_text.specs.Numbers.{number_of}
 use Rattle.line_text.proofs.NumberLemmas.{number_is_short, length-three_words}
 use Rattle.line_read.specs.Reading.{LineReading, new_reading, HandsOut, IsPastLimits, first_is_past}
 use Rattle.line_read.specs.declared.reader.Found.{Found}
 use Rattle.line_read.specs.Finding.{Finds, FindsLine}
 use Rattle.line_read.specs.declared.reader.Found.TheVariants as found
-use Rattle.session_rules.specs.Steps.{is_same_name}
 use Rattle.script_rules.specs.Script.{size_rule, text_rule, size_with, size_of_words}
 use Rattle.script_rules.specs.Capture.{broken_line}
 use Rattle.solo_runs.specs.SoloScript.{written_with, refused_with, written_of, refused_of, refusal_at}
@@ -26,11 +25,11 @@ use Rattle.rdp_host.specs.Reading.{of_script, of_rest, Continues, AllLinesGive, 
 
 -- ---- a line that gives a size is short
 
-same_length : (a b : List ℕ) → is_same_name a b ≡ true → length a ≡ length b
+same_length : (a b : List ℕ) → is_same_word a b ≡ true → length a ≡ length b
 same_length [] [] e = refl
 same_length [] (b ∷ bs) e = absurd (cc e)
 same_length (a ∷ xs) [] e = absurd (cc e)
-same_length (a ∷ xs) (b ∷ ys) e = ap suc (same_length xs ys (and_parts (a == b) (is_same_name xs ys) e).1)
+same_length (a ∷ xs) (b ∷ ys) e = ap suc (same_length xs ys (and_parts (a == b) (is_same_word xs ys) e).1)
 
 has_size : (m n : ℕ) (size : Size) (test : Bool) → is_session_size m n ≡ test → then_some test (record { w = m; h = n }) ≡ Some size
     → IsTrue (is_session_size m n)
@@ -49,7 +48,7 @@ sides_of w h size None second a b e = absurd (cc e)
 sides_of w h size (Some m) None a b e = absurd (cc e)
 sides_of w h size (Some m) (Some n) a b e = short_sides w h m n a b (has_size m n size (is_session_size m n) refl e)
 
-three_words : (word w h : List ℕ) (size : Size) (test : Bool) → is_same_name word (codes "size") ≡ test →
+three_words : (word w h : List ℕ) (size : Size) (test : Bool) → is_same_word word (codes "size") ≡ test →
     (if test then option_and_then (λ m. option_and_then (λ n. size_with m n) (number_of h)) (number_of w) else None) ≡ Some size → length word + length w +
     length h ≤ 12
 three_words word w h size true same e = omega (arith, same_length word (codes "size") same, sides_of w h size (number_of w) (number_of h) refl refl e)
@@ -59,7 +58,7 @@ is_short : (text : List ℕ) (words : List (List ℕ)) (size : Size) → words_o
 is_short text [] size is e = absurd (cc e)
 is_short text (a ∷ []) size is e = absurd (cc e)
 is_short text (a ∷ b ∷ []) size is e = absurd (cc e)
-is_short text (a ∷ b ∷ c ∷ []) size is e = omega (arith, length-three_words text a b c is, three_words a b c size (is_same_name a (codes "size")) refl e)
+is_short text (a ∷ b ∷ c ∷ []) size is e = omega (arith, length-three_words text a b c is, three_words a b c size (is_same_word a (codes "size")) refl e)
 is_short text (a ∷ b ∷ c ∷ d ∷ words) size is e = absurd (cc e)
 
 short_within : (text : List ℕ) (ended : Bool) → length text ≤ 14 → is_past_limits 0 (record { text = text; ended = ended }) ≡ false

@@ -13,7 +13,7 @@ use Rattle.line_read.specs.Finding.{Finds, FindsNone, FindCause}
 use Rattle.line_read.specs.declared.reader.Found.{Found}
 use Rattle.line_read.specs.declared.reader.Found.TheVariants as found
 use Rattle.edge_io.specs.Faults.{Rose}
-use Rattle.edge_io.specs.Sink.{AppendsFront}
+use Rattle.edge_io.specs.Sink.{WritesFront}
 use Rattle.script_rules.specs.Script.{text_rule, all_bytes, is_ascii}
 use Rattle.script_rules.specs.Capture.{broken_line}
 use Rattle.solo_runs.specs.Solo.{Solo, solo_line, solo_after}
@@ -174,18 +174,18 @@ end_is_done f old new before now size k s told telling finds is same =
 -- ---- what wasn't written whole
 
 line_front : (line : SoloLine) (size : Size) (k : ℕ) (s : Solo) (others : Solo → List ℕ) (told telling : Option (List ℕ))
-    → AppendsFront told telling (line_writes size k s line) → AppendsFront told telling (written_by size k s line others)
+    → WritesFront told telling (line_writes size k s line) → WritesFront told telling (written_by size k s line others)
 line_front (BreaksRule rule) size k s others told telling f = f
 line_front (AsksFor step) size k s others told telling f = front_extends told telling (solo_line size s step) (others (solo_after size s step))
     (solo_line size s step ++ others (solo_after size s step)) refl f
 
 front_of_line : (before now : Option (List ℕ)) (line : Line) (asks : SoloLine) (size : Size) (k at : ℕ) (s : Solo) (told telling : Option (List ℕ))
     → HandsOut before now (line ∷ []) → solo_outcome at s line ≡ asks →
-    AppendsFront told telling (line_writes size k s asks) → WroteAFrontOfLines (of_lines size k at s) (moment before told) telling
+    WritesFront told telling (line_writes size k s asks) → WroteAFrontOfLines (of_lines size k at s) (moment before told) telling
 front_of_line None now line asks size k at s told telling hands is f = tt
 front_of_line (Some bytes) None line asks size k at s told telling hands is f = absurd hands
 front_of_line (Some bytes) (Some left) line asks size k at s told telling hands is f =
-    subst (AppendsFront told telling)
+    subst (WritesFront told telling)
     (sym (ap (written_from size k at s) hands ∙ ap
     (λ o. written_by size k s o (λ u. written_from size (k + 1) (at + length (line_bytes line)) u (lines_of left))) is))
     (line_front asks size k s (λ u. written_from size (k + 1) (at + length (line_bytes line)) u (lines_of left)) told telling f)
@@ -199,7 +199,7 @@ front_of_found (found.Line ended) old new before now size k s told telling finds
 front_of_found found.PastLimits old new before now size k s told telling finds w =
     let same : BreaksRule text_rule ≡ w.found = cc w.is in
     front_of_all before (of_lines size k old.at s) (broken_line k text_rule) (refusal_at k text_rule) told telling (past_breaks before size k old.at s finds.1)
-    (subst (λ line. AppendsFront told telling (line_writes size k s line)) (sym same) w.front)
+    (subst (λ line. WritesFront told telling (line_writes size k s line)) (sym same) w.front)
 front_of_found found.End old new before now size k s told telling finds w = absurd (cc w.is)
 front_of_found found.Failed old new before now size k s told telling finds w = absurd (cc w.is)
 
@@ -221,8 +221,8 @@ next_done (Err (fault.Line line rule)) f old new before now size k s t told tell
   },
 )
 next_done (Err fault.ReadFault) f old new before now size k s t told telling finds d =
-    tells_of_all before (λ bytes. AppendsFront told telling (written_from size k old.at s (lines_of bytes)))
-    (λ bytes. subst (λ n. AppendsFront told n (written_from size k old.at s (lines_of bytes))) (sym d.2)
+    tells_of_all before (λ bytes. WritesFront told telling (written_from size k old.at s (lines_of bytes)))
+    (λ bytes. subst (λ n. WritesFront told n (written_from size k old.at s (lines_of bytes))) (sym d.2)
     (front_none told (written_from size k old.at s (lines_of bytes))))
 next_done (Err fault.WriteFault) f old new before now size k s t told telling finds d = front_of_found f old new before now size k s told telling finds d
 next_done (Err fault.OutOfMemory) f old new before now size k s t told telling finds d = front_of_found f old new before now size k s told telling finds d

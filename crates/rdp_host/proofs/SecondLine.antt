@@ -10,7 +10,7 @@ use Rattle.line_read.specs.Reading.{LineReading, HandsOut, IsPastLimits, first_i
 use Rattle.line_read.specs.Finding.{Finds}
 use Rattle.line_read.specs.declared.reader.Found.{Found}
 use Rattle.line_read.specs.declared.reader.Found.TheVariants as found
-use Rattle.edge_io.specs.Sink.{AppendsFront}
+use Rattle.edge_io.specs.Sink.{WritesFront}
 use Rattle.script_rules.specs.Script.{text_rule, form_rule, breaks_text_rule, all_bytes, is_ascii, begins_with_invite, invite_form}
 use Rattle.script_rules.specs.Capture.{broken_line}
 use Rattle.solo_runs.specs.Solo.{Solo, solo_at_first}
@@ -85,7 +85,7 @@ second_done result f old new before now size t told mid telling finds read none 
 -- the line that says that the viewer joined wasn't written whole
 pub not_joined : (answer : ScriptFault) (f : Found) (old new : LineReading) (before now : Option (List ℕ)) (size : Size) (k next_at : ℕ) (t : Solo)
     (told telling : Option (List ℕ)) →
-    Finds f old new before now → (f ≡ found.Failed → ⊥) → invite_found f new.text ≡ None → AppendsFront told telling (joined size) → IsWriteFault answer →
+    Finds f old new before now → (f ≡ found.Failed → ⊥) → invite_found f new.text ≡ None → WritesFront told telling (joined size) → IsWriteFault answer →
     NextLineDone (Err answer) (of_rest size old.at) old.at (up_to size k next_at t) (moment before told) (moment now telling)
 not_joined (fault.Line line rule) f old new before now size k next_at t told telling finds read none front w = absurd w
 not_joined fault.ReadFault f old new before now size k next_at t told telling finds read none front w = absurd w

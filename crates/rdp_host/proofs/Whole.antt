@@ -3,7 +3,7 @@ use Rattle.std.proofs.Common.{◌≡◌, ℕ, List, [], ◌∷◌, ◌++◌, ap,
 use Rattle.std.specs.Prelude.{Option, Result, Ok, Err}
 use Rattle.std.specs.Io.KnownBytes.{IsAtEnd, prepend_known}
 use Rattle.std.proofs.KnownBytes.{prepend_known-nil, Appends-nil}
-use Rattle.edge_io.specs.Sink.{AppendsFront}
+use Rattle.edge_io.specs.Sink.{WritesFront}
 use Rattle.px_core.specs.declared.surface.Size.{Size}
 use Rattle.line_read.specs.Reading.{LineReading, new_reading, ahead}
 use Rattle.script_rules.specs.Script.{LineRefusal, Opening, first_grammar, opening_of}
@@ -59,7 +59,7 @@ source_ends (Some bytes) rest held end = held_ends held rest end
 captured_front : (left : Option (List ℕ)) (told telling : Option (List ℕ)) → WroteAFrontOfLines of_script (moment left told) telling
     → Tells left (λ script. WritesAFront script told telling)
 captured_front None told telling f = tt
-captured_front (Some script) told telling f = subst (AppendsFront told telling) (sym (written_is_capture script)) f
+captured_front (Some script) told telling f = subst (WritesFront told telling) (sym (written_is_capture script)) f
 
 all_captured : (result : Result (Unit {0}) ScriptFault) (left rest told telling : Option (List ℕ)) (held : List ℕ)
     → AllLinesDone result of_script (moment left told) (moment (prepend_known held rest) telling) → RunsScript result left rest told telling

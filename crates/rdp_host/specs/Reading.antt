@@ -12,7 +12,7 @@ use Rattle.line_text.specs.Words.{words_of}
 use Rattle.line_read.specs.declared.reader.Found.{Found}
 use Rattle.line_read.specs.declared.reader.Found.TheVariants as found
 use Rattle.edge_io.specs.Faults.{Rose}
-use Rattle.edge_io.specs.Sink.{AppendsFront}
+use Rattle.edge_io.specs.Sink.{WritesFront}
 use Rattle.script_rules.specs.Script.{LineRefusal, size_rule, text_rule, form_rule, invite_form, all_bytes, is_ascii}
 use Rattle.script_rules.specs.Capture.{broken_line}
 use Rattle.solo_runs.specs.Solo.{Solo}
@@ -88,7 +88,7 @@ pub record WroteAllLines (whole : CaptureByLines) (refused : Option LineRefusal)
 
 -- a front of what the lines ahead give was written
 abbrev pub WroteAFrontOfLines : CaptureByLines → Moment → Option (List ℕ) → Type 0
-WroteAFrontOfLines whole before telling = Tells before.ahead (λ bytes. AppendsFront before.told telling (whole.writes (lines_of bytes)))
+WroteAFrontOfLines whole before telling = Tells before.ahead (λ bytes. WritesFront before.told telling (whole.writes (lines_of bytes)))
 
 -- what a script's first line gives: a size, and then the lines after it decide; or the rule that it breaks
 abbrev pub Opens : FirstLine → (before now : Option (List ℕ)) → ℕ → Type 0

@@ -6,7 +6,7 @@ use Rattle.std.specs.declared.option.Option.TheVariants.{Some, None}
 use Rattle.std.specs.declared.result.Result.{Result}
 use Rattle.std.specs.declared.result.Result.TheVariants.{Ok, Err}
 use Rattle.edge_io.specs.Faults.{Rose}
-use Rattle.edge_io.specs.Sink.{AppendsFront}
+use Rattle.edge_io.specs.Sink.{WritesFront}
 use Rattle.script_rules.specs.Script.{LineRefusal, first_grammar, opening_of}
 use Rattle.script_rules.specs.CaptureText.{capture_of}
 use Rattle.script_rules.specs.Headline.{encoder_frames, EveryViewerOfCapture}
@@ -34,7 +34,7 @@ pub record WritesTheCapture (script : List ℕ) (refused : Option LineRefusal) (
 
 -- a script's run wrote a front of its capture
 abbrev pub WritesAFront : List ℕ → (before now : Option (List ℕ)) → Type 0
-WritesAFront script before now = AppendsFront before now (capture_of encoder_frames first_grammar script)
+WritesAFront script before now = WritesFront before now (capture_of encoder_frames first_grammar script)
 
 -- a run that was done up to the script's end, or up to the first line that breaks a rule, wrote the capture; it ends with Ok only where
 -- no byte is left. After a fault, or want of memory, a front of it stands there

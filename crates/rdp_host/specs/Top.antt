@@ -4,8 +4,8 @@ use Rattle.std.specs.Io.KnownBytes.{Appends}
 use Rattle.std.specs.declared.option.Option.{Option}
 use Rattle.std.specs.declared.result.Result.{Result}
 use Rattle.std.specs.declared.result.Result.TheVariants.{Ok, Err}
-use Rattle.edge_io.specs.Sink.{AppendsFront}
-use Rattle.session_rules.specs.Steps.{is_same_name}
+use Rattle.edge_io.specs.Sink.{WritesFront}
+use Rattle.line_text.specs.Words.{is_same_word}
 use Rattle.solo_script.specs.Steps.{WritesCause, IsWriteFault}
 use Rattle.solo_script.specs.declared.fault.ScriptFault.{ScriptFault}
 use Rattle.solo_script.specs.declared.fault.ScriptFault.TheVariants.{Line, ReadFault, WriteFault, OutOfMemory}
@@ -15,7 +15,7 @@ use Rattle.rdp_host.specs.Run.{RunsScript, ReadsCause}
 abbrev pub asks_for_script : List (List ℕ) → Bool
 asks_for_script [] = false
 asks_for_script (name ∷ []) = false
-asks_for_script (name ∷ mode ∷ []) = is_same_name mode (codes "script")
+asks_for_script (name ∷ mode ∷ []) = is_same_word mode (codes "script")
 asks_for_script (name ∷ mode ∷ more ∷ words) = false
 
 -- what is printed where the words ask for no mode
@@ -65,6 +65,6 @@ pub record WritesUsage (status : ℕ) (told telling : Option (List ℕ)) (writes
   pub answer : Result (Unit {0}) ScriptFault
   pub status_is : status ≡ usage_status answer
   pub written : OnOk answer (Appends told telling usage)
-  pub front : OnErr answer (AppendsFront told telling usage)
+  pub front : OnErr answer (WritesFront told telling usage)
   pub fault : IfErr answer IsWriteFault
   pub write_cause : WritesCause answer writes wrote

@@ -1,6 +1,6 @@
 ghost use Rattle.std.specs.Prelude.{◌≡◌, IfErr, IsTrue, OnErr, OnOk};
 ghost use Rattle.std.specs.Io.KnownBytes.{Appends};
-ghost use Rattle.edge_io.specs.Sink.{AppendsFront};
+ghost use Rattle.edge_io.specs.Sink.{WritesFront};
 ghost use Rattle.px_core.specs.Rectangle.{is_session_size};
 ghost use Rattle.line_read.specs.Reading.{ahead};
 ghost use Rattle.solo_runs.specs.Solo.{solo_at_first};
@@ -109,7 +109,7 @@ fn invite_rule(found: Found, text: &[u8]) -> Option<u8>
 /// Writes that the one viewer joined. An `Err` leaves a front of that line.
 fn join<K: Sink>(alloc: Global, output: &mut K, size: Size) -> Result<(), ScriptFault>
     ensures written { OnOk result (Appends (K.told output.old) (K.told output.new) (joined size)) }
-    ensures front { OnErr result (AppendsFront (K.told output.old) (K.told output.new) (joined size)) }
+    ensures front { OnErr result (WritesFront (K.told output.old) (K.told output.new) (joined size)) }
     ensures fault { IfErr result IsWriteFault }
     ensures cause { WritesCause result (K.faults output.old) (K.faults output.new) }
 {

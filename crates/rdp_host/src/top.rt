@@ -1,9 +1,9 @@
 ghost use Rattle.std.specs.Prelude.{◌≡◌, [], false, map, string_bytes, IsTrue};
-ghost use Rattle.session_rules.specs.Steps.{is_same_name};
 ghost use Rattle.rdp_host.specs.Top.{asks_for_script, script_status, outside, RunsMode, WritesUsage};
 
 use crate::script::run_script;
 use edge_io::{Gate, Sink, Source};
+use line_text::is_same_word;
 use solo_script::{ScriptFault, put};
 use std::alloc::Global;
 use std::sync::Wait;
@@ -69,16 +69,9 @@ fn is_script(words: &[String]) -> bool
     ensures { result ≡ asks_for_script (map string_bytes words.now) }
 {
     match words {
-        [_, mode] => is_same(mode.as_bytes(), SCRIPT.as_bytes()),
+        [_, mode] => is_same_word(mode.as_bytes(), SCRIPT.as_bytes()),
         _ => false,
     }
-}
-
-/// Whether two words are the same.
-fn is_same(word: &[u8], other: &[u8]) -> bool
-    ensures { result ≡ is_same_name word.now other.now }
-{
-    word == other
 }
 
 /// The exit status that an answer of a script's run is.

@@ -3,8 +3,8 @@ use Rattle.std.proofs.Common.{◌≡◌, ℕ, zero, suc, ◌*◌, ◌-◌, ◌<�
 use Rattle.std.specs.Prelude.{nat_le, ◌&&◌, None}
 use Rattle.std.proofs.lemmas.Bool.Decides.{nat_tests}
 use Rattle.std.proofs.lemmas.List.{take_all}
-use Rattle.run_lengths.specs.declared.codes.Kind.{Kind}
-use Rattle.run_lengths.specs.declared.codes.Kind.TheVariants.{BackgroundRun, ForegroundRun, MaskImage, ColorRun, ColorImage}
+use Rattle.run_lengths.specs.declared.codes.RunKind.{RunKind}
+use Rattle.run_lengths.specs.declared.codes.RunKind.TheVariants.{BackgroundRun, ForegroundRun, MaskImage, ColorRun, ColorImage}
 use Rattle.run_lengths.specs.declared.codes.Row.{Row}
 use Rattle.byte_fields.specs.Field.{map_read, then_read}
 use Rattle.run_lengths.specs.Codes.{row, row_of, row_among, code_table, run, mask}
@@ -44,7 +44,7 @@ length_in_code zero greatest stream rest h = absurd (omega (arith, h))
 length_in_code (suc n) greatest stream rest h = let same : 1 * suc n ≡ suc n = omega arith in ap (λ m. length_if greatest m rest stream) same
 
 -- an order of such a row
-short_in_row : (kind : Kind) (first last code n left : ℕ) (bytes : List ℕ) → row_of code ≡ Some (row first last false kind run) → n ≡ code - first → 1 ≤ n → short_order kind n left (code ∷ bytes) bytes ≡ order_at left (code ∷ bytes)
+short_in_row : (kind : RunKind) (first last code n left : ℕ) (bytes : List ℕ) → row_of code ≡ Some (row first last false kind run) → n ≡ code - first → 1 ≤ n → short_order kind n left (code ∷ bytes) bytes ≡ order_at left (code ∷ bytes)
 short_in_row kind first last code n left bytes e at some =
     let here : length_at run (code - first) (greatest_length kind left) (code ∷ bytes) bytes ≡ length_if (greatest_length kind left) n bytes (code ∷ bytes) = ap (λ m. length_at run m (greatest_length kind left) (code ∷ bytes) bytes) (sym at) ∙ length_in_code n (greatest_length kind left) (code ∷ bytes) bytes some in
     ap (λ l. then_read l (λ m after. map_read (λ d. record { foreground = None; run = d }) (run_at kind m after))) (sym here)
@@ -55,7 +55,7 @@ whole : (stream : List ℕ) → 1 ≤ length stream → get_or stream 0 0 ∷ ta
 whole [] h = absurd (omega (arith, h))
 whole (b ∷ bytes) h = ap (λ us. b ∷ us) (take_all (suc (length bytes) - 1) bytes (omega arith))
 
-at_front : (kind : Kind) (first last n left : ℕ) (stream : List ℕ) → 1 ≤ length stream → row_of (get_or stream 0 0) ≡ Some (row first last false kind run) → n ≡ get_or stream 0 0 - first → 1 ≤ n → short_order kind n left stream (take (length stream - 1) (drop 1 stream)) ≡ order_at left stream
+at_front : (kind : RunKind) (first last n left : ℕ) (stream : List ℕ) → 1 ≤ length stream → row_of (get_or stream 0 0) ≡ Some (row first last false kind run) → n ≡ get_or stream 0 0 - first → 1 ≤ n → short_order kind n left stream (take (length stream - 1) (drop 1 stream)) ≡ order_at left stream
 at_front kind first last n left stream h e at some =
     let P : List ℕ → Type 0 = λ xs. short_order kind n left xs (take (length stream - 1) (drop 1 stream)) ≡ order_at left xs in
     subst P (whole stream h) (short_in_row kind first last (get_or stream 0 0) n left (take (length stream - 1) (drop 1 stream)) e at some)

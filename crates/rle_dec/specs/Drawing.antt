@@ -2,7 +2,7 @@
 use Rattle.std.specs.Prelude.{ℕ, Bool, List, [], ◌∷◌, ◌++◌, length, map, replicate, slice_index, Result, Ok, Err, if◌then◌else◌}
 use Rattle.run_lengths.specs.declared.strokes.Stroke.{Stroke}
 use Rattle.run_lengths.specs.declared.strokes.Stroke.TheVariants.{Plain, Above, Crossed}
-use Rattle.run_lengths.specs.RunLength.{Order, Drawn, drawn_pixel, strokes_from, nothing_drawn, orders_in}
+use Rattle.run_lengths.specs.RunLength.{Order, Drawn, drawn_pixel, strokes_from, nothing_drawn, run_orders_in}
 
 -- the pixel one row earlier than the next one, black before the first row
 abbrev pub above_next : ℕ → List ℕ → ℕ
@@ -30,4 +30,4 @@ drawn_rest w d pixels (Err refused) = Err refused
 
 -- what a whole stream draws
 abbrev pub drawn_whole : ℕ → ℕ → List ℕ → Result (List ℕ) (List ℕ)
-drawn_whole w count bytes = drawn_rest w nothing_drawn [] (orders_in count bytes)
+drawn_whole w count bytes = drawn_rest w nothing_drawn [] (run_orders_in count bytes)

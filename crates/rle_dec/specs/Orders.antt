@@ -4,7 +4,7 @@ use Rattle.byte_fields.specs.Field.{Read, map_read, then_read}
 use Rattle.byte_fields.specs.Pixels.{pixels_of}
 use Rattle.run_lengths.specs.RunLength as runs
 use Rattle.run_lengths.specs.RunLength.{bits_of, greatest_length, length_if, mask_bits, run_at}
-use Rattle.run_lengths.specs.declared.codes.Kind.{Kind}
+use Rattle.run_lengths.specs.declared.codes.RunKind.{RunKind}
 use Rattle.rle_dec.specs.declared.orders.Order.{Order}
 use Rattle.rle_dec.specs.declared.orders.Run.{Run}
 use Rattle.rle_dec.specs.declared.orders.Run.TheVariants.{Background, Foreground, Mask, Bits, Color, Image, Dithered}
@@ -23,7 +23,7 @@ abbrev pub order_of : Order → runs.Order
 order_of o = record { foreground = o.foreground; run = run_of o.length o.run }
 
 -- an order of a kind that sets no foreground, with this length in its code; `stream` begins with the code, `rest` after it
-abbrev pub short_order : Kind → ℕ → ℕ → List ℕ → List ℕ → Read runs.Order
+abbrev pub short_order : RunKind → ℕ → ℕ → List ℕ → List ℕ → Read runs.Order
 short_order kind n left stream rest =
     then_read (length_if (greatest_length kind left) n rest stream) (λ m after.
     map_read (λ d. record { foreground = None; run = d }) (run_at kind m after))

@@ -6,7 +6,7 @@ ghost use Rattle.rle_dec.specs.Reads.{itself, option_of, read_of};
 
 use crate::codes::find_row;
 use crate::reads::{Read, checked_length, read_bytes, read_length, read_pixel};
-use run_lengths::Kind;
+use run_lengths::RunKind;
 
 /// The most pixels of a bitmap: 64 by 64.
 pub const MOST_PIXELS: usize = 4096;
@@ -50,9 +50,9 @@ pub fn read_order(stream: &[u8], left: usize) -> Read<'_, Order<'_>>
     };
     // The commonest orders first, since each is then read with a kind that the compiler knows.
     match *code {
-        0x01..=0x1F => read_short(Kind::BackgroundRun, *code, left, stream, rest),
-        0x61..=0x7F => read_short(Kind::ColorRun, *code - COLOR_RUN, left, stream, rest),
-        0x81..=0x9F => read_short(Kind::ColorImage, *code - COLOR_IMAGE, left, stream, rest),
+        0x01..=0x1F => read_short(RunKind::BackgroundRun, *code, left, stream, rest),
+        0x61..=0x7F => read_short(RunKind::ColorRun, *code - COLOR_RUN, left, stream, rest),
+        0x81..=0x9F => read_short(RunKind::ColorImage, *code - COLOR_IMAGE, left, stream, rest),
         _ => read_in_table(*code, left, stream, rest),
     }
 }
@@ -84,7 +84,7 @@ fn read_in_table<'a>(code: u8, left: usize, stream: &'a [u8], rest: &'a [u8]) ->
 /// An order of a kind that sets no foreground, with its length in the code; `stream` begins with the code, `rest` after it.
 #[inline(always)]
 fn read_short<'a>(
-    kind: Kind,
+    kind: RunKind,
     length: u8,
     left: usize,
     stream: &'a [u8],
@@ -107,12 +107,12 @@ fn read_short<'a>(
 }
 
 /// The greatest length of an order where `left` pixels are left.
-fn longest(kind: Kind, left: usize) -> usize
+fn longest(kind: RunKind, left: usize) -> usize
     ensures is { result ≡ greatest_length kind left }
     ensures within { result ≤ left }
 {
     match kind {
-        Kind::DitheredRun => left / 2,
+        RunKind::DitheredRun => left / 2,
         _ => left,
     }
 }
@@ -129,31 +129,31 @@ fn read_foreground(sets: bool, stream: &[u8]) -> Read<'_, Option<u32>>
 }
 
 /// What an order of a kind and a length draws.
-fn read_run(kind: Kind, length: usize, stream: &[u8]) -> Read<'_, Run<'_>>
+fn read_run(kind: RunKind, length: usize, stream: &[u8]) -> Read<'_, Run<'_>>
     requires { length ≤ MOST_PIXELS }
     ensures { read_of (run_of length) result ≡ run_at kind length stream.now }
 {
     match kind {
-        Kind::BackgroundRun => Ok((Run::Background, stream)),
-        Kind::ForegroundRun => Ok((Run::Foreground, stream)),
-        Kind::MaskImage => {
+        RunKind::BackgroundRun => Ok((Run::Background, stream)),
+        RunKind::ForegroundRun => Ok((Run::Foreground, stream)),
+        RunKind::MaskImage => {
             let (mask, rest) = read_bytes(stream, (length + 7) / 8)?;
             Ok((Run::Mask(mask), rest))
         }
-        Kind::ColorRun => {
+        RunKind::ColorRun => {
             let (color, rest) = read_pixel(stream)?;
             Ok((Run::Color(color), rest))
         }
-        Kind::ColorImage => {
+        RunKind::ColorImage => {
             let (image, rest) = read_bytes(stream, 3 * length)?;
             Ok((Run::Image(image), rest))
         }
-        Kind::DitheredRun => {
+        RunKind::DitheredRun => {
             let (first, rest) = read_pixel(stream)?;
             let (second, rest) = read_pixel(rest)?;
             Ok((Run::Dithered(first, second), rest))
         }
-        Kind::FixedMask(bits) => Ok((Run::Bits(bits), stream)),
-        Kind::FixedColor(color) => Ok((Run::Color(color), stream)),
+        RunKind::FixedMask(bits) => Ok((Run::Bits(bits), stream)),
+        RunKind::FixedColor(color) => Ok((Run::Color(color), stream)),
     }
 }

@@ -12,11 +12,11 @@ use Rattle.byte_fields.proofs.Bytes.{taken_back}
 use Rattle.byte_fields.proofs.Pixels.{pixels_back, length-pixels_bytes}
 use Rattle.byteorder.specs.Endian.{little_bytes}
 use Rattle.run_lengths.specs.Codes.{row_of, row, run}
-use Rattle.run_lengths.specs.declared.codes.Kind.TheVariants.{BackgroundRun, ColorRun, ColorImage}
-use Rattle.run_lengths.specs.declared.codes.Kind.{Kind}
+use Rattle.run_lengths.specs.declared.codes.RunKind.TheVariants.{BackgroundRun, ColorRun, ColorImage}
+use Rattle.run_lengths.specs.declared.codes.RunKind.{RunKind}
 use Rattle.run_lengths.specs.declared.codes.Length.{Length}
 use Rattle.run_lengths.specs.declared.codes.Length.TheVariants.{TwoBytes}
-use Rattle.run_lengths.specs.RunLength.{Run, Order, run_size, greatest_length, foreground_at, length_if, length_at, run_at, order_in_row, order_at, onto_orders, orders_after, orders_in}
+use Rattle.run_lengths.specs.RunLength.{Run, Order, run_size, greatest_length, foreground_at, length_if, length_at, run_at, order_in_row, order_at, onto_orders, orders_after, run_orders_in}
 use Rattle.run_lengths.specs.RunLength.Run.{Background, Foreground, Mask, Color, Image, Dithered}
 use Rattle.run_lengths.specs.Packer.{length_bytes, run_bytes}
 use Rattle.run_lengths.proofs.Laws.{orders_in_next}
@@ -62,18 +62,18 @@ length_in_two n greatest low stream rest l k h = ap (λ m. length_if greatest m 
 abbrev pub plain : Run → Order
 plain r = record { foreground = None; run = r }
 
-after_length : Kind → ℕ → List ℕ → Read Order
+after_length : RunKind → ℕ → List ℕ → Read Order
 after_length k n more = map_read plain (run_at k n more)
 
 -- an order of a row whose length is read
-in_row : (first last code n left : ℕ) (k : Kind) (l : Length) (more rest : List ℕ) → row_of code ≡ Some (row first last false k l) → length_at l (code - first) (greatest_length k left) (code ∷ more) more ≡ Ok (n, rest) → order_at left (code ∷ more) ≡ after_length k n rest
+in_row : (first last code n left : ℕ) (k : RunKind) (l : Length) (more rest : List ℕ) → row_of code ≡ Some (row first last false k l) → length_at l (code - first) (greatest_length k left) (code ∷ more) more ≡ Ok (n, rest) → order_at left (code ∷ more) ≡ after_length k n rest
 unfolding after_length
 in_row first last code n left k l more rest r e =
     ap (λ o. order_in_row o left code more) r
     ∙ ap (λ t. then_read t (λ n rest. then_read (foreground_at false rest) (λ f after. map_read (λ d. record { foreground = f; run = d }) (run_at k n after)))) e
 
 -- an order by its length in any of its three forms
-headed : (first last long n left : ℕ) (k : Kind) (more : List ℕ) → first + 31 ≤ last → ((code : ℕ) → first ≤ code → code ≤ last → row_of code ≡ Some (row first last false k run)) → row_of long ≡ Some (row long long false k TwoBytes) → 1 ≤ n → n < 65536 → n ≤ greatest_length k left → order_at left (length_bytes first long n ++ more) ≡ after_length k n more
+headed : (first last long n left : ℕ) (k : RunKind) (more : List ℕ) → first + 31 ≤ last → ((code : ℕ) → first ≤ code → code ≤ last → row_of code ≡ Some (row first last false k run)) → row_of long ≡ Some (row long long false k TwoBytes) → 1 ≤ n → n < 65536 → n ≤ greatest_length k left → order_at left (length_bytes first long n ++ more) ≡ after_length k n more
 headed first last long n left k more wide short two l h fits = ⊎_elim in_code longer (cases_lt n 32) where
   in_code : n < 32 → order_at left (length_bytes first long n ++ more) ≡ after_length k n more
   in_code lt =
@@ -151,12 +151,12 @@ some_size (Mask bits) h = absurd h
 some_size (Dithered n a b) h = absurd h
 
 -- the packer's runs are the orders of their bytes
-pub runs_back : (rs : List Run) → AllPacked rs → orders_in (sizes rs) (flat_map run_bytes rs) ≡ Ok (map plain rs)
+pub runs_back : (rs : List Run) → AllPacked rs → run_orders_in (sizes rs) (flat_map run_bytes rs) ≡ Ok (map plain rs)
 runs_back [] h = refl
 runs_back (r ∷ rs) h =
     let left : ℕ = run_size r + sizes rs in
     let same : left - run_size r ≡ sizes rs = omega arith in
     orders_in_next left (run_bytes r ++ flat_map run_bytes rs) (omega (arith, some_size r h.0))
-    ∙ ap (λ t. orders_after left t orders_in) (run_back r left (flat_map run_bytes rs) h.0 (omega arith))
-    ∙ ap (λ n. onto_orders (plain r) (orders_in n (flat_map run_bytes rs))) same
+    ∙ ap (λ t. orders_after left t run_orders_in) (run_back r left (flat_map run_bytes rs) h.0 (omega arith))
+    ∙ ap (λ n. onto_orders (plain r) (run_orders_in n (flat_map run_bytes rs))) same
     ∙ ap (onto_orders (plain r)) (runs_back rs h.1)

@@ -7,7 +7,7 @@ use Rattle.std.proofs.lemmas.List.{length-drop, length-replicate, take-append-dr
 use Rattle.run_lengths.specs.declared.strokes.Stroke.{Stroke}
 use Rattle.run_lengths.specs.declared.strokes.Stroke.TheVariants.{Plain, Above}
 use Rattle.run_lengths.specs.declared.codes.Before.{Before}
-use Rattle.run_lengths.specs.RunLength.{Run, Order, run_size, run_strokes, drawn_over, Drawn, drawn_after, before_next, follows_background, background_stroke, foreground_stroke, order_strokes, strokes_from, strokes_of, nothing_drawn, AreDrawn, Decompresses, orders_in}
+use Rattle.run_lengths.specs.RunLength.{Run, Order, run_size, run_strokes, drawn_over, Drawn, drawn_after, before_next, follows_background, background_stroke, foreground_stroke, order_strokes, strokes_from, strokes_of, nothing_drawn, AreDrawn, Decompresses, run_orders_in}
 use Rattle.run_lengths.specs.RunLength.Run.{Background, Foreground, Mask, Color, Image, Dithered}
 use Rattle.run_lengths.specs.Packer.{Spot, background_count, color_count, chosen_run, first_run, runs_past, onto_runs, joined_images, packed_runs, first_stretch, later_stretch, packed, run_bytes}
 use Rattle.run_lengths.proofs.Laws.{drawn_over-append, drawn_over_front, length-run_strokes}
@@ -253,7 +253,7 @@ packed_decompresses w h ps some wide count small colors =
     let late_size : sizes ss ≡ length ps - w = second.all ∙ sym (length-pixels late) ∙ ap length late_pixels ∙ rest in
     let total : sizes (rs ++ ss) ≡ w * h = sizes-append rs ss ∙ omega (arith, early_size, late_size, count, wide) in
     let whole : AllPacked (rs ++ ss) = all_packed-append rs ss (all_packed rs first.fair (omega (arith, early_size, small, wide))) (all_packed ss second.fair (omega (arith, late_size, small))) in
-    let cut : orders_in (w * h) (packed w ps) ≡ Ok (map plain (rs ++ ss)) = ap (orders_in (w * h)) (sym (bytes-append rs ss)) ∙ ap (λ n. orders_in n (flat_map run_bytes (rs ++ ss))) (sym total) ∙ runs_back (rs ++ ss) whole in
+    let cut : run_orders_in (w * h) (packed w ps) ≡ Ok (map plain (rs ++ ss)) = ap (run_orders_in (w * h)) (sym (bytes-append rs ss)) ∙ ap (λ n. run_orders_in n (flat_map run_bytes (rs ++ ss))) (sym total) ∙ runs_back (rs ++ ss) whole in
     let S : List Stroke = runs_strokes b f rs in
     let T : List Stroke = runs_strokes Above g ss in
     let at : d.count ≡ w = past_count true nothing_drawn rs ∙ omega (arith, early_size) in

@@ -3,7 +3,7 @@ ghost use Rattle.std.specs.Prelude.{◌≡◌, ◌+◌, ◌*◌, ◌/◌, ◌%�
 ghost use Rattle.px_core.specs.Colors.{are_colors};
 ghost use Rattle.rle_enc.specs.Result.{IsPacked, IsBounded, ReadsBack};
 
-use crate::fault::OutOfMemory;
+use crate::OutOfMemory;
 use crate::stretch::pack_stretch;
 use std::alloc::Global;
 

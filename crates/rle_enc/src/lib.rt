@@ -3,9 +3,8 @@
 
 mod bitmap;
 mod counts;
-mod fault;
 mod orders;
 mod stretch;
 
 pub use bitmap::{Packed, pack};
-pub use fault::OutOfMemory;
+pub use out_of_memory::OutOfMemory;

@@ -8,13 +8,13 @@ use Rattle.byte_fields.specs.Number.{little_at, little_value}
 use Rattle.byte_fields.specs.Pixels.{pixels_of}
 use Rattle.byte_fields.proofs.Pixels.{length-pixels_of}
 use Rattle.run_lengths.specs.Codes.{row_of}
-use Rattle.run_lengths.specs.declared.codes.Kind.{Kind}
+use Rattle.run_lengths.specs.declared.codes.RunKind.{RunKind}
 use Rattle.run_lengths.specs.declared.codes.Length.{Length}
 use Rattle.run_lengths.specs.declared.codes.Row.{Row}
-use Rattle.run_lengths.specs.declared.codes.Kind.TheVariants.{BackgroundRun, ForegroundRun, MaskImage, ColorRun, ColorImage, DitheredRun, FixedMask, FixedColor}
+use Rattle.run_lengths.specs.declared.codes.RunKind.TheVariants.{BackgroundRun, ForegroundRun, MaskImage, ColorRun, ColorImage, DitheredRun, FixedMask, FixedColor}
 use Rattle.run_lengths.specs.declared.codes.Length.TheVariants.{InCode, TwoBytes, Fixed}
 use Rattle.run_lengths.specs.declared.strokes.Stroke.{Stroke}
-use Rattle.run_lengths.specs.RunLength.{Run, Order, run_size, bits_of, mask_bits, greatest_length, length_if, length_at, foreground_at, run_at, pixel_at, order_in_row, order_at, onto_orders, orders_after, orders_within, orders_in, drawn_pixel, background_stroke, foreground_stroke, background_strokes, dithered_strokes, run_strokes, Drawn, drawn_after, follows_background, is_first_row, foreground_of, order_strokes, strokes_from, strokes_of, nothing_drawn, drawn_over, AreDrawn, Decompresses, rows_from, pixels_drawn, pixels_of_orders, unrle, refused_place, first_bad_run}
+use Rattle.run_lengths.specs.RunLength.{Run, Order, run_size, bits_of, mask_bits, greatest_length, length_if, length_at, foreground_at, run_at, wire_pixel_at, order_in_row, order_at, onto_orders, orders_after, orders_within, run_orders_in, drawn_pixel, background_stroke, foreground_stroke, background_strokes, dithered_strokes, run_strokes, Drawn, drawn_after, follows_background, is_first_row, foreground_of, order_strokes, strokes_from, strokes_of, nothing_drawn, drawn_over, AreDrawn, Decompresses, rows_from, pixels_drawn, pixels_of_orders, unrle, refused_place, first_bad_run}
 use Rattle.run_lengths.specs.RunLength.Run.{Background, Foreground, Mask, Color, Image, Dithered}
 use Rattle.run_lengths.specs.declared.strokes.Stroke.TheVariants.{Plain, Above}
 
@@ -114,22 +114,22 @@ leaves_length TwoBytes low greatest code rest = leaves_then (Any {A = ℕ}) (InR
 leaves_length (Fixed n) low greatest code rest = leaves_length_if greatest n rest (code ∷ rest) (length rest) (omega arith) (omega arith)
 
 leaves_foreground : (sets : Bool) (n : ℕ) (bytes : List ℕ) → length bytes ≤ n → Leaves (Any {A = Option ℕ}) n (foreground_at sets bytes)
-leaves_foreground true n bytes le = leaves_map (Any {A = ℕ}) (Any {A = Option ℕ}) n (pixel_at bytes) (λ c. Some c) (leaves_number 3 n bytes le) (λ c t. tt)
+leaves_foreground true n bytes le = leaves_map (Any {A = ℕ}) (Any {A = Option ℕ}) n (wire_pixel_at bytes) (λ c. Some c) (leaves_number 3 n bytes le) (λ c t. tt)
 leaves_foreground false n bytes le = (tt, le)
 
 -- the run draws at least one pixel and no more than are left
 abbrev pub Draws : ℕ → Run → Type 0
 Draws left run = InRange left (run_size run)
 
-leaves_run : (kind : Kind) (left n m : ℕ) (bytes : List ℕ) → InRange (greatest_length kind left) n → length bytes ≤ m → Leaves (Draws left) m (run_at kind n bytes)
+leaves_run : (kind : RunKind) (left n m : ℕ) (bytes : List ℕ) → InRange (greatest_length kind left) n → length bytes ≤ m → Leaves (Draws left) m (run_at kind n bytes)
 leaves_run BackgroundRun left n m bytes h le = (h, le)
 leaves_run ForegroundRun left n m bytes h le = (h, le)
 leaves_run MaskImage left n m bytes h le = leaves_map (λ xs. length xs ≡ (n + 7) / 8) (Draws left) m (bytes_at ((n + 7) / 8) bytes) (λ ms. Mask (mask_bits n ms)) (leaves_bytes ((n + 7) / 8) m bytes bytes le le) (λ xs e. let f = length-mask_bits n xs e in (omega (arith, f, h.0), omega (arith, f, h.1)))
-leaves_run ColorRun left n m bytes h le = leaves_map (Any {A = ℕ}) (Draws left) m (pixel_at bytes) (λ c. Color n c) (leaves_number 3 m bytes le) (λ c t. h)
+leaves_run ColorRun left n m bytes h le = leaves_map (Any {A = ℕ}) (Draws left) m (wire_pixel_at bytes) (λ c. Color n c) (leaves_number 3 m bytes le) (λ c t. h)
 leaves_run ColorImage left n m bytes h le = leaves_map (λ xs. length xs ≡ 3 * n) (Draws left) m (bytes_at (3 * n) bytes) (λ xs. Image (pixels_of xs)) (leaves_bytes (3 * n) m bytes bytes le le) (λ xs e. let f = length-pixels_of n xs e in (omega (arith, f, h.0), omega (arith, f, h.1)))
 leaves_run DitheredRun left n m bytes h le =
     let draws : (a b : ℕ) → Draws left (Dithered n a b) = λ a b. (omega (arith, h.0), omega (arith, h.1)) in
-    leaves_then (Any {A = ℕ}) (Draws left) m (pixel_at bytes) (λ a rest. map_read (λ b. Dithered n a b) (pixel_at rest)) (leaves_number 3 m bytes le) (λ a rest t less. leaves_map (Any {A = ℕ}) (Draws left) m (pixel_at rest) (λ b. Dithered n a b) (leaves_number 3 m rest less) (λ b u. draws a b))
+    leaves_then (Any {A = ℕ}) (Draws left) m (wire_pixel_at bytes) (λ a rest. map_read (λ b. Dithered n a b) (wire_pixel_at rest)) (leaves_number 3 m bytes le) (λ a rest t less. leaves_map (Any {A = ℕ}) (Draws left) m (wire_pixel_at rest) (λ b. Dithered n a b) (leaves_number 3 m rest less) (λ b u. draws a b))
 leaves_run (FixedMask x) left n m bytes h le = let f = length-bits_of n x in ((omega (arith, f, h.0), omega (arith, f, h.1)), le)
 leaves_run (FixedColor c) left n m bytes h le = (h, le)
 
@@ -172,11 +172,11 @@ orders_within_enough (suc most) (suc more) (suc left) (b ∷ bytes) h g =
     same_after (suc left) (length bytes) (order_at (suc left) (b ∷ bytes)) (orders_within most) (orders_within more) (order_leaves (suc left) b bytes) (λ l rest le. orders_within_enough most more l rest (omega (arith, h, le)) (omega (arith, g, le)))
 
 -- where pixels are left, the orders are the next one and those after it
-pub orders_in_next : (left : ℕ) (bytes : List ℕ) → 1 ≤ left → orders_in left bytes ≡ orders_after left (order_at left bytes) orders_in
+pub orders_in_next : (left : ℕ) (bytes : List ℕ) → 1 ≤ left → run_orders_in left bytes ≡ orders_after left (order_at left bytes) run_orders_in
 orders_in_next zero bytes h = absurd (omega (arith, h))
 orders_in_next (suc left) [] h = refl
 orders_in_next (suc left) (b ∷ bytes) h =
-    same_after (suc left) (length bytes) (order_at (suc left) (b ∷ bytes)) (orders_within (length bytes)) orders_in (order_leaves (suc left) b bytes) (λ l rest le. orders_within_enough (length bytes) (length rest) l rest le (omega arith))
+    same_after (suc left) (length bytes) (order_at (suc left) (b ∷ bytes)) (orders_within (length bytes)) run_orders_in (order_leaves (suc left) b bytes) (λ l rest le. orders_within_enough (length bytes) (length rest) l rest le (omega arith))
 
 -- the number of pixels that orders draw
 abbrev pub drawn_size : List Order → ℕ
@@ -199,7 +199,7 @@ orders_sized (suc most) (suc left) [] = tt
 orders_sized (suc most) (suc left) (b ∷ bytes) = after_sized (suc left) (length bytes) (order_at (suc left) (b ∷ bytes)) (orders_within most) (order_leaves (suc left) b bytes) (λ l rest. orders_sized most l rest)
 
 -- the orders of a stream draw just so many pixels
-pub orders_draw_all : (count : ℕ) (bytes : List ℕ) (os : List Order) → orders_in count bytes ≡ Ok os → drawn_size os ≡ count
+pub orders_draw_all : (count : ℕ) (bytes : List ℕ) (os : List Order) → run_orders_in count bytes ≡ Ok os → drawn_size os ≡ count
 orders_draw_all count bytes os e = let P : Result (List Order) (List ℕ) → Type 0 = λ r. IfOk r (λ os. drawn_size os ≡ count) in subst P e (orders_sized (length bytes) count bytes)
 
 abbrev pub IsWithin : ℕ → Result (List Order) (List ℕ) → Type 0
@@ -221,7 +221,7 @@ refused_within (suc most) (suc left) [] = omega arith
 refused_within (suc most) (suc left) (b ∷ bytes) = after_within (suc left) (length bytes) (order_at (suc left) (b ∷ bytes)) (orders_within most) (order_leaves (suc left) b bytes) (λ l rest. refused_within most l rest)
 
 -- a refused field stands within the stream, or at its end
-pub refused_is_within : (count : ℕ) (bytes refused : List ℕ) → orders_in count bytes ≡ Err refused → length refused ≤ length bytes
+pub refused_is_within : (count : ℕ) (bytes refused : List ℕ) → run_orders_in count bytes ≡ Err refused → length refused ≤ length bytes
 refused_is_within count bytes refused e = let P : Result (List Order) (List ℕ) → Type 0 = λ r. IsWithin (length bytes) r in subst P e (refused_within (length bytes) count bytes)
 
 length-background_strokes : (follows : Bool) (n : ℕ) (g f : Stroke) → length (background_strokes follows n g f) ≡ n
@@ -282,8 +282,8 @@ drawn_pixels_unique w strokes xs ys h e f = drawn_once strokes (replicate w 0) x
 
 -- the pixels that the function gives are those of the stream
 pub unrle_decompresses : (bytes : List ℕ) (w h : ℕ) (pixels : List ℕ) → unrle bytes w h ≡ Ok pixels → Decompresses bytes w h pixels
-unrle_decompresses bytes w h pixels e = by_orders (orders_in (w * h) bytes) refl e where
-  by_orders : (r : Result (List Order) (List ℕ)) → orders_in (w * h) bytes ≡ r → pixels_of_orders bytes w h r ≡ Ok pixels → Decompresses bytes w h pixels
+unrle_decompresses bytes w h pixels e = by_orders (run_orders_in (w * h) bytes) refl e where
+  by_orders : (r : Result (List Order) (List ℕ)) → run_orders_in (w * h) bytes ≡ r → pixels_of_orders bytes w h r ≡ Ok pixels → Decompresses bytes w h pixels
   by_orders (Ok os) cut e =
       let same : pixels_drawn w h (strokes_of w os) ≡ pixels = cc in
       let all : length (strokes_of w os) ≡ w * h = length-strokes_from w nothing_drawn os ∙ orders_draw_all (w * h) bytes os cut in
@@ -308,7 +308,7 @@ length-decompressed bytes w h pixels some d =
 
 -- the function refuses exactly at the place of the first bad field
 pub unrle_refuses : (bytes : List ℕ) (w h place : ℕ) → first_bad_run bytes w h ≡ Some place → unrle bytes w h ≡ Err place
-unrle_refuses bytes w h place e = by_orders (orders_in (w * h) bytes) e where
+unrle_refuses bytes w h place e = by_orders (run_orders_in (w * h) bytes) e where
   by_orders : (r : Result (List Order) (List ℕ)) → refused_place bytes r ≡ Some place → pixels_of_orders bytes w h r ≡ Err place
   by_orders (Ok os) e = cc
   by_orders (Err refused) e = cc

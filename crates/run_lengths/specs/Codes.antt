@@ -1,13 +1,13 @@
 -- The codes of run-length orders ([MS-RDPBCGR] 2.2.9.1.1.3.1.2.4), as data.
 use Rattle.std.specs.Prelude.{ℕ, ◌&&◌, nat_le, Bool, true, false, List, [], ◌∷◌, Option, Some, None, if◌then◌else◌}
-use Rattle.run_lengths.specs.declared.codes.Kind.{Kind}
-use Rattle.run_lengths.specs.declared.codes.Kind.TheVariants.{BackgroundRun, ForegroundRun, MaskImage, ColorRun, ColorImage, DitheredRun, FixedMask, FixedColor}
+use Rattle.run_lengths.specs.declared.codes.RunKind.{RunKind}
+use Rattle.run_lengths.specs.declared.codes.RunKind.TheVariants.{BackgroundRun, ForegroundRun, MaskImage, ColorRun, ColorImage, DitheredRun, FixedMask, FixedColor}
 use Rattle.run_lengths.specs.declared.codes.Length.{Length}
 use Rattle.run_lengths.specs.declared.codes.Length.TheVariants.{InCode, TwoBytes, Fixed}
 use Rattle.run_lengths.specs.declared.codes.Row.{Row}
 
 -- a row of the table: its first and last code, whether a new foreground pixel follows the length, what it draws, where its length stands
-abbrev pub row : ℕ → ℕ → Bool → Kind → Length → Row
+abbrev pub row : ℕ → ℕ → Bool → RunKind → Length → Row
 row a b sets k l = record { first = a; last = b; sets_foreground = sets; kind = k; length = l }
 
 -- the lengths of runs, of masks, and of both in the lite forms

@@ -4,14 +4,14 @@ use Rattle.byte_fields.specs.Field.{Read, then_read, map_read, given, bytes_at, 
 use Rattle.byte_fields.specs.Number.{little_at}
 use Rattle.byte_fields.specs.Pixels.{pixels_of}
 use Rattle.run_lengths.specs.Codes.{row_of, white}
-use Rattle.run_lengths.specs.declared.codes.Kind.{Kind}
+use Rattle.run_lengths.specs.declared.codes.RunKind.{RunKind}
 use Rattle.run_lengths.specs.declared.codes.Length.{Length}
 use Rattle.run_lengths.specs.declared.codes.Row.{Row}
 use Rattle.run_lengths.specs.declared.strokes.Stroke.{Stroke}
 use Rattle.run_lengths.specs.declared.strokes.Stroke.TheVariants.{Plain, Above, Crossed}
 use Rattle.run_lengths.specs.declared.codes.Before.{Before}
 use Rattle.run_lengths.specs.declared.codes.Before.TheVariants.{Other, FirstRowBackground, LaterBackground}
-use Rattle.run_lengths.specs.declared.codes.Kind.TheVariants.{BackgroundRun, ForegroundRun, MaskImage, ColorRun, ColorImage, DitheredRun, FixedMask, FixedColor}
+use Rattle.run_lengths.specs.declared.codes.RunKind.TheVariants.{BackgroundRun, ForegroundRun, MaskImage, ColorRun, ColorImage, DitheredRun, FixedMask, FixedColor}
 use Rattle.run_lengths.specs.declared.codes.Length.TheVariants.{InCode, TwoBytes, Fixed}
 
 -- ---- orders
@@ -49,7 +49,7 @@ abbrev pub mask_bits : ℕ → List ℕ → List Bool
 mask_bits n bytes = take n (flat_map (bits_of 8) bytes)
 
 -- the greatest length where so many pixels are left
-abbrev pub greatest_length : Kind → ℕ → ℕ
+abbrev pub greatest_length : RunKind → ℕ → ℕ
 greatest_length DitheredRun left = left / 2
 greatest_length BackgroundRun left = left
 greatest_length ForegroundRun left = left
@@ -71,22 +71,22 @@ length_at TwoBytes low greatest stream rest = then_read (little_at 2 rest) (λ n
 length_at (Fixed n) low greatest stream rest = length_if greatest n rest stream
 
 -- a pixel in its three bytes
-abbrev pub pixel_at : List ℕ → Read ℕ
-pixel_at bytes = little_at 3 bytes
+abbrev pub wire_pixel_at : List ℕ → Read ℕ
+wire_pixel_at bytes = little_at 3 bytes
 
 -- the foreground that an order sets
 abbrev pub foreground_at : Bool → List ℕ → Read (Option ℕ)
-foreground_at true bytes = map_read (λ c. Some c) (pixel_at bytes)
+foreground_at true bytes = map_read (λ c. Some c) (wire_pixel_at bytes)
 foreground_at false bytes = Ok (None, bytes)
 
 -- what an order of this kind and length draws; the bytes of a mask are one field, and so are the pixels of an image
-abbrev pub run_at : Kind → ℕ → List ℕ → Read Run
+abbrev pub run_at : RunKind → ℕ → List ℕ → Read Run
 run_at BackgroundRun n bytes = Ok (Background n, bytes)
 run_at ForegroundRun n bytes = Ok (Foreground n, bytes)
 run_at MaskImage n bytes = map_read (λ ms. Mask (mask_bits n ms)) (bytes_at ((n + 7) / 8) bytes)
-run_at ColorRun n bytes = map_read (λ c. Color n c) (pixel_at bytes)
+run_at ColorRun n bytes = map_read (λ c. Color n c) (wire_pixel_at bytes)
 run_at ColorImage n bytes = map_read (λ bs. Image (pixels_of bs)) (bytes_at (3 * n) bytes)
-run_at DitheredRun n bytes = then_read (pixel_at bytes) (λ a rest. map_read (λ b. Dithered n a b) (pixel_at rest))
+run_at DitheredRun n bytes = then_read (wire_pixel_at bytes) (λ a rest. map_read (λ b. Dithered n a b) (wire_pixel_at rest))
 run_at (FixedMask m) n bytes = Ok (Mask (bits_of n m), bytes)
 run_at (FixedColor c) n bytes = Ok (Color n c, bytes)
 
@@ -121,8 +121,8 @@ orders_within zero (suc left) bytes = Err bytes
 orders_within (suc most) (suc left) bytes = orders_after (suc left) (order_at (suc left) bytes) (orders_within most)
 
 -- the orders of a stream that draws so many pixels, or the bytes from the refused field on; each order has a byte at least
-abbrev pub orders_in : ℕ → List ℕ → Result (List Order) (List ℕ)
-orders_in count bytes = orders_within (length bytes) count bytes
+abbrev pub run_orders_in : ℕ → List ℕ → Result (List Order) (List ℕ)
+run_orders_in count bytes = orders_within (length bytes) count bytes
 
 -- ---- pixels
 
@@ -222,7 +222,7 @@ AreDrawn w strokes pixels = pixels ≡ drawn_over strokes (replicate w 0 ++ pixe
 -- the pixels of w by h are those of a stream
 pub record Decompresses (bytes : List ℕ) (w h : ℕ) (pixels : List ℕ) : Type 0 where
   pub orders : List Order
-  pub cut : orders_in (w * h) bytes ≡ Ok orders
+  pub cut : run_orders_in (w * h) bytes ≡ Ok orders
   pub drawn : AreDrawn w (strokes_of w orders) pixels
 
 -- a row, and then so many rows, each drawn from the one before
@@ -240,7 +240,7 @@ pixels_of_orders bytes w h (Err refused) = Err (place_in bytes refused)
 
 -- the pixels of w by h that a stream stands for, or the place of the first field that breaks its rule
 abbrev pub unrle : List ℕ → ℕ → ℕ → Result (List ℕ) ℕ
-unrle bytes w h = pixels_of_orders bytes w h (orders_in (w * h) bytes)
+unrle bytes w h = pixels_of_orders bytes w h (run_orders_in (w * h) bytes)
 
 abbrev pub refused_place : List ℕ → Result (List Order) (List ℕ) → Option ℕ
 refused_place bytes (Ok os) = None
@@ -248,4 +248,4 @@ refused_place bytes (Err refused) = Some (place_in bytes refused)
 
 -- the place of the first field of a stream of w by h pixels that breaks its rule
 abbrev pub first_bad_run : List ℕ → ℕ → ℕ → Option ℕ
-first_bad_run bytes w h = refused_place bytes (orders_in (w * h) bytes)
+first_bad_run bytes w h = refused_place bytes (run_orders_in (w * h) bytes)

@@ -2,7 +2,7 @@
 
 /// What an order draws.
 #[derive(Clone, Copy, Debug, PartialEq, Eq)]
-pub enum Kind {
+pub enum RunKind {
     /// Pixels as one row earlier, black in the first row.
     BackgroundRun,
     /// Pixels as one row earlier, exclusive-or the foreground.
@@ -42,7 +42,7 @@ pub struct Row {
     /// Whether a new foreground pixel follows the length.
     pub sets_foreground: bool,
     /// What the orders draw.
-    pub kind: Kind,
+    pub kind: RunKind,
     /// Where their length stands.
     pub length: Length,
 }

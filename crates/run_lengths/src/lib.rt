@@ -20,5 +20,5 @@
 mod codes;
 mod strokes;
 
-pub use codes::{Before, Kind, Length, Row};
+pub use codes::{Before, Length, Row, RunKind};
 pub use strokes::Stroke;

@@ -5,8 +5,9 @@ use Rattle.std.specs.Option.{option_map, option_and_then}
 use Rattle.draw_ops.specs.Fits.{first_some}
 use Rattle.draw_ops.specs.declared.shape.Shape.{Shape}
 use Rattle.draw_ops.specs.declared.shape.Drawing.{Drawing}
-use Rattle.session_rules.specs.declared.event.Event.TheVariants.{Scan, Unicode}
-use Rattle.session_rules.specs.Steps.{Step, is_same_name}
+use Rattle.input_events.specs.declared.event.Event.TheVariants.{Scan, Unicode}
+use Rattle.session_rules.specs.Steps.{Step}
+use Rattle.line_text.specs.Words.{is_same_word}
 use Rattle.session_rules.specs.Steps.Step.{JoinStep, LeaveStep, InputStep, DrawStep, RefreshStep, SuppressStep, TakeStep}
 use Rattle.line_text.specs.Numbers.{number_up_to}
 use Rattle.line_text.specs.Hexadecimal.{hexadecimal_of}
@@ -184,7 +185,7 @@ step_forms_are = (
 
 step_in_is : (forms : List Form) (v : ℕ) (word : List ℕ) (words : List (List ℕ)) → AreOfTheirViewers forms → IsOf v (step_in forms v word words)
 step_in_is [] v word words are = tt
-step_in_is (f ∷ forms) v word words are = by (is_same_name word f.word) (step_in_is forms v word words are.1)
+step_in_is (f ∷ forms) v word words are = by (is_same_word word f.word) (step_in_is forms v word words are.1)
   where
     by : (t : Bool) → IsOf v (step_in forms v word words) → IsOf v (if t then f.reads v words else step_in forms v word words)
     by true rest = are.0 v words
@@ -213,7 +214,7 @@ invite_form_is : (words : List (List ℕ)) → IsGood (invite_form words)
 invite_form_is [] = tt
 invite_form_is (word ∷ []) = tt
 invite_form_is (word ∷ name ∷ []) = tt
-invite_form_is (word ∷ name ∷ role ∷ []) = by (is_same_name word (codes "invite") && is_word name)
+invite_form_is (word ∷ name ∷ role ∷ []) = by (is_same_word word (codes "invite") && is_word name)
   where
     by : (t : Bool) → IsGood (if t then option_map (InviteForm name) (role_named role) else None)
     by true = mapped IsFormOfItsViewer (InviteForm name) (role_named role) (λ r. tt)
@@ -224,7 +225,7 @@ join_form_is : (words : List (List ℕ)) → IsGood (join_form words)
 join_form_is [] = tt
 join_form_is (word ∷ []) = tt
 join_form_is (word ∷ name ∷ []) = tt
-join_form_is (word ∷ name ∷ preset ∷ words) = by (is_same_name word (codes "join") && are_words (name ∷ preset ∷ words))
+join_form_is (word ∷ name ∷ preset ∷ words) = by (is_same_word word (codes "join") && are_words (name ∷ preset ∷ words))
   where
     by : (t : Bool) → IsGood (if t then Some (JoinForm name (preset ∷ words)) else None)
     by true = tt

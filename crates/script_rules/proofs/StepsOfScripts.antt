@@ -12,14 +12,14 @@ use Rattle.caps_sets.specs.declared.cache_size.CacheSize.{CacheSize}
 use Rattle.caps_sets.specs.Confirmed.{plain, with_bitmap_cache, with_glyph_cache}
 use Rattle.draw_ops.specs.Fits.{first_some}
 use Rattle.line_text.specs.Lines.{Line, line_bytes, lines_of}
-use Rattle.line_text.specs.Words.{words_of, parts_at}
+use Rattle.line_text.specs.Words.{words_of, parts_at, is_same_word}
 use Rattle.line_text.specs.Numbers.{number_of}
 use Rattle.frame_rules.specs.Describes.{HasAllCaches}
 use Rattle.session_rules.specs.Journal.{Head, Row, is_present}
-use Rattle.session_rules.specs.Steps.{Step, Play, play_at_first, outcome, is_same_name}
+use Rattle.session_rules.specs.Steps.{Step, Play, play_at_first, outcome}
 use Rattle.session_rules.specs.Steps.Step.{JoinStep, LeaveStep, InputStep, DrawStep, RefreshStep, SuppressStep, TakeStep}
-use Rattle.script_rules.specs.Presets.{Preset, presets, first_presets, preset_named, size_by, with_cache, overridden, overridden_by, confirmed_by}
-use Rattle.script_rules.specs.Script.{Grammar, whole_grammar, first_grammar, Asked, Script, Reading, LineForm, LineOutcome, Opening, without_preset, broken_if}
+use Rattle.caps_sets.specs.Presets.{Preset, presets, preset_named, size_by, with_cache, overridden, overridden_by, confirmed_by}
+use Rattle.script_rules.specs.Script.{Grammar, whole_grammar, first_grammar, Asked, Script, ScriptReading, LineForm, LineOutcome, Opening, without_preset, broken_if, first_presets}
 use Rattle.script_rules.specs.Script.{unless_broken, join_outcome, form_outcome, line_outcome, line_form, is_name, is_invited, row_limit, finds_too_many}
 use Rattle.script_rules.specs.Script.{order_rule, name_rule, presence_rule, pending_rule, text_rule, breaks_text_rule, refused_at, with_asked, with_row}
 use Rattle.script_rules.specs.Script.{after_step, proceeding, script_from, size_with, size_of_words, opened_reading, begins_with_invite, solo_rows, solo_join}
@@ -49,7 +49,7 @@ presets_have = (
 )
 
 with_cache_has : (c : Confirmed) (kind : List ℕ) (cache : ℕ) (size : CacheSize) → HasAllCaches c → IfSome (with_cache c kind cache size) HasAllCaches
-with_cache_has c kind cache size h = by (is_same_name kind (codes "bc") && nat_le cache 2) (is_same_name kind (codes "gc") && nat_le cache 9)
+with_cache_has c kind cache size h = by (is_same_word kind (codes "bc") && nat_le cache 2) (is_same_word kind (codes "gc") && nat_le cache 9)
   where
     by : (b g : Bool) → IfSome (if b then Some (with_bitmap_cache cache size c) else (if g then Some (with_glyph_cache cache size c) else None)) HasAllCaches
     by true g = record { bitmaps = length-set c.bitmaps cache size ∙ h.bitmaps; glyphs = h.glyphs }
@@ -78,7 +78,7 @@ overridden_by_has c (word ∷ words) h = by (overridden c word) (overridden_has 
 
 preset_has : (ps : List Preset) (word : List ℕ) → HaveAllCaches ps → IfSome (preset_named ps word) HasAllCaches
 preset_has [] word h = tt
-preset_has (p ∷ ps) word h = by (is_same_name word p.word) (preset_has ps word h.1)
+preset_has (p ∷ ps) word h = by (is_same_word word p.word) (preset_has ps word h.1)
   where
     by : (t : Bool) → IfSome (preset_named ps word) HasAllCaches → IfSome (if t then Some p.confirmed else preset_named ps word) HasAllCaches
     by true rest = h.0
@@ -95,7 +95,7 @@ confirmed_has ps (word ∷ words) h = by (preset_named ps word) (preset_has ps w
 -- ---- a line
 
 -- rows are invited before the first step, and a step is by a present viewer or a join
-abbrev Keeps : Reading → LineOutcome → Type 0
+abbrev Keeps : ScriptReading → LineOutcome → Type 0
 Keeps r (Breaks rule) = ⊤
 Keeps r (Invites row) = r.begun ≡ false
 Keeps r (Asks a) = IsTrue (is_by_present_viewer r.play a.step) × HasAllCaches a.confirmed
@@ -109,11 +109,11 @@ present_is p v (RefreshStep u rect) of h = subst (λ w. IsTrue (is_present w p.r
 present_is p v (SuppressStep u stop) of h = subst (λ w. IsTrue (is_present w p.reached.viewers)) (sym of) h
 present_is p v (TakeStep u) of h = subst (λ w. IsTrue (is_present w p.reached.viewers)) (sym of) h
 
-joins : (r : Reading) (name : List ℕ) (words : List (List ℕ)) (o : Option Confirmed) → IfSome o HasAllCaches → Keeps r (join_outcome name words o)
+joins : (r : ScriptReading) (name : List ℕ) (words : List (List ℕ)) (o : Option Confirmed) → IfSome o HasAllCaches → Keeps r (join_outcome name words o)
 joins r name words None h = tt
 joins r name words (Some c) h = (refl, h)
 
-form_keeps : (g : Grammar) (r : Reading) (o : Option LineForm) → HaveAllCaches g.presets → IfSome o IsFormOfItsViewer → Keeps r (form_outcome g r o)
+form_keeps : (g : Grammar) (r : ScriptReading) (o : Option LineForm) → HaveAllCaches g.presets → IfSome o IsFormOfItsViewer → Keeps r (form_outcome g r o)
 form_keeps g r None have is = tt
 form_keeps g r (Some (InviteForm name role)) have is =
     by r.begun refl (not (is_name name) || (is_invited name r.head.rows || nat_le row_limit (length r.head.rows)))
@@ -136,7 +136,7 @@ form_keeps g r (Some (StepForm v step)) have is = by (is_present v r.play.reache
     by true e true = tt
     by true e false = (present_is r.play v step is e, has_plain)
 
-line_keeps : (g : Grammar) (at : ℕ) (r : Reading) (line : Line) → HaveAllCaches g.presets → AreOfTheirViewers g.forms → Keeps r (line_outcome g at r line)
+line_keeps : (g : Grammar) (at : ℕ) (r : ScriptReading) (line : Line) → HaveAllCaches g.presets → AreOfTheirViewers g.forms → Keeps r (line_outcome g at r line)
 line_keeps g at r line have are = by (breaks_text_rule at line)
   where
     by : (b : Bool) → Keeps r (unless_broken (broken_if b text_rule) (form_outcome g r (line_form g (words_of line.text))))
@@ -146,13 +146,13 @@ line_keeps g at r line have are = by (breaks_text_rule at line)
 -- ---- the lines of a script
 
 -- what is asked from a reading on: its head is the reading's where a step has stood
-record KeepsPremises (r : Reading) (s : Script) : Type 0 where
+record KeepsPremises (r : ScriptReading) (s : Script) : Type 0 where
   head : r.begun ≡ true → s.head ≡ r.head
   size : s.head.size ≡ r.head.size
   present : AreByPresentFrom s.head r.play s.asked
   caches : ConfirmAllCaches s.asked
 
-asks_on : (r : Reading) (a : Asked) (s : Script) → IsTrue (is_by_present_viewer r.play a.step) → HasAllCaches a.confirmed → KeepsPremises (after_step r a.step) s
+asks_on : (r : ScriptReading) (a : Asked) (s : Script) → IsTrue (is_by_present_viewer r.play a.step) → HasAllCaches a.confirmed → KeepsPremises (after_step r a.step) s
     → KeepsPremises r (with_asked a s)
 asks_on r a s by has rest = record {
   head = λ begun. rest.head refl;
@@ -161,7 +161,7 @@ asks_on r a s by has rest = record {
   caches = (has, rest.caches);
 }
 
-outcome_keeps_premises : (r : Reading) (k : ℕ) (o : LineOutcome) (others : Reading → Script) → Keeps r o → ((next : Reading) → KeepsPremises next (others next))
+outcome_keeps_premises : (r : ScriptReading) (k : ℕ) (o : LineOutcome) (others : ScriptReading → Script) → Keeps r o → ((next : ScriptReading) → KeepsPremises next (others next))
     → KeepsPremises r (proceeding r k o others)
 outcome_keeps_premises r k (Breaks rule) others keeps rest = record { head = λ begun. refl; size = refl; present = tt; caches = tt }
 outcome_keeps_premises r k (Invites row) others keeps rest =
@@ -169,7 +169,7 @@ outcome_keeps_premises r k (Invites row) others keeps rest =
     record { head = λ begun. absurd (cc (sym keeps ∙ begun)); size = next.size; present = next.present; caches = next.caches }
 outcome_keeps_premises r k (Asks a) others keeps rest = asks_on r a (others (after_step r a.step)) keeps.0 keeps.1 (rest (after_step r a.step))
 
-lines_keep_premises : (g : Grammar) (k at : ℕ) (r : Reading) (lines : List Line) → HaveAllCaches g.presets → AreOfTheirViewers g.forms
+lines_keep_premises : (g : Grammar) (k at : ℕ) (r : ScriptReading) (lines : List Line) → HaveAllCaches g.presets → AreOfTheirViewers g.forms
     → KeepsPremises r (script_from g k at r lines)
 lines_keep_premises g k at r [] have are = record { head = λ begun. refl; size = refl; present = tt; caches = tt }
 lines_keep_premises g k at r (line ∷ lines) have are =
@@ -222,7 +222,7 @@ words_have_size : (words : List (List ℕ)) → IfSome (size_of_words words) (λ
 words_have_size [] = tt
 words_have_size (word ∷ []) = tt
 words_have_size (word ∷ w ∷ []) = tt
-words_have_size (word ∷ w ∷ h ∷ []) = by (is_same_name word (codes "size"))
+words_have_size (word ∷ w ∷ h ∷ []) = by (is_same_word word (codes "size"))
   where
     by : (b : Bool)
         → IfSome (if b then option_and_then (λ m. option_and_then (λ n. size_with m n) (number_of h)) (number_of w) else None)

@@ -9,15 +9,15 @@ use Rattle.std.specs.Char.{is_ascii_digit}
 use Rattle.px_core.specs.declared.surface.Size.{Size}
 use Rattle.caps_sets.specs.declared.confirmed.Confirmed.{Confirmed}
 use Rattle.line_text.specs.Lines.{Line, line_feed, lines_of}
-use Rattle.line_text.specs.Words.{words_of}
+use Rattle.line_text.specs.Words.{words_of, is_same_word}
 use Rattle.line_text.specs.Numbers.{number_of, number_up_to}
 use Rattle.line_text.specs.Hexadecimal.{hexadecimals_of, hexadecimal_text}
 use Rattle.session_rules.specs.Journal.{Refusal}
 use Rattle.session_rules.specs.Journal.Refusal.{NotInvited, RoomFull, JoinsSpent, NotHolder, BadDrawing, EmptySlot, SlotSize, JournalFull, Unfit}
-use Rattle.session_rules.specs.Steps.{Step, Answer, is_same_name}
+use Rattle.session_rules.specs.Steps.{Step, Answer}
 use Rattle.session_rules.specs.Steps.Step.{JoinStep, LeaveStep, InputStep, DrawStep, RefreshStep, SuppressStep, TakeStep}
 use Rattle.session_rules.specs.Steps.Answer.{Joined, Left, Accepted, Refused, Nothing, Frame}
-use Rattle.script_rules.specs.Presets.{presets, confirmed_by}
+use Rattle.caps_sets.specs.Presets.{presets, confirmed_by}
 use Rattle.script_rules.specs.Script.{Asked, LineRefusal, all_bytes, size_with, viewer_limit}
 
 -- ---- lines that are written
@@ -110,26 +110,26 @@ joined_words v words = None
 
 -- a word with a number in a range
 abbrev pub is_counted : List ℕ → ℕ → ℕ → List ℕ → List ℕ → Bool
-is_counted wanted least most word count = is_same_name word wanted && is_some (number_between least most count)
+is_counted wanted least most word count = is_same_word word wanted && is_some (number_between least most count)
 
 -- the words of a refusal of a viewer's step
 abbrev pub is_step_refusal : List (List ℕ) → Bool
-is_step_refusal (word ∷ []) = is_same_name word (codes "journal-full")
+is_step_refusal (word ∷ []) = is_same_word word (codes "journal-full")
 is_step_refusal (word ∷ count ∷ []) = (is_counted (codes "not-holder") 0 65535 word count || is_counted (codes "bad-drawing") 1 9 word count)
     || (is_counted (codes "empty-slot") 0 255 word count || is_counted (codes "slot-size") 0 255 word count)
 is_step_refusal words = false
 
 -- the words of a refusal of a join
 abbrev pub is_join_refusal : List (List ℕ) → Bool
-is_join_refusal (word ∷ []) = is_same_name word (codes "not-invited") || (is_same_name word (codes "room-full") || is_same_name word (codes "joins-spent"))
+is_join_refusal (word ∷ []) = is_same_word word (codes "not-invited") || (is_same_word word (codes "room-full") || is_same_word word (codes "joins-spent"))
 is_join_refusal words = false
 
 -- what stands after a viewer's number
 abbrev pub viewer_line : ℕ → List (List ℕ) → Option CaptureLine
 viewer_line v [] = None
-viewer_line v (word ∷ []) = if is_same_name word (codes "left") || is_same_name word (codes "nothing") then Some (OtherLine v) else option_map (BytesLine v) (bytes_word word)
-viewer_line v (word ∷ next ∷ words) = if is_same_name word (codes "joined") then joined_words v (next ∷ words)
-    else then_some (is_same_name word (codes "refused") && is_step_refusal (next ∷ words)) (OtherLine v)
+viewer_line v (word ∷ []) = if is_same_word word (codes "left") || is_same_word word (codes "nothing") then Some (OtherLine v) else option_map (BytesLine v) (bytes_word word)
+viewer_line v (word ∷ next ∷ words) = if is_same_word word (codes "joined") then joined_words v (next ∷ words)
+    else then_some (is_same_word word (codes "refused") && is_step_refusal (next ∷ words)) (OtherLine v)
 
 -- the greatest rule of a script's line that a capture may name
 abbrev pub greatest_rule : ℕ
@@ -140,13 +140,13 @@ abbrev pub greatest_line : ℕ
 greatest_line = 4294967295
 
 abbrev pub is_broken_line : List (List ℕ) → Bool
-is_broken_line (line ∷ k ∷ rule ∷ r ∷ []) = (is_same_name line (codes "line") && is_some (number_between 1 greatest_line k)) && is_counted (codes "rule") 1 greatest_rule rule r
+is_broken_line (line ∷ k ∷ rule ∷ r ∷ []) = (is_same_word line (codes "line") && is_some (number_between 1 greatest_line k)) && is_counted (codes "rule") 1 greatest_rule rule r
 is_broken_line words = false
 
 abbrev pub is_nobody_line : List (List ℕ) → Bool
 is_nobody_line [] = false
 is_nobody_line (zero_word ∷ []) = false
-is_nobody_line (zero_word ∷ word ∷ words) = is_same_name zero_word (codes "0") && (is_same_name word (codes "refused") && is_join_refusal words)
+is_nobody_line (zero_word ∷ word ∷ words) = is_same_word zero_word (codes "0") && (is_same_word word (codes "refused") && is_join_refusal words)
 
 abbrev pub said_of_viewer : List (List ℕ) → Option CaptureLine
 said_of_viewer [] = None

@@ -7,13 +7,12 @@ use Rattle.std.specs.Option.{option_map, option_and_then}
 use Rattle.px_core.specs.declared.rectangle.Rect.{Rect}
 use Rattle.px_core.specs.Picture.{nat_of}
 use Rattle.px_core.specs.Rectangle.{boxed}
-use Rattle.line_text.specs.Words.{parts_at}
+use Rattle.line_text.specs.Words.{parts_at, is_same_word}
 use Rattle.line_text.specs.Numbers.{number_up_to, coordinate_of, coordinate_limit}
 use Rattle.line_text.specs.Hexadecimal.{hexadecimal_of, hexadecimals_of}
 use Rattle.draw_ops.specs.declared.shape.Shape.{Shape}
 use Rattle.draw_ops.specs.declared.shape.Shape.TheVariants.{Fill, Dst, Pat, Copy, Blit, Blit3, Text, Line, Save, Restore, LoadImage, LoadBrush, LoadGlyph}
 use Rattle.draw_ops.specs.declared.shape.Drawing.{Drawing}
-use Rattle.session_rules.specs.Steps.{is_same_name}
 
 -- a coordinate, which may have a minus sign; a count of at most 65,535; a small number of at most 255; so many hexadecimal digits
 pub data Field : Type 0 where
@@ -102,7 +101,7 @@ abbrev pub pair_of : List ℕ → Option (ℕ × ℕ)
 pair_of word = pair_by (parts_at 58 word)
 
 abbrev pub is_clip_word : List ℕ → Bool
-is_clip_word word = is_same_name word (codes "clip")
+is_clip_word word = is_same_word word (codes "clip")
 
 -- the pairs of a run up to a clip, and the words from it on
 pub record Pairs : Type 0 where

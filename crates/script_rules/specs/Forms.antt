@@ -8,8 +8,9 @@ use Rattle.line_text.specs.Numbers.{number_up_to}
 use Rattle.line_text.specs.Hexadecimal.{hexadecimal_of}
 use Rattle.draw_ops.specs.declared.shape.Shape.{Shape}
 use Rattle.draw_ops.specs.declared.shape.Drawing.{Drawing}
-use Rattle.session_rules.specs.declared.event.Event.TheVariants.{Scan, Unicode, Mouse}
-use Rattle.session_rules.specs.Steps.{Step, is_same_name}
+use Rattle.input_events.specs.declared.event.Event.TheVariants.{Scan, Unicode, Mouse}
+use Rattle.session_rules.specs.Steps.{Step}
+use Rattle.line_text.specs.Words.{is_same_word}
 use Rattle.session_rules.specs.Steps.Step.{LeaveStep, InputStep, DrawStep, RefreshStep, SuppressStep, TakeStep}
 use Rattle.script_rules.specs.Fields.{Field, values_of, rect_fields, rect_of, with_clip, without_clip, pairs_of, text_by, fill_by, dst_by, pat_by, copy_by, blit_by, blit3_by, line_by, save_by, restore_by, image_by, brush_by, glyph_by}
 use Rattle.script_rules.specs.Fields.Field.{Coordinate, Count, Small, Digits}
@@ -52,7 +53,7 @@ alone make v [] = Some (make v)
 alone make v (word ∷ words) = None
 
 abbrev pub is_up : List ℕ → Option Bool
-is_up word = if is_same_name word (codes "down") then Some false else (if is_same_name word (codes "up") then Some true else None)
+is_up word = if is_same_word word (codes "down") then Some false else (if is_same_word word (codes "up") then Some true else None)
 
 abbrev pub key_step : ℕ → List (List ℕ) → Option Step
 key_step v (code ∷ direction ∷ []) = option_and_then (λ c. option_map (λ up. InputStep v (Scan c up)) (is_up direction)) (hexadecimal_of 2 code)
@@ -120,4 +121,4 @@ first_forms =
 -- the step of the form with this first word
 abbrev pub step_in : List Form → ℕ → List ℕ → List (List ℕ) → Option Step
 step_in [] v word words = None
-step_in (f ∷ forms) v word words = if is_same_name word f.word then f.reads v words else step_in forms v word words
+step_in (f ∷ forms) v word words = if is_same_word word f.word then f.reads v words else step_in forms v word words

@@ -1,6 +1,5 @@
 pub mod Fields
 pub mod Forms
-pub mod Presets
 pub mod Script
 pub mod Capture
 pub mod CaptureText

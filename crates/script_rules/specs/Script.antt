@@ -11,17 +11,17 @@ use Rattle.px_core.specs.Rectangle.{is_session_size}
 use Rattle.caps_sets.specs.declared.confirmed.Confirmed.{Confirmed}
 use Rattle.caps_sets.specs.Confirmed.{plain}
 use Rattle.line_text.specs.Lines.{Line, line_bytes, lines_of, is_past_limits}
-use Rattle.line_text.specs.Words.{words_of}
+use Rattle.line_text.specs.Words.{words_of, is_same_word}
 use Rattle.line_text.specs.Numbers.{number_of, number_up_to}
 use Rattle.session_rules.specs.declared.entry.Role.{Role}
 use Rattle.session_rules.specs.declared.entry.Role.TheVariants.{Owner, Control, View}
 use Rattle.session_rules.specs.Journal.{Head, Row, is_present}
-use Rattle.session_rules.specs.Steps.{Step, Answer, Play, play_at_first, outcome, answer_of_step, is_same_name, row_role}
+use Rattle.session_rules.specs.Steps.{Step, Answer, Play, play_at_first, outcome, answer_of_step, row_role}
 use Rattle.session_rules.specs.Steps.Answer.{Joined, Left, Accepted, Refused, Nothing, Frame}
 use Rattle.session_rules.specs.Steps.Step.{JoinStep, LeaveStep, InputStep, DrawStep, RefreshStep, SuppressStep, TakeStep}
 use Rattle.draw_ops.specs.Fits.{first_some}
 use Rattle.script_rules.specs.Forms.{Form, step_forms, first_forms, step_in}
-use Rattle.script_rules.specs.Presets.{Preset, presets, first_presets, confirmed_by}
+use Rattle.caps_sets.specs.Presets.{Preset, preset, presets, confirmed_by}
 
 -- which scripts a program reads: the forms of steps, the presets, whether `invite`, `join` and `@V ` are read, and the most
 -- drawings that a take may find, where there is a bound
@@ -35,6 +35,10 @@ pub record Grammar : Type 0 where
 abbrev pub whole_grammar : Grammar
 whole_grammar = record { forms = step_forms; presets = presets; several_viewers = true; most_pending = None }
 
+-- the presets that the program reads today
+abbrev pub first_presets : List Preset
+first_presets = preset (codes "plain") plain ∷ []
+
 -- what the program reads today: solo scripts with fills and takes
 abbrev pub first_grammar : Grammar
 first_grammar = record { forms = first_forms; presets = first_presets; several_viewers = false; most_pending = Some 256 }
@@ -47,8 +51,8 @@ pub data LineForm : Type 0 where
   StepForm : ℕ → Step → LineForm
 
 abbrev pub role_named : List ℕ → Option Role
-role_named word = if is_same_name word (codes "owner") then Some Owner
-    else (if is_same_name word (codes "control") then Some Control else (if is_same_name word (codes "view") then Some View else None))
+role_named word = if is_same_word word (codes "owner") then Some Owner
+    else (if is_same_word word (codes "control") then Some Control else (if is_same_word word (codes "view") then Some View else None))
 
 -- a word has a byte: two spaces one after the other, or one at a line's edge, leave an empty word, which no form has
 abbrev pub is_word : List ℕ → Bool
@@ -61,12 +65,12 @@ are_words (word ∷ words) = is_word word && are_words words
 
 abbrev pub invite_form : List (List ℕ) → Option LineForm
 invite_form (word ∷ name ∷ role ∷ []) =
-    if is_same_name word (codes "invite") && is_word name then option_map (InviteForm name) (role_named role) else None
+    if is_same_word word (codes "invite") && is_word name then option_map (InviteForm name) (role_named role) else None
 invite_form words = None
 
 abbrev pub join_form : List (List ℕ) → Option LineForm
 join_form (word ∷ name ∷ preset ∷ words) =
-    if is_same_name word (codes "join") && are_words (name ∷ preset ∷ words) then Some (JoinForm name (preset ∷ words)) else None
+    if is_same_word word (codes "join") && are_words (name ∷ preset ∷ words) then Some (JoinForm name (preset ∷ words)) else None
 join_form words = None
 
 abbrev pub step_form : List Form → ℕ → List (List ℕ) → Option LineForm
@@ -127,7 +131,7 @@ without_preset step = record { step = step; preset = []; confirmed = plain }
 
 -- how far a script has been read: its size and rows, whether a step has stood, the session after the steps, and how many
 -- drawings each viewer's last take had found
-pub record Reading : Type 0 where
+pub record ScriptReading : Type 0 where
   pub head : Head
   pub begun : Bool
   pub play : Play
@@ -188,7 +192,7 @@ exceeds None n = false
 exceeds (Some most) n = nat_lt most n
 
 -- whether a step is a take that finds too many drawings
-abbrev pub finds_too_many : Grammar → Reading → Step → Bool
+abbrev pub finds_too_many : Grammar → ScriptReading → Step → Bool
 finds_too_many g r (TakeStep v) = exceeds g.most_pending (r.play.reached.state.surface.count - r.found v)
 finds_too_many g r (JoinStep name) = false
 finds_too_many g r (LeaveStep v) = false
@@ -201,7 +205,7 @@ abbrev pub join_outcome : List ℕ → List (List ℕ) → Option Confirmed → 
 join_outcome name words None = Breaks preset_rule
 join_outcome name words (Some c) = Asks (record { step = JoinStep name; preset = words; confirmed = c })
 
-abbrev pub form_outcome : Grammar → Reading → Option LineForm → LineOutcome
+abbrev pub form_outcome : Grammar → ScriptReading → Option LineForm → LineOutcome
 form_outcome g r None = Breaks form_rule
 form_outcome g r (Some (InviteForm name role)) = unless_broken (first_some (broken_if r.begun order_rule
     ∷ broken_if (not (is_name name) || (is_invited name r.head.rows || nat_le row_limit (length r.head.rows))) name_rule ∷ []))
@@ -217,7 +221,7 @@ is_ascii b = nat_lt b 128
 abbrev pub breaks_text_rule : ℕ → Line → Bool
 breaks_text_rule at line = is_past_limits at line || not (line.ended && all_bytes is_ascii line.text)
 
-abbrev pub line_outcome : Grammar → ℕ → Reading → Line → LineOutcome
+abbrev pub line_outcome : Grammar → ℕ → ScriptReading → Line → LineOutcome
 line_outcome g at r line = unless_broken (broken_if (breaks_text_rule at line) text_rule) (form_outcome g r (line_form g (words_of line.text)))
 
 -- ---- the lines after the first
@@ -233,23 +237,23 @@ pub record Script : Type 0 where
   pub asked : List Asked
   pub refusal : Option LineRefusal
 
-abbrev pub refused_at : Reading → ℕ → ℕ → Script
+abbrev pub refused_at : ScriptReading → ℕ → ℕ → Script
 refused_at r line rule = record { head = r.head; asked = []; refusal = Some (record { line = line; rule = rule }) }
 
-abbrev pub ended_at : Reading → Script
+abbrev pub ended_at : ScriptReading → Script
 ended_at r = record { head = r.head; asked = []; refusal = None }
 
 abbrev pub with_asked : Asked → Script → Script
 with_asked a s = record s { asked = a ∷ s.asked }
 
-abbrev pub with_row : Reading → Row → Reading
+abbrev pub with_row : ScriptReading → Row → ScriptReading
 with_row r row = record r { head = record r.head { rows = r.head.rows ++ row ∷ [] } }
 
 abbrev pub replaced : ℕ → ℕ → (ℕ → ℕ) → ℕ → ℕ
 replaced v n f u = if u == v then n else f u
 
 -- the drawings that each viewer's last take has found, after a step of a viewer that is answered: a take without a frame finds none
-abbrev pub found_after : Reading → Step → Answer → ℕ → ℕ
+abbrev pub found_after : ScriptReading → Step → Answer → ℕ → ℕ
 found_after r (TakeStep v) (Frame take) = replaced v r.play.reached.state.surface.count r.found
 found_after r (TakeStep v) Nothing = r.found
 found_after r (TakeStep v) (Joined u) = r.found
@@ -263,22 +267,22 @@ found_after r (DrawStep v d) answer = r.found
 found_after r (RefreshStep v rect) answer = r.found
 found_after r (SuppressStep v stop) answer = r.found
 
-abbrev pub after_step : Reading → Step → Reading
+abbrev pub after_step : ScriptReading → Step → ScriptReading
 after_step r step = record { head = r.head; begun = true; play = (outcome r.head r.play step).play; found = found_after r step (answer_of_step r.head r.play step) }
 
 -- what a line's outcome makes of the reading, where it goes on
-abbrev pub reading_after : Reading → LineOutcome → Option Reading
+abbrev pub reading_after : ScriptReading → LineOutcome → Option ScriptReading
 reading_after r (Breaks rule) = None
 reading_after r (Invites row) = Some (with_row r row)
 reading_after r (Asks a) = Some (after_step r a.step)
 
-abbrev pub proceeding : Reading → ℕ → LineOutcome → (Reading → Script) → Script
+abbrev pub proceeding : ScriptReading → ℕ → LineOutcome → (ScriptReading → Script) → Script
 proceeding r k (Breaks rule) others = refused_at r k rule
 proceeding r k (Invites row) others = others (with_row r row)
 proceeding r k (Asks a) others = with_asked a (others (after_step r a.step))
 
 -- the lines from the k-th on, which begins at a place of the script
-abbrev pub script_from : Grammar → ℕ → ℕ → Reading → List Line → Script
+abbrev pub script_from : Grammar → ℕ → ℕ → ScriptReading → List Line → Script
 script_from g k at r [] = ended_at r
 script_from g k at r (line ∷ lines) = proceeding r k (line_outcome g at r line) (λ next. script_from g (k + 1) (at + length (line_bytes line)) next lines)
 
@@ -288,7 +292,7 @@ abbrev pub size_with : ℕ → ℕ → Option Size
 size_with w h = then_some (is_session_size w h) (record { w = w; h = h })
 
 abbrev pub size_of_words : List (List ℕ) → Option Size
-size_of_words (word ∷ w ∷ h ∷ []) = if is_same_name word (codes "size")
+size_of_words (word ∷ w ∷ h ∷ []) = if is_same_word word (codes "size")
     then option_and_then (λ m. option_and_then (λ n. size_with m n) (number_of h)) (number_of w) else None
 size_of_words words = None
 
@@ -297,7 +301,7 @@ abbrev pub begins_with_invite : ℕ → List Line → Bool
 begins_with_invite at [] = false
 begins_with_invite at (line ∷ lines) = not (is_past_limits at line) && is_some (invite_form (words_of line.text))
 
-abbrev pub opened_reading : Size → List Row → Reading
+abbrev pub opened_reading : Size → List Row → ScriptReading
 opened_reading size rows = record { head = record { size = size; rows = rows }; begun = false; play = play_at_first size; found = λ v. 0 }
 
 -- the one viewer of a solo script

@@ -6,8 +6,8 @@ use Rattle.px_core.specs.Rectangle.{boxed, whole}
 use Rattle.px_core.specs.Tiles.{tiles_in}
 use Rattle.draw_ops.specs.declared.shape.Drawing.{Drawing}
 use Rattle.draw_ops.specs.declared.shape.Shape.TheVariants.{Fill, Line, Save, Restore, LoadImage, Text}
-use Rattle.session_rules.specs.declared.event.Event.{Event}
-use Rattle.session_rules.specs.declared.event.Event.TheVariants.{Scan, Unicode, Mouse}
+use Rattle.input_events.specs.declared.event.Event.{Event}
+use Rattle.input_events.specs.declared.event.Event.TheVariants.{Scan, Unicode, Mouse}
 use Rattle.session_rules.specs.declared.entry.Role.TheVariants.{Owner, Control, View}
 use Rattle.session_rules.specs.declared.entry.Entry.{Entry}
 use Rattle.session_rules.specs.declared.entry.Entry.TheVariants.{Join, Leave, Give, Input, Draw}

@@ -5,14 +5,15 @@ use Rattle.std.proofs.lemmas.Bool.{and_from, and_parts, eqb-true}
 use Rattle.draw_ops.specs.declared.shape.Drawing.{Drawing}
 use Rattle.draw_ops.specs.Fits.{first_some, broken_rule, slot_misfit, FitsState, Misfit}
 use Rattle.draw_ops.specs.Fits.Misfit.{Rule}
-use Rattle.session_rules.specs.declared.event.Event.{Event}
+use Rattle.input_events.specs.declared.event.Event.{Event}
 use Rattle.session_rules.specs.declared.entry.Role.{Role}
 use Rattle.session_rules.specs.declared.entry.Role.TheVariants.{Owner, Control, View}
 use Rattle.session_rules.specs.declared.entry.Entry.{Entry}
 use Rattle.session_rules.specs.declared.entry.Entry.TheVariants.{Join, Leave, Give, Input, Draw}
 use Rattle.session_rules.specs.Journal.{Head, Row, Reached, Refusal, unless, refusal_of, entry_tests, drawing_tests, misfit_refusal, names_board_slot, holds, may_give, next_of, is_owner_here, role_of, has_role, is_same_role, are_legal_after, reached_after_entry, is_f12, is_entry_in_range, IsLegalJournal}
 use Rattle.session_rules.specs.Journal.Refusal.{BadDrawing, NotHolder, Unfit}
-use Rattle.session_rules.specs.Steps.{Answer, Play, Effect, play_at_first, entered, effect_of, outcome, outcome_of, entries_from, receiver_of, is_release, input_effect, join_effect, row_role, is_same_name, name_of_role, step_of_entry, steps_of_journal, journal_of_steps, is_new_name, are_names_distinct}
+use Rattle.session_rules.specs.Steps.{Answer, Play, Effect, play_at_first, entered, effect_of, outcome, outcome_of, entries_from, receiver_of, is_release, input_effect, join_effect, row_role, name_of_role, step_of_entry, steps_of_journal, journal_of_steps, is_new_name, are_names_distinct}
+use Rattle.line_text.specs.Words.{is_same_word}
 use Rattle.session_rules.specs.Steps.Answer.{Joined, Left, Accepted}
 use Rattle.session_rules.specs.Steps.Effect.{Enters, Answers}
 
@@ -58,7 +59,7 @@ holds-legal_input head r by e h = unless-none (holds r by) (NotHolder r.holder) 
 
 -- ---- each role's first row is found by its name, where names are distinct
 
-same_name-self : (name : List ℕ) → is_same_name name name ≡ true
+same_name-self : (name : List ℕ) → is_same_word name name ≡ true
 same_name-self [] = refl
 same_name-self (b ∷ bs) = and_from _ _ (eq-eqb b b refl) (same_name-self bs)
 
@@ -73,16 +74,16 @@ same_role-≡ View Owner h = absurd (cc h)
 same_role-≡ View Control h = absurd (cc h)
 same_role-≡ View View h = refl
 
-same_name-≡ : (a b : List ℕ) → is_same_name a b ≡ true → a ≡ b
+same_name-≡ : (a b : List ℕ) → is_same_word a b ≡ true → a ≡ b
 same_name-≡ [] [] h = refl
 same_name-≡ [] (y ∷ ys) h = absurd (cc h)
 same_name-≡ (x ∷ xs) [] h = absurd (cc h)
-same_name-≡ (x ∷ xs) (y ∷ ys) h = let k = and_parts (x == y) (is_same_name xs ys) h in rw (eqb-true x y k.0, same_name-≡ xs ys k.1) refl
+same_name-≡ (x ∷ xs) (y ∷ ys) h = let k = and_parts (x == y) (is_same_word xs ys) h in rw (eqb-true x y k.0, same_name-≡ xs ys k.1) refl
 
 found_later : (role : Role) (row : Row) (rows : List Row) (name : List ℕ) → is_new_name row.name rows ≡ true → row_role name rows ≡ Some role → row_role name (row ∷ rows) ≡ Some role
-found_later role row rows name new found = by (is_same_name name row.name) refl
+found_later role row rows name new found = by (is_same_word name row.name) refl
   where
-    by : (b : Bool) → is_same_name name row.name ≡ b → (if b then Some row.role else row_role name rows) ≡ Some role
+    by : (b : Bool) → is_same_word name row.name ≡ b → (if b then Some row.role else row_role name rows) ≡ Some role
     by true eq = let same = ap (λ n. is_none (row_role n rows)) (same_name-≡ name row.name eq) in absurd (cc (same, new, found))
     by false eq = found
 

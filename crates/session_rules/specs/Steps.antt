@@ -1,11 +1,12 @@
 -- Steps: what is asked of a session, what each step is answered, the journal that steps make, and the frames that viewers take.
 use Rattle.std.specs.Prelude.{◌≡◌, ℕ, ◌+◌, ◌≤◌, ◌==◌, Bool, true, false, ◌&&◌, ◌||◌, not, List, [], ◌∷◌, ◌++◌, map, Option, Some, None, is_none, option_to_list, if◌then◌else◌}
+use Rattle.line_text.specs.Words.{is_same_word}
 use Rattle.px_core.specs.declared.surface.Size.{Size}
 use Rattle.px_core.specs.declared.rectangle.Rect.{Rect}
 use Rattle.px_core.specs.Tiles.{Tiles, no_tiles, all_tiles, either_tiles, tiles_of, share_tile}
 use Rattle.draw_ops.specs.declared.shape.Drawing.{Drawing}
-use Rattle.session_rules.specs.declared.event.Event.{Event}
-use Rattle.session_rules.specs.declared.event.Event.TheVariants.{Sync, Scan, Unicode, Mouse, MouseX}
+use Rattle.input_events.specs.declared.event.Event.{Event}
+use Rattle.input_events.specs.declared.event.Event.TheVariants.{Sync, Scan, Unicode, Mouse, MouseX}
 use Rattle.session_rules.specs.declared.entry.Role.{Role}
 use Rattle.session_rules.specs.declared.entry.Entry.{Entry}
 use Rattle.session_rules.specs.declared.entry.Entry.TheVariants.{Join, Leave, Give, Input, Draw}
@@ -67,16 +68,10 @@ pub data Effect : Type 0 where
   Takes : ℕ → Effect
   Answers : Answer → Effect
 
-abbrev pub is_same_name : List ℕ → List ℕ → Bool
-is_same_name [] [] = true
-is_same_name [] (b ∷ bs) = false
-is_same_name (a ∷ xs) [] = false
-is_same_name (a ∷ xs) (b ∷ bs) = (a == b) && is_same_name xs bs
-
 -- the role of the row that has a name
 abbrev pub row_role : List ℕ → List Row → Option Role
 row_role name [] = None
-row_role name (row ∷ rows) = if is_same_name name row.name then Some row.role else row_role name rows
+row_role name (row ∷ rows) = if is_same_word name row.name then Some row.role else row_role name rows
 
 -- viewers are numbered by their joins, from 1
 abbrev pub join_effect : Play → Option Role → Effect

@@ -1,4 +1,4 @@
-use crate::event::Event;
+use crate::Event;
 use draw_ops::Drawing;
 
 /// What a viewer may do.

@@ -4,8 +4,7 @@
 #![tactic(auto)]
 
 mod entry;
-mod event;
 pub mod laws;
 
 pub use entry::{Entry, Role};
-pub use event::Event;
+pub use input_events::Event;

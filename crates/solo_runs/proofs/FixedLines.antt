@@ -9,7 +9,7 @@ use Rattle.caps_sets.specs.declared.confirmed.Confirmed.{Confirmed}
 use Rattle.line_text.specs.Lines.{lines_of}
 use Rattle.line_text.specs.Words.{words_of}
 use Rattle.line_text.specs.Numbers.{number_of}
-use Rattle.script_rules.specs.Presets.{presets, confirmed_by}
+use Rattle.caps_sets.specs.Presets.{presets, confirmed_by}
 use Rattle.script_rules.specs.Script.{LineRefusal, size_with}
 use Rattle.script_rules.specs.Capture.{spaced, capture_line, bytes_of_line, bytes_of_lines, joined_line, broken_line, last_line, is_broken_line}
 use Rattle.script_rules.specs.Capture.CaptureLine.{JoinedLine, NobodyLine}

@@ -18,7 +18,8 @@ use Rattle.std.specs.Prelude.{codes}
 use Rattle.draw_ops.specs.declared.shape.Drawing.{Drawing}
 use Rattle.draw_ops.specs.declared.shape.Shape.{Shape}
 use Rattle.draw_ops.specs.Fits.{first_some}
-use Rattle.session_rules.specs.Steps.{Step, is_same_name}
+use Rattle.session_rules.specs.Steps.{Step}
+use Rattle.line_text.specs.Words.{is_same_word}
 use Rattle.session_rules.specs.Steps.Step.{TakeStep}
 use Rattle.script_rules.specs.Script.{LineForm, line_form, first_grammar}
 use Rattle.script_rules.specs.Script.LineForm.{InviteForm, JoinForm, StepForm}
@@ -196,7 +197,7 @@ IsSoloForm (JoinForm name words) = ⊥
 IsSoloForm (StepForm v s) = (v ≡ solo_viewer) × IsSoloStep s
 
 step_found : (word : List ℕ) (words : List (List ℕ)) → Found (step_in first_forms solo_viewer word words) IsSoloStep
-step_found word words = by (is_same_name word (codes "take")) (is_same_name word (codes "fill"))
+step_found word words = by (is_same_word word (codes "take")) (is_same_word word (codes "fill"))
   where
     by : (t f : Bool) → Found (if t then alone TakeStep solo_viewer words else (if f then drawing_by without_clip fill_fields fill_by solo_viewer words else None)) IsSoloStep
     by true f = take_found words

@@ -15,7 +15,7 @@ use Rattle.byte_fields.specs.Field.{bind}
 use Rattle.frame_rules.proofs.FrameLaws.{first_are_registers}
 use Rattle.order_means.specs.Updates.{Cutting, cutting, updates_in, refusal_in}
 use Rattle.order_means.specs.Updates.Stage.{Between}
-use Rattle.order_means.specs.FrameMarks.{View, first_view, Refusal, Reading, reading, unless_refused_at, view_after_bodies, read_stream, EndsBetween}
+use Rattle.order_means.specs.FrameMarks.{View, first_view, Refusal, ClientReading, reading, unless_refused_at, view_after_bodies, read_stream, EndsBetween}
 use Rattle.frame_rules.specs.Encoder.{Encoder}
 use Rattle.fill_frames.specs.declared.patch.Patch.{Patch}
 use Rattle.fill_frames.specs.Patches.{patch_drawing, with_patches}
@@ -74,7 +74,7 @@ pictures_are size all (n ∷ numbers) = ap (λ p. p ∷ map (picture_at size all
 
 -- ---- a stream that was read ends between packets
 
-stage_of : Result Reading Refusal → Cutting
+stage_of : Result ClientReading Refusal → Cutting
 stage_of (Ok r) = r.cut
 stage_of (Err refusal) = cutting 0 Between
 

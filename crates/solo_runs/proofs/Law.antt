@@ -10,13 +10,13 @@ use Rattle.px_core.specs.declared.surface.Size.{Size}
 use Rattle.px_core.specs.Rectangle.{is_session_size}
 use Rattle.caps_sets.specs.Confirmed.{plain}
 use Rattle.session_rules.specs.Journal.{Head}
-use Rattle.session_rules.specs.Steps.{is_same_name, journal_of_steps, frame_numbers}
+use Rattle.session_rules.specs.Steps.{journal_of_steps, frame_numbers}
 use Rattle.session_rules.proofs.Journals.{IsLegalJournal-journal_of_steps}
 use Rattle.session_rules.proofs.Changes.{ChangesAreTheHolders-legal}
 use Rattle.line_text.specs.Lines.{Line, lines_of, line_bytes, is_past_limits}
-use Rattle.line_text.specs.Words.{words_of}
+use Rattle.line_text.specs.Words.{words_of, is_same_word}
 use Rattle.line_text.specs.Numbers.{number_of}
-use Rattle.script_rules.specs.Script.{Asked, Script, Reading, LineRefusal, first_grammar, invite_form, is_word, role_named, line_form, form_outcome, line_outcome, unless_broken, broken_if, breaks_text_rule, text_rule, form_rule, refused_at, script_from, proceeding, size_with, size_of_words, opened_reading, begins_with_invite, invited_script, solo_script, script_after, opening_by, opening_of_lines, opening_of, solo_join, after_step, solo_rows}
+use Rattle.script_rules.specs.Script.{Asked, Script, ScriptReading, LineRefusal, first_grammar, invite_form, is_word, role_named, line_form, form_outcome, line_outcome, unless_broken, broken_if, breaks_text_rule, text_rule, form_rule, refused_at, script_from, proceeding, size_with, size_of_words, opened_reading, begins_with_invite, invited_script, solo_script, script_after, opening_by, opening_of_lines, opening_of, solo_join, after_step, solo_rows}
 use Rattle.script_rules.specs.Script.Opening.{Unended, Opened}
 use Rattle.script_rules.specs.Script.LineForm.{InviteForm}
 use Rattle.script_rules.specs.Script.LineOutcome.{Breaks}
@@ -112,12 +112,12 @@ solo_shows at size lines is small =
 
 -- ---- a script that begins with an invite
 
-same_word : (a b : List ℕ) → is_same_name a b ≡ true → a ≡ b
+same_word : (a b : List ℕ) → is_same_word a b ≡ true → a ≡ b
 same_word [] [] e = refl
 same_word [] (b ∷ bs) e = absurd (cc e)
 same_word (a ∷ as1) [] e = absurd (cc e)
 same_word (a ∷ as1) (b ∷ bs) e =
-    let p = and_parts (a == b) (is_same_name as1 bs) e in
+    let p = and_parts (a == b) (is_same_word as1 bs) e in
     let head : a ≡ b = grind (arith, nat_tests, p.0) in
     ap (λ x. x ∷ as1) head ∙ ap (λ xs. b ∷ xs) (same_word as1 bs p.1)
 
@@ -125,9 +125,9 @@ pub invite_is_no_form : (words : List (List ℕ)) → is_some (invite_form words
 invite_is_no_form [] e = absurd (cc e)
 invite_is_no_form (word ∷ []) e = absurd (cc e)
 invite_is_no_form (word ∷ name ∷ []) e = absurd (cc e)
-invite_is_no_form (word ∷ name ∷ role ∷ []) e = by (is_same_name word (codes "invite")) refl e
+invite_is_no_form (word ∷ name ∷ role ∷ []) e = by (is_same_word word (codes "invite")) refl e
   where
-    by : (b : Bool) → is_same_name word (codes "invite") ≡ b → is_some (if b && is_word name then option_map (InviteForm name) (role_named role) else None) ≡ true → line_form first_grammar (word ∷ name ∷ role ∷ []) ≡ None
+    by : (b : Bool) → is_same_word word (codes "invite") ≡ b → is_some (if b && is_word name then option_map (InviteForm name) (role_named role) else None) ≡ true → line_form first_grammar (word ∷ name ∷ role ∷ []) ≡ None
     by true same h = ap (λ w. line_form first_grammar (w ∷ name ∷ role ∷ [])) (same_word word (codes "invite") same)
     by false same h = absurd (cc h)
 invite_is_no_form (word ∷ name ∷ role ∷ more ∷ words) e = absurd (cc e)
@@ -141,7 +141,7 @@ nothing_shows head refusal small = record {
 }
 
 -- the first line after an invite's place breaks a rule
-broken_outcome : (r : Reading) (b : Bool) → (rule : ℕ) × (unless_broken (broken_if b text_rule) (form_outcome first_grammar r None) ≡ Breaks rule)
+broken_outcome : (r : ScriptReading) (b : Bool) → (rule : ℕ) × (unless_broken (broken_if b text_rule) (form_outcome first_grammar r None) ≡ Breaks rule)
 broken_outcome r true = (text_rule, refl)
 broken_outcome r false = (form_rule, refl)
 
@@ -154,7 +154,7 @@ invited_shows at size (line ∷ lines) e small =
     let broken = broken_outcome r (breaks_text_rule at line) in
     let outcome : line_outcome first_grammar at r line ≡ Breaks broken.0 =
     ap (λ o. unless_broken (broken_if (breaks_text_rule at line) text_rule) (form_outcome first_grammar r o)) (invite_is_no_form (words_of line.text) invite) ∙ broken.1 in
-    let more = λ (next : Reading). script_from first_grammar 3 (at + length (line_bytes line)) next lines in
+    let more = λ (next : ScriptReading). script_from first_grammar 3 (at + length (line_bytes line)) next lines in
     let whole : invited_script first_grammar at size (line ∷ lines) ≡ refused_at r 2 broken.0 = ap (λ o. proceeding r 2 o more) outcome in
     subst (λ script. EveryViewerOfScript script (capture_of_script encoder_frames script)) (sym whole)
     (nothing_shows r.head (Some (record { line = 2; rule = broken.0 })) (subst (λ script. IsSmall script.refusal) whole small))
@@ -165,7 +165,7 @@ size_is : (words : List (List ℕ)) → Found (size_of_words words) (λ size. Is
 size_is [] = tt
 size_is (word ∷ []) = tt
 size_is (word ∷ w ∷ []) = tt
-size_is (word ∷ w ∷ h ∷ []) = by (is_same_name word (codes "size")) (number_of w) (number_of h)
+size_is (word ∷ w ∷ h ∷ []) = by (is_same_word word (codes "size")) (number_of w) (number_of h)
   where
     sized : (m n : ℕ) (b : Bool) → is_session_size m n ≡ b → Found (then_some b (let size : Size = record { w = m; h = n } in size)) (λ size. IsTrue (is_session_size size.w size.h))
     sized m n true e = e

@@ -10,7 +10,7 @@ use Rattle.frame_rules.specs.Encoder.{Encoder}
 use Rattle.line_text.specs.Lines.{Line, line_bytes, lines_of, is_past_limits}
 use Rattle.line_text.specs.Words.{words_of}
 use Rattle.draw_ops.specs.Fits.{first_some}
-use Rattle.script_rules.specs.Script.{Script, Reading, LineForm, LineOutcome, LineRefusal, Opening, first_grammar, line_form, form_outcome, line_outcome, unless_broken, broken_if, breaks_text_rule, finds_too_many, without_preset, presence_rule, pending_rule, text_rule, form_rule, after_step, refused_at, proceeding, script_from, solo_join, solo_script, invited_script, script_after, opened_reading, solo_rows, begins_with_invite, invite_form, opening_by, opening_of_lines, opening_of, size_of_words}
+use Rattle.script_rules.specs.Script.{Script, ScriptReading, LineForm, LineOutcome, LineRefusal, Opening, first_grammar, line_form, form_outcome, line_outcome, unless_broken, broken_if, breaks_text_rule, finds_too_many, without_preset, presence_rule, pending_rule, text_rule, form_rule, after_step, refused_at, proceeding, script_from, solo_join, solo_script, invited_script, script_after, opened_reading, solo_rows, begins_with_invite, invite_form, opening_by, opening_of_lines, opening_of, size_of_words}
 use Rattle.script_rules.specs.Script.LineForm.{InviteForm, JoinForm, StepForm}
 use Rattle.script_rules.specs.Script.LineOutcome.{Breaks, Invites, Asks}
 use Rattle.script_rules.specs.Script.Opening.{Unended, Opened}
@@ -36,10 +36,10 @@ abbrev as_outcome : SoloLine → LineOutcome
 as_outcome (BreaksRule rule) = Breaks rule
 as_outcome (AsksFor a) = Asks (asked_of a)
 
-present : (size : Size) (s : Solo) (run : Run Encoder) (r : Reading) → Stands size s run → Follows size s run r → is_present solo_viewer r.play.reached.viewers ≡ true
+present : (size : Size) (s : Solo) (run : Run Encoder) (r : ScriptReading) → Stands size s run → Follows size s run r → is_present solo_viewer r.play.reached.viewers ≡ true
 present size s run r h f = ap (λ vs. is_present solo_viewer vs) (ap (λ p. p.reached.viewers) f.play ∙ h.reached.viewers)
 
-many_are : (size : Size) (s : Solo) (run : Run Encoder) (r : Reading) (a : SoloStep) → Stands size s run → Follows size s run r → finds_too_many first_grammar r (step_of a) ≡ finds_many s a
+many_are : (size : Size) (s : Solo) (run : Run Encoder) (r : ScriptReading) (a : SoloStep) → Stands size s run → Follows size s run r → finds_too_many first_grammar r (step_of a) ≡ finds_many s a
 many_are size s run r Take h f =
     let count : r.play.reached.state.surface.count ≡ length s.patches = ap (λ p. p.reached.state.surface.count) f.play ∙ h.reached.count in
     ap (λ n. nat_lt 256 (n - r.found solo_viewer)) count ∙ ap (λ n. nat_lt 256 (length s.patches - n)) f.found ∙ ap (nat_lt 256) (sym (length-drop s.sent s.patches))
@@ -49,7 +49,7 @@ asked_is : (a : SoloStep) (many : Bool) → unless_broken (first_some (broken_if
 asked_is a true = refl
 asked_is a false = refl
 
-form_outcome_is : (size : Size) (s : Solo) (run : Run Encoder) (r : Reading) → Stands size s run → Follows size s run r → (o : Option LineForm) → Found o IsSoloForm →
+form_outcome_is : (size : Size) (s : Solo) (run : Run Encoder) (r : ScriptReading) → Stands size s run → Follows size s run r → (o : Option LineForm) → Found o IsSoloForm →
     form_outcome first_grammar r o ≡ as_outcome (asks_for s (option_and_then solo_of_form o))
 form_outcome_is size s run r h f None k = refl
 form_outcome_is size s run r h f (Some (InviteForm name role)) k = absurd k
@@ -64,7 +64,7 @@ form_outcome_is size s run r h f (Some (StepForm v step)) k =
     ∙ asked_is a (finds_many s a)
     ∙ ap (λ o. as_outcome (asks_for s o)) (sym (ap solo_of k.1.is ∙ solo_again a))
 
-outcome_is : (size : Size) (s : Solo) (run : Run Encoder) (r : Reading) → Stands size s run → Follows size s run r → (at : ℕ) (line : Line) → line_outcome first_grammar at r line ≡ as_outcome (solo_outcome at s line)
+outcome_is : (size : Size) (s : Solo) (run : Run Encoder) (r : ScriptReading) → Stands size s run → Follows size s run r → (at : ℕ) (line : Line) → line_outcome first_grammar at r line ≡ as_outcome (solo_outcome at s line)
 outcome_is size s run r h f at line =
     ap (λ o. unless_broken (broken_if (breaks_text_rule at line) text_rule) o) (form_outcome_is size s run r h f (line_form first_grammar (words_of line.text)) (form_found (words_of line.text)))
     ∙ by (breaks_text_rule at line)
@@ -83,7 +83,7 @@ pub record SameScript (size : Size) (run : Run Encoder) (script : Script) (writt
   pub text : text_of_script size run script ≡ written
   pub refused : script.refusal ≡ refusal
 
-same_by : (size : Size) (s : Solo) (run : Run Encoder) (r : Reading) (k : ℕ) (o : SoloLine) (others : Reading → Script) (written : Solo → List ℕ) (refused : Solo → Option LineRefusal) → Stands size s run →
+same_by : (size : Size) (s : Solo) (run : Run Encoder) (r : ScriptReading) (k : ℕ) (o : SoloLine) (others : ScriptReading → Script) (written : Solo → List ℕ) (refused : Solo → Option LineRefusal) → Stands size s run →
     ((a : SoloStep) → o ≡ AsksFor a → AreSoloSteps size s (a ∷ []) × SameScript size (run_after encoder_frames (solo_head size) run (asked_of a)) (others (after_step r (step_of a))) (written (solo_after size s a)) (refused (solo_after size s a)))
     → SameScript size run (proceeding r k (as_outcome o) others) (written_by size k s o written) (refused_by size k s o refused)
 same_by size s run r k (BreaksRule rule) others written refused h more = record { text = refl; refused = refl }
@@ -98,7 +98,7 @@ same_by size s run r k (AsksFor a) others written refused h more =
     }
 
 -- a line that asks for a step asks for one in its range, and a take finds few
-line_asks : (size : Size) (s : Solo) (run : Run Encoder) (r : Reading) (at : ℕ) (line : Line) (a : SoloStep) → Stands size s run → Follows size s run r → solo_outcome at s line ≡ AsksFor a → AreSoloSteps size s (a ∷ [])
+line_asks : (size : Size) (s : Solo) (run : Run Encoder) (r : ScriptReading) (at : ℕ) (line : Line) (a : SoloStep) → Stands size s run → Follows size s run r → solo_outcome at s line ≡ AsksFor a → AreSoloSteps size s (a ∷ [])
 line_asks size s run r at line a h f e =
     let asks = subst (SoloOutcome s) (outcome_is size s run r h f at line ∙ ap as_outcome e) (line_is_solo size s run r h f at line) in
     let same : asks.solo ≡ a = asked_once asks.solo a (sym asks.is) in
@@ -114,11 +114,11 @@ line_asks size s run r at line a h f e =
         let some : Some b ≡ Some c = sym (solo_again b) ∙ ap (λ q. step_asked (Asks q)) k ∙ solo_again c in
         cc some
 
-lines_same : (size : Size) (lines : List Line) (k at : ℕ) (s : Solo) (run : Run Encoder) (r : Reading) → Stands size s run → Follows size s run r →
+lines_same : (size : Size) (lines : List Line) (k at : ℕ) (s : Solo) (run : Run Encoder) (r : ScriptReading) → Stands size s run → Follows size s run r →
     SameScript size run (script_from first_grammar k at r lines) (written_from size k at s lines) (refused_from size k at s lines)
 lines_same size [] k at s run r h f = record { text = refl; refused = refl }
 lines_same size (line ∷ lines) k at s run r h f =
-    let others = λ (next : Reading). script_from first_grammar (k + 1) (at + length (line_bytes line)) next lines in
+    let others = λ (next : ScriptReading). script_from first_grammar (k + 1) (at + length (line_bytes line)) next lines in
     let written = λ (t : Solo). written_from size (k + 1) (at + length (line_bytes line)) t lines in
     let refused = λ (t : Solo). refused_from size (k + 1) (at + length (line_bytes line)) t lines in
     let o = solo_outcome at s line in
@@ -155,7 +155,7 @@ invited_same at size [] e = absurd (cc e)
 invited_same at size (line ∷ lines) e =
     let r = opened_reading size [] in
     let invite = (and_parts (not (is_past_limits at line)) (is_some (invite_form (words_of line.text))) e).1 in
-    let more = λ (next : Reading). script_from first_grammar 3 (at + length (line_bytes line)) next lines in
+    let more = λ (next : ScriptReading). script_from first_grammar 3 (at + length (line_bytes line)) next lines in
     let outcome : line_outcome first_grammar at r line ≡ Breaks (invite_rule at (line ∷ lines)) =
     ap (λ o. unless_broken (broken_if (breaks_text_rule at line) text_rule) (form_outcome first_grammar r o)) (invite_is_no_form (words_of line.text) invite) ∙ by (breaks_text_rule at line) in
     let whole : invited_script first_grammar at size (line ∷ lines) ≡ refused_at r 2 (invite_rule at (line ∷ lines)) = ap (λ o. proceeding r 2 o more) outcome in

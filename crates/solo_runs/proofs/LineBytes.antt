@@ -9,9 +9,8 @@ use Rattle.std.proofs.lemmas.Bool.{and_parts}
 use Rattle.std.proofs.lemmas.Bool.Decides.{nat_tests}
 use Rattle.std.proofs.lemmas.List.Elements.{All-nil, All-cons, All-head}
 use Rattle.line_text.specs.Lines.{line_feed, lines_of}
-use Rattle.line_text.specs.Words.{words_of}
+use Rattle.line_text.specs.Words.{words_of, is_same_word}
 use Rattle.line_text.specs.Hexadecimal.{hexadecimal_text}
-use Rattle.session_rules.specs.Steps.{is_same_name}
 use Rattle.script_rules.specs.Capture.{ended, of_viewer, capture_line, bytes_word, bytes_of_line, bytes_of_lines}
 use Rattle.script_rules.specs.Capture.CaptureLine.{BytesLine, OtherLine}
 use Rattle.script_rules.proofs.ReadBack.{Lacks, lines_of-ended, words_of-first, words_of-last, text_lacks, bytes_word-text}
@@ -50,12 +49,12 @@ front_line v text more clean = ap (bytes_of_lines v) (lines_of-ended text more c
 not_a_digit : (b byte : ℕ) → b < 256 → 102 < byte → (digit_char (b / 16) == byte) ≡ false
 not_a_digit b byte h other = let d : b / 16 < 16 = omega arith in grind (arith, nat_tests, d)
 
-no_word : (bytes : List ℕ) → 0 < length bytes → AreBytes bytes → (is_same_name (hexadecimal_text bytes) (codes "left") || is_same_name (hexadecimal_text bytes) (codes "nothing")) ≡ false
+no_word : (bytes : List ℕ) → 0 < length bytes → AreBytes bytes → (is_same_word (hexadecimal_text bytes) (codes "left") || is_same_word (hexadecimal_text bytes) (codes "nothing")) ≡ false
 no_word [] some h = absurd (omega arith)
 no_word (b ∷ bs) some h =
     let small = All-head (λ x. x < 256) b bs h in
-    ap (λ t. (t && (digit_char (b % 16) == 101 && is_same_name (hexadecimal_text bs) (102 ∷ 116 ∷ []))) || (digit_char (b / 16) == 110 && (digit_char (b % 16) == 111 && is_same_name (hexadecimal_text bs) (116 ∷ 104 ∷ 105 ∷ 110 ∷ 103 ∷ [])))) (not_a_digit b 108 small (omega arith))
-    ∙ ap (λ t. t && (digit_char (b % 16) == 111 && is_same_name (hexadecimal_text bs) (116 ∷ 104 ∷ 105 ∷ 110 ∷ 103 ∷ []))) (not_a_digit b 110 small (omega arith))
+    ap (λ t. (t && (digit_char (b % 16) == 101 && is_same_word (hexadecimal_text bs) (102 ∷ 116 ∷ []))) || (digit_char (b / 16) == 110 && (digit_char (b % 16) == 111 && is_same_word (hexadecimal_text bs) (116 ∷ 104 ∷ 105 ∷ 110 ∷ 103 ∷ [])))) (not_a_digit b 108 small (omega arith))
+    ∙ ap (λ t. t && (digit_char (b % 16) == 111 && is_same_word (hexadecimal_text bs) (116 ∷ 104 ∷ 105 ∷ 110 ∷ 103 ∷ []))) (not_a_digit b 110 small (omega arith))
 
 -- the words of a viewer's hexadecimal line
 frame_words : (bytes : List ℕ) → AreBytes bytes → words_of (decimal 1 ++ 32 ∷ hexadecimal_text bytes) ≡ (49 ∷ []) ∷ hexadecimal_text bytes ∷ []

@@ -4,7 +4,6 @@ ghost use Rattle.std.specs.Option.{option_map, option_and_then};
 ghost use Rattle.px_core.specs.Rectangle.{is_session_size};
 ghost use Rattle.line_text.specs.Numbers.{number_up_to};
 ghost use Rattle.line_text.specs.Words.{words_of};
-ghost use Rattle.session_rules.specs.Steps.{is_same_name};
 ghost use Rattle.session_rules.specs.Steps.Step.{TakeStep};
 ghost use Rattle.script_rules.specs.Fields.{Field, values_of, with_value, fill_by, without_clip};
 ghost use Rattle.script_rules.specs.Fields.Field.{Coordinate, Count, Digits};
@@ -15,14 +14,8 @@ ghost use Rattle.solo_runs.specs.SoloScript.{solo_form, solo_of};
 
 use crate::SoloStep;
 use fill_frames::Patch;
-use line_text::{Parts, read_coordinate, read_hexadecimal, read_number};
-use px_core::{Rect, Size};
-
-/// The most columns, and the most rows, of a session's picture.
-const SIDE_LIMIT: u32 = 2_048;
-
-/// The number of columns of a session's picture is a multiple of this one.
-const COLUMN_UNIT: u32 = 4;
+use line_text::{Parts, is_same_word, read_coordinate, read_hexadecimal, read_number};
+use px_core::{Rect, Size, is_session_size};
 
 /// The greatest count of columns or rows of a rectangle.
 const COUNT_LIMIT: u64 = 65_535;
@@ -57,7 +50,7 @@ pub fn size_of_line(text: &[u8]) -> Option<Size>
     ensures range { IfSome result (λ size. IsTrue (is_session_size size.w size.h)) }
 {
     let (word, width, height) = three_words(text)?;
-    if !is_same(word, SIZE) {
+    if !is_same_word(word, SIZE) {
         return None;
     }
     session_size(read_side(width)?, read_side(height)?)
@@ -68,7 +61,7 @@ pub fn is_invite(text: &[u8]) -> bool
     ensures { result ≡ is_some (invite_form (words_of text.now)) }
 {
     match three_words(text) {
-        Some((word, name, role)) => is_same(word, INVITE) && !name.is_empty() && is_role(role),
+        Some((word, name, role)) => is_same_word(word, INVITE) && !name.is_empty() && is_role(role),
         None => false,
     }
 }
@@ -92,14 +85,7 @@ pub fn is_text_line(text: &[u8], ended: bool) -> bool
 fn is_role(word: &[u8]) -> bool
     ensures { result ≡ is_some (role_named word.now) }
 {
-    is_same(word, OWNER) || is_same(word, CONTROL) || is_same(word, VIEW)
-}
-
-/// Whether two words are the same.
-fn is_same(word: &[u8], other: &[u8]) -> bool
-    ensures { result ≡ is_same_name word.now other.now }
-{
-    word == other
+    is_same_word(word, OWNER) || is_same_word(word, CONTROL) || is_same_word(word, VIEW)
 }
 
 /// The words of a line that has three.
@@ -130,9 +116,7 @@ fn session_size(w: u32, h: u32) -> Option<Size>
     ensures size { result ≡ size_with w h }
     ensures range { IfSome result (λ size. IsTrue (is_session_size size.w size.h)) }
 {
-    let is_wide = COLUMN_UNIT <= w && w <= SIDE_LIMIT;
-    let is_high = 0 < h && h <= SIDE_LIMIT;
-    if is_wide && is_high && w % COLUMN_UNIT == 0 {
+    if is_session_size(w, h) {
         Some(Size { w, h })
     } else {
         None
@@ -151,9 +135,9 @@ fn step_of_words(words: &mut Parts<'_>) -> Option<SoloStep>
     ensures { result ≡ solo_form words.old }
 {
     let word = words.next_part()?;
-    if is_same(word, TAKE) {
+    if is_same_word(word, TAKE) {
         take_step(words)
-    } else if is_same(word, FILL) {
+    } else if is_same_word(word, FILL) {
         fill_step(words)
     } else {
         None

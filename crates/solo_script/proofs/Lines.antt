@@ -8,7 +8,7 @@ use Rattle.solo_runs.specs.SoloScript.{SoloLine}
 use Rattle.solo_runs.specs.SoloScript.SoloLine.{BreaksRule, AsksFor}
 use Rattle.line_read.specs.declared.reader.Found.{Found}
 use Rattle.line_read.specs.declared.reader.Found.TheVariants as found
-use Rattle.edge_io.specs.Sink.{AppendsFront}
+use Rattle.edge_io.specs.Sink.{WritesFront}
 use Rattle.script_rules.specs.Script.{text_rule}
 use Rattle.script_rules.specs.Capture.{broken_line}
 use Rattle.solo_script.specs.declared.fault.ScriptFault.{ScriptFault}
@@ -64,24 +64,24 @@ refused fault.OutOfMemory f k rule size before now text told telling is same r =
 -- ---- a line that couldn't be written
 
 step_front : (line : SoloLine) (broken : Option ℕ) (size : Size) (k : ℕ) (before now : Solo) (old new : List ℕ) (told telling : Option (List ℕ)) →
-    DoesLine line broken size before now old new → broken ≡ None → old ≡ [] → AppendsFront told telling new → WritesFront (Some line) size k before told telling
+    DoesLine line broken size before now old new → broken ≡ None → old ≡ [] → WritesFront told telling new → WritesFront (Some line) size k before told telling
 step_front (BreaksRule rule) None size k before now old new told telling done e empty front = absurd done
 step_front (BreaksRule rule) (Some b) size k before now old new told telling done e empty front = absurd (cc e)
 step_front (AsksFor step) None size k before now old new told telling done e empty front = record {
   found = AsksFor step;
   is = refl;
-  front = subst (AppendsFront told telling) (done.1 ∙ ap (λ bytes. bytes ++ solo_line size before step) empty) front;
+  front = subst (WritesFront told telling) (done.1 ∙ ap (λ bytes. bytes ++ solo_line size before step) empty) front;
 }
 step_front (AsksFor step) (Some b) size k before now old new told telling done e empty front = absurd done
 
 found_front : (f : Found) (ended : Bool) (text : List ℕ) (broken answer : Option ℕ) (size : Size) (k : ℕ) (before done : Solo) (old new line : List ℕ) (told telling : Option (List ℕ)) →
-    f ≡ found.Line ended → DoesLine (line_within before text ended) broken size before done old new → answer ≡ broken → answer ≡ None → line ≡ new → old ≡ [] → AppendsFront told telling line → WritesFront (found_line f before text) size k before told telling
+    f ≡ found.Line ended → DoesLine (line_within before text ended) broken size before done old new → answer ≡ broken → answer ≡ None → line ≡ new → old ≡ [] → WritesFront told telling line → WritesFront (found_line f before text) size k before told telling
 found_front f ended text broken answer size k before done old new line told telling is does same none same_line empty front =
     subst (λ x. WritesFront (found_line x before text) size k before told telling) (sym is)
-    (step_front (line_within before text ended) broken size k before done old new told telling does (sym same ∙ none) empty (subst (AppendsFront told telling) same_line front))
+    (step_front (line_within before text ended) broken size k before done old new told telling does (sym same ∙ none) empty (subst (WritesFront told telling) same_line front))
 
 pub not_written : (fault_is : ScriptFault) (f : Found) (ended : Bool) (text : List ℕ) (broken answer : Option ℕ) (size : Size) (k : ℕ) (before done now : Solo) (old new line : List ℕ) (told telling : Option (List ℕ)) →
-    f ≡ found.Line ended → DoesLine (line_within before text ended) broken size before done old new → answer ≡ broken → answer ≡ None → line ≡ new → old ≡ [] → AppendsFront told telling line → IsWriteFault fault_is →
+    f ≡ found.Line ended → DoesLine (line_within before text ended) broken size before done old new → answer ≡ broken → answer ≡ None → line ≡ new → old ≡ [] → WritesFront told telling line → IsWriteFault fault_is →
     DoesFound (Err fault_is) f k size before now text told telling
 not_written (fault.Line l r) f ended text broken answer size k before done now old new line told telling is does same none same_line empty front w = absurd w
 not_written fault.ReadFault f ended text broken answer size k before done now old new line told telling is does same none same_line empty front w = absurd w

@@ -7,7 +7,7 @@ use Rattle.std.specs.declared.result.Result.{Result}
 use Rattle.std.specs.declared.result.Result.TheVariants.{Ok, Err}
 use Rattle.px_core.specs.declared.surface.Size.{Size}
 use Rattle.edge_io.specs.Faults.{Rose}
-use Rattle.edge_io.specs.Sink.{AppendsFront}
+use Rattle.edge_io.specs.Sink.{WritesFront}
 use Rattle.line_text.specs.Hexadecimal.{HoldsFront}
 use Rattle.line_text.specs.Words.{words_of}
 use Rattle.line_read.specs.declared.reader.Found.{Found}
@@ -60,7 +60,7 @@ line_writes size k s (AsksFor step) = solo_line size s step
 pub record WritesFront (line : Option SoloLine) (size : Size) (k : ℕ) (s : Solo) (old new : Option (List ℕ)) : Type 0 where
   pub found : SoloLine
   pub is : line ≡ Some found
-  pub front : AppendsFront old new (line_writes size k s found)
+  pub front : WritesFront old new (line_writes size k s found)
 
 -- what was done where a line was found, as the k-th: its step; nothing, since there is none; or its refusal was written; where writing fails a front of the line's text was
 abbrev pub DoesFound : Result Bool ScriptFault → Found → ℕ → Size → Solo → Solo → List ℕ → Option (List ℕ) → Option (List ℕ) → Type 0
@@ -94,5 +94,5 @@ IsWriteFault fault.OutOfMemory = ⊤
 abbrev pub Refuses : ScriptFault → ℕ → ℕ → Option (List ℕ) → Option (List ℕ) → Type 0
 Refuses (fault.Line line broken) k rule old new = (line ≡ k) × (broken ≡ rule) × Appends old new (broken_line k rule)
 Refuses fault.ReadFault k rule old new = ⊥
-Refuses fault.WriteFault k rule old new = AppendsFront old new (broken_line k rule)
-Refuses fault.OutOfMemory k rule old new = AppendsFront old new (broken_line k rule)
+Refuses fault.WriteFault k rule old new = WritesFront old new (broken_line k rule)
+Refuses fault.OutOfMemory k rule old new = WritesFront old new (broken_line k rule)

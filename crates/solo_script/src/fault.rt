@@ -25,26 +25,10 @@ pub enum ScriptFault {
     OutOfMemory,
 }
 
-impl From<edge_io::OutOfMemory> for ScriptFault {
+impl From<out_of_memory::OutOfMemory> for ScriptFault {
     ghost from_gives = { λ _ fault. fault ≡ OutOfMemory };
 
-    fn from(_: edge_io::OutOfMemory) -> ScriptFault {
-        ScriptFault::OutOfMemory
-    }
-}
-
-impl From<line_text::OutOfMemory> for ScriptFault {
-    ghost from_gives = { λ _ fault. fault ≡ OutOfMemory };
-
-    fn from(_: line_text::OutOfMemory) -> ScriptFault {
-        ScriptFault::OutOfMemory
-    }
-}
-
-impl From<wire_num::OutOfMemory> for ScriptFault {
-    ghost from_gives = { λ _ fault. fault ≡ OutOfMemory };
-
-    fn from(_: wire_num::OutOfMemory) -> ScriptFault {
+    fn from(_: out_of_memory::OutOfMemory) -> ScriptFault {
         ScriptFault::OutOfMemory
     }
 }

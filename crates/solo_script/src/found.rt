@@ -1,6 +1,6 @@
 ghost use Rattle.std.specs.Prelude.{◌≡◌, ◌<◌, ◌++◌, [], length, OnOk, OnErr, IfErr, IsTrue};
 ghost use Rattle.std.specs.Io.KnownBytes.{Appends};
-ghost use Rattle.edge_io.specs.Sink.{AppendsFront};
+ghost use Rattle.edge_io.specs.Sink.{WritesFront};
 ghost use Rattle.px_core.specs.Rectangle.{is_session_size};
 ghost use Rattle.script_rules.specs.Capture.{broken_line};
 ghost use Rattle.solo_script.specs.Steps.{DoesFound, WritesCause, FaultCause, IsWriteFault, Refuses};
@@ -64,7 +64,7 @@ fn write_refusal<K: Sink>(
     rule: u8,
 ) -> Result<(), ScriptFault>
     ensures written { OnOk result (Appends (K.told output.old) (K.told output.new) (broken_line k rule)) }
-    ensures front { OnErr result (AppendsFront (K.told output.old) (K.told output.new) (broken_line k rule)) }
+    ensures front { OnErr result (WritesFront (K.told output.old) (K.told output.new) (broken_line k rule)) }
     ensures fault { IfErr result IsWriteFault }
     ensures cause { WritesCause result (K.faults output.old) (K.faults output.new) }
 {
@@ -76,7 +76,7 @@ fn write_refusal<K: Sink>(
 /// Writes bytes; where there are none the output isn't called, and it doesn't fail. An `Err` leaves a front of them there.
 pub fn put<K: Sink>(output: &mut K, bytes: &[u8]) -> Result<(), ScriptFault>
     ensures written { OnOk result (Appends (K.told output.old) (K.told output.new) bytes.now) }
-    ensures front { OnErr result (AppendsFront (K.told output.old) (K.told output.new) bytes.now) }
+    ensures front { OnErr result (WritesFront (K.told output.old) (K.told output.new) bytes.now) }
     ensures fault { IfErr result IsWriteFault }
     ensures cause { WritesCause result (K.faults output.old) (K.faults output.new) }
     ensures untouched { bytes.now ≡ [] → output.new ≡ output.old }

@@ -6,8 +6,8 @@ use Rattle.px_core.specs.Rectangle.{boxed}
 use Rattle.draw_ops.specs.declared.shape.Drawing.{Drawing}
 use Rattle.draw_ops.specs.declared.shape.Shape.{Shape}
 use Rattle.draw_ops.specs.declared.shape.Shape.TheVariants.{Fill, Line, LoadImage, LoadBrush, LoadGlyph}
-use Rattle.session_rules.specs.declared.event.Event.{Event}
-use Rattle.session_rules.specs.declared.event.Event.TheVariants.{Sync, Scan, Unicode, Mouse, MouseX}
+use Rattle.input_events.specs.declared.event.Event.{Event}
+use Rattle.input_events.specs.declared.event.Event.TheVariants.{Sync, Scan, Unicode, Mouse, MouseX}
 use Rattle.session_rules.specs.Board.{Board, Point, Reaction, unclipped, board_image, board_brush, board_font, popup_removal, closing, dotting, lifting, opening, popup_place, ink_color, stroke, stroking, mouse_lines, mouse_reaction, point_on, is_down, is_button_1, is_button_2, is_move, clearing, inverting, scrolling, patterning, stamping, key_lines, is_member, writing_sign, sign_lines, sign_of, sign_place, sign_text, load_unless, checkered, shaded, board_reaction}
 use Rattle.board_laws.proofs.Reactions.{first_holds, line_if, line_of}
 use Rattle.cache_laws.specs.Sound.{AreColors}

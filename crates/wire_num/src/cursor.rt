@@ -2,7 +2,7 @@
 
 ghost use Rattle.std.specs.Prelude.{◌≡◌, ℕ, ◌+◌, ◌-◌, ◌≤◌, ◌<◌, ◌↔◌, length, drop, take, IfOk, OnOk, List, []};
 ghost use Rattle.byteorder.specs.Endian.{big_number, little_number};
-ghost use Rattle.wire_num.specs.Cursor.{Reading, rest, ReadsField, ReadsFieldAs, ReadsFieldsAs};
+ghost use Rattle.wire_num.specs.Cursor.{CursorOf, rest, ReadsField, ReadsFieldAs, ReadsFieldsAs};
 ghost use Rattle.wire_num.specs.Field.{end_at, at_least, rest_count_at, passing_at, has_bits, is_at_most};
 ghost use Rattle.byte_fields.specs.Number.{big_at, little_at};
 ghost use Rattle.byte_fields.specs.Field.{bytes_at, wanted as wanted_at};
@@ -22,9 +22,9 @@ pub struct Cursor<'a> {
 
 impl<'a> Model for Cursor<'a> {
     ghost use Rattle.std.specs.Prelude.{◌≤◌, length};
-    ghost use Rattle.wire_num.specs.Cursor.{Reading};
+    ghost use Rattle.wire_num.specs.Cursor.{CursorOf};
 
-    ghost Value = { Reading };
+    ghost Value = { CursorOf };
 
     ghost view = { λ c. record { bytes = c.bytes.now; at = c.at } };
 

@@ -4,7 +4,6 @@
 mod cursor;
 mod layout;
 mod length;
-mod memory;
 mod number;
 mod range;
 mod short;
@@ -12,8 +11,8 @@ mod short;
 pub use cursor::Cursor;
 pub use layout::layouts_are_read_exactly;
 pub use length::{put_ber_len, put_per_len};
-pub use memory::OutOfMemory;
 pub use number::{put_u16_be, put_u16_le, put_u32_le};
+pub use out_of_memory::OutOfMemory;
 pub use range::Range;
 pub use short::Short;
 

@@ -2,8 +2,8 @@ use Rattle.std.proofs.Common.{◌≤◌, ◌<◌, ◌^◌, arith}
 use Rattle.std.proofs.Math.Nat.{pow-le-pow_right}
 use Rattle.line_text.proofs.hexadecimal.read_hexadecimal.Goals as goal
 
-pub with_digit-requires : goal.with_digit-requires
-with_digit-requires c =
+pub with_hexadecimal_digit-requires : goal.with_hexadecimal_digit-requires
+with_hexadecimal_digit-requires c =
     let some : 0 < 16 = omega arith in
     let few : c.loop-digit.digit-index ≤ 7 = omega arith in
     let bound : 16 ^ c.loop-digit.digit-index ≤ 16 ^ 7 = pow-le-pow_right some few in

@@ -1,7 +1,7 @@
 use Rattle.std.proofs.Common.{◌≡◌, ℤ, pos, arith, rules, get_or, w64, of_z, to_z, sym, subst}
 use Rattle.std.proofs.lemmas.Grind.{common_steps}
 use Rattle.std.proofs.lemmas.Int.{to_z-of_z}
-use Rattle.order_fields.specs.declared.kind.Kind.TheVariants.{Coordinate}
+use Rattle.order_fields.specs.declared.kind.FieldKind.TheVariants.{Coordinate}
 use Rattle.order_fields.specs.OrderTable.{FitsKind}
 use Rattle.order_fields.proofs.FieldsAt.{fields_drop, fit_at}
 use Rattle.order_fields.proofs.delta.all_near.Goals as goal

@@ -2,7 +2,7 @@ use Rattle.std.proofs.Common.{◌≡◌, suc, ◌-◌, ◌*◌, ◌^◌, ◌<◌
 use Rattle.std.proofs.lemmas.Grind.{common_steps}
 use Rattle.std.proofs.lemmas.Int.{to_z-of_z}
 use Rattle.std.proofs.Math.Nat.{pow-suc}
-use Rattle.order_fields.specs.declared.kind.Kind.TheVariants.{Coordinate}
+use Rattle.order_fields.specs.declared.kind.FieldKind.TheVariants.{Coordinate}
 use Rattle.order_fields.proofs.FieldsAt.{fields_drop}
 use Rattle.order_fields.proofs.delta.changed_flags.Goals as goal
 

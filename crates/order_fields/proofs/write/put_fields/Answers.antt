@@ -2,7 +2,7 @@ use Rattle.std.proofs.Common.{◌≡◌, ℤ, [], pos, drop, suc, arith, rules, 
 use Rattle.std.proofs.lemmas.Grind.{common_steps}
 use Rattle.std.proofs.lemmas.Int.{to_z-of_z}
 use Rattle.std.proofs.lemmas.Result.{err_from_is_err_and}
-use Rattle.order_fields.specs.declared.kind.Kind.TheVariants.{Coordinate}
+use Rattle.order_fields.specs.declared.kind.FieldKind.TheVariants.{Coordinate}
 use Rattle.order_fields.specs.OrderTable.{FitsKind}
 use Rattle.order_fields.specs.OrderDelta.{fields_of, present_bytes}
 use Rattle.order_fields.proofs.FieldsAt.{fields_drop, fit_at, sized_at, near_at}

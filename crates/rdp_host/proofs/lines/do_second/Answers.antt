@@ -6,7 +6,7 @@ use Rattle.solo_script.specs.Steps.{DoesFound, WritesCause}
 use Rattle.rdp_host.specs.Reading.{moment, up_to, NextLineDone, invite_found, of_rest}
 use Rattle.rdp_host.specs.Run.{ReadsCause}
 use Rattle.line_text.specs.Lines.{lines_of}
-use Rattle.edge_io.specs.Sink.{AppendsFront}
+use Rattle.edge_io.specs.Sink.{WritesFront}
 use Rattle.rdp_host.proofs.Continued.{front_none, tells_of_all, written_writes}
 use Rattle.rdp_host.proofs.NextLine.{found_reads, written_reads}
 use Rattle.rdp_host.proofs.SecondLine.{second_done, not_joined}
@@ -38,7 +38,7 @@ returns g c =
 -- src/lines.rt:65:9
 pub returns-in-Failed-clause-done : goal.returns-in-Failed-clause-done
 returns-in-Failed-clause-done g c = tells_of_all (ahead c.args.reader.now (g.S.Source.left c.args.input.now))
-    (λ bytes. AppendsFront (g.K.Sink.told c.args.output.now) (g.K.Sink.told c.args.output.now)
+    (λ bytes. WritesFront (g.K.Sink.told c.args.output.now) (g.K.Sink.told c.args.output.now)
     ((of_rest c.args.size c.args.reader.now.at).writes (lines_of bytes)))
     (λ bytes. front_none (g.K.Sink.told c.args.output.now) ((of_rest c.args.size c.args.reader.now.at).writes (lines_of bytes)))
 

@@ -1,7 +1,7 @@
 use Rattle.std.proofs.Common.{◌≡◌, ◌-◌, ◌≤◌, ◌<◌, ◌∙◌, ℕ, List, [], length, take, refl, sym, ap, subst, Ok, arith, nat_lt}
 use Rattle.std.proofs.lemmas.Bool.Decides.{nat_tests}
 use Rattle.std.proofs.lemmas.List.{length-take-le, take_all}
-use Rattle.run_lengths.specs.RunLength.{Drawn, background_stroke, follows_background, foreground_stroke, nothing_drawn, order_at, orders_in}
+use Rattle.run_lengths.specs.RunLength.{Drawn, background_stroke, follows_background, foreground_stroke, nothing_drawn, order_at, run_orders_in}
 use Rattle.rle_dec.specs.Drawing.{drawn_rest, drawn_whole}
 use Rattle.rle_dec.specs.Orders.{order_of}
 use Rattle.rle_dec.proofs.Progress.{code_step, order_fits, order_refused, all_drawn, orders_end_late, rest_is_shorter, refused_is_no_longer}
@@ -10,7 +10,7 @@ use Rattle.rle_dec.proofs.bitmap.draw_stream.Goals as goal
 pub loop-at-init : goal.loop-at-init
 loop-at-init c =
     let none : length c.args.out.now - 0 ≡ length c.args.out.now = omega arith in
-    (omega arith, omega arith, ap (λ n. drawn_rest c.args.w nothing_drawn [] (orders_in n c.args.bytes.now)) none)
+    (omega arith, omega arith, ap (λ n. drawn_rest c.args.w nothing_drawn [] (run_orders_in n c.args.bytes.now)) none)
 
 pub returns-in-Err-clause-refused : goal.returns-in-Err-clause-refused
 returns-in-Err-clause-refused c =
@@ -44,7 +44,7 @@ loop-at-preserved c =
     let shorter = rest_is_shorter (count - c.loop-at.at) c.loop-at.stream.now c.in-Ok.read.1.now (order_of c.in-Ok.read.0) c.in-Ok.ensures.is in
     let long : length p ≡ c.loop-at.at = length-take-le c.loop-at.at c.loop-at.out c.loop-at.invariant.1 in
     let after : Drawn = record { count = length q; foreground = c.unwrap_or-foreground.result; before = c.before_after-before.result } in
-    let P : ℕ → Type 0 = λ n. drawn_rest c.args.w after q (orders_in (n - length q) c.in-Ok.read.1.now) ≡ drawn_whole c.args.w n c.args.bytes.now in (
+    let P : ℕ → Type 0 = λ n. drawn_rest c.args.w after q (run_orders_in (n - length q) c.in-Ok.read.1.now) ≡ drawn_whole c.args.w n c.args.bytes.now in (
       omega (arith, shorter, c.loop-at.invariant.0),
       omega (arith, c.draw_order-at.ensures.within, c.draw_order-at.auto.out),
       subst P (sym c.draw_order-at.auto.out)

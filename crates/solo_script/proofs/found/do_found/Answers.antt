@@ -2,7 +2,7 @@ use Rattle.std.proofs.Common.{ap, sym, subst}
 use Rattle.std.specs.Io.KnownBytes.{Appends}
 use Rattle.std.proofs.lemmas.Result.{err_from_is_err_and}
 use Rattle.std.specs.Prelude.{Err}
-use Rattle.edge_io.specs.Sink.{AppendsFront}
+use Rattle.edge_io.specs.Sink.{WritesFront}
 use Rattle.solo_script.specs.Steps.{DoesFound}
 use Rattle.solo_script.proofs.Lines.{line_done, found_broken, past_broken, refused, not_written}
 use Rattle.solo_script.proofs.found.do_found.Goals as goal
@@ -39,6 +39,6 @@ returns-in_err-put-in-None-clause-done g c =
       | in-Line+in_ok-broken-in-Line w ↦ not_written c.in_err-put-in-None.field-0.0 c.args.found w.in-Line.ended c.args.text.now w.in_ok-broken-in-Line.broken c.match-found.broken c.args.size c.args.k c.args.run.now w.do_line.new.run c.match-found.run
           c.new-line.result.items w.do_line.new.out.items c.match-found.line.items (g.K.Sink.told c.args.output.now) (g.K.Sink.told c.put.new.output)
           w.in-Line.is w.in_ok-broken-in-Line.ensures.done w.broken-is c.in-None.is (ap (λ l. l.items) w.line-is) c.new-line.ensures.items
-          (subst (AppendsFront (g.K.Sink.told c.args.output.now) (g.K.Sink.told c.put.new.output)) c.deref.ensures.value c.in_err-put-in-None.ensures.front) c.in_err-put-in-None.ensures.fault
+          (subst (WritesFront (g.K.Sink.told c.args.output.now) (g.K.Sink.told c.put.new.output)) c.deref.ensures.value c.in_err-put-in-None.ensures.front) c.in_err-put-in-None.ensures.fault
       | in-PastLimits w ↦ absurd (cc (w.broken-is, c.in-None.is))
     ]))

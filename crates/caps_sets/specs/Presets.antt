@@ -7,9 +7,8 @@ use Rattle.std.specs.Char.{is_ascii_digit}
 use Rattle.caps_sets.specs.declared.cache_size.CacheSize.{CacheSize}
 use Rattle.caps_sets.specs.declared.confirmed.Confirmed.{Confirmed}
 use Rattle.caps_sets.specs.Confirmed.{sized, plain, full, marked, bare, with_bitmap_cache, with_glyph_cache}
-use Rattle.line_text.specs.Words.{parts_at}
+use Rattle.line_text.specs.Words.{parts_at, is_same_word}
 use Rattle.line_text.specs.Numbers.{number_up_to}
-use Rattle.session_rules.specs.Steps.{is_same_name}
 
 -- a preset's name, and what it confirms
 pub record Preset : Type 0 where
@@ -22,13 +21,9 @@ preset word c = record { word = word; confirmed = c }
 abbrev pub presets : List Preset
 presets = preset (codes "plain") plain ∷ preset (codes "full") full ∷ preset (codes "marked") marked ∷ preset (codes "bare") bare ∷ []
 
--- the presets that the program reads today
-abbrev pub first_presets : List Preset
-first_presets = preset (codes "plain") plain ∷ []
-
 abbrev pub preset_named : List Preset → List ℕ → Option Confirmed
 preset_named [] word = None
-preset_named (p ∷ ps) word = if is_same_name word p.word then Some p.confirmed else preset_named ps word
+preset_named (p ∷ ps) word = if is_same_word word p.word then Some p.confirmed else preset_named ps word
 
 -- the greatest number of entries, and the greatest cell in bytes
 abbrev pub cache_limit : ℕ
@@ -42,8 +37,8 @@ size_by parts = None
 -- the same but for one cache, by its kind's two letters and its number
 abbrev pub with_cache : Confirmed → List ℕ → ℕ → CacheSize → Option Confirmed
 with_cache c kind cache size =
-    if is_same_name kind (codes "bc") && nat_le cache 2 then Some (with_bitmap_cache cache size c)
-    else (if is_same_name kind (codes "gc") && nat_le cache 9 then Some (with_glyph_cache cache size c) else None)
+    if is_same_word kind (codes "bc") && nat_le cache 2 then Some (with_bitmap_cache cache size c)
+    else (if is_same_word kind (codes "gc") && nat_le cache 9 then Some (with_glyph_cache cache size c) else None)
 
 -- `bcK=E,C` and `gcK=E,C`
 abbrev pub overridden : Confirmed → List ℕ → Option Confirmed

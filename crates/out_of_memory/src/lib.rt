@@ -1,13 +1,21 @@
-//! Want of memory.
-use std::alloc::AllocError;
+//! The answer for want of memory, one type for every crate (profile).
+#![tactic(auto)]
+
+use std::alloc::{AllocError, AllocFailed};
 use std::fmt;
 
-/// Memory that was asked for was not to be had.
+/// No memory was left for what a call had to make. What the call leaves then is said where it stands.
 #[derive(Clone, Copy, Debug, PartialEq, Eq)]
 pub struct OutOfMemory;
 
 impl From<AllocError> for OutOfMemory {
-    fn from(_: AllocError) -> Self {
+    fn from(_: AllocError) -> OutOfMemory {
+        OutOfMemory
+    }
+}
+
+impl<T: Drop> From<AllocFailed<T>> for OutOfMemory {
+    fn from(_: AllocFailed<T>) -> OutOfMemory {
         OutOfMemory
     }
 }
