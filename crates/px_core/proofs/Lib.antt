@@ -2,3 +2,4 @@ pub mod Colors
 pub mod Pictures
 pub mod Stretches
 pub mod TilePixels
+pub mod TileFlags

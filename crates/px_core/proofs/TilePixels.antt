@@ -56,7 +56,7 @@ some_pixel r x y h = let p = and_parts (within r.x r.w x) (within r.y r.h y) h i
     and_from _ _ (some_side r.w (omega (arith, ints))) (some_side r.h (omega (arith, ints)))
 
 -- the pixels of a whole picture
-in_whole : (size : Size) (x y : ℕ) → x < size.w → y < size.h → in_rect (whole size) (pos x) (pos y) ≡ true
+pub in_whole : (size : Size) (x y : ℕ) → x < size.w → y < size.h → in_rect (whole size) (pos x) (pos y) ≡ true
 in_whole size x y left above =
     and_from _ _ (within-from (pos 0) size.w (pos x) (omega (arith, ints)) (omega (arith, ints))) (within-from (pos 0) size.h (pos y) (omega (arith, ints)) (omega (arith, ints)))
 

@@ -1,6 +1,8 @@
-ghost use Rattle.std.specs.Prelude.{◌≡◌, ◌≤◌, ℤ, pos, ◌+ℤ◌, ◌&&◌, IfSome, IsTrue};
+ghost use Rattle.std.specs.Prelude.{◌≡◌, ◌≤◌, ℤ, pos, ◌+ℤ◌, ◌&&◌, int_le, IfSome, IsTrue};
 ghost use Rattle.std.specs.Int.{int_max, int_min};
-ghost use Rattle.px_core.specs.Rectangle.{in_rect, in_optional_rect, in_optional_stretch, has_pixel, common, common_length, within, if_pixels, if_numbers, IsPlaced, IsShort};
+ghost use Rattle.px_core.specs.Rectangle.{in_rect, in_optional_rect, in_optional_stretch, has_pixel, is_inside, common, common_length, within, if_pixels, if_numbers, IsPlaced, IsShort};
+
+use crate::surface::Size;
 
 /// A rectangle of pixels, by its upper left pixel and its sides, in pixels.
 ///
@@ -25,6 +27,27 @@ pub fn meet(a: Rect, b: Rect) -> Option<Rect>
         (Some((x, w)), Some((y, h))) => Some(Rect { x, y, w, h }),
         (_, _) => None,
     }
+}
+
+/// Whether a rectangle has a pixel.
+pub fn has_pixel(r: Rect) -> bool
+    ensures { result ≡ has_pixel r }
+{
+    1 <= r.w && 1 <= r.h
+}
+
+/// Whether a rectangle lies inside a picture.
+pub fn is_inside(s: Size, r: Rect) -> bool
+    ensures { result ≡ is_inside s r }
+{
+    is_stretch_below(s.w, r.x, r.w) && is_stretch_below(s.h, r.y, r.h)
+}
+
+/// Whether the numbers of a stretch are not negative, and below a limit.
+fn is_stretch_below(limit: u32, from: i32, length: u32) -> bool
+    ensures { result ≡ (int_le (pos 0) from && int_le (from +ℤ pos length) (pos limit)) }
+{
+    0 <= from && i64::from(from) + i64::from(length) <= i64::from(limit)
 }
 
 /// The common columns of two rectangles, by the first one and their number.

@@ -1,4 +1,4 @@
-use crate::{Rect, meet};
+use crate::{Rect, Size, TileSet, meet};
 
 const PICTURE: Rect = Rect {
     x: 0,
@@ -46,4 +46,74 @@ fn neighbours_have_no_common_pixel(rt: HostRuntime) {
         h: 10,
     };
     assert!(rt; meet(PICTURE, neighbour).is_none());
+}
+
+/// The greatest picture: 32 by 32 tiles.
+const GREATEST: Size = Size { w: 2_048, h: 2_048 };
+
+#[test]
+fn the_greatest_picture_has_all_tiles_up_to_the_last(rt: HostRuntime) {
+    let mut tiles = TileSet::none();
+    assert!(rt; tiles.next(0).is_none());
+    tiles.add(
+        Rect {
+            x: -65_536,
+            y: -65_536,
+            w: 65_536,
+            h: 65_536,
+        },
+        GREATEST,
+    );
+    assert!(rt; tiles.next(0).is_none());
+    tiles.add(
+        Rect {
+            x: 0,
+            y: 0,
+            w: 65_536,
+            h: 65_536,
+        },
+        GREATEST,
+    );
+    let mut from = 0;
+    for _ in 0..1_025 {
+        if let Some(tile) = tiles.next(from) {
+            assert_eq!(rt; tile, from);
+            from = tile.saturating_add(1);
+        }
+    }
+    assert_eq!(rt; from, 1_024);
+    assert!(rt; tiles.has(1_023));
+    assert!(rt; !tiles.has(1_024));
+    assert!(rt; !tiles.has(u32::MAX));
+    assert!(rt; tiles.next(1_024).is_none());
+    assert!(rt; tiles.next(u32::MAX).is_none());
+}
+
+#[test]
+fn one_pixel_at_the_lower_right_has_the_last_tile_alone(rt: HostRuntime) {
+    // 100 by 70 pixels are two rows of two tiles: 0, 1, 32, 33.
+    let size = Size { w: 100, h: 70 };
+    let pixel = Rect {
+        x: 99,
+        y: 69,
+        w: 1,
+        h: 1,
+    };
+    let mut tiles = TileSet::none();
+    assert!(rt; !tiles.meets(pixel, size));
+    tiles.add(pixel, size);
+    assert_eq!(rt; tiles.next(0), Some(33));
+    assert!(rt; tiles.next(34).is_none());
+    assert!(rt; tiles.meets(pixel, size));
+    assert!(rt;
+        !tiles.meets(
+            Rect {
+                x: 0,
+                y: 0,
+                w: 64,
+                h: 70
+            },
+            size
+        )
+    );
 }
