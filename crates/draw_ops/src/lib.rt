@@ -7,7 +7,9 @@ mod brush;
 mod fault;
 mod glyph;
 mod image;
+mod least_rule;
 mod rect_rule;
+mod rules;
 mod run;
 mod shape;
 
@@ -15,6 +17,7 @@ pub use brush::Brush;
 pub use fault::BadDrawing;
 pub use glyph::Glyph;
 pub use image::Image;
+pub use least_rule::valid;
 pub use out_of_memory::OutOfMemory;
 pub use rect_rule::keeps_rect_rule;
 pub use run::Run;

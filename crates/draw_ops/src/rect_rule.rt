@@ -29,7 +29,7 @@ fn is_drawn_side(side: u32) -> bool
 }
 
 /// Whether a rectangle's corner may have this coordinate.
-fn is_drawn_corner(at: i32) -> bool
+pub(crate) fn is_drawn_corner(at: i32) -> bool
     ensures { result ≡ is_corner at }
 {
     LEAST_CORNER <= at && at <= GREATEST_CORNER
