@@ -24,6 +24,7 @@ plain = record {
   glyph_level = 0;
   bitmaps = replicate 3 (sized 0 0);
   glyphs = replicate 10 (sized 0 0);
+  cautious = false;
 }
 
 -- the preset `bare`: all orders, and caches without an entry
@@ -43,6 +44,7 @@ bare = record {
   glyph_level = 2;
   bitmaps = replicate 3 (sized 0 0);
   glyphs = replicate 10 (sized 0 0);
+  cautious = false;
 }
 
 -- the preset `full`: all orders, and all caches

@@ -1,5 +1,5 @@
 -- The words that say what a script's viewer confirmed: a preset, and then the sizes of single caches (profile).
-use Rattle.std.specs.Prelude.{ℕ, ◌-◌, ◌==◌, nat_le, ◌&&◌, List, [], ◌∷◌, if◌then◌else◌, codes}
+use Rattle.std.specs.Prelude.{ℕ, ◌-◌, ◌==◌, nat_le, ◌&&◌, List, [], ◌∷◌, true, if◌then◌else◌, codes}
 use Rattle.std.specs.declared.option.Option.{Option}
 use Rattle.std.specs.declared.option.Option.TheVariants.{Some, None}
 use Rattle.std.specs.Option.{option_map, option_and_then}
@@ -46,10 +46,14 @@ overridden c (a ∷ b ∷ k ∷ sign ∷ rest) = if is_ascii_digit k && (sign ==
     then option_and_then (with_cache c (a ∷ b ∷ []) (k - 48)) (size_by (parts_at 44 rest)) else None
 overridden c word = None
 
+-- `cautious`, or a cache of another size
+abbrev pub overridden_word : Confirmed → List ℕ → Option Confirmed
+overridden_word c word = if is_same_word word (codes "cautious") then Some (record c { cautious = true }) else overridden c word
+
 -- the overrides one after the other; later ones count
 abbrev pub overridden_by : Confirmed → List (List ℕ) → Option Confirmed
 overridden_by c [] = Some c
-overridden_by c (word ∷ words) = option_and_then (λ d. overridden_by d words) (overridden c word)
+overridden_by c (word ∷ words) = option_and_then (λ d. overridden_by d words) (overridden_word c word)
 
 -- what preset words confirm
 abbrev pub confirmed_by : List Preset → List (List ℕ) → Option Confirmed

@@ -1,6 +1,10 @@
 pub mod Bounds
 pub mod NotSent
 pub mod Unsent
+pub mod Cut
+pub mod CutDrawing
+pub mod CutSource
+pub mod UnsentCut
 pub mod Sent
 pub mod Jump
 pub mod SavedBlocks

@@ -12,7 +12,7 @@ use Rattle.order_means.specs.ClientState.{ClientState}
 use Rattle.frame_rules.specs.Pending.{pending_of}
 use Rattle.frame_rules.specs.Support.{supports}
 use Rattle.frame_rules.specs.Blocks.{Place, least_free, positions_of, without_slot}
-use Rattle.frame_rules.specs.Frame.{Walk, skipped, sent_if, saved_if, given_up, restored_from, block_if, reads_clean_tiles, touched_tiles, walked_pending}
+use Rattle.frame_rules.specs.Frame.{Walk, skipped, sent_if, saved_if, given_up, restored_from, block_if, reads_clean_tiles, touched_tiles, walked}
 use Rattle.frame_laws.specs.Agreement.{Agrees, drawn}
 use Rattle.frame_laws.proofs.NotSent.{place-without, PaintsItsRect, skipped_agrees, ShowsOutside-unpainted, ShowsOutside-more, blocks_of_others}
 
@@ -43,9 +43,9 @@ module _ (size : Size) (narrow : size.w ≤ 2048) (st : SurfaceState) (clip : Op
   saved_agrees slot r w true None e unsent a = rw e (save_skipped slot r w a)
   saved_agrees slot r w true (Some position) e unsent a = absurd (cc (rw e at unsent))
 
-  -- a drawing of which nothing is sent
-  pub unsent_agrees : (c : Confirmed) (s : Shape) (w : Walk) → (walked_pending size c w (pending_of size st (drawn s clip))).sent ≡ []
-      → Agrees size st w client → Agrees size (state_after_drawing size st (drawn s clip)) (walked_pending size c w (pending_of size st (drawn s clip))).walk client
+  -- a drawing of which nothing is sent in its turn
+  pub unsent_agrees : (c : Confirmed) (s : Shape) (w : Walk) → (walked size c w (pending_of size st (drawn s clip)) s).sent ≡ []
+      → Agrees size st w client → Agrees size (state_after_drawing size st (drawn s clip)) (walked size c w (pending_of size st (drawn s clip)) s).walk client
   unsent_agrees c (Fill r color) w unsent a = let p = pending_of size st (drawn (Fill r color) clip) in
       sent_if_agrees (Fill r color) w (supports c p (Fill r color)) (record { touched = refl; blocks = refl }) unsent a
   unsent_agrees c (Dst r code) w unsent a = let p = pending_of size st (drawn (Dst r code) clip) in

@@ -4,3 +4,4 @@ pub mod CopyRows
 pub mod CacheRows
 pub mod TileRows
 pub mod OrderRows
+pub mod CautiousRows

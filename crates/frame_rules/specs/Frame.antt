@@ -13,6 +13,7 @@ use Rattle.session_rules.specs.Steps.{TakeOf}
 use Rattle.frame_rules.specs.Pending.{Pending, pending_between}
 use Rattle.frame_rules.specs.Blocks.{Place, placed, Held, positions_of, least_free, place_of, without_slot}
 use Rattle.frame_rules.specs.Support.{supports}
+use Rattle.frame_rules.specs.Cautious.{as_walked}
 
 -- ---- the walk over pending drawings
 
@@ -111,8 +112,13 @@ walked size c w p (LoadImage slot image) = unsent w
 walked size c w p (LoadBrush slot brush) = unsent w
 walked size c w p (LoadGlyph font code glyph) = unsent w
 
+-- a drawing that is walked as none is passed over like a load
+abbrev pub walked_as : Size → Confirmed → Walk → Option Pending → Walked
+walked_as size c w None = unsent w
+walked_as size c w (Some p) = walked size c w p p.drawing.shape
+
 abbrev pub walked_pending : Size → Confirmed → Walk → Pending → Walked
-walked_pending size c w p = walked size c w p p.drawing.shape
+walked_pending size c w p = walked_as size c w (as_walked size c p)
 
 -- the drawings that go as orders, in order
 abbrev pub sent_from : Size → Confirmed → Walk → List Pending → List Sent

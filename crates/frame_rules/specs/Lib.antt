@@ -9,3 +9,4 @@ pub mod FrameRead
 pub mod Encoder
 pub mod Describes
 pub mod OrdersOfBytes
+pub mod Cautious

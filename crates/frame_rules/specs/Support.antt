@@ -1,5 +1,5 @@
 -- Which drawings a viewer can be sent as orders, by what it confirmed (profile).
-use Rattle.std.specs.Prelude.{ℕ, nat_le, Bool, false, ◌&&◌, List, length, map, fold, min, max, Option, Some, None, is_some}
+use Rattle.std.specs.Prelude.{ℕ, nat_le, Bool, false, ◌&&◌, not, List, length, map, fold, min, max, Option, Some, None, is_some}
 use Rattle.draw_ops.specs.declared.shape.Shape.{Shape}
 use Rattle.draw_ops.specs.declared.shape.Shape.TheVariants.{Fill, Dst, Pat, Copy, Blit, Blit3, Text, Line, Save, Restore, LoadImage, LoadBrush, LoadGlyph}
 use Rattle.draw_ops.specs.Content.{ImageOf, GlyphOf}
@@ -54,7 +54,7 @@ supports c p (Pat r code brush) = c.pat && c.brush
 supports c p (Copy r code sx sy) = c.scr
 supports c p (Blit r code image sx sy) = c.mem && is_some (image_cache c p.image)
 supports c p (Blit3 r code image sx sy brush) = c.mem3 && (is_some (image_cache c p.image) && c.brush)
-supports c p (Text x y color font run) = (c.glyph && has_glyph_level c.glyph_level) && is_some (run_cache c p.glyphs)
+supports c p (Text x y color font run) = not c.cautious && ((c.glyph && has_glyph_level c.glyph_level) && is_some (run_cache c p.glyphs))
 supports c p (Line x0 y0 x1 y1 color) = false
 supports c p (Save slot r) = c.save
 supports c p (Restore slot x y) = c.save

@@ -17,20 +17,19 @@ use Rattle.frame_rules.specs.Pending.{pending_of, pending_drawings}
 use Rattle.frame_rules.specs.Frame.{Walk, Sent, walked_pending, sent_from, first_dirty, framed_by, frame_over, most_orders}
 use Rattle.frame_rules.specs.FrameOrders.{SentOrder, Uses, sending_of, orders_from, start_orders, black_orders, orders_before_tiles}
 use Rattle.frame_rules.specs.Describes.{HasAllCaches}
+use Rattle.board_laws.proofs.Fitting.{Sides}
 use Rattle.sound_states.specs.Drawings.{AllSound}
 use Rattle.sound_states.proofs.Rules.{rules_kept}
-use Rattle.frame_shows.proofs.WalkKeeps.{NoneOrOne, none_or_one, AllGood}
-use Rattle.frame_shows.proofs.SentKeeps.{Good}
-use Rattle.frame_shows.proofs.SoundGood.{good_of}
+use Rattle.frame_shows.proofs.WalkKeeps.{NoneOrOne, none_or_one_pending, AllGood}
 use Rattle.frame_shows.proofs.HeldApart.{walked_apart}
 use Rattle.frame_shows.proofs.OrderValues.{AllGoWhole, whole_append, drawn_whole, side_fits}
-use Rattle.frame_shows.proofs.OrdersFit.{sent_fits}
+use Rattle.frame_shows.proofs.SentOrCut.{Found, sent_or_cut_fits}
 
 -- each drawing of those that find sound states is good there
 pub all_good : (size : Size) (c : Confirmed) (j : List Entry) (narrow : size.w ≤ 2048) (ds : List Drawing) (st : SurfaceState) → AllSound size j st ds
-    → AllGood size c j narrow (Good size j) st ds
+    → AllGood size c j narrow (Found size j) st ds
 all_good size c j narrow [] st h = tt
-all_good size c j narrow (d ∷ ds) st h = (good_of size j st d h.0 h.1, all_good size c j narrow ds (state_after_drawing size st d) h.2)
+all_good size c j narrow (d ∷ ds) st h = (record { sound = h.0; suits = h.1 }, all_good size c j narrow ds (state_after_drawing size st d) h.2)
 
 -- orders that go whole, so many at most
 pub record FewWhole (c : Confirmed) (most : ℕ) (orders : List SentOrder) : Type 0 where
@@ -41,12 +40,12 @@ length-pending : (size : Size) (ds : List Drawing) (st : SurfaceState) → lengt
 length-pending size [] st = refl
 length-pending size (d ∷ ds) st = ap suc (length-pending size ds (state_after_drawing size st d))
 
-module _ (size : Size) (narrow : size.w ≤ 2048) (low : size.h ≤ 2048) (c : Confirmed) (all : HasAllCaches c) (j : List Entry) where
+module _ (size : Size) (narrow : size.w ≤ 2048) (sides : Sides size.w size.h) (c : Confirmed) (all : HasAllCaches c) (j : List Entry) where
   walk_fits : (ds : List Drawing) (st : SurfaceState) (w : Walk) (uses : Uses) → AllSound size j st ds → AreApart w.held
       → FewWhole c (65 * length ds) (orders_from c uses (sent_from size c w (pending_drawings size st ds)))
   walk_fits [] st w uses h apart = record { all = tt; few = omega arith }
   walk_fits (d ∷ ds) st w uses h apart =
-      by (none_or_one size c w (pending_of size st d) d.shape)
+      by (none_or_one_pending size c w (pending_of size st d))
       (λ u. walk_fits ds (state_after_drawing size st d) (walked_pending size c w (pending_of size st d)).walk u h.2
       (walked_apart size c w (pending_of size st d) apart))
     where
@@ -65,9 +64,7 @@ module _ (size : Size) (narrow : size.w ≤ 2048) (low : size.h ≤ 2048) (c : C
       by (inr one) rest =
           let s = one.0 in
           let more = sent_from size c (walked_pending size c w (pending_of size st d)).walk (pending_drawings size (state_after_drawing size st d) ds) in
-          let suits = h.1 in
-          let f = sent_fits size narrow low c all j st w uses d.clip d.shape s h.0 (rules_kept size st d suits.fits) suits.values
-          (good_of size j st d h.0 suits) apart one.1 in
+          let f = sent_or_cut_fits size c j narrow all sides st w uses d s (record { sound = h.0; suits = h.1 }) apart one.1 in
           let r = rest (sending_of c uses s).uses in
           let first = f.few in
           let few = r.few in
@@ -91,7 +88,7 @@ module _ (size : Size) (narrow : size.w ≤ 2048) (low : size.h ≤ 2048) (c : C
                 refl,
                 (
                   side_fits size.w narrow,
-                  (side_fits size.h low, (omega arith, (omega arith, (omega arith, tt)))),
+                  (side_fits size.h sides.not_higher, (omega arith, (omega arith, (omega arith, tt)))),
                 ),
               ),
             );

@@ -26,12 +26,13 @@ use Rattle.frame_rules.specs.Describes.{CachesAgree, IsSized, BlocksAgree, HasAl
 use Rattle.frame_rules.proofs.Paint.{painted_at, item-painted_from, length-painted_from}
 use Rattle.frame_rules.proofs.TileLaws.{column_below, row_below, in_rect-whole, tiles_of-in_rect}
 use Rattle.frame_laws.specs.Agreement.{Agrees, AreFilled}
+use Rattle.board_laws.proofs.Fitting.{Sides}
 use Rattle.frame_laws.proofs.Jump.{jumped_agrees}
 use Rattle.frame_laws.proofs.Sent.{obeyed_as}
 use Rattle.cache_laws.specs.Uses.{client_after_sent, ObeyedThrough}
 use Rattle.cache_laws.proofs.BlitSent.{orders_then}
 use Rattle.frame_shows.proofs.WalkKeeps.{AllGood, walk_keeps}
-use Rattle.frame_shows.proofs.SentKeeps.{Good, all_keep}
+use Rattle.frame_shows.proofs.SentOrCut.{Found, sent_keeps, unsent_keeps}
 
 -- what is known of the client before a frame
 pub record Before (size : Size) (c : Confirmed) (j : List Entry) (st : SurfaceState) (held : Held) (uses : Uses) (first : Bool)
@@ -165,10 +166,11 @@ module _ (size : Size) (c : Confirmed) (j : List Entry) (st : SurfaceState) (hel
     pub tiles : f.tiles ≡ tiles_in size (either_tiles walk.dirty asked)
     pub held_is : f.held ≡ walk.held
 
-  pub frame_obeys : (narrow : size.w ≤ 2048) → HasAllCaches c → has_pixel (whole size) ≡ true → (first : Bool) → Before size c j st held uses first client
-      → (ds : List Drawing) → AllGood size c j narrow (Good size j) st ds
+  pub frame_obeys : (narrow : size.w ≤ 2048) → Sides size.w size.h → HasAllCaches c → has_pixel (whole size) ≡ true → (first : Bool)
+      → Before size c j st held uses first client
+      → (ds : List Drawing) → AllGood size c j narrow (Found size j) st ds
       → (asked : Tiles) (picture : List ℕ) → Obeys ds asked (frame_over size c first held asked picture (pending_drawings size st ds))
-  frame_obeys narrow all some first b ds good asked picture = by (nat_lt most_orders (length (pending_drawings size st ds)))
+  frame_obeys narrow sides all some first b ds good asked picture = by (nat_lt most_orders (length (pending_drawings size st ds)))
     where
       g : Begun first
       g = begins narrow some first b
@@ -188,7 +190,8 @@ module _ (size : Size) (c : Confirmed) (j : List Entry) (st : SurfaceState) (hel
       }
       by false =
           let ps = pending_drawings size st ds in
-          let w = walk_keeps size c j narrow (Good size j) (all_keep size c j narrow all) ds st (walk_at first) uses g.after good g.agrees g.caches g.sized in
+          let w = walk_keeps size c j narrow (Found size j) (sent_keeps size c j narrow all sides) (unsent_keeps size c j narrow) ds st
+          (walk_at first) uses g.after good g.agrees g.caches g.sized in
           let rest = orders_from c uses (sent_from size c (walk_at first) ps) in
           let start = start_orders c.marker in
           let black = black_orders size (first && c.pat) in

@@ -335,7 +335,7 @@ frames_read head c j e t sized all legal up within are apart =
     let w : Walk = record { dirty = first_dirty size (is_first t) c; held = e.held } in
     let f = encoder_frame size c j e t in
     let os = orders_before_tiles size c e.uses f in
-    let over = frame_fits size sides.not_wider sides.not_higher c all j (state_after size j t.before).surface e.held e.uses
+    let over = frame_fits size sides.not_wider sides c all j (state_after size j t.before).surface e.held e.uses
     (drawings_between size j t.before t.number)
     (between_sound head j sized legal t.before t.number up) apart (is_first t) t.asked shown in
     let few : FewWhole c 65535 os =

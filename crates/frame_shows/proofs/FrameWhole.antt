@@ -19,11 +19,12 @@ use Rattle.frame_rules.specs.FrameOrders.{orders_before_tiles}
 use Rattle.frame_rules.specs.FrameRead.{FitOrders, AreShort}
 use Rattle.frame_rules.specs.Encoder.{Encoder, encoder_frame, encoder_after}
 use Rattle.frame_rules.specs.Describes.{DescribesClient, ShowsFrame, HasAllCaches}
+use Rattle.board_laws.proofs.Fitting.{sides_of}
 use Rattle.frame_laws.specs.Agreement.{AreFilled}
 use Rattle.cache_laws.specs.Sound.{AreColors}
 use Rattle.cache_laws.specs.Uses.{ObeyedThrough}
 use Rattle.frame_shows.proofs.WalkKeeps.{AllGood}
-use Rattle.frame_shows.proofs.SentKeeps.{Good}
+use Rattle.frame_shows.proofs.SentOrCut.{Found}
 use Rattle.frame_shows.proofs.FrameObeys.{Before, Obeys, frame_obeys}
 use Rattle.sound_states.specs.Drawings.{drawings_between}
 use Rattle.sound_states.proofs.Entries.{pending_between_is, state_between_is}
@@ -33,7 +34,7 @@ use Rattle.frame_shows.proofs.FrameShown.{NoMarks, frame_shown}
 
 -- what is to be shown of the journal's states and of the frame's orders
 pub record IsSoundTake (size : Size) (narrow : size.w ≤ 2048) (c : Confirmed) (j : List Entry) (e : Encoder) (t : TakeOf) : Type 0 where
-  pub good : AllGood size c j narrow (Good size j) (state_after size j t.before).surface (drawings_between size j t.before t.number)
+  pub good : AllGood size c j narrow (Found size j) (state_after size j t.before).surface (drawings_between size j t.before t.number)
   pub whole_picture : length (state_after size j t.before).surface.picture ≡ pixel_count size
   pub filled : AreFilled e.held
   pub colors : AreColors (state_after size j t.number).surface.picture
@@ -66,7 +67,8 @@ module _ (size : Size) (narrow : size.w ≤ 2048) (session : is_session_size siz
         black = λ f. let none : t.before ≡ 0 = grind (arith, nat_tests, f) in ap (λ n. (state_after size j n).surface.picture) none;
       } in
       let picture = (state_after size j t.number).surface.picture in
-      let over_drawings = frame_obeys size c j st e.held e.uses view.client narrow all some first before ds sound.good t.asked picture in
+      let over_drawings = frame_obeys size c j st e.held e.uses view.client narrow
+      (sides_of size.w size.h session) all some first before ds sound.good t.asked picture in
       let same = pending_between_is size j t.before t.number in
       let o : Obeys size c j st e.held e.uses view.client ds t.asked (encoder_frame size c j e t) =
       subst (λ (ps : List Pending). Obeys size c j st e.held e.uses view.client ds t.asked (frame_over size c first e.held t.asked picture ps))

@@ -12,8 +12,9 @@ use Rattle.saved_blocks.proofs.Apart.{apart_without}
 use Rattle.saved_blocks.proofs.LeastFree.{computed_is_least}
 use Rattle.frame_rules.specs.Blocks.{Place, Held, positions_of, end_of, least_free, place_if, place_of}
 use Rattle.frame_rules.specs.Pending.{Pending}
+use Rattle.frame_rules.specs.Cautious.{as_walked}
 use Rattle.frame_rules.specs.Support.{supports}
-use Rattle.frame_rules.specs.Frame.{Walk, touched_tiles, given_up, sent_if, saved_at, saved_if, restored_from, block_if, reads_clean_tiles, walked}
+use Rattle.frame_rules.specs.Frame.{Walk, touched_tiles, given_up, sent_if, saved_at, saved_if, restored_from, block_if, reads_clean_tiles, walked, walked_as}
 use Rattle.frame_rules.specs.Frame.{walked_pending, walk_after, jumped_shape, jumped_one, jumped, framed_by}
 
 -- the place of a held block ends within the positions
@@ -59,9 +60,13 @@ shape_apart size c w p (LoadImage slot image) h = h
 shape_apart size c w p (LoadBrush slot brush) h = h
 shape_apart size c w p (LoadGlyph font code glyph) h = h
 
+as_apart : (size : Size) (c : Confirmed) (w : Walk) (o : Option Pending) → AreApart w.held → AreApart (walked_as size c w o).walk.held
+as_apart size c w None h = h
+as_apart size c w (Some q) h = shape_apart size c w q q.drawing.shape h
+
 -- through a drawing in its turn
 pub walked_apart : (size : Size) (c : Confirmed) (w : Walk) (p : Pending) → AreApart w.held → AreApart (walked_pending size c w p).walk.held
-walked_apart size c w p h = shape_apart size c w p p.drawing.shape h
+walked_apart size c w p h = as_apart size c w (as_walked size c p) h
 
 walk_apart : (size : Size) (c : Confirmed) (ps : List Pending) (w : Walk) → AreApart w.held → AreApart (walk_after size c w ps).held
 walk_apart size c [] w h = h

@@ -64,7 +64,7 @@ module _ (head : Head) (c : Confirmed) (j : List Entry) (sized : is_session_size
       let sound = between_sound head j sized legal t.before t.number up in
       let before = state_sound head j sized legal t.before in
       let after = state_sound head j sized legal t.number in
-      let over = frame_fits size s.not_wider s.not_higher c all j st e.held e.uses ds sound old.apart (is_first t) t.asked picture in
+      let over = frame_fits size s.not_wider s c all j st e.held e.uses ds sound old.apart (is_first t) t.asked picture in
       let f : FewWhole c 65535 (orders_before_tiles size c e.uses (encoder_frame size c j e t)) =
       subst (λ (ps : List Pending). FewWhole c 65535 (orders_before_tiles size c e.uses (frame_over size c (is_first t) e.held t.asked picture ps)))
       (sym (pending_between_is size j t.before t.number)) over in

@@ -1,4 +1,6 @@
 pub mod FrameReads
+pub mod CutSuits
+pub mod SentOrCut
 pub mod FrameFits
 pub mod JournalShown
 pub mod OrdersFit

@@ -1,7 +1,7 @@
 -- The orders of each drawing that is sent go whole, and there are at most 65 of them: all nine shapes that have an order.
 use Rattle.std.proofs.Common.{◌≡◌, ℕ, suc, ◌+◌, ◌-◌, ◌*◌, ◌^◌, ◌<◌, ◌≤◌, List, [], ◌∷◌, ◌++◌, length, refl, ap, sym, ◌∙◌, subst, arith, Some, None}
 use Rattle.std.proofs.Common.{length-append}
-use Rattle.std.specs.Prelude.{Bool, true, false, ◌&&◌, nat_le, ⊤, Option, is_some, ℤ, pos, ◌+ℤ◌, ◌-ℤ◌}
+use Rattle.std.specs.Prelude.{Bool, true, false, ◌&&◌, not, nat_le, ⊤, Option, is_some, ℤ, pos, ◌+ℤ◌, ◌-ℤ◌}
 use Rattle.std.proofs.lemmas.Int.{ints}
 use Rattle.std.proofs.lemmas.Bool.{and_parts}
 use Rattle.std.proofs.lemmas.Bool.Decides.{nat_tests}
@@ -28,7 +28,7 @@ use Rattle.frame_rules.specs.Blocks.{Place, positions_of, least_free, place_of, 
 use Rattle.frame_rules.specs.Pending.{pending_of, run_glyphs}
 use Rattle.frame_rules.specs.Support.{supports, serves_image, serves_run, has_glyph_level, image_cache, run_cache, used_glyph_entries, greatest_cell}
 use Rattle.frame_rules.specs.Support.{distinct_loads}
-use Rattle.frame_rules.specs.Frame.{Walk, Sent, saved_at, saved_if, given_up, restored_from, block_if, reads_clean_tiles, walked_pending}
+use Rattle.frame_rules.specs.Frame.{Walk, Sent, saved_at, saved_if, given_up, restored_from, block_if, reads_clean_tiles, walked}
 use Rattle.frame_rules.specs.FrameOrders.{SentOrder, Uses, Sending, or_0, sending_of, entries_of, first_glyph_cache, bounds_of, image_use, brush_use, run_use}
 use Rattle.frame_rules.specs.FrameOrders.{run_pairs}
 use Rattle.frame_rules.specs.FrameOrders.SentOrder.{Drawn}
@@ -190,7 +190,7 @@ module _ (size : Size) (narrow : size.w ≤ 2048) (low : size.h ≤ 2048) (c : C
   some_entries cache image h = at_most 1 (cache_size c.bitmaps cache).entries (and_parts (nat_le 1 (cache_size c.bitmaps cache).entries) _ h).0
 
   save_by : (st : SurfaceState) (w : Walk) (uses : Uses) (clip : Option Rect) (slot : ℕ) (r : Rect) (sent : Sent) → is_inside size r ≡ true → AreApart w.held
-      → (walked_pending size c w (pending_of size st (drawn (Save slot r) clip))).sent ≡ sent ∷ [] → SentFits uses sent
+      → (walked size c w (pending_of size st (drawn (Save slot r) clip)) (Save slot r)).sent ≡ sent ∷ [] → SentFits uses sent
   save_by st w uses clip slot r sent inside apart e = by_test
       (supports c (pending_of size st (drawn (Save slot r) clip)) (Save slot r) && reads_clean_tiles size w (Save slot r)) e
     where
@@ -218,7 +218,7 @@ module _ (size : Size) (narrow : size.w ≤ 2048) (low : size.h ≤ 2048) (c : C
 
   restore_by : (st : SurfaceState) (w : Walk) (uses : Uses) (clip : Option Rect) (slot : ℕ) (x y : ℤ) (sent : Sent)
       → GoodShape size j st clip (Restore slot x y) → AreApart w.held
-      → (walked_pending size c w (pending_of size st (drawn (Restore slot x y) clip))).sent ≡ sent ∷ [] → SentFits uses sent
+      → (walked size c w (pending_of size st (drawn (Restore slot x y) clip)) (Restore slot x y)).sent ≡ sent ∷ [] → SentFits uses sent
   restore_by st w uses clip slot x y sent g apart e = by_test (supports c (pending_of size st (drawn (Restore slot x y) clip)) (Restore slot x y)) e
     where
       by_place : (o : Option Place) → place_of slot w.held ≡ o → (restored_from size w (pending_of size st (drawn (Restore slot x y) clip)) o).sent ≡ sent ∷ []
@@ -247,13 +247,14 @@ module _ (size : Size) (narrow : size.w ≤ 2048) (low : size.h ≤ 2048) (c : C
 
   text_by : (st : SurfaceState) (w : Walk) (uses : Uses) (clip : Option Rect) (x y : ℤ) (color font : ℕ) (run : List (ℕ × ℕ)) (sent : Sent) → IsSound size j st
       → AllNone (rules_of size clip (Text x y color font run)) → color < 2 ^ 24 → GoodShape size j st clip (Text x y color font run)
-      → (walked_pending size c w (pending_of size st (drawn (Text x y color font run) clip))).sent ≡ sent ∷ [] → SentFits uses sent
+      → (walked size c w (pending_of size st (drawn (Text x y color font run) clip)) (Text x y color font run)).sent ≡ sent ∷ [] → SentFits uses sent
   text_by st w uses clip x y color font run sent h rules v g e =
       let s = Text x y color font run in
       let p = pending_of size st (drawn s clip) in
       let t = passed (supports c p s) size w p sent e in
       let cache = some_cache (run_cache c (run_glyphs st.glyphs font run))
-      (and_parts (c.glyph && has_glyph_level c.glyph_level) (is_some (run_cache c (run_glyphs st.glyphs font run))) t.test).1 in
+      (and_parts (c.glyph && has_glyph_level c.glyph_level) (is_some (run_cache c (run_glyphs st.glyphs font run)))
+      (and_parts (not c.cautious) ((c.glyph && has_glyph_level c.glyph_level) && is_some (run_cache c (run_glyphs st.glyphs font run))) t.test).1).1 in
       let k = cache.0 in
       let found_ : first_cache (serves_run g.glyphs) c.glyphs ≡ Some k = ap (run_cache c) (sym (glyphs_are st font run g.glyphs g.held)) ∙ cache.1 in
       let f = first_serves (serves_run g.glyphs) c.glyphs 0 k found_ in
@@ -300,7 +301,7 @@ module _ (size : Size) (narrow : size.w ≤ 2048) (low : size.h ≤ 2048) (c : C
 
   pub sent_fits : (st : SurfaceState) (w : Walk) (uses : Uses) (clip : Option Rect) (s : Shape) (sent : Sent) → IsSound size j st
       → AllNone (rules_of size clip s) → HasValues s → GoodShape size j st clip s → AreApart w.held
-      → (walked_pending size c w (pending_of size st (drawn s clip))).sent ≡ sent ∷ [] → SentFits uses sent
+      → (walked size c w (pending_of size st (drawn s clip)) s).sent ≡ sent ∷ [] → SentFits uses sent
   sent_fits st w uses clip (Fill r color) sent h rules v g apart e =
       let p = pending_of size st (drawn (Fill r color) clip) in
       let t = passed (supports c p (Fill r color)) size w p sent e in

@@ -32,7 +32,7 @@ use Rattle.frame_rules.specs.Blocks.{Place, placed, positions_of, least_free, pl
 use Rattle.frame_rules.specs.Pending.{Pending, pending_of, run_glyphs, onto_optional}
 use Rattle.frame_rules.specs.Support.{supports, serves_image, serves_run, has_glyph_level, image_cache, run_cache, used_glyph_entries, greatest_cell}
 use Rattle.frame_rules.specs.Support.{distinct_loads}
-use Rattle.frame_rules.specs.Frame.{Walk, Sent, sent_if, saved_at, saved_if, given_up, with_block, restored_from, block_if, reads_clean_tiles, walked_pending}
+use Rattle.frame_rules.specs.Frame.{Walk, Sent, sent_if, saved_at, saved_if, given_up, with_block, restored_from, block_if, reads_clean_tiles, walked}
 use Rattle.frame_rules.specs.FrameOrders.{Uses, or_0, sending_of, entries_of, first_glyph_cache, brush_cache, bounds_of, image_use, brush_use, run_use}
 use Rattle.frame_rules.specs.FrameOrders.{run_pairs}
 use Rattle.frame_rules.specs.FrameOrders.SentOrder.{Drawn}
@@ -50,7 +50,6 @@ use Rattle.cache_laws.specs.Run.{AreServed}
 use Rattle.cache_laws.proofs.GlyphUse.{glyph_entries}
 use Rattle.cache_laws.specs.Run.{AreGlyphs, AreDeltas}
 use Rattle.cache_laws.proofs.TextSent.{text_agrees}
-use Rattle.frame_shows.proofs.WalkKeeps.{SentKeeps}
 
 -- ---- which cache serves
 
@@ -313,9 +312,9 @@ module _ (size : Size) (c : Confirmed) (j : List Entry) where
 
     -- a save, by its test and its position
     save_by : (st : SurfaceState) (w : Walk) (uses : Uses) (client : ClientState) (clip : Option Rect) (slot : ℕ) (r : Rect) (sent : Sent)
-        → GoodShape size j st clip (Save slot r) → (walked_pending size c w (pending_of size st (drawn (Save slot r) clip))).sent ≡ sent ∷ []
+        → GoodShape size j st clip (Save slot r) → (walked size c w (pending_of size st (drawn (Save slot r) clip)) (Save slot r)).sent ≡ sent ∷ []
         → Agrees size st w client → CachesAgree size c j uses client → IsSized c client
-        → SentObeys st w uses client clip (Save slot r) (walked_pending size c w (pending_of size st (drawn (Save slot r) clip))).walk sent
+        → SentObeys st w uses client clip (Save slot r) (walked size c w (pending_of size st (drawn (Save slot r) clip)) (Save slot r)).walk sent
     save_by st w uses client clip slot r sent g e a k z =
         by_test (supports c (pending_of size st (drawn (Save slot r) clip)) (Save slot r) && reads_clean_tiles size w (Save slot r)) refl e
       where
@@ -339,9 +338,10 @@ module _ (size : Size) (c : Confirmed) (j : List Entry) where
 
     -- a restore, by its test and its place
     restore_by : (st : SurfaceState) (w : Walk) (uses : Uses) (client : ClientState) (clip : Option Rect) (slot : ℕ) (x y : ℤ) (sent : Sent)
-        → GoodShape size j st clip (Restore slot x y) → (walked_pending size c w (pending_of size st (drawn (Restore slot x y) clip))).sent ≡ sent ∷ []
+        → GoodShape size j st clip (Restore slot x y) → (walked size c w (pending_of size st (drawn (Restore slot x y) clip)) (Restore slot x y)).sent
+        ≡ sent ∷ []
         → Agrees size st w client → CachesAgree size c j uses client → IsSized c client
-        → SentObeys st w uses client clip (Restore slot x y) (walked_pending size c w (pending_of size st (drawn (Restore slot x y) clip))).walk sent
+        → SentObeys st w uses client clip (Restore slot x y) (walked size c w (pending_of size st (drawn (Restore slot x y) clip)) (Restore slot x y)).walk sent
     restore_by st w uses client clip slot x y sent g e a k z =
         by_test (supports c (pending_of size st (drawn (Restore slot x y) clip)) (Restore slot x y)) e
       where
@@ -378,16 +378,17 @@ module _ (size : Size) (c : Confirmed) (j : List Entry) where
     -- a text, whose run a cache serves
     text_by : (st : SurfaceState) (w : Walk) (uses : Uses) (client : ClientState) (clip : Option Rect) (x y : ℤ) (color font : ℕ) (run : List (ℕ × ℕ))
         (sent : Sent) → GoodShape size j st clip (Text x y color font run)
-        → (walked_pending size c w (pending_of size st (drawn (Text x y color font run) clip))).sent ≡ sent ∷ []
+        → (walked size c w (pending_of size st (drawn (Text x y color font run) clip)) (Text x y color font run)).sent ≡ sent ∷ []
         → Agrees size st w client → CachesAgree size c j uses client → IsSized c client
         → SentObeys st w uses client clip (Text x y color font run)
-        (walked_pending size c w (pending_of size st (drawn (Text x y color font run) clip))).walk sent
+        (walked size c w (pending_of size st (drawn (Text x y color font run) clip)) (Text x y color font run)).walk sent
     text_by st w uses client clip x y color font run sent g e a k z =
         let s = Text x y color font run in
         let p = pending_of size st (drawn s clip) in
         let t = passed (supports c p s) size w p sent e in
         let cache = some_cache (run_cache c (run_glyphs st.glyphs font run))
-        (and_parts (c.glyph && has_glyph_level c.glyph_level) (is_some (run_cache c (run_glyphs st.glyphs font run))) t.test).1 in
+        (and_parts (c.glyph && has_glyph_level c.glyph_level) (is_some (run_cache c (run_glyphs st.glyphs font run)))
+        (and_parts (not c.cautious) ((c.glyph && has_glyph_level c.glyph_level) && is_some (run_cache c (run_glyphs st.glyphs font run))) t.test).1).1 in
         let found_ : first_cache (serves_run g.glyphs) c.glyphs ≡ Some cache.0 = ap (run_cache c) (sym (glyphs_are st font run g.glyphs g.held)) ∙ cache.1 in
         let f = first_serves (serves_run g.glyphs) c.glyphs 0 cache.0 found_ in
         let ten = all.glyphs in
@@ -424,9 +425,9 @@ module _ (size : Size) (c : Confirmed) (j : List Entry) where
         (served cache.0 g.glyphs (greatest_cell g.glyphs) g.loaded (cells_below g.glyphs) cell) g.held g.deltas (omega (arith, entries, enough)) a k z)))
 
     pub sent_by : (st : SurfaceState) (w : Walk) (uses : Uses) (client : ClientState) (clip : Option Rect) (s : Shape) (sent : Sent)
-        → GoodShape size j st clip s → (walked_pending size c w (pending_of size st (drawn s clip))).sent ≡ sent ∷ []
+        → GoodShape size j st clip s → (walked size c w (pending_of size st (drawn s clip)) s).sent ≡ sent ∷ []
         → Agrees size st w client → CachesAgree size c j uses client → IsSized c client
-        → SentObeys st w uses client clip s (walked_pending size c w (pending_of size st (drawn s clip))).walk sent
+        → SentObeys st w uses client clip s (walked size c w (pending_of size st (drawn s clip)) s).walk sent
     sent_by st w uses client clip (Fill r color) sent g e a k z =
         let p = pending_of size st (drawn (Fill r color) clip) in
         by_passing (supports c p (Fill r color)) st w uses client clip (Fill r color) sent (passed (supports c p (Fill r color)) size w p sent e)
@@ -517,6 +518,3 @@ module _ (size : Size) (c : Confirmed) (j : List Entry) where
     sent_by st w uses client clip (LoadImage slot image) sent g e a k z = absurd (cc e)
     sent_by st w uses client clip (LoadBrush slot brush) sent g e a k z = absurd (cc e)
     sent_by st w uses client clip (LoadGlyph font code glyph) sent g e a k z = absurd (cc e)
-
-    pub all_keep : SentKeeps size c j narrow (Good size j)
-    all_keep st w uses client d sent g e a k z = sent_by st w uses client d.clip d.shape sent g e a k z

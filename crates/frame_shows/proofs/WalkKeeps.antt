@@ -13,13 +13,13 @@ use Rattle.session_rules.specs.declared.entry.Entry.{Entry}
 use Rattle.order_means.specs.ClientState.{ClientState}
 use Rattle.frame_rules.specs.Blocks.{Place, least_free, positions_of}
 use Rattle.frame_rules.specs.Pending.{Pending, pending_of, pending_drawings}
+use Rattle.frame_rules.specs.Cautious.{as_walked}
 use Rattle.frame_rules.specs.Support.{supports}
-use Rattle.frame_rules.specs.Frame.{Walk, Sent, sent_if, saved_at, saved_if, given_up, restored_from, block_if, reads_clean_tiles, walked, walked_pending}
+use Rattle.frame_rules.specs.Frame.{Walk, Sent, sent_if, saved_at, saved_if, given_up, restored_from, block_if, reads_clean_tiles, walked, walked_as, walked_pending}
 use Rattle.frame_rules.specs.Frame.{sent_from, walk_after}
 use Rattle.frame_rules.specs.FrameOrders.{Uses, sending_of, orders_from, uses_after}
 use Rattle.frame_rules.specs.Describes.{CachesAgree, IsSized}
 use Rattle.frame_laws.specs.Agreement.{Agrees}
-use Rattle.frame_laws.proofs.Unsent.{unsent_agrees}
 use Rattle.cache_laws.specs.Uses.{ObeyedThrough}
 use Rattle.cache_laws.proofs.BlitSent.{orders_then}
 
@@ -43,7 +43,7 @@ by_save : (b : Bool) (size : Size) (w : Walk) (p : Pending) (slot : ℕ) (r : Re
 by_save true size w p slot r = by_position (least_free (positions_of r.w r.h) w.held) size w p slot r
 by_save false size w p slot r = inl refl
 
-pub none_or_one : (size : Size) (c : Confirmed) (w : Walk) (p : Pending) (s : Shape) → NoneOrOne (walked size c w p s).sent
+none_or_one : (size : Size) (c : Confirmed) (w : Walk) (p : Pending) (s : Shape) → NoneOrOne (walked size c w p s).sent
 none_or_one size c w p (Fill r color) = by_test (supports c p (Fill r color)) size w p
 none_or_one size c w p (Dst r code) = by_test (supports c p (Dst r code)) size w p
 none_or_one size c w p (Pat r code brush) = by_test (supports c p (Pat r code brush)) size w p
@@ -58,6 +58,14 @@ none_or_one size c w p (LoadImage slot image) = inl refl
 none_or_one size c w p (LoadBrush slot brush) = inl refl
 none_or_one size c w p (LoadGlyph font code glyph) = inl refl
 
+-- so does what a viewer's drawing is walked as
+none_or_one_as : (size : Size) (c : Confirmed) (w : Walk) (o : Option Pending) → NoneOrOne (walked_as size c w o).sent
+none_or_one_as size c w None = inl refl
+none_or_one_as size c w (Some q) = none_or_one size c w q q.drawing.shape
+
+pub none_or_one_pending : (size : Size) (c : Confirmed) (w : Walk) (p : Pending) → NoneOrOne (walked_pending size c w p).sent
+none_or_one_pending size c w p = none_or_one_as size c w (as_walked size c p)
+
 module _ (size : Size) (c : Confirmed) (j : List Entry) (narrow : size.w ≤ 2048) (Good : SurfaceState → Drawing → Type 0) where
   -- the orders of a drawing that is sent are obeyed
   abbrev pub SentKeeps : Type 0
@@ -67,18 +75,24 @@ module _ (size : Size) (c : Confirmed) (j : List Entry) (narrow : size.w ≤ 204
       → ObeyedThrough size c j (state_after_drawing size st d) (walked_pending size c w (pending_of size st d)).walk (sending_of c uses s).uses client
       (sending_of c uses s).orders
 
+  -- a drawing of which nothing is sent leaves session and client agreeing
+  abbrev pub UnsentKeeps : Type 0
+  UnsentKeeps = (st : SurfaceState) (w : Walk) (client : ClientState) (d : Drawing) → Good st d → (walked_pending size c w (pending_of size st d)).sent ≡ []
+      → Agrees size st w client → Agrees size (state_after_drawing size st d) (walked_pending size c w (pending_of size st d)).walk client
+
   abbrev pub AllGood : SurfaceState → List Drawing → Type 0
   AllGood st [] = ⊤
   AllGood st (d ∷ ds) = Good st d × AllGood (state_after_drawing size st d) ds
 
-  pub walk_keeps : SentKeeps → (ds : List Drawing) (st : SurfaceState) (w : Walk) (uses : Uses) (client : ClientState) → AllGood st ds → Agrees size st w client
+  pub walk_keeps : SentKeeps → UnsentKeeps → (ds : List Drawing) (st : SurfaceState) (w : Walk) (uses : Uses) (client : ClientState) → AllGood st ds
+      → Agrees size st w client
       → CachesAgree size c j uses client → IsSized c client
       → ObeyedThrough size c j (state_after_drawings size st ds) (walk_after size c w (pending_drawings size st ds))
       (uses_after c uses (sent_from size c w (pending_drawings size st ds))) client
       (orders_from c uses (sent_from size c w (pending_drawings size st ds)))
-  walk_keeps keeps [] st w uses client good a k z = record { after = client; obeys = refl; agrees = a; caches = k; sized = z }
-  walk_keeps keeps (d ∷ ds) st w uses client good a k z = by (none_or_one size c w p d.shape)
-      (λ next u d' good' a' k' z'. walk_keeps keeps ds (state_after_drawing size st d) next u d' good' a' k' z')
+  walk_keeps keeps unsent [] st w uses client good a k z = record { after = client; obeys = refl; agrees = a; caches = k; sized = z }
+  walk_keeps keeps unsent (d ∷ ds) st w uses client good a k z = by (none_or_one_pending size c w p)
+      (λ next u d' good' a' k' z'. walk_keeps keeps unsent ds (state_after_drawing size st d) next u d' good' a' k' z')
     where
       p : Pending
       p = pending_of size st d
@@ -100,7 +114,7 @@ module _ (size : Size) (c : Confirmed) (j : List Entry) (narrow : size.w ≤ 204
           let next = (walked_pending size c w (pending_of size st d)).walk in
           let later = state_after_drawing size st d in
           let more = sent_from size c next (pending_drawings size later ds) in
-          let r = rest next uses client good.1 (unsent_agrees size narrow st d.clip client c d.shape w none a) k z in
+          let r = rest next uses client good.1 (unsent st w client d good.0 none a) k z in
           subst (λ (ss : List Sent). ObeyedThrough size c j (state_after_drawings size later ds) (walk_after size c next (pending_drawings size later ds))
           (uses_after c uses (ss ++ more)) client (orders_from c uses (ss ++ more))) (sym none) r
       by (inr one) rest =

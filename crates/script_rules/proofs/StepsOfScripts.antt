@@ -18,7 +18,7 @@ use Rattle.frame_rules.specs.Describes.{HasAllCaches}
 use Rattle.session_rules.specs.Journal.{Head, Row, is_present}
 use Rattle.session_rules.specs.Steps.{Step, Play, play_at_first, outcome}
 use Rattle.session_rules.specs.Steps.Step.{JoinStep, LeaveStep, InputStep, DrawStep, RefreshStep, SuppressStep, TakeStep}
-use Rattle.caps_sets.specs.Presets.{Preset, presets, preset_named, size_by, with_cache, overridden, overridden_by, confirmed_by}
+use Rattle.caps_sets.specs.Presets.{Preset, presets, preset_named, size_by, with_cache, overridden, overridden_word, overridden_by, confirmed_by}
 use Rattle.script_rules.specs.Script.{Grammar, whole_grammar, first_grammar, Asked, Script, ScriptReading, LineForm, LineOutcome, Opening, without_preset, broken_if, first_presets}
 use Rattle.script_rules.specs.Script.{unless_broken, join_outcome, form_outcome, line_outcome, line_form, is_name, is_invited, row_limit, finds_too_many}
 use Rattle.script_rules.specs.Script.{order_rule, name_rule, presence_rule, pending_rule, text_rule, breaks_text_rule, refused_at, with_asked, with_row}
@@ -67,9 +67,17 @@ overridden_has c (a ∷ b ∷ k ∷ sign ∷ rest) h = by (is_ascii_digit k && (
     by true = some_of HasAllCaches (with_cache c (a ∷ b ∷ []) (k - 48)) (size_by (parts_at 44 rest)) (λ size. with_cache_has c (a ∷ b ∷ []) (k - 48) size h)
     by false = tt
 
+overridden_word_has : (c : Confirmed) (word : List ℕ) → HasAllCaches c → IfSome (overridden_word c word) HasAllCaches
+overridden_word_has c word h = by (is_same_word word (codes "cautious")) (overridden_has c word h)
+  where
+    by : (t : Bool) → IfSome (overridden c word) HasAllCaches
+        → IfSome (if t then Some (record c { cautious = true }) else overridden c word) HasAllCaches
+    by true rest = record { bitmaps = h.bitmaps; glyphs = h.glyphs }
+    by false rest = rest
+
 overridden_by_has : (c : Confirmed) (words : List (List ℕ)) → HasAllCaches c → IfSome (overridden_by c words) HasAllCaches
 overridden_by_has c [] h = h
-overridden_by_has c (word ∷ words) h = by (overridden c word) (overridden_has c word h) (λ d k. overridden_by_has d words k)
+overridden_by_has c (word ∷ words) h = by (overridden_word c word) (overridden_word_has c word h) (λ d k. overridden_by_has d words k)
   where
     by : (o : Option Confirmed) → IfSome o HasAllCaches → ((d : Confirmed) → HasAllCaches d → IfSome (overridden_by d words) HasAllCaches)
         → IfSome (option_and_then (λ d. overridden_by d words) o) HasAllCaches
