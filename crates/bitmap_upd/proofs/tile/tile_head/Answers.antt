@@ -1,0 +1,8 @@
+use Rattle.std.proofs.Common.{◌≡◌, ℕ, List, ◌∷◌, ◌++◌, length, refl, sym, ap}
+use Rattle.host_bytes.specs.UpdateBodies.{tile_data_bytes}
+use Rattle.host_bytes.specs.WirePixels.{pixel_data}
+use Rattle.bitmap_upd.proofs.tile.tile_head.Goals as goal
+
+pub returns : goal.returns
+returns c bytes e =
+    rw (c.to_le_bytes.ensures, c.to_le_bytes-2.ensures, c.to_le_bytes-3.ensures, c.to_le_bytes-4.ensures, c.to_le_bytes-5.ensures, c.to_le_bytes-6.ensures, c.to_le_bytes-7.ensures, c.to_le_bytes-8.ensures, c.flags_of.ensures, sym e) refl

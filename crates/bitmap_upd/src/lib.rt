@@ -1,0 +1,10 @@
+//! A bitmap update of one rectangle ([MS-RDPBCGR] 2.2.9.1.1.3.1.2).
+#![tactic(auto)]
+
+mod tile;
+
+pub use out_of_memory::OutOfMemory;
+pub use tile::write_tile;
+
+#[cfg(test)]
+mod tests;

@@ -1,0 +1,15 @@
+-- Packed bytes that are shorter than three a pixel.
+use Rattle.std.proofs.Common.{rules, ◌≡◌, ℕ, ◌*◌, ◌<◌, List, length, ap, sym, ◌∙◌, refl, arith}
+use Rattle.std.specs.Prelude.{Bool, true, false, nat_lt}
+use Rattle.std.proofs.lemmas.Bool.Decides.{nat_tests}
+use Rattle.byte_fields.specs.Pixels.{pixels_bytes}
+use Rattle.byte_fields.proofs.Pixels.{length-pixels_bytes}
+use Rattle.run_lengths.specs.Packer.{packed}
+use Rattle.host_bytes.specs.WirePixels.{pixel_data, data_of}
+
+pub shorter_is_packed : (no_header : Bool) (w : ℕ) (pixels bytes : List ℕ) → no_header ≡ true → bytes ≡ packed w pixels → length bytes < 3 * length pixels → pixel_data true bytes ≡ data_of no_header w pixels
+shorter_is_packed false w pixels bytes h e lt = absurd (search rules)
+shorter_is_packed true w pixels bytes h e lt =
+    let raw = length-pixels_bytes pixels in
+    let test : nat_lt (length (packed w pixels)) (length (pixels_bytes pixels)) ≡ true = let same : length bytes ≡ length (packed w pixels) = ap length e in grind (arith, nat_tests, same, raw, lt) in
+    ap (pixel_data true) e ∙ rw test refl

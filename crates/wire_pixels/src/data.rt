@@ -1,0 +1,109 @@
+//! The bytes of pixels: packed where the viewer takes that and it is shorter, else three bytes a pixel.
+//!
+//! | offset | size | field | value |
+//! |---|---|---|---|
+//! | 3 * k | 1 | blue | of pixel k, from the bottom row up |
+//! | 3 * k + 1 | 1 | green | |
+//! | 3 * k + 2 | 1 | red | |
+
+ghost use Rattle.std.specs.Prelude.{◌≡◌, ◌≤◌, ◌*◌, ◌%◌, ◌++◌, length, OnOk, IfOk, IsTrue, false};
+ghost use Rattle.byte_fields.specs.Pixels.{pixel_bytes, pixels_bytes};
+ghost use Rattle.px_core.specs.Colors.{are_colors};
+ghost use Rattle.host_bytes.specs.WirePixels.{data_of, pixel_data};
+
+use crate::OutOfMemory;
+use rle_enc::{Packed, pack};
+use std::alloc::Global;
+use std::marker::Model;
+
+/// The bytes of pixels, and whether they are packed.
+#[derive(Drop)]
+pub struct PixelBytes {
+    is_packed: bool,
+    bytes: Vec<u8>,
+}
+
+impl Model for PixelBytes {
+    ghost use Rattle.host_bytes.specs.WirePixels.{PixelData, pixel_data};
+
+    ghost Value = { PixelData };
+
+    ghost view = { λ d. pixel_data d.is_packed d.bytes.items };
+}
+
+impl PixelBytes {
+    /// Whether the bytes are packed.
+    pub fn is_packed(&self) -> bool
+        ensures { result ≡ self.now.is_packed }
+    {
+        self.is_packed
+    }
+
+    /// The bytes.
+    pub fn bytes(&self) -> &[u8]
+        ensures { result.now ≡ self.now.bytes }
+    {
+        self.bytes.as_slice()
+    }
+}
+
+/// Puts a pixel at the end: blue, green, red.
+fn put_pixel(out: &mut Vec<u8>, color: u32) -> Result<(), OutOfMemory>
+    ensures { OnOk result (out.new.items ≡ out.old.items ++ pixel_bytes color) }
+{
+    let [blue, green, red, _] = color.to_le_bytes();
+    out.extend_from_slice(&[blue, green, red])?;
+    Ok(())
+}
+
+/// Three bytes for each pixel.
+pub fn raw_bytes(alloc: Global, pixels: &[u32]) -> Result<Vec<u8>, OutOfMemory>
+    ensures value { IfOk result (λ bytes. bytes.items ≡ pixels_bytes pixels.now) }
+    ensures number { IfOk result (λ bytes. length bytes.items ≡ 3 * length pixels.now) }
+{
+    let mut out = Vec::new(alloc);
+    for pixel in pixels {
+        put_pixel(&mut out, *pixel)?;
+    }
+    Ok(out)
+}
+
+/// The bytes of pixels as three bytes each.
+fn raw_data(alloc: Global, pixels: &[u32]) -> Result<PixelBytes, OutOfMemory>
+    ensures value { IfOk result (λ data_. data_ ≡ pixel_data false (pixels_bytes pixels.now)) }
+    ensures bound { IfOk result (λ data_. length data_.bytes ≤ 3 * length pixels.now) }
+{
+    let bytes = raw_bytes(alloc, pixels)?;
+    Ok(PixelBytes {
+        is_packed: false,
+        bytes,
+    })
+}
+
+/// The bytes of pixels in rows of `w`, the bottom row first: packed exactly where the viewer takes packed bitmaps without a header and
+/// that is shorter than three bytes a pixel.
+pub fn pixel_data(
+    alloc: Global,
+    pixels: &[u32],
+    w: usize,
+    no_header: bool,
+) -> Result<PixelBytes, OutOfMemory>
+    requires wide { 1 ≤ w }
+    requires rows { length pixels.now % w ≡ 0 }
+    requires some { 1 ≤ length pixels.now }
+    requires few { length pixels.now ≤ 4096 }
+    requires colors { IsTrue (are_colors pixels.now) }
+    ensures value { IfOk result (λ data_. data_ ≡ data_of no_header w pixels.now) }
+    ensures bound { IfOk result (λ data_. length data_.bytes ≤ 3 * length pixels.now) }
+{
+    if !no_header {
+        return raw_data(alloc, pixels);
+    }
+    match pack(alloc, pixels, w)? {
+        Packed::Packed(bytes) => Ok(PixelBytes {
+            is_packed: true,
+            bytes,
+        }),
+        Packed::Raw => raw_data(alloc, pixels),
+    }
+}
