@@ -34,7 +34,8 @@ impl Brush {
 
     /// The 64 colours, row by row from the top.
     pub fn pixels(&self) -> &[u32]
-        ensures { result.now ≡ self.now }
+        ensures value { result.now ≡ self.now }
+        ensures number { length result.now ≡ 64 }
     {
         &self.pixels
     }

@@ -1,0 +1,50 @@
+//! A brush for an entry of the brush cache ([MS-RDPEGDI] 2.2.2.2.1.2.7).
+//!
+//! | offset | size | field | value |
+//! |---|---|---|---|
+//! | 0 | 1 | controlFlags | 3, a secondary order |
+//! | 1 | 2 | orderLength | 191, the order's bytes less 13 |
+//! | 3 | 2 | extraFlags | 0 |
+//! | 5 | 1 | orderType | 7 |
+//! | 6 | 1 | cacheEntry | the entry |
+//! | 7 | 1 | iBitmapFormat | 5, BMF_24BPP |
+//! | 8 | 2 | cx, cy | 8 and 8 |
+//! | 10 | 1 | Style | 0 |
+//! | 11 | 1 | iBytes | 192 |
+//! | 12 | 192 | brushData | the pixels from the bottom row up as blue, green, red |
+
+ghost use Rattle.std.specs.Prelude.{◌≡◌, ◌++◌, length, OnOk, OnErr};
+ghost use Rattle.wire_num.specs.Written.{AppendsFront};
+ghost use Rattle.host_bytes.specs.CacheOrders.{cache_brush_bytes};
+
+use crate::OutOfMemory;
+use draw_ops::Brush;
+use std::alloc::Global;
+use wire_pixels::{put_both, raw_bytes, turn_over};
+
+/// The order's type.
+const CACHE_BRUSH: u8 = 7;
+
+/// BMF_24BPP.
+const BITS_24: u8 = 5;
+
+/// The columns, and the rows, of a brush.
+const SIDE: usize = 8;
+
+/// Writes the order that puts a brush into an entry of the brush cache at the end.
+///
+/// An `Err` is want of memory and leaves a front of the order there.
+pub fn cache_brush(
+    alloc: Global,
+    out: &mut Vec<u8>,
+    entry: u8,
+    brush: &Brush,
+) -> Result<(), OutOfMemory>
+    ensures ok { OnOk result (out.new.items ≡ out.old.items ++ cache_brush_bytes entry brush.now) }
+    ensures memory { OnErr result (AppendsFront out.old.items (cache_brush_bytes entry brush.now) out.new.items) }
+{
+    let wire = turn_over(alloc, brush.pixels(), SIDE, SIDE)?;
+    let bytes = raw_bytes(alloc, &wire)?;
+    let head = [3, 191, 0, 0, 0, CACHE_BRUSH, entry, BITS_24, 8, 8, 0, 192];
+    put_both(out, &head, &bytes)
+}

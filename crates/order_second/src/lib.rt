@@ -1,0 +1,13 @@
+//! The secondary orders that fill a viewer's caches, and the frame marker ([MS-RDPEGDI] 2.2.2.2.1.2 and 2.2.2.2.1.3.7).
+#![tactic(auto)]
+
+mod brush;
+mod glyph;
+mod image;
+mod marker;
+
+pub use brush::cache_brush;
+pub use glyph::cache_glyph;
+pub use image::cache_bitmap;
+pub use marker::frame_marker;
+pub use out_of_memory::OutOfMemory;
