@@ -1,0 +1,13 @@
+//! The input events of a client's slow-path input PDU ([MS-RDPBCGR] 2.2.8.1.1.3).
+#![tactic(auto)]
+
+mod event;
+mod events;
+mod input_fault;
+
+pub use events::read_events;
+pub use input_events::Event;
+pub use input_fault::InputFault;
+
+#[cfg(test)]
+mod tests;
