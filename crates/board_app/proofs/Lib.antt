@@ -1,0 +1,2 @@
+pub mod KindsLemmas
+pub mod Shades
