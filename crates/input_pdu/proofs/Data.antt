@@ -2,7 +2,7 @@
 use Rattle.std.proofs.Common.{◌≡◌, ℕ, List, length, arith}
 use Rattle.std.specs.Prelude.{Ok}
 use Rattle.std.proofs.lemmas.Grind.{common_steps}
-use Rattle.wire_num.specs.Field.{bytes_at}
+use Rattle.byte_fields.specs.Field.{bytes_at}
 
 pub bytes_counted : (n : ℕ) (bs part more : List ℕ) → bytes_at n bs ≡ Ok (part, more) → length part ≡ n
 unfolding bytes_at
