@@ -2,6 +2,8 @@ use crate::*;
 use draw_ops::{Drawing, Shape};
 use input_events::Event;
 use px_core::{Rect, Size};
+use std::alloc::Global;
+use std::process::Abort;
 use std::test::Fail;
 
 /// The session of these tests.
@@ -11,9 +13,14 @@ fn mouse(flags: u16, x: u16, y: u16) -> Event {
     Event::Mouse { flags, x, y }
 }
 
-fn react(rt: &HostRuntime, board: &mut Board, e: Event) -> Result<Vec<Drawing>, Fail> {
+fn react(
+    rt: &impl Abort,
+    alloc: Global,
+    board: &mut Board,
+    e: Event,
+) -> Result<Vec<Drawing>, Fail> {
     assert!(rt; board.signs() < 1000);
-    Ok(board.react(rt.alloc(), e)?)
+    Ok(board.react(alloc, e)?)
 }
 
 fn is_fill(d: &Drawing, place: Rect, ink: u32) -> bool {
@@ -43,6 +50,7 @@ fn a_click_draws_a_dot_and_another_key_nothing(rt: HostRuntime) -> Result<(), Fa
     // The caps lock, and F12.
     let drawings = react(
         &rt,
+        rt.alloc(),
         &mut board,
         Event::Scan {
             code: 58,
@@ -52,6 +60,7 @@ fn a_click_draws_a_dot_and_another_key_nothing(rt: HostRuntime) -> Result<(), Fa
     assert_eq!(rt; drawings.len(), 0);
     let drawings = react(
         &rt,
+        rt.alloc(),
         &mut board,
         Event::Scan {
             code: 0x58,
@@ -59,7 +68,7 @@ fn a_click_draws_a_dot_and_another_key_nothing(rt: HostRuntime) -> Result<(), Fa
         },
     )?;
     assert_eq!(rt; drawings.len(), 0);
-    let drawings = react(&rt, &mut board, mouse(0x9000, 20, 20))?;
+    let drawings = react(&rt, rt.alloc(), &mut board, mouse(0x9000, 20, 20))?;
     assert_eq!(rt; drawings.len(), 1);
     assert!(rt;
         is_fill(
@@ -79,7 +88,7 @@ fn a_click_draws_a_dot_and_another_key_nothing(rt: HostRuntime) -> Result<(), Fa
 #[test]
 fn a_click_outside_the_popup_closes_it(rt: HostRuntime) -> Result<(), Fail> {
     let mut board = Board::new(SIZE);
-    let drawings = react(&rt, &mut board, mouse(0xA000, 0, 0))?;
+    let drawings = react(&rt, rt.alloc(), &mut board, mouse(0xA000, 0, 0))?;
     assert_eq!(rt; drawings.len(), 5);
     assert!(rt;
         is_save(
@@ -140,11 +149,11 @@ fn a_click_outside_the_popup_closes_it(rt: HostRuntime) -> Result<(), Fail> {
             0x0000FF
         )
     );
-    let drawings = react(&rt, &mut board, mouse(0x9000, 60, 40))?;
+    let drawings = react(&rt, rt.alloc(), &mut board, mouse(0x9000, 60, 40))?;
     assert_eq!(rt; drawings.len(), 1);
     assert!(rt; is_restore(&drawings[0], (0, 0)));
     // The ink is white as before.
-    let drawings = react(&rt, &mut board, mouse(0x9000, 60, 40))?;
+    let drawings = react(&rt, rt.alloc(), &mut board, mouse(0x9000, 60, 40))?;
     assert_eq!(rt; drawings.len(), 1);
     assert!(rt;
         is_fill(
