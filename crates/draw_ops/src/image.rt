@@ -5,19 +5,25 @@ ghost use Rattle.px_core.specs.Colors.{are_colors};
 use crate::OutOfMemory;
 use std::alloc::Global;
 use std::marker::Model;
+use std::sync::Arc;
 
 /// A picture of its own, to be loaded into a slot: its sides in pixels, and its colours row by row from the top.
+///
+/// Several handles may share the colours.
 #[derive(Debug, Drop)]
 pub struct Image {
     w: u16,
     h: u16,
-    pixels: Vec<u32>,
+    pixels: Arc<Vec<u32>>,
 }
 
 impl Model for Image {
+    ghost use Rattle.std.specs.Arc.{arc_value};
+    ghost use Rattle.draw_ops.specs.Content.{ImageOf};
+
     ghost Value = { ImageOf };
 
-    ghost view = { λ s. record { w = s.w; h = s.h; pixels = s.pixels.items } };
+    ghost view = { λ s. record { w = s.w; h = s.h; pixels = (arc_value s.pixels).items } };
 }
 
 impl Image {
@@ -27,7 +33,20 @@ impl Image {
         ensures { IfOk result (λ image. image ≡ record { w = w; h = h; pixels = pixels.now }) }
     {
         let pixels = Vec::from_slice(alloc, pixels)?;
+        let pixels = Arc::new(alloc, pixels)?;
         Ok(Image { w, h, pixels })
+    }
+
+    /// One more handle of the same image; no colour is copied.
+    pub fn share(&self) -> Result<Image, OutOfMemory>
+        ensures { IfOk result (λ image. image ≡ self.now) }
+    {
+        let pixels = Arc::try_clone(&self.pixels)?;
+        Ok(Image {
+            w: self.w,
+            h: self.h,
+            pixels,
+        })
     }
 
     /// The width in pixels.
