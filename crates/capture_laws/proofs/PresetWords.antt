@@ -12,7 +12,7 @@ use Rattle.caps_sets.specs.declared.cache_size.CacheSize.{CacheSize}
 use Rattle.caps_sets.specs.Confirmed.{sized, with_bitmap_cache, with_glyph_cache}
 use Rattle.line_text.specs.Words.{parts_at, is_same_word}
 use Rattle.line_text.specs.Numbers.{digits_behind, number_of, number_up_to}
-use Rattle.caps_sets.specs.Presets.{Preset, presets, preset_named, cache_limit, size_by, with_cache, overridden, overridden_by, confirmed_by}
+use Rattle.caps_sets.specs.Presets.{Preset, presets, preset_named, cache_limit, size_by, with_cache, overridden, overridden_word, overridden_by, confirmed_by}
 use Rattle.script_rules.proofs.ReadBack.{Lacks}
 use Rattle.capture_laws.proofs.Lacking.{lacks_nil, lacks_cons, lacks_append, lacks_by}
 use Rattle.capture_laws.proofs.Lines.{AreOneLine}
@@ -113,14 +113,22 @@ override_lacks c (a ∷ b ∷ k ∷ sign ∷ rest) e = by (is_ascii_digit k && (
         (lacks_cons 10 k (sign ∷ rest) (sign_is_other k p.0) (lacks_cons 10 sign rest (equals_is_other sign p.1) (rest_lacks rest (ap is_some size))))
     by false is o size more = absurd (cc more)
 
+word_lacks : (c : Confirmed) (word : List ℕ) → is_some (overridden_word c word) ≡ true → Lacks 10 word
+word_lacks c word e = by (is_same_word word (codes "cautious")) refl e
+  where
+    by : (t : Bool) → is_same_word word (codes "cautious") ≡ t → is_some (if t then Some (record c { cautious = true }) else overridden c word) ≡ true
+        → Lacks 10 word
+    by true is more = subst (Lacks 10) (sym (same_word word (codes "cautious") is)) (lacks_by 10 (codes "cautious") refl)
+    by false is more = override_lacks c word more
+
 overrides_are : (c : Confirmed) (words : List (List ℕ)) → is_some (overridden_by c words) ≡ true → AreOneLine words
 overrides_are c [] e = tt
-overrides_are c (word ∷ words) e = by (overridden c word) refl e (λ d more. overrides_are d words more)
+overrides_are c (word ∷ words) e = by (overridden_word c word) refl e (λ d more. overrides_are d words more)
   where
-    by : (o : Option Confirmed) → overridden c word ≡ o → is_some (option_and_then (λ d. overridden_by d words) o) ≡ true
+    by : (o : Option Confirmed) → overridden_word c word ≡ o → is_some (option_and_then (λ d. overridden_by d words) o) ≡ true
         → ((d : Confirmed) → is_some (overridden_by d words) ≡ true → AreOneLine words) → AreOneLine (word ∷ words)
     by None is more rest = absurd (cc more)
-    by (Some d) is more rest = (override_lacks c word (ap is_some is), rest d more)
+    by (Some d) is more rest = (word_lacks c word (ap is_some is), rest d more)
 
 -- ---- presets
 
