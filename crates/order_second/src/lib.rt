@@ -11,3 +11,6 @@ pub use glyph::cache_glyph;
 pub use image::cache_bitmap;
 pub use marker::frame_marker;
 pub use out_of_memory::OutOfMemory;
+
+#[cfg(test)]
+mod tests;

@@ -11,3 +11,6 @@ pub use data::{PixelBytes, pixel_data, raw_bytes};
 pub use front::put_both;
 pub use out_of_memory::OutOfMemory;
 pub use rows::{pad_rows, padded_width, turn_over};
+
+#[cfg(test)]
+mod tests;
