@@ -21,7 +21,7 @@ use Rattle.solo_runs.specs.declared.step.SoloStep.{SoloStep}
 use Rattle.solo_runs.specs.SoloScript.{SoloLine, unless_text, unless_many, finds_many, asks_for, solo_form, solo_outcome, written_by, written_from, refused_by}
 use Rattle.solo_runs.specs.SoloScript.{refused_from, refusal_at}
 use Rattle.solo_runs.specs.SoloScript.SoloLine.{BreaksRule, AsksFor}
-use Rattle.solo_script.specs.Steps.{line_within, found_line, line_writes, WritesFront, DoesStep, DoesFound, IsWriteFault}
+use Rattle.solo_script.specs.Steps.{line_within, found_line, line_writes, WritesFrontOfLine, DoesStep, DoesFound, IsWriteFault}
 use Rattle.solo_script.specs.declared.fault.ScriptFault.{ScriptFault}
 use Rattle.solo_script.specs.declared.fault.ScriptFault.TheVariants as fault
 use Rattle.rdp_host.specs.Run.{EndsWhereTold, ReadsCause}
@@ -191,7 +191,7 @@ front_of_line (Some bytes) (Some left) line asks size k at s told telling hands 
     (line_front asks size k s (λ u. written_from size (k + 1) (at + length (line_bytes line)) u (lines_of left)) told telling f)
 
 front_of_found : (f : Found) (old new : LineReading) (before now : Option (List ℕ)) (size : Size) (k : ℕ) (s : Solo) (told telling : Option (List ℕ)) →
-    Finds f old new before now → WritesFront (found_line f s new.text) size k s told telling → WroteAFrontOfLines (of_lines size k old.at s)
+    Finds f old new before now → WritesFrontOfLine (found_line f s new.text) size k s told telling → WroteAFrontOfLines (of_lines size k old.at s)
     (moment before told) telling
 front_of_found (found.Line ended) old new before now size k s told telling finds w =
     front_of_line before now (record { text = new.text; ended = ended }) w.found size k old.at s told telling finds.takes.hands_out

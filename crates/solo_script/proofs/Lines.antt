@@ -13,7 +13,7 @@ use Rattle.script_rules.specs.Script.{text_rule}
 use Rattle.script_rules.specs.Capture.{broken_line}
 use Rattle.solo_script.specs.declared.fault.ScriptFault.{ScriptFault}
 use Rattle.solo_script.specs.declared.fault.ScriptFault.TheVariants as fault
-use Rattle.solo_script.specs.Steps.{DoesLine, DoesStep, DoesFound, WritesFront, IsWriteFault, Refuses, line_within, found_line}
+use Rattle.solo_script.specs.Steps.{DoesLine, DoesStep, DoesFound, WritesFrontOfLine, IsWriteFault, Refuses, line_within, found_line}
 
 -- a line that breaks no rule has its step done
 pub step_done : (line : SoloLine) (broken : Option ℕ) (size : Size) (before now : Solo) (old new : List ℕ) (told telling : Option (List ℕ)) →
@@ -64,7 +64,7 @@ refused fault.OutOfMemory f k rule size before now text told telling is same r =
 -- ---- a line that couldn't be written
 
 step_front : (line : SoloLine) (broken : Option ℕ) (size : Size) (k : ℕ) (before now : Solo) (old new : List ℕ) (told telling : Option (List ℕ)) →
-    DoesLine line broken size before now old new → broken ≡ None → old ≡ [] → WritesFront told telling new → WritesFront (Some line) size k before told telling
+    DoesLine line broken size before now old new → broken ≡ None → old ≡ [] → WritesFront told telling new → WritesFrontOfLine (Some line) size k before told telling
 step_front (BreaksRule rule) None size k before now old new told telling done e empty front = absurd done
 step_front (BreaksRule rule) (Some b) size k before now old new told telling done e empty front = absurd (cc e)
 step_front (AsksFor step) None size k before now old new told telling done e empty front = record {
@@ -75,9 +75,9 @@ step_front (AsksFor step) None size k before now old new told telling done e emp
 step_front (AsksFor step) (Some b) size k before now old new told telling done e empty front = absurd done
 
 found_front : (f : Found) (ended : Bool) (text : List ℕ) (broken answer : Option ℕ) (size : Size) (k : ℕ) (before done : Solo) (old new line : List ℕ) (told telling : Option (List ℕ)) →
-    f ≡ found.Line ended → DoesLine (line_within before text ended) broken size before done old new → answer ≡ broken → answer ≡ None → line ≡ new → old ≡ [] → WritesFront told telling line → WritesFront (found_line f before text) size k before told telling
+    f ≡ found.Line ended → DoesLine (line_within before text ended) broken size before done old new → answer ≡ broken → answer ≡ None → line ≡ new → old ≡ [] → WritesFront told telling line → WritesFrontOfLine (found_line f before text) size k before told telling
 found_front f ended text broken answer size k before done old new line told telling is does same none same_line empty front =
-    subst (λ x. WritesFront (found_line x before text) size k before told telling) (sym is)
+    subst (λ x. WritesFrontOfLine (found_line x before text) size k before told telling) (sym is)
     (step_front (line_within before text ended) broken size k before done old new told telling does (sym same ∙ none) empty (subst (WritesFront told telling) same_line front))
 
 pub not_written : (fault_is : ScriptFault) (f : Found) (ended : Bool) (text : List ℕ) (broken answer : Option ℕ) (size : Size) (k : ℕ) (before done now : Solo) (old new line : List ℕ) (told telling : Option (List ℕ)) →

@@ -57,7 +57,7 @@ line_writes size k s (BreaksRule rule) = broken_line k rule
 line_writes size k s (AsksFor step) = solo_line size s step
 
 -- a line was found, and a front of what it writes was written
-pub record WritesFront (line : Option SoloLine) (size : Size) (k : ℕ) (s : Solo) (old new : Option (List ℕ)) : Type 0 where
+pub record WritesFrontOfLine (line : Option SoloLine) (size : Size) (k : ℕ) (s : Solo) (old new : Option (List ℕ)) : Type 0 where
   pub found : SoloLine
   pub is : line ≡ Some found
   pub front : WritesFront old new (line_writes size k s found)
@@ -68,8 +68,8 @@ DoesFound (Ok true) f k size before now text old new = DoesStep (found_line f be
 DoesFound (Ok false) f k size before now text old new = (f ≡ found.End) × (now ≡ before) × (new ≡ old)
 DoesFound (Err (fault.Line line rule)) f k size before now text old new = (line ≡ k) × (found_line f before text ≡ Some (BreaksRule rule)) × (now ≡ before) × Appends old new (broken_line k rule)
 DoesFound (Err fault.ReadFault) f k size before now text old new = (f ≡ found.Failed) × (now ≡ before) × (new ≡ old)
-DoesFound (Err fault.WriteFault) f k size before now text old new = WritesFront (found_line f before text) size k before old new
-DoesFound (Err fault.OutOfMemory) f k size before now text old new = WritesFront (found_line f before text) size k before old new
+DoesFound (Err fault.WriteFault) f k size before now text old new = WritesFrontOfLine (found_line f before text) size k before old new
+DoesFound (Err fault.OutOfMemory) f k size before now text old new = WritesFrontOfLine (found_line f before text) size k before old new
 
 -- the causes of a write's answer
 abbrev pub WritesCause : {T : Type 0} → Result T ScriptFault → ℕ → ℕ → Type 0
