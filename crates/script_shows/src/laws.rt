@@ -1,0 +1,49 @@
+//! Laws of the definitions, each as the contract of a function that does nothing.
+
+ghost use Rattle.std.specs.Prelude.{◌≡◌, ℕ, ◌≤◌, true, List, ◌++◌};
+ghost use Rattle.px_core.specs.Rectangle.{is_session_size};
+ghost use Rattle.caps_sets.specs.declared.confirmed.Confirmed.{Confirmed};
+ghost use Rattle.session_rules.specs.declared.entry.Entry.{Entry};
+ghost use Rattle.session_rules.specs.Journal.{Head, IsLegalJournal};
+ghost use Rattle.session_rules.specs.Steps.{TakeOf};
+ghost use Rattle.frame_rules.specs.FrameOrders.{orders_before_tiles};
+ghost use Rattle.frame_rules.specs.Encoder.{Encoder, encoder_frame};
+ghost use Rattle.frame_rules.specs.Describes.{HasAllCaches};
+ghost use Rattle.script_rules.specs.Script.{Asked, whole_grammar, first_grammar, opening_of};
+ghost use Rattle.script_rules.specs.CaptureText.{capture_of};
+ghost use Rattle.script_rules.specs.Headline.{encoder_frames, IfOpened, HasSessionSize, AreByPresentViewers, ConfirmAllCaches, EveryViewerOfCapture};
+ghost use Rattle.capture_laws.specs.Sent.{SendsBytes};
+ghost use Rattle.capture_laws.specs.OrderBytes.{HoldBytes};
+ghost use Rattle.capture_laws.specs.Fronts.{EveryViewerOfOpeningFront};
+ghost use Rattle.script_shows.specs.Cuts.{IsCutCaptureOf};
+
+/// The numbers and contents of the orders of every frame over a legal journal fit the bytes in which they are written, and what any steps of a session send
+/// is bytes, as long as each but a join is of a viewer who is present.
+pub fn frames_hold_bytes()
+    ensures take { (head : Head) (c : Confirmed) (j : List Entry) (e : Encoder) (t : TakeOf) → is_session_size head.size.w head.size.h ≡ true → HasAllCaches c
+        → IsLegalJournal head j → t.before ≤ t.number → HoldBytes (orders_before_tiles head.size c e.uses (encoder_frame head.size c j e t)) }
+    ensures steps { (head : Head) (asked : List Asked) → HasSessionSize head → AreByPresentViewers head asked → ConfirmAllCaches asked → SendsBytes head asked }
+{}
+
+/// The headline over scripts: whatever bytes a script is, every viewer sees the journal in what the script's capture says that it was sent;
+/// the journal is legal, and each change in it was made by the holder of control.
+pub fn every_viewer_of_every_script_sees_the_journal()
+    ensures whole { (bytes : List ℕ) → EveryViewerOfCapture whole_grammar bytes (capture_of encoder_frames whole_grammar bytes) }
+    ensures first { (bytes : List ℕ) → EveryViewerOfCapture first_grammar bytes (capture_of encoder_frames first_grammar bytes) }
+{}
+
+/// Each front of a script's capture, wherever it ends, shows each viewer its first takes.
+pub fn every_front_of_every_capture_shows_the_journal()
+    ensures whole { (bytes front rest : List ℕ) → capture_of encoder_frames whole_grammar bytes ≡ front ++ rest
+        → EveryViewerOfOpeningFront (opening_of whole_grammar bytes) front }
+    ensures first { (bytes front rest : List ℕ) → capture_of encoder_frames first_grammar bytes ≡ front ++ rest
+        → EveryViewerOfOpeningFront (opening_of first_grammar bytes) front }
+{}
+
+/// A capture that was cut after any of a script's steps, in a line or between lines, with a line of a refusal or without one, shows each viewer its first takes.
+pub fn every_capture_that_was_cut_shows_the_journal()
+    ensures whole { (bytes front : List ℕ) → IfOpened (opening_of whole_grammar bytes) (λ s. IsCutCaptureOf s front)
+        → EveryViewerOfOpeningFront (opening_of whole_grammar bytes) front }
+    ensures first { (bytes front : List ℕ) → IfOpened (opening_of first_grammar bytes) (λ s. IsCutCaptureOf s front)
+        → EveryViewerOfOpeningFront (opening_of first_grammar bytes) front }
+{}
