@@ -1,11 +1,9 @@
 -- Every viewer of every script is sent the journal, so captures, their fronts and captures that were cut show it.
 use Rattle.std.proofs.Common.{◌≡◌, ℕ, List, [], ◌∷◌, ◌++◌, subst}
-use Rattle.session_rules.specs.Journal.{Head}
-use Rattle.session_rules.specs.Steps.{Play, outcome}
 use Rattle.script_rules.specs.Script.{Asked, Script, Opening, whole_grammar, first_grammar, opening_of}
 use Rattle.script_rules.specs.Script.Opening.{NoSize, Unended, Opened}
 use Rattle.script_rules.specs.CaptureText.{capture_of}
-use Rattle.script_rules.specs.Headline.{encoder_frames, IfOpened, AreByPresentFrom, AreByPresentViewers, ConfirmAllCaches, EveryViewerOfCapture}
+use Rattle.script_rules.specs.Headline.{encoder_frames, IfOpened, ConfirmAllCaches, EveryViewerOfCapture}
 use Rattle.script_rules.proofs.StepsOfScripts.{HasPremises, whole_scripts_have, first_scripts_have}
 use Rattle.capture_laws.specs.Sent.{EveryViewerIsSentTheJournal}
 use Rattle.capture_laws.specs.Fronts.{IsSentWhatIsWritten, EveryViewerOfOpeningFront}
@@ -17,7 +15,7 @@ use Rattle.script_shows.specs.Cuts.{IsCutCaptureOf}
 use Rattle.script_shows.proofs.SendsBytes.{steps_send_bytes}
 
 script_is_sent : (s : Script) → HasPremises s → EveryViewerIsSentTheJournal s
-script_is_sent s has = (every_viewer_sees s.head s.asked, steps_send_bytes s.head s.asked has.size has.present has.caches)
+script_is_sent s has = (every_viewer_sees s.head s.asked, steps_send_bytes s.head s.asked has.size has.caches)
 
 is_sent : (o : Opening) → IfOpened o HasPremises → IfOpened o EveryViewerIsSentTheJournal
 is_sent NoSize has = tt
@@ -50,10 +48,6 @@ first_front_sees bytes front rest e = first_fronts_show bytes front rest (first_
 
 -- ---- captures that were cut
 
-present_front : (head : Head) (xs ys : List Asked) (p : Play) → AreByPresentFrom head p (xs ++ ys) → AreByPresentFrom head p xs
-present_front head [] ys p h = tt
-present_front head (a ∷ xs) ys p h = (h.0, present_front head xs ys (outcome head p a.step).play h.1)
-
 caches_front : (xs ys : List Asked) → ConfirmAllCaches (xs ++ ys) → ConfirmAllCaches xs
 caches_front [] ys h = tt
 caches_front (a ∷ xs) ys h = (h.0, caches_front xs ys h.1)
@@ -69,7 +63,6 @@ cut_is_sent s front has cut = (
     are_first = cut.are_first;
     written = cut.written;
     sends_bytes = steps_send_bytes s.head cut.steps has.size
-        (present_front s.head cut.steps cut.later _ (subst (AreByPresentViewers s.head) cut.are_first has.present))
         (caches_front cut.steps cut.later (subst ConfirmAllCaches cut.are_first has.caches));
   },
 )

@@ -1,6 +1,6 @@
 -- What steps send is bytes: the orders of each frame over a legal journal hold bytes.
-use Rattle.std.proofs.Common.{◌≡◌, ℕ, ◌<◌, ◌≤◌, List, [], ◌∷◌, ◌++◌, length, refl, ap, sym, ◌∙◌, subst, arith, Some}
-use Rattle.std.specs.Prelude.{Bool, true, false, ◌&&◌, ◌==◌, nat_lt, if◌then◌else◌}
+use Rattle.std.proofs.Common.{◌≡◌, ℕ, ◌<◌, ◌≤◌, List, [], ◌∷◌, ◌++◌, length, refl, sym, subst, arith, append_assoc, Some, None}
+use Rattle.std.specs.Prelude.{Bool, true, false, ◌&&◌, ◌==◌, nat_lt, ⊤, Option, option_to_list, if◌then◌else◌}
 use Rattle.px_core.specs.declared.surface.Size.{Size}
 use Rattle.px_core.specs.Rectangle.{is_session_size}
 use Rattle.px_core.specs.Tiles.{Tiles}
@@ -8,34 +8,37 @@ use Rattle.draw_ops.specs.declared.shape.Drawing.{Drawing}
 use Rattle.draw_ops.specs.Content.{GlyphOf}
 use Rattle.draw_ops.specs.Slots.{SurfaceState}
 use Rattle.caps_sets.specs.declared.confirmed.Confirmed.{Confirmed}
+use Rattle.input_events.specs.declared.event.Event.{Event}
+use Rattle.session_rules.specs.declared.entry.Role.{Role}
 use Rattle.session_rules.specs.declared.entry.Entry.{Entry}
-use Rattle.session_rules.specs.Journal.{Head, state_after, IsLegalJournal}
-use Rattle.session_rules.specs.Steps.{Answer, TakeOf, TakesFollow, outcome, journal_of_steps, takes_of, session_after, play_at_first}
+use Rattle.session_rules.specs.declared.entry.Entry.TheVariants.{Join, Leave, Give, Input, Draw}
+use Rattle.session_rules.specs.Journal.{Head, Refusal, state_after, refusal_of, is_f12, IsLegalJournal}
+use Rattle.session_rules.specs.Steps.{Step, Answer, Effect, TakeOf, entered, outcome_of, effect_of, outcome, take_of, entries_from, join_effect, row_role}
+use Rattle.session_rules.specs.Steps.{input_effect, is_release, receiver_of, has_work, take_effect}
+use Rattle.session_rules.specs.Steps.Step.{JoinStep, LeaveStep, InputStep, DrawStep, RefreshStep, SuppressStep, TakeStep}
+use Rattle.session_rules.specs.Steps.Effect.{Enters, Asks, Suppresses, Takes, Answers}
 use Rattle.session_rules.specs.Steps.Answer.{Joined, Left, Accepted, Refused, Nothing, Frame}
-use Rattle.session_rules.proofs.Journals.{IsLegalJournal-journal_of_steps}
-use Rattle.session_rules.proofs.Takes.{TakesFollow-takes_of}
+use Rattle.session_rules.proofs.Journals.{IsLegalJournal-journal_of_steps, IsLegalJournal-front}
+use Rattle.session_rules.proofs.Takes.{IsBehind, IsBehind-session_after}
 use Rattle.board_laws.proofs.Fitting.{Sides, sides_of}
 use Rattle.frame_rules.specs.Blocks.{Held}
 use Rattle.frame_rules.specs.Pending.{Pending, pending_drawings}
 use Rattle.frame_rules.specs.Frame.{Walk, Sent, sent_from, first_dirty, framed_by, frame_over, is_first, most_orders}
 use Rattle.frame_rules.specs.FrameOrders.{SentOrder, Uses, orders_from, start_orders, black_orders, orders_before_tiles}
-use Rattle.frame_rules.specs.FrameBytes.{joined_bytes}
-use Rattle.frame_rules.specs.Encoder.{Encoder, first_encoder, encoder_frame, take_bytes, encoder_after, bytes_of_takes}
+use Rattle.frame_rules.specs.Encoder.{Encoder, encoder_frame}
 use Rattle.frame_rules.specs.Describes.{HasAllCaches, glyph_loaded}
 use Rattle.sound_states.specs.Drawings.{AllSound, drawings_between}
 use Rattle.sound_states.proofs.Entries.{pending_between_is}
 use Rattle.sound_states.proofs.Journals.{between_sound}
 use Rattle.script_rules.specs.Script.{Asked}
-use Rattle.script_rules.specs.CaptureText.{Run, run_at_first, confirmed_after, run_after, run_after_all}
-use Rattle.script_rules.specs.Headline.{encoder_frames, steps_of, confirmed_in, HasSessionSize, AreByPresentViewers, ConfirmAllCaches}
-use Rattle.capture_laws.specs.Sent.{AreBytes, SendsBytes}
-use Rattle.capture_laws.specs.OrderBytes.{HoldBytes}
-use Rattle.capture_laws.proofs.OrderBytes.{bytes_nil, bytes_append}
-use Rattle.capture_laws.proofs.FrameBytes.{frame_are_bytes}
-use Rattle.host_shows.proofs.SentBytes.{sent_are_frames}
-use Rattle.host_shows.proofs.Interleaved.{sent_over_the_journal}
+use Rattle.script_rules.specs.Capture.{viewer_of}
+use Rattle.script_rules.specs.CaptureText.{Run, run_at_first, confirmed_after, run_after}
+use Rattle.script_rules.specs.Headline.{encoder_frames, steps_of, HasSessionSize, ConfirmAllCaches}
+use Rattle.capture_laws.specs.Sent.{AreBytes, run_of, SendsBytes}
+use Rattle.capture_laws.specs.OrderBytes.{HoldBytes, AnswerHoldsBytes, FramesHoldBytes}
+use Rattle.capture_laws.proofs.SentBytes.{steps_send_bytes as sent_as_bytes}
 use Rattle.script_shows.proofs.GlyphBits.{loaded_bits}
-use Rattle.script_shows.proofs.PendingHolds.{AllHold, sent_hold}
+use Rattle.script_shows.proofs.PendingHolds.{sent_hold}
 use Rattle.script_shows.proofs.OrdersHold.{bytes_held_append, orders_hold, start_holds, black_holds}
 
 -- ---- a frame
@@ -76,17 +79,6 @@ module _ (head : Head) (c : Confirmed) (j : List Entry) (sized : is_session_size
       subst (λ (ps : List Pending). HoldBytes (orders_before_tiles size c e.uses (frame_over size c (is_first t) e.held t.asked picture ps)))
       (sym (pending_between_is size j t.before t.number)) over
 
-  -- of takes, one after the other
-  takes_are_bytes : (ts : List TakeOf) (from to : ℕ) (e : Encoder) → TakesFollow from ts to → AreBytes (joined_bytes (bytes_of_takes head.size c j e ts))
-  takes_are_bytes [] from to e follow = bytes_nil
-  takes_are_bytes (t ∷ ts) from to e follow =
-      let begins = follow.0 in
-      let up = follow.1 in
-      let next = encoder_after head.size c j e t in
-      bytes_append (take_bytes head.size c j e t) (joined_bytes (bytes_of_takes head.size c j next ts))
-      (frame_are_bytes head.size c e.registers e.uses (encoder_frame head.size c j e t) (take_holds e t (omega (arith, begins, up))))
-      (takes_are_bytes ts t.number to next follow.2)
-
 -- ---- what viewers confirmed has all caches
 
 caches_after : (run : Run Encoder) (a : Asked) (answer : Answer) → ((v : ℕ) → HasAllCaches (run.confirmed v)) → HasAllCaches a.confirmed → (v : ℕ)
@@ -102,21 +94,78 @@ caches_after run a (Refused refusal) h k v = h v
 caches_after run a Nothing h k v = h v
 caches_after run a (Frame take) h k v = h v
 
-all_caches : (head : Head) (asked : List Asked) (run : Run Encoder) → ((v : ℕ) → HasAllCaches (run.confirmed v)) → ConfirmAllCaches asked → (v : ℕ)
-    → HasAllCaches ((run_after_all encoder_frames head run asked).confirmed v)
-all_caches head [] run h k v = h v
-all_caches head (a ∷ more) run h k v = all_caches head more (run_after encoder_frames head run a)
-    (caches_after run a (outcome head run.play a.step).answer h k.0) k.1 v
-
 -- ---- steps
 
-pub steps_send_bytes : (head : Head) (asked : List Asked) → HasSessionSize head → AreByPresentViewers head asked → ConfirmAllCaches asked → SendsBytes head asked
-steps_send_bytes head asked sized present caches v =
-    let steps = steps_of asked in
-    let first = run_at_first encoder_frames head.size in
-    let j = journal_of_steps head steps in
-    let c = confirmed_in head asked v in
-    let all = all_caches head asked first (λ u. record { bitmaps = refl; glyphs = refl }) caches v in
-    subst AreBytes (sym (sent_are_frames head v asked first ∙ ap joined_bytes (sent_over_the_journal head v asked present)))
-    (takes_are_bytes head c j sized all (IsLegalJournal-journal_of_steps head steps) (takes_of head steps v) 0
-    ((session_after head (play_at_first head.size) steps).taken v) first_encoder (TakesFollow-takes_of head steps v))
+module _ (head : Head) (sized : is_session_size head.size.w head.size.h ≡ true) where
+  module _ (run : Run Encoder) (legal : IsLegalJournal head run.journal) (behind : IsBehind run.play) (all : (v : ℕ) → HasAllCaches (run.confirmed v)) (u : ℕ) where
+    abbrev AnswerHolds : Answer → Type 0
+    AnswerHolds answer = AnswerHoldsBytes head.size run u answer
+
+    -- an effect whose answer is a take's, or holds bytes
+    abbrev EffectHolds : Effect → Type 0
+    EffectHolds (Enters e answer) = AnswerHolds answer
+    EffectHolds (Asks w tiles) = ⊤
+    EffectHolds (Suppresses w stop) = ⊤
+    EffectHolds (Takes w) = ⊤
+    EffectHolds (Answers answer) = AnswerHolds answer
+
+    entered_holds : (e : Entry) (answer : Answer) → AnswerHolds answer → (r : Option Refusal) → AnswerHolds (entered head run.play e answer r).answer
+    entered_holds e answer h None = h
+    entered_holds e answer h (Some q) = tt
+
+    outcome_holds : (f : Effect) → EffectHolds f → AnswerHolds (outcome_of head run.play f).answer
+    outcome_holds (Enters e answer) h = entered_holds e answer h (refusal_of head run.play.reached e)
+    outcome_holds (Asks w tiles) h = tt
+    outcome_holds (Suppresses w stop) h = tt
+    outcome_holds (Takes w) h = take_holds head (run.confirmed u) run.journal sized (all u) legal (run.encoders u) (take_of run.play w) (behind w)
+    outcome_holds (Answers answer) h = h
+
+    join_holds : (o : Option Role) → EffectHolds (join_effect run.play o)
+    join_holds None = tt
+    join_holds (Some role) = tt
+
+    input_holds : (v : ℕ) (e : Event) → EffectHolds (input_effect run.play v e)
+    input_holds v e = by (is_f12 e) (is_release e)
+      where
+        by : (b r : Bool) → EffectHolds (if b then (if r then Answers Accepted else Enters (Give v (receiver_of run.play.reached v)) Accepted)
+            else Enters (Input v e) Accepted)
+        by true true = tt
+        by true false = tt
+        by false r = tt
+
+    taking_holds : (work : Bool) (v : ℕ) → EffectHolds (take_effect work v)
+    taking_holds true v = tt
+    taking_holds false v = tt
+
+    effect_holds : (s : Step) → EffectHolds (effect_of head run.play s)
+    effect_holds (JoinStep name) = join_holds (row_role name head.rows)
+    effect_holds (LeaveStep v) = tt
+    effect_holds (InputStep v e) = input_holds v e
+    effect_holds (DrawStep v d) = tt
+    effect_holds (RefreshStep v r) = tt
+    effect_holds (SuppressStep v stop) = tt
+    effect_holds (TakeStep v) = taking_holds (has_work head.size run.play v) v
+
+  -- from a run on, whose journal goes on to a legal one
+  frames_hold : (asked : List Asked) (run : Run Encoder) → IsLegalJournal head (run.journal ++ entries_from head run.play (steps_of asked)) → IsBehind run.play
+      → ((v : ℕ) → HasAllCaches (run.confirmed v)) → ConfirmAllCaches asked → FramesHoldBytes head run asked
+  frames_hold [] run legal behind all k = tt
+  frames_hold (a ∷ more) run legal behind all k =
+      let o = outcome head run.play a.step in
+      let one = option_to_list o.entry in
+      let es = entries_from head o.play (steps_of more) in
+      let now = IsLegalJournal-front head run.journal (one ++ es) legal in (
+        outcome_holds run now behind all (viewer_of a.step) (effect_of head run.play a.step)
+            (effect_holds run now behind all (viewer_of a.step) a.step),
+        frames_hold more (run_after encoder_frames head run a) (subst (IsLegalJournal head) (sym (append_assoc run.journal one es)) legal)
+            (IsBehind-session_after head run.play (a.step ∷ []) behind) (caches_after run a o.answer all k.0) k.1,
+      )
+
+-- of a new session
+pub frames_hold_bytes : (head : Head) (asked : List Asked) → HasSessionSize head → ConfirmAllCaches asked → FramesHoldBytes head (run_of head []) asked
+frames_hold_bytes head asked sized caches =
+    frames_hold head sized asked (run_at_first encoder_frames head.size) (IsLegalJournal-journal_of_steps head (steps_of asked)) (λ v. omega arith)
+    (λ v. record { bitmaps = refl; glyphs = refl }) caches
+
+pub steps_send_bytes : (head : Head) (asked : List Asked) → HasSessionSize head → ConfirmAllCaches asked → SendsBytes head asked
+steps_send_bytes head asked sized caches = sent_as_bytes head asked (frames_hold_bytes head asked sized caches)

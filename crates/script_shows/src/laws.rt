@@ -1,6 +1,6 @@
 //! Laws of the definitions, each as the contract of a function that does nothing.
 
-ghost use Rattle.std.specs.Prelude.{◌≡◌, ℕ, ◌≤◌, true, List, ◌++◌};
+ghost use Rattle.std.specs.Prelude.{◌≡◌, ℕ, ◌≤◌, true, List, [], ◌++◌};
 ghost use Rattle.px_core.specs.Rectangle.{is_session_size};
 ghost use Rattle.caps_sets.specs.declared.confirmed.Confirmed.{Confirmed};
 ghost use Rattle.session_rules.specs.declared.entry.Entry.{Entry};
@@ -11,18 +11,19 @@ ghost use Rattle.frame_rules.specs.Encoder.{Encoder, encoder_frame};
 ghost use Rattle.frame_rules.specs.Describes.{HasAllCaches};
 ghost use Rattle.script_rules.specs.Script.{Asked, whole_grammar, first_grammar, opening_of};
 ghost use Rattle.script_rules.specs.CaptureText.{capture_of};
-ghost use Rattle.script_rules.specs.Headline.{encoder_frames, IfOpened, HasSessionSize, AreByPresentViewers, ConfirmAllCaches, EveryViewerOfCapture};
-ghost use Rattle.capture_laws.specs.Sent.{SendsBytes};
-ghost use Rattle.capture_laws.specs.OrderBytes.{HoldBytes};
+ghost use Rattle.script_rules.specs.Headline.{encoder_frames, IfOpened, HasSessionSize, ConfirmAllCaches, EveryViewerOfCapture};
+ghost use Rattle.capture_laws.specs.Sent.{run_of, SendsBytes};
+ghost use Rattle.capture_laws.specs.OrderBytes.{HoldBytes, FramesHoldBytes};
 ghost use Rattle.capture_laws.specs.Fronts.{EveryViewerOfOpeningFront};
 ghost use Rattle.script_shows.specs.Cuts.{IsCutCaptureOf};
 
-/// The numbers and contents of the orders of every frame over a legal journal fit the bytes in which they are written, and what any steps of a session send
-/// is bytes, as long as each but a join is of a viewer who is present.
+/// The numbers and contents of the orders of every frame over a legal journal fit the bytes in which they are written; so do those of each frame that any
+/// steps of a session are answered with, and what the steps send is bytes.
 pub fn frames_hold_bytes()
     ensures take { (head : Head) (c : Confirmed) (j : List Entry) (e : Encoder) (t : TakeOf) → is_session_size head.size.w head.size.h ≡ true → HasAllCaches c
         → IsLegalJournal head j → t.before ≤ t.number → HoldBytes (orders_before_tiles head.size c e.uses (encoder_frame head.size c j e t)) }
-    ensures steps { (head : Head) (asked : List Asked) → HasSessionSize head → AreByPresentViewers head asked → ConfirmAllCaches asked → SendsBytes head asked }
+    ensures steps { (head : Head) (asked : List Asked) → HasSessionSize head → ConfirmAllCaches asked → FramesHoldBytes head (run_of head []) asked }
+    ensures sent { (head : Head) (asked : List Asked) → HasSessionSize head → ConfirmAllCaches asked → SendsBytes head asked }
 {}
 
 /// The headline over scripts: whatever bytes a script is, every viewer sees the journal in what the script's capture says that it was sent;
