@@ -3,3 +3,4 @@ pub mod Runs
 pub mod Numbered
 pub mod SentBytes
 pub mod Interleaved
+pub mod GoesOn

@@ -1,14 +1,16 @@
 //! Laws of the definitions, each as the contract of a function that does nothing.
 
-ghost use Rattle.std.specs.Prelude.{◌≡◌, ℕ, ◌≤◌, true, List, map, length};
+ghost use Rattle.std.specs.Prelude.{◌≡◌, ℕ, ◌≤◌, true, List, ◌++◌, map, length};
+ghost use Rattle.px_core.specs.declared.surface.Size.{Size};
 ghost use Rattle.px_core.specs.Rectangle.{is_session_size};
 ghost use Rattle.caps_sets.specs.declared.confirmed.Confirmed.{Confirmed};
+ghost use Rattle.order_means.specs.ClientState.{ClientState};
 ghost use Rattle.session_rules.specs.declared.entry.Entry.{Entry};
 ghost use Rattle.session_rules.specs.Journal.{Head, IsLegalJournal};
 ghost use Rattle.session_rules.specs.Steps.{TakeOf, TakesFollow, journal_of_steps, takes_of};
 ghost use Rattle.frame_rules.specs.FrameBytes.{joined_bytes};
-ghost use Rattle.frame_rules.specs.Encoder.{first_encoder, bytes_of_takes};
-ghost use Rattle.frame_rules.specs.Describes.{HasAllCaches};
+ghost use Rattle.frame_rules.specs.Encoder.{Encoder, first_encoder, bytes_of_takes};
+ghost use Rattle.frame_rules.specs.Describes.{DescribesClient, HasAllCaches};
 ghost use Rattle.script_rules.specs.Script.{Asked};
 ghost use Rattle.script_rules.specs.CaptureText.{run_at_first, sent_from};
 ghost use Rattle.script_rules.specs.Headline.{SeesJournal, EveryViewerOfSteps, AreByPresentViewers, encoder_frames, steps_of, confirmed_in};
@@ -37,4 +39,10 @@ pub fn viewer_is_sent_its_takes_over_the_final_journal()
 /// which is legal, and in which each change was made by the holder of control.
 pub fn every_viewer_sees_the_journal()
     ensures { (head : Head) (asked : List Asked) → EveryViewerOfSteps head asked }
+{}
+
+/// That an encoder describes its client stays true, however the journal goes on: so a sender that takes later still begins from what it knows.
+pub fn encoder_describes_its_client_as_the_journal_goes_on()
+    ensures { (size : Size) (c : Confirmed) (j more : List Entry) (number : ℕ) (e : Encoder) (client : ClientState) → number ≤ length j
+        → DescribesClient size c j number e client → DescribesClient size c (j ++ more) number e client }
 {}
