@@ -3,3 +3,6 @@ pub mod PendingHolds
 pub mod OrdersHold
 pub mod SendsBytes
 pub mod Scripts
+pub mod Gathered
+pub mod SentOnce
+pub mod Packed

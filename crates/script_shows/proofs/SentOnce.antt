@@ -1,0 +1,258 @@
+-- Each drawing that is sent goes as exactly one order of its shape, after the cache orders of what it uses; one that isn't sent goes as none.
+use Rattle.std.proofs.Common.{◌≡◌, ℕ, ◌+◌, List, [], ◌∷◌, ◌++◌, refl, ap, sym, ◌∙◌, subst, append_assoc, Some, None, ◌⊎◌, inl, inr}
+use Rattle.std.specs.Prelude.{Bool, true, false, ◌&&◌, Option, ⊤}
+use Rattle.px_core.specs.declared.surface.Size.{Size}
+use Rattle.px_core.specs.declared.rectangle.Rect.{Rect}
+use Rattle.draw_ops.specs.declared.shape.Shape.{Shape}
+use Rattle.draw_ops.specs.declared.shape.Shape.TheVariants.{Fill, Dst, Pat, Copy, Blit, Blit3, Text, Line, Save, Restore, LoadImage, LoadBrush, LoadGlyph}
+use Rattle.draw_ops.specs.Content.{ImageOf, GlyphOf}
+use Rattle.draw_ops.specs.Slots.{Loaded}
+use Rattle.caps_sets.specs.declared.confirmed.Confirmed.{Confirmed}
+use Rattle.cache_use.specs.CacheUse.{misses, cache_index, uses_of}
+use Rattle.order_fields.specs.NamedDrawing.NamedDrawing.{Pat as PatBlt, Mem as MemBlt, Mem3 as Mem3Blt, Glyphs as GlyphIndex}
+use Rattle.frame_rules.specs.Blocks.{Place, positions_of, least_free}
+use Rattle.frame_rules.specs.Pending.{Pending}
+use Rattle.frame_rules.specs.Cautious.{as_walked}
+use Rattle.frame_rules.specs.Support.{supports, image_cache, run_cache}
+use Rattle.frame_rules.specs.Frame.{Walk, Sent, sent_if, saved_at, saved_if, given_up, restored_from, block_if, reads_clean_tiles, walked, walked_as, walked_pending}
+use Rattle.frame_rules.specs.Frame.{sent_from}
+use Rattle.frame_rules.specs.FrameOrders.{SentOrder, Uses, or_0, use_by, entries_of, first_glyph_cache, brush_cache, brush_use, image_use, glyph_use, run_use, run_pairs}
+use Rattle.frame_rules.specs.FrameOrders.{bounds_of, sending_by, sending_of, orders_from}
+use Rattle.frame_rules.specs.FrameOrders.SentOrder.{Drawn, CacheImage, CacheGlyph, CacheBrush, FrameMarker}
+use Rattle.script_shows.specs.SentOnce.{IsSentOnceOrNot, drawn_orders, IsDrawnBy, AreDrawnAs, EachEndsWithItsOrder}
+
+-- ---- the walk
+
+-- nothing, or once this pending drawing, whose shape has an order
+abbrev HasOrder : Shape → Type 0
+HasOrder (Fill r color) = ⊤
+HasOrder (Dst r code) = ⊤
+HasOrder (Pat r code brush) = ⊤
+HasOrder (Copy r code sx sy) = ⊤
+HasOrder (Blit r code image sx sy) = ⊤
+HasOrder (Blit3 r code image sx sy brush) = ⊤
+HasOrder (Text x y color font run) = ⊤
+HasOrder (Line x0 y0 x1 y1 color) = ⊥
+HasOrder (Save slot r) = ⊤
+HasOrder (Restore slot x y) = ⊤
+HasOrder (LoadImage slot image) = ⊥
+HasOrder (LoadBrush slot brush) = ⊥
+HasOrder (LoadGlyph font code glyph) = ⊥
+
+abbrev Once : Shape → Pending → List Sent → Type 0
+Once shape p sent = (sent ≡ []) ⊎ ((s : Sent) × (sent ≡ s ∷ []) × (p ≡ s.pending) × HasOrder shape)
+
+by_test : (b : Bool) (size : Size) (w : Walk) (p : Pending) (shape : Shape) → HasOrder shape → Once shape p (sent_if b size w p).sent
+by_test true size w p shape h = inr (_, refl, refl, h)
+by_test false size w p shape h = inl refl
+
+by_place : (o : Option Place) (size : Size) (w : Walk) (p : Pending) (shape : Shape) → HasOrder shape → Once shape p (restored_from size w p o).sent
+by_place None size w p shape h = inl refl
+by_place (Some place) size w p shape h = inr (_, refl, refl, h)
+
+by_position : (o : Option ℕ) (size : Size) (w : Walk) (p : Pending) (slot : ℕ) (r : Rect) (shape : Shape) → HasOrder shape
+    → Once shape p (saved_at size w p slot r o).sent
+by_position None size w p slot r shape h = inl refl
+by_position (Some position) size w p slot r shape h = inr (_, refl, refl, h)
+
+by_save : (b : Bool) (size : Size) (w : Walk) (p : Pending) (slot : ℕ) (r : Rect) (shape : Shape) → HasOrder shape
+    → Once shape p (saved_if b size w p slot r).sent
+by_save true size w p slot r shape h = by_position (least_free (positions_of r.w r.h) w.held) size w p slot r shape h
+by_save false size w p slot r shape h = inl refl
+
+once : (size : Size) (c : Confirmed) (w : Walk) (p : Pending) (s : Shape) → Once s p (walked size c w p s).sent
+once size c w p (Fill r color) = by_test (supports c p (Fill r color)) size w p (Fill r color) tt
+once size c w p (Dst r code) = by_test (supports c p (Dst r code)) size w p (Dst r code) tt
+once size c w p (Pat r code brush) = by_test (supports c p (Pat r code brush)) size w p (Pat r code brush) tt
+once size c w p (Copy r code sx sy) = by_test (supports c p (Copy r code sx sy) && reads_clean_tiles size w (Copy r code sx sy)) size w p (Copy r code sx sy) tt
+once size c w p (Blit r code image sx sy) = by_test (supports c p (Blit r code image sx sy)) size w p (Blit r code image sx sy) tt
+once size c w p (Blit3 r code image sx sy brush) = by_test (supports c p (Blit3 r code image sx sy brush)) size w p (Blit3 r code image sx sy brush) tt
+once size c w p (Text x y color font run) = by_test (supports c p (Text x y color font run)) size w p (Text x y color font run) tt
+once size c w p (Line x0 y0 x1 y1 color) = inl refl
+once size c w p (Save slot r) = by_save (supports c p (Save slot r) && reads_clean_tiles size w (Save slot r)) size (given_up slot w) p slot r (Save slot r) tt
+once size c w p (Restore slot x y) = by_place (block_if (supports c p (Restore slot x y)) slot w) size w p (Restore slot x y) tt
+once size c w p (LoadImage slot image) = inl refl
+once size c w p (LoadBrush slot brush) = inl refl
+once size c w p (LoadGlyph font code glyph) = inl refl
+
+pub sent_once_or_not : (size : Size) (c : Confirmed) (w : Walk) (p : Pending) → IsSentOnceOrNot size c w p
+sent_once_or_not size c w p = by (as_walked size c p) refl
+  where
+    by : (o : Option Pending) → as_walked size c p ≡ o
+        → ((walked_as size c w o).sent ≡ []) ⊎ ((s : Sent) × ((walked_as size c w o).sent ≡ s ∷ []) × (as_walked size c p ≡ Some s.pending))
+    by None is = inl refl
+    by (Some q) is = chosen (once size c w q q.drawing.shape)
+      where
+        chosen : Once q.drawing.shape q (walked size c w q q.drawing.shape).sent
+            → ((walked size c w q q.drawing.shape).sent ≡ []) ⊎ ((s : Sent) × ((walked size c w q q.drawing.shape).sent ≡ s ∷ [])
+            × (as_walked size c p ≡ Some s.pending))
+        chosen (inl none) = inl none
+        chosen (inr one) = inr (one.0, one.1, is ∙ ap Some one.2)
+
+abbrev AllHaveOrders : List Sent → Type 0
+AllHaveOrders [] = ⊤
+AllHaveOrders (s ∷ ss) = HasOrder s.pending.drawing.shape × AllHaveOrders ss
+
+have_append : (xs ys : List Sent) → AllHaveOrders xs → AllHaveOrders ys → AllHaveOrders (xs ++ ys)
+have_append [] ys h k = k
+have_append (x ∷ xs) ys h k = (h.0, have_append xs ys h.1 k)
+
+of_once : (q : Pending) (sent : List Sent) → Once q.drawing.shape q sent → AllHaveOrders sent
+of_once q sent (inl none) = subst AllHaveOrders (sym none) tt
+of_once q sent (inr one) =
+    subst AllHaveOrders (sym one.1) (subst (λ (p : Pending). HasOrder p.drawing.shape) one.2 one.3, tt)
+
+walked_have : (size : Size) (c : Confirmed) (w : Walk) (o : Option Pending) → AllHaveOrders (walked_as size c w o).sent
+walked_have size c w None = tt
+walked_have size c w (Some q) = of_once q (walked size c w q q.drawing.shape).sent (once size c w q q.drawing.shape)
+
+sent_have : (size : Size) (c : Confirmed) (ps : List Pending) (w : Walk) → AllHaveOrders (sent_from size c w ps)
+sent_have size c [] w = tt
+sent_have size c (p ∷ ps) w =
+    have_append (walked_pending size c w p).sent (sent_from size c (walked_pending size c w p).walk ps) (walked_have size c w (as_walked size c p))
+    (sent_have size c ps (walked_pending size c w p).walk)
+
+-- ---- orders
+
+-- orders of which none draws
+abbrev AreOfCaches : List SentOrder → Type 0
+AreOfCaches os = drawn_orders os ≡ []
+
+drawn_append : (xs ys : List SentOrder) → drawn_orders (xs ++ ys) ≡ drawn_orders xs ++ drawn_orders ys
+drawn_append [] ys = refl
+drawn_append (Drawn touched d bounds ∷ xs) ys = ap (λ (l : List SentOrder). Drawn touched d bounds ∷ l) (drawn_append xs ys)
+drawn_append (CacheImage cache index image ∷ xs) ys = drawn_append xs ys
+drawn_append (CacheGlyph cache index glyph ∷ xs) ys = drawn_append xs ys
+drawn_append (CacheBrush entry brush ∷ xs) ys = drawn_append xs ys
+drawn_append (FrameMarker ends ∷ xs) ys = drawn_append xs ys
+
+caches_then : (xs ys : List SentOrder) → AreOfCaches xs → drawn_orders (xs ++ ys) ≡ drawn_orders ys
+caches_then xs ys h = drawn_append xs ys ∙ ap (λ (l : List SentOrder). l ++ drawn_orders ys) h
+
+image_caches : (c : Confirmed) (uses : Uses) (cache : ℕ) (o : Option (Loaded ImageOf)) → AreOfCaches (image_use c uses cache o).orders
+image_caches c uses cache None = refl
+image_caches c uses cache (Some image) = by (misses (entries_of c cache) (uses_of cache uses) image.number)
+  where
+    by : (b : Bool) → AreOfCaches (use_by b (cache_index (entries_of c cache) (uses_of cache uses) image.number) ((cache, image.number) ∷ uses)
+        (λ index. CacheImage cache index image.content)).orders
+    by true = refl
+    by false = refl
+
+brush_caches : (c : Confirmed) (uses : Uses) (o : Option (Loaded (List ℕ))) → AreOfCaches (brush_use c uses o).orders
+brush_caches c uses None = refl
+brush_caches c uses (Some brush) = by (misses 64 (uses_of brush_cache uses) brush.number)
+  where
+    by : (b : Bool) → AreOfCaches (use_by b (cache_index 64 (uses_of brush_cache uses) brush.number) ((brush_cache, brush.number) ∷ uses)
+        (λ index. CacheBrush index brush.content)).orders
+    by true = refl
+    by false = refl
+
+glyph_caches : (c : Confirmed) (uses : Uses) (cache : ℕ) (g : Loaded GlyphOf) → AreOfCaches (glyph_use c uses cache g).orders
+glyph_caches c uses cache g = by (misses (entries_of c (first_glyph_cache + cache)) (uses_of (first_glyph_cache + cache) uses) g.number)
+  where
+    by : (b : Bool) → AreOfCaches (use_by b (cache_index (entries_of c (first_glyph_cache + cache)) (uses_of (first_glyph_cache + cache) uses) g.number)
+        ((first_glyph_cache + cache, g.number) ∷ uses) (λ index. CacheGlyph cache index g.content)).orders
+    by true = refl
+    by false = refl
+
+run_caches : (c : Confirmed) (cache : ℕ) (gs : List (Loaded GlyphOf)) (uses : Uses) → AreOfCaches (run_use c uses cache gs).orders
+run_caches c cache [] uses = refl
+run_caches c cache (g ∷ gs) uses =
+    let u = glyph_use c uses cache g in
+    caches_then u.orders (run_use c u.uses cache gs).orders (glyph_caches c uses cache g) ∙ run_caches c cache gs u.uses
+
+-- what a drawing sends has one order that draws, the last one
+record Sends (s : Sent) (shape : Shape) (orders : List SentOrder) : Type 0 where
+  caches : List SentOrder
+  order : SentOrder
+  are : orders ≡ caches ++ order ∷ []
+  draw_nothing : AreOfCaches caches
+  draws : IsDrawnBy s shape order
+
+module _ (c : Confirmed) where
+  sends : (uses : Uses) (s : Sent) (clip : Option Rect) (shape : Shape) → HasOrder shape → Sends s shape (sending_by c uses s clip shape).orders
+  sends uses s clip (Fill r color) h = record { caches = []; order = _; are = refl; draw_nothing = refl; draws = refl }
+  sends uses s clip (Dst r code) h = record { caches = []; order = _; are = refl; draw_nothing = refl; draws = refl }
+  sends uses s clip (Pat r code brush) h =
+      let b = brush_use c uses s.pending.brush in
+      record {
+        caches = b.orders;
+        order = Drawn r (PatBlt r code b.index) (bounds_of r clip);
+        are = refl;
+        draw_nothing = brush_caches c uses s.pending.brush;
+        draws = (b.index, refl);
+      }
+  sends uses s clip (Copy r code sx sy) h = record { caches = []; order = _; are = refl; draw_nothing = refl; draws = refl }
+  sends uses s clip (Blit r code image sx sy) h =
+      let cache = or_0 (image_cache c s.pending.image) in
+      let i = image_use c uses cache s.pending.image in
+      record {
+        caches = i.orders;
+        order = Drawn r (MemBlt cache i.index r code sx sy) (bounds_of r clip);
+        are = refl;
+        draw_nothing = image_caches c uses cache s.pending.image;
+        draws = (cache, i.index, refl);
+      }
+  sends uses s clip (Blit3 r code image sx sy brush) h =
+      let cache = or_0 (image_cache c s.pending.image) in
+      let i = image_use c uses cache s.pending.image in
+      let b = brush_use c i.uses s.pending.brush in
+      let order = Drawn r (Mem3Blt cache i.index r code sx sy b.index) (bounds_of r clip) in
+      record {
+        caches = i.orders ++ b.orders;
+        order = order;
+        are = sym (append_assoc i.orders b.orders (order ∷ []));
+        draw_nothing = caches_then i.orders b.orders (image_caches c uses cache s.pending.image) ∙ brush_caches c i.uses s.pending.brush;
+        draws = (cache, i.index, b.index, refl);
+      }
+  sends uses s clip (Text x y color font run) h =
+      let cache = or_0 (run_cache c s.pending.glyphs) in
+      let g = run_use c uses cache s.pending.glyphs in
+      record {
+        caches = g.orders;
+        order = Drawn s.pending.rect (GlyphIndex cache x y color (run_pairs g.indices run)) (bounds_of s.pending.rect clip);
+        are = refl;
+        draw_nothing = run_caches c cache s.pending.glyphs uses;
+        draws = (cache, run_pairs g.indices run, refl);
+      }
+  sends uses s clip (Line x0 y0 x1 y1 color) h = absurd h
+  sends uses s clip (Save slot r) h = record { caches = []; order = _; are = refl; draw_nothing = refl; draws = refl }
+  sends uses s clip (Restore slot x y) h = record { caches = []; order = _; are = refl; draw_nothing = refl; draws = refl }
+  sends uses s clip (LoadImage slot image) h = absurd h
+  sends uses s clip (LoadBrush slot brush) h = absurd h
+  sends uses s clip (LoadGlyph font code glyph) h = absurd h
+
+  each_ends : (ss : List Sent) (uses : Uses) → AllHaveOrders ss → EachEndsWithItsOrder c uses ss
+  each_ends [] uses h = tt
+  each_ends (s ∷ ss) uses h =
+      let x = sends uses s s.pending.drawing.clip s.pending.drawing.shape h.0 in (
+        record { caches = x.caches; order = x.order; are = x.are; draw_nothing = x.draw_nothing; draws = x.draws },
+        each_ends ss (sending_of c uses s).uses h.1,
+      )
+
+  drawn_alone : (s : Sent) (o : SentOrder) → IsDrawnBy s s.pending.drawing.shape o → drawn_orders (o ∷ []) ≡ o ∷ []
+  drawn_alone s (Drawn touched d bounds) h = refl
+  drawn_alone s (CacheImage cache index image) h = absurd h
+  drawn_alone s (CacheGlyph cache index glyph) h = absurd h
+  drawn_alone s (CacheBrush entry brush) h = absurd h
+  drawn_alone s (FrameMarker ends) h = absurd h
+
+  drawn_as : (ss : List Sent) (uses : Uses) → EachEndsWithItsOrder c uses ss → AreDrawnAs ss (drawn_orders (orders_from c uses ss))
+  drawn_as [] uses h = tt
+  drawn_as (s ∷ ss) uses h =
+      let x = h.0 in
+      let next = (sending_of c uses s).uses in
+      let own = (sending_of c uses s).orders in
+      let draws : IsDrawnBy s s.pending.drawing.shape x.order = x.draws in
+      let last : List SentOrder = x.order ∷ [] in
+      let one : drawn_orders own ≡ drawn_orders last = ap drawn_orders x.are ∙ caches_then x.caches last x.draw_nothing in
+      subst (λ (l : List SentOrder). AreDrawnAs (s ∷ ss) l)
+      (sym (drawn_append own (orders_from c next ss)
+      ∙ (ap (λ (l : List SentOrder). l ++ drawn_orders (orders_from c next ss)) (one ∙ drawn_alone s x.order draws))))
+      (draws, drawn_as ss next h.1)
+  pub sent_end : (size : Size) (w : Walk) (ps : List Pending) (uses : Uses) → EachEndsWithItsOrder c uses (sent_from size c w ps)
+  sent_end size w ps uses = each_ends (sent_from size c w ps) uses (sent_have size c ps w)
+
+  pub sent_drawn : (size : Size) (w : Walk) (ps : List Pending) (uses : Uses)
+      → AreDrawnAs (sent_from size c w ps) (drawn_orders (orders_from c uses (sent_from size c w ps)))
+  sent_drawn size w ps uses = drawn_as (sent_from size c w ps) uses (sent_end size w ps uses)

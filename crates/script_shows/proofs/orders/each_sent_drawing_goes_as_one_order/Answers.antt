@@ -1,0 +1,9 @@
+use Rattle.script_shows.proofs.SentOnce.{sent_once_or_not, sent_drawn, sent_end}
+use Rattle.script_shows.proofs.orders.each_sent_drawing_goes_as_one_order.Goals as goal
+
+pub returns : goal.returns
+returns k = record {
+  walk = sent_once_or_not;
+  orders = λ size c w ps uses. sent_drawn c size w ps uses;
+  caches = λ size c w ps uses. sent_end c size w ps uses;
+}

@@ -1,0 +1,57 @@
+//! Laws of a frame's orders, tiles and updates, each as the contract of a function that does nothing.
+
+ghost use Rattle.std.specs.Prelude.{◌≡◌, ℕ, ◌&&◌, nat_lt, Bool, true, false, List, [], ◌∷◌, length};
+ghost use Rattle.px_core.specs.declared.surface.Size.{Size};
+ghost use Rattle.caps_sets.specs.declared.confirmed.Confirmed.{Confirmed};
+ghost use Rattle.order_fields.specs.OrderTable.{Registers};
+ghost use Rattle.run_lengths.specs.Packer.{packed};
+ghost use Rattle.byte_fields.specs.Pixels.{pixels_bytes};
+ghost use Rattle.cache_use.specs.CacheUse.{misses, cache_index, uses_of};
+ghost use Rattle.host_bytes.specs.WirePixels.{data_of};
+ghost use Rattle.frame_rules.specs.Pending.{Pending};
+ghost use Rattle.frame_rules.specs.Frame.{Walk, sent_from};
+ghost use Rattle.frame_rules.specs.FrameOrders.{SentOrder, Uses, entries_of, use_of, orders_from};
+ghost use Rattle.frame_rules.specs.FrameBytes.{bytes_of_orders, gathered};
+ghost use Rattle.frame_rules.specs.FrameRead.{AreShort};
+ghost use Rattle.script_shows.specs.Gathering.{AreGathered, orders_of_updates, EachFits};
+ghost use Rattle.script_shows.specs.SentOnce.{IsSentOnceOrNot, drawn_orders, AreDrawnAs, EachEndsWithItsOrder};
+
+/// Gathering orders into updates loses none and moves none; each update has at most the user data that a packet takes, and ends only where the next order
+/// wouldn't have fitted, as long as each order fits into an update of its own, as the orders of every frame do.
+pub fn orders_are_gathered_as_far_as_they_fit()
+    ensures stay { (orders : List (List ℕ)) → orders_of_updates (gathered orders) ≡ orders }
+    ensures full { (orders : List (List ℕ)) → EachFits orders → AreGathered (gathered orders) }
+    ensures frame { (c : Confirmed) (regs : Registers) (orders : List SentOrder) → AreShort c regs orders
+        → AreGathered (gathered (bytes_of_orders c regs orders)) }
+{}
+
+/// Of a pending drawing nothing is sent, or, once, what it is walked as. Each drawing that is sent goes as exactly one order of its shape, in order;
+/// orders that draw nothing stand just before it, and none stands anywhere else.
+pub fn each_sent_drawing_goes_as_one_order()
+    ensures walk { (size : Size) (c : Confirmed) (w : Walk) (p : Pending) → IsSentOnceOrNot size c w p }
+    ensures orders { (size : Size) (c : Confirmed) (w : Walk) (ps : List Pending) (uses : Uses)
+        → AreDrawnAs (sent_from size c w ps) (drawn_orders (orders_from c uses (sent_from size c w ps))) }
+    ensures caches { (size : Size) (c : Confirmed) (w : Walk) (ps : List Pending) (uses : Uses) → EachEndsWithItsOrder c uses (sent_from size c w ps) }
+{}
+
+/// A use of a cache has a cache order exactly where it misses among the uses so far, with the index of the use; and each use is remembered.
+pub fn cache_orders_stand_at_misses()
+    ensures miss { (c : Confirmed) (uses : Uses) (cache key : ℕ) (content : ℕ → SentOrder) → misses (entries_of c cache) (uses_of cache uses) key ≡ true
+        → (use_of c uses cache key content).orders ≡ content (cache_index (entries_of c cache) (uses_of cache uses) key) ∷ [] }
+    ensures hit { (c : Confirmed) (uses : Uses) (cache key : ℕ) (content : ℕ → SentOrder) → misses (entries_of c cache) (uses_of cache uses) key ≡ false
+        → (use_of c uses cache key content).orders ≡ [] }
+    ensures index { (c : Confirmed) (uses : Uses) (cache key : ℕ) (content : ℕ → SentOrder)
+        → (use_of c uses cache key content).index ≡ cache_index (entries_of c cache) (uses_of cache uses) key }
+    ensures remembered { (c : Confirmed) (uses : Uses) (cache key : ℕ) (content : ℕ → SentOrder)
+        → (use_of c uses cache key content).uses ≡ (cache, key) ∷ uses }
+{}
+
+/// The pixels of a tile or an image go packed exactly where the viewer takes packed pixels without a header and the packed bytes are fewer.
+pub fn pixels_go_packed_where_that_is_shorter()
+    ensures packed { (no_header : Bool) (w : ℕ) (pixels : List ℕ)
+        → (data_of no_header w pixels).is_packed ≡ (no_header && nat_lt (length (packed w pixels)) (length (pixels_bytes pixels))) }
+    ensures as_packed { (no_header : Bool) (w : ℕ) (pixels : List ℕ) → (data_of no_header w pixels).is_packed ≡ true
+        → (data_of no_header w pixels).bytes ≡ packed w pixels }
+    ensures as_they_are { (no_header : Bool) (w : ℕ) (pixels : List ℕ) → (data_of no_header w pixels).is_packed ≡ false
+        → (data_of no_header w pixels).bytes ≡ pixels_bytes pixels }
+{}
