@@ -6,3 +6,4 @@ pub mod Scripts
 pub mod Gathered
 pub mod SentOnce
 pub mod Packed
+pub mod TilesSent

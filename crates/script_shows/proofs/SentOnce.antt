@@ -9,7 +9,9 @@ use Rattle.draw_ops.specs.Content.{ImageOf, GlyphOf}
 use Rattle.draw_ops.specs.Slots.{Loaded}
 use Rattle.caps_sets.specs.declared.confirmed.Confirmed.{Confirmed}
 use Rattle.cache_use.specs.CacheUse.{misses, cache_index, uses_of}
-use Rattle.order_fields.specs.NamedDrawing.NamedDrawing.{Pat as PatBlt, Mem as MemBlt, Mem3 as Mem3Blt, Glyphs as GlyphIndex}
+use Rattle.order_fields.specs.NamedDrawing.{NamedDrawing}
+use Rattle.order_fields.specs.NamedDrawing.NamedDrawing.{Dst as DstBlt, Pat as PatBlt, Scr as ScrBlt, Opaque as OpaqueRect, SaveBlock, RestoreBlock}
+use Rattle.order_fields.specs.NamedDrawing.NamedDrawing.{Mem as MemBlt, Mem3 as Mem3Blt, Glyphs as GlyphIndex}
 use Rattle.frame_rules.specs.Blocks.{Place, positions_of, least_free}
 use Rattle.frame_rules.specs.Pending.{Pending}
 use Rattle.frame_rules.specs.Cautious.{as_walked}
@@ -19,7 +21,8 @@ use Rattle.frame_rules.specs.Frame.{sent_from}
 use Rattle.frame_rules.specs.FrameOrders.{SentOrder, Uses, or_0, use_by, entries_of, first_glyph_cache, brush_cache, brush_use, image_use, glyph_use, run_use, run_pairs}
 use Rattle.frame_rules.specs.FrameOrders.{bounds_of, sending_by, sending_of, orders_from}
 use Rattle.frame_rules.specs.FrameOrders.SentOrder.{Drawn, CacheImage, CacheGlyph, CacheBrush, FrameMarker}
-use Rattle.script_shows.specs.SentOnce.{IsSentOnceOrNot, drawn_orders, IsDrawnBy, AreDrawnAs, EachEndsWithItsOrder}
+use Rattle.script_shows.specs.SentOnce.{IsSentOnceOrNot, drawn_orders, IsOrderOf, AreDrawnAs, NamesImage, NamesBrush, NamesGlyphs, IsUsedBy, AreUsedBy, EachEndsWithItsOrder}
+use Rattle.script_shows.proofs.Packed.{index_is}
 
 -- ---- the walk
 
@@ -114,10 +117,6 @@ sent_have size c (p ∷ ps) w =
 
 -- ---- orders
 
--- orders of which none draws
-abbrev AreOfCaches : List SentOrder → Type 0
-AreOfCaches os = drawn_orders os ≡ []
-
 drawn_append : (xs ys : List SentOrder) → drawn_orders (xs ++ ys) ≡ drawn_orders xs ++ drawn_orders ys
 drawn_append [] ys = refl
 drawn_append (Drawn touched d bounds ∷ xs) ys = ap (λ (l : List SentOrder). Drawn touched d bounds ∷ l) (drawn_append xs ys)
@@ -126,98 +125,126 @@ drawn_append (CacheGlyph cache index glyph ∷ xs) ys = drawn_append xs ys
 drawn_append (CacheBrush entry brush ∷ xs) ys = drawn_append xs ys
 drawn_append (FrameMarker ends ∷ xs) ys = drawn_append xs ys
 
-caches_then : (xs ys : List SentOrder) → AreOfCaches xs → drawn_orders (xs ++ ys) ≡ drawn_orders ys
-caches_then xs ys h = drawn_append xs ys ∙ ap (λ (l : List SentOrder). l ++ drawn_orders ys) h
+-- cache orders draw nothing
+none_drawn : (d : NamedDrawing) (os : List SentOrder) → AreUsedBy d os → drawn_orders os ≡ []
+none_drawn d [] h = refl
+none_drawn d (Drawn touched other bounds ∷ os) h = absurd h.0
+none_drawn d (CacheImage cache index image ∷ os) h = none_drawn d os h.1
+none_drawn d (CacheGlyph cache index glyph ∷ os) h = none_drawn d os h.1
+none_drawn d (CacheBrush entry brush ∷ os) h = none_drawn d os h.1
+none_drawn d (FrameMarker ends ∷ os) h = absurd h.0
 
-image_caches : (c : Confirmed) (uses : Uses) (cache : ℕ) (o : Option (Loaded ImageOf)) → AreOfCaches (image_use c uses cache o).orders
-image_caches c uses cache None = refl
-image_caches c uses cache (Some image) = by (misses (entries_of c cache) (uses_of cache uses) image.number)
-  where
-    by : (b : Bool) → AreOfCaches (use_by b (cache_index (entries_of c cache) (uses_of cache uses) image.number) ((cache, image.number) ∷ uses)
-        (λ index. CacheImage cache index image.content)).orders
-    by true = refl
-    by false = refl
+used_append : (d : NamedDrawing) (xs ys : List SentOrder) → AreUsedBy d xs → AreUsedBy d ys → AreUsedBy d (xs ++ ys)
+used_append d [] ys h k = k
+used_append d (x ∷ xs) ys h k = (h.0, used_append d xs ys h.1 k)
 
-brush_caches : (c : Confirmed) (uses : Uses) (o : Option (Loaded (List ℕ))) → AreOfCaches (brush_use c uses o).orders
-brush_caches c uses None = refl
-brush_caches c uses (Some brush) = by (misses 64 (uses_of brush_cache uses) brush.number)
-  where
-    by : (b : Bool) → AreOfCaches (use_by b (cache_index 64 (uses_of brush_cache uses) brush.number) ((brush_cache, brush.number) ∷ uses)
-        (λ index. CacheBrush index brush.content)).orders
-    by true = refl
-    by false = refl
+use_used : (d : NamedDrawing) (b : Bool) (index : ℕ) (uses : Uses) (content : ℕ → SentOrder) → IsUsedBy d (content index)
+    → AreUsedBy d (use_by b index uses content).orders
+use_used d true index uses content h = (h, tt)
+use_used d false index uses content h = tt
 
-glyph_caches : (c : Confirmed) (uses : Uses) (cache : ℕ) (g : Loaded GlyphOf) → AreOfCaches (glyph_use c uses cache g).orders
-glyph_caches c uses cache g = by (misses (entries_of c (first_glyph_cache + cache)) (uses_of (first_glyph_cache + cache) uses) g.number)
-  where
-    by : (b : Bool) → AreOfCaches (use_by b (cache_index (entries_of c (first_glyph_cache + cache)) (uses_of (first_glyph_cache + cache) uses) g.number)
-        ((first_glyph_cache + cache, g.number) ∷ uses) (λ index. CacheGlyph cache index g.content)).orders
-    by true = refl
-    by false = refl
+image_used : (d : NamedDrawing) (c : Confirmed) (uses : Uses) (cache : ℕ) (o : Option (Loaded ImageOf)) → NamesImage d cache (image_use c uses cache o).index
+    → AreUsedBy d (image_use c uses cache o).orders
+image_used d c uses cache None h = tt
+image_used d c uses cache (Some image) h =
+    let content : ℕ → SentOrder = λ index. CacheImage cache index image.content in
+    use_used d (misses (entries_of c cache) (uses_of cache uses) image.number) (cache_index (entries_of c cache) (uses_of cache uses) image.number)
+    ((cache, image.number) ∷ uses) content (subst (NamesImage d cache) (index_is c uses cache image.number content) h)
 
-run_caches : (c : Confirmed) (cache : ℕ) (gs : List (Loaded GlyphOf)) (uses : Uses) → AreOfCaches (run_use c uses cache gs).orders
-run_caches c cache [] uses = refl
-run_caches c cache (g ∷ gs) uses =
+brush_used : (d : NamedDrawing) (c : Confirmed) (uses : Uses) (o : Option (Loaded (List ℕ))) → NamesBrush d (brush_use c uses o).index
+    → AreUsedBy d (brush_use c uses o).orders
+brush_used d c uses None h = tt
+brush_used d c uses (Some brush) h =
+    let content : ℕ → SentOrder = λ index. CacheBrush index brush.content in
+    use_used d (misses (entries_of c brush_cache) (uses_of brush_cache uses) brush.number)
+    (cache_index (entries_of c brush_cache) (uses_of brush_cache uses) brush.number) ((brush_cache, brush.number) ∷ uses) content
+    (subst (NamesBrush d) (index_is c uses brush_cache brush.number content) h)
+
+run_used : (d : NamedDrawing) (c : Confirmed) (cache : ℕ) → NamesGlyphs d cache → (gs : List (Loaded GlyphOf)) (uses : Uses)
+    → AreUsedBy d (run_use c uses cache gs).orders
+run_used d c cache h [] uses = tt
+run_used d c cache h (g ∷ gs) uses =
+    let n = first_glyph_cache + cache in
+    let past = uses_of n uses in
     let u = glyph_use c uses cache g in
-    caches_then u.orders (run_use c u.uses cache gs).orders (glyph_caches c uses cache g) ∙ run_caches c cache gs u.uses
+    used_append d u.orders (run_use c u.uses cache gs).orders
+    (use_used d (misses (entries_of c n) past g.number) (cache_index (entries_of c n) past g.number) ((n, g.number) ∷ uses)
+    (λ index. CacheGlyph cache index g.content) h)
+    (run_used d c cache h gs u.uses)
 
 -- what a drawing sends has one order that draws, the last one
 record Sends (s : Sent) (shape : Shape) (orders : List SentOrder) : Type 0 where
   caches : List SentOrder
-  order : SentOrder
-  are : orders ≡ caches ++ order ∷ []
-  draw_nothing : AreOfCaches caches
-  draws : IsDrawnBy s shape order
+  touched : Rect
+  drawing : NamedDrawing
+  bounds : Option Rect
+  are : orders ≡ caches ++ Drawn touched drawing bounds ∷ []
+  used : AreUsedBy drawing caches
+  draws : IsOrderOf s shape drawing
+
+alone : (s : Sent) (shape : Shape) (touched : Rect) (drawing : NamedDrawing) (bounds : Option Rect) → IsOrderOf s shape drawing
+    → Sends s shape (Drawn touched drawing bounds ∷ [])
+alone s shape touched drawing bounds h =
+    record { caches = []; touched = touched; drawing = drawing; bounds = bounds; are = refl; used = tt; draws = h }
 
 module _ (c : Confirmed) where
   sends : (uses : Uses) (s : Sent) (clip : Option Rect) (shape : Shape) → HasOrder shape → Sends s shape (sending_by c uses s clip shape).orders
-  sends uses s clip (Fill r color) h = record { caches = []; order = _; are = refl; draw_nothing = refl; draws = refl }
-  sends uses s clip (Dst r code) h = record { caches = []; order = _; are = refl; draw_nothing = refl; draws = refl }
+  sends uses s clip (Fill r color) h = alone s (Fill r color) r (OpaqueRect r color) (bounds_of r clip) refl
+  sends uses s clip (Dst r code) h = alone s (Dst r code) r (DstBlt r code) (bounds_of r clip) refl
   sends uses s clip (Pat r code brush) h =
       let b = brush_use c uses s.pending.brush in
       record {
         caches = b.orders;
-        order = Drawn r (PatBlt r code b.index) (bounds_of r clip);
+        touched = r;
+        drawing = PatBlt r code b.index;
+        bounds = bounds_of r clip;
         are = refl;
-        draw_nothing = brush_caches c uses s.pending.brush;
+        used = brush_used (PatBlt r code b.index) c uses s.pending.brush refl;
         draws = (b.index, refl);
       }
-  sends uses s clip (Copy r code sx sy) h = record { caches = []; order = _; are = refl; draw_nothing = refl; draws = refl }
+  sends uses s clip (Copy r code sx sy) h = alone s (Copy r code sx sy) r (ScrBlt r code sx sy) (bounds_of r clip) refl
   sends uses s clip (Blit r code image sx sy) h =
       let cache = or_0 (image_cache c s.pending.image) in
       let i = image_use c uses cache s.pending.image in
       record {
         caches = i.orders;
-        order = Drawn r (MemBlt cache i.index r code sx sy) (bounds_of r clip);
+        touched = r;
+        drawing = MemBlt cache i.index r code sx sy;
+        bounds = bounds_of r clip;
         are = refl;
-        draw_nothing = image_caches c uses cache s.pending.image;
+        used = image_used (MemBlt cache i.index r code sx sy) c uses cache s.pending.image (refl, refl);
         draws = (cache, i.index, refl);
       }
   sends uses s clip (Blit3 r code image sx sy brush) h =
       let cache = or_0 (image_cache c s.pending.image) in
       let i = image_use c uses cache s.pending.image in
       let b = brush_use c i.uses s.pending.brush in
-      let order = Drawn r (Mem3Blt cache i.index r code sx sy b.index) (bounds_of r clip) in
+      let d = Mem3Blt cache i.index r code sx sy b.index in
       record {
         caches = i.orders ++ b.orders;
-        order = order;
-        are = sym (append_assoc i.orders b.orders (order ∷ []));
-        draw_nothing = caches_then i.orders b.orders (image_caches c uses cache s.pending.image) ∙ brush_caches c i.uses s.pending.brush;
+        touched = r;
+        drawing = d;
+        bounds = bounds_of r clip;
+        are = sym (append_assoc i.orders b.orders (Drawn r d (bounds_of r clip) ∷ []));
+        used = used_append d i.orders b.orders (image_used d c uses cache s.pending.image (refl, refl)) (brush_used d c i.uses s.pending.brush refl);
         draws = (cache, i.index, b.index, refl);
       }
   sends uses s clip (Text x y color font run) h =
       let cache = or_0 (run_cache c s.pending.glyphs) in
       let g = run_use c uses cache s.pending.glyphs in
+      let d = GlyphIndex cache x y color (run_pairs g.indices run) in
       record {
         caches = g.orders;
-        order = Drawn s.pending.rect (GlyphIndex cache x y color (run_pairs g.indices run)) (bounds_of s.pending.rect clip);
+        touched = s.pending.rect;
+        drawing = d;
+        bounds = bounds_of s.pending.rect clip;
         are = refl;
-        draw_nothing = run_caches c cache s.pending.glyphs uses;
+        used = run_used d c cache refl s.pending.glyphs uses;
         draws = (cache, run_pairs g.indices run, refl);
       }
   sends uses s clip (Line x0 y0 x1 y1 color) h = absurd h
-  sends uses s clip (Save slot r) h = record { caches = []; order = _; are = refl; draw_nothing = refl; draws = refl }
-  sends uses s clip (Restore slot x y) h = record { caches = []; order = _; are = refl; draw_nothing = refl; draws = refl }
+  sends uses s clip (Save slot r) h = alone s (Save slot r) r (SaveBlock s.position r) None refl
+  sends uses s clip (Restore slot x y) h = alone s (Restore slot x y) s.pending.rect (RestoreBlock s.position s.pending.rect) None refl
   sends uses s clip (LoadImage slot image) h = absurd h
   sends uses s clip (LoadBrush slot brush) h = absurd h
   sends uses s clip (LoadGlyph font code glyph) h = absurd h
@@ -226,16 +253,9 @@ module _ (c : Confirmed) where
   each_ends [] uses h = tt
   each_ends (s ∷ ss) uses h =
       let x = sends uses s s.pending.drawing.clip s.pending.drawing.shape h.0 in (
-        record { caches = x.caches; order = x.order; are = x.are; draw_nothing = x.draw_nothing; draws = x.draws },
+        record { caches = x.caches; touched = x.touched; drawing = x.drawing; bounds = x.bounds; are = x.are; used = x.used; draws = x.draws },
         each_ends ss (sending_of c uses s).uses h.1,
       )
-
-  drawn_alone : (s : Sent) (o : SentOrder) → IsDrawnBy s s.pending.drawing.shape o → drawn_orders (o ∷ []) ≡ o ∷ []
-  drawn_alone s (Drawn touched d bounds) h = refl
-  drawn_alone s (CacheImage cache index image) h = absurd h
-  drawn_alone s (CacheGlyph cache index glyph) h = absurd h
-  drawn_alone s (CacheBrush entry brush) h = absurd h
-  drawn_alone s (FrameMarker ends) h = absurd h
 
   drawn_as : (ss : List Sent) (uses : Uses) → EachEndsWithItsOrder c uses ss → AreDrawnAs ss (drawn_orders (orders_from c uses ss))
   drawn_as [] uses h = tt
@@ -243,13 +263,13 @@ module _ (c : Confirmed) where
       let x = h.0 in
       let next = (sending_of c uses s).uses in
       let own = (sending_of c uses s).orders in
-      let draws : IsDrawnBy s s.pending.drawing.shape x.order = x.draws in
-      let last : List SentOrder = x.order ∷ [] in
-      let one : drawn_orders own ≡ drawn_orders last = ap drawn_orders x.are ∙ caches_then x.caches last x.draw_nothing in
+      let last : List SentOrder = Drawn x.touched x.drawing x.bounds ∷ [] in
+      let one : drawn_orders own ≡ last = ap drawn_orders x.are ∙ (drawn_append x.caches last
+      ∙ ap (λ (l : List SentOrder). l ++ last) (none_drawn x.drawing x.caches x.used)) in
       subst (λ (l : List SentOrder). AreDrawnAs (s ∷ ss) l)
-      (sym (drawn_append own (orders_from c next ss)
-      ∙ (ap (λ (l : List SentOrder). l ++ drawn_orders (orders_from c next ss)) (one ∙ drawn_alone s x.order draws))))
-      (draws, drawn_as ss next h.1)
+      (sym (drawn_append own (orders_from c next ss) ∙ ap (λ (l : List SentOrder). l ++ drawn_orders (orders_from c next ss)) one))
+      (x.draws, drawn_as ss next h.1)
+
   pub sent_end : (size : Size) (w : Walk) (ps : List Pending) (uses : Uses) → EachEndsWithItsOrder c uses (sent_from size c w ps)
   sent_end size w ps uses = each_ends (sent_from size c w ps) uses (sent_have size c ps w)
 

@@ -1,3 +1,4 @@
 pub mod Cuts
 pub mod Gathering
 pub mod SentOnce
+pub mod TilesSent

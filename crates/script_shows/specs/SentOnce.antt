@@ -1,6 +1,7 @@
 -- Orders that draw, and the drawings that they are orders of.
 use Rattle.std.specs.Prelude.{◌≡◌, ℕ, List, [], ◌∷◌, ◌++◌, Option, Some, ⊤, ◌⊎◌}
 use Rattle.px_core.specs.declared.surface.Size.{Size}
+use Rattle.px_core.specs.declared.rectangle.Rect.{Rect}
 use Rattle.draw_ops.specs.declared.shape.Shape.{Shape}
 use Rattle.draw_ops.specs.declared.shape.Shape.TheVariants.{Fill, Dst, Pat, Copy, Blit, Blit3, Text, Line, Save, Restore, LoadImage, LoadBrush, LoadGlyph}
 use Rattle.caps_sets.specs.declared.confirmed.Confirmed.{Confirmed}
@@ -61,13 +62,65 @@ AreDrawnAs [] (o ∷ os) = ⊥
 AreDrawnAs (s ∷ ss) [] = ⊥
 AreDrawnAs (s ∷ ss) (o ∷ os) = IsDrawnBy s s.pending.drawing.shape o × AreDrawnAs ss os
 
--- what a drawing sends: the one order that draws it, last, and just before it orders that draw nothing, which are the cache orders of what it uses
+-- ---- cache orders
+
+-- an order that draws with an image at an index of a bitmap cache
+abbrev pub NamesImage : NamedDrawing → ℕ → ℕ → Type 0
+NamesImage (DstBlt r code) of_cache at_index = ⊥
+NamesImage (PatBlt r code entry) of_cache at_index = ⊥
+NamesImage (ScrBlt r code sx sy) of_cache at_index = ⊥
+NamesImage (OpaqueRect r color) of_cache at_index = ⊥
+NamesImage (SaveBlock position r) of_cache at_index = ⊥
+NamesImage (RestoreBlock position r) of_cache at_index = ⊥
+NamesImage (MemBlt cache index r code sx sy) of_cache at_index = (of_cache ≡ cache) × (at_index ≡ index)
+NamesImage (Mem3Blt cache index r code sx sy entry) of_cache at_index = (of_cache ≡ cache) × (at_index ≡ index)
+NamesImage (GlyphIndex cache x y color run) of_cache at_index = ⊥
+
+-- with a brush at an entry of the brush cache
+abbrev pub NamesBrush : NamedDrawing → ℕ → Type 0
+NamesBrush (DstBlt r code) at_entry = ⊥
+NamesBrush (PatBlt r code entry) at_entry = at_entry ≡ entry
+NamesBrush (ScrBlt r code sx sy) at_entry = ⊥
+NamesBrush (OpaqueRect r color) at_entry = ⊥
+NamesBrush (SaveBlock position r) at_entry = ⊥
+NamesBrush (RestoreBlock position r) at_entry = ⊥
+NamesBrush (MemBlt cache index r code sx sy) at_entry = ⊥
+NamesBrush (Mem3Blt cache index r code sx sy entry) at_entry = at_entry ≡ entry
+NamesBrush (GlyphIndex cache x y color run) at_entry = ⊥
+
+-- with glyphs of a glyph cache
+abbrev pub NamesGlyphs : NamedDrawing → ℕ → Type 0
+NamesGlyphs (DstBlt r code) of_cache = ⊥
+NamesGlyphs (PatBlt r code entry) of_cache = ⊥
+NamesGlyphs (ScrBlt r code sx sy) of_cache = ⊥
+NamesGlyphs (OpaqueRect r color) of_cache = ⊥
+NamesGlyphs (SaveBlock position r) of_cache = ⊥
+NamesGlyphs (RestoreBlock position r) of_cache = ⊥
+NamesGlyphs (MemBlt cache index r code sx sy) of_cache = ⊥
+NamesGlyphs (Mem3Blt cache index r code sx sy entry) of_cache = ⊥
+NamesGlyphs (GlyphIndex cache x y color run) of_cache = of_cache ≡ cache
+
+-- a cache order of what a drawing names
+abbrev pub IsUsedBy : NamedDrawing → SentOrder → Type 0
+IsUsedBy d (Drawn touched other bounds) = ⊥
+IsUsedBy d (CacheImage cache index image) = NamesImage d cache index
+IsUsedBy d (CacheGlyph cache index glyph) = NamesGlyphs d cache
+IsUsedBy d (CacheBrush entry brush) = NamesBrush d entry
+IsUsedBy d (FrameMarker ends) = ⊥
+
+abbrev pub AreUsedBy : NamedDrawing → List SentOrder → Type 0
+AreUsedBy d [] = ⊤
+AreUsedBy d (o ∷ os) = IsUsedBy d o × AreUsedBy d os
+
+-- what a drawing sends: the one order that draws it, last, and just before it cache orders of what that order names
 pub record EndsWithItsOrder (s : Sent) (orders : List SentOrder) : Type 0 where
   pub caches : List SentOrder
-  pub order : SentOrder
-  pub are : orders ≡ caches ++ order ∷ []
-  pub draw_nothing : drawn_orders caches ≡ []
-  pub draws : IsDrawnBy s s.pending.drawing.shape order
+  pub touched : Rect
+  pub drawing : NamedDrawing
+  pub bounds : Option Rect
+  pub are : orders ≡ caches ++ Drawn touched drawing bounds ∷ []
+  pub used : AreUsedBy drawing caches
+  pub draws : IsOrderOf s s.pending.drawing.shape drawing
 
 -- each of some drawings, one after the other
 abbrev pub EachEndsWithItsOrder : Confirmed → Uses → List Sent → Type 0

@@ -1,19 +1,22 @@
 //! Laws of a frame's orders, tiles and updates, each as the contract of a function that does nothing.
 
-ghost use Rattle.std.specs.Prelude.{◌≡◌, ℕ, ◌&&◌, nat_lt, Bool, true, false, List, [], ◌∷◌, length};
+ghost use Rattle.std.specs.Prelude.{◌≡◌, ℕ, ◌&&◌, nat_lt, Bool, true, false, List, [], ◌∷◌, length, map};
 ghost use Rattle.px_core.specs.declared.surface.Size.{Size};
+ghost use Rattle.px_core.specs.Tiles.{Tiles, either_tiles, picture_tiles, tiles_in};
 ghost use Rattle.caps_sets.specs.declared.confirmed.Confirmed.{Confirmed};
 ghost use Rattle.order_fields.specs.OrderTable.{Registers};
 ghost use Rattle.run_lengths.specs.Packer.{packed};
 ghost use Rattle.byte_fields.specs.Pixels.{pixels_bytes};
 ghost use Rattle.cache_use.specs.CacheUse.{misses, cache_index, uses_of};
 ghost use Rattle.host_bytes.specs.WirePixels.{data_of};
+ghost use Rattle.frame_rules.specs.Blocks.{Held};
 ghost use Rattle.frame_rules.specs.Pending.{Pending};
-ghost use Rattle.frame_rules.specs.Frame.{Walk, sent_from};
-ghost use Rattle.frame_rules.specs.FrameOrders.{SentOrder, Uses, entries_of, use_of, orders_from};
+ghost use Rattle.frame_rules.specs.Frame.{Walk, FrameOf, sent_from, frame_over};
+ghost use Rattle.frame_rules.specs.FrameOrders.{SentOrder, Uses, entries_of, use_of, orders_from, tile_order, frame_orders};
 ghost use Rattle.frame_rules.specs.FrameBytes.{bytes_of_orders, gathered};
 ghost use Rattle.frame_rules.specs.FrameRead.{AreShort};
 ghost use Rattle.script_shows.specs.Gathering.{AreGathered, orders_of_updates, EachFits};
+ghost use Rattle.script_shows.specs.TilesSent.{tiles_among, IsOneOf, IsAscending, dirty_tiles};
 ghost use Rattle.script_shows.specs.SentOnce.{IsSentOnceOrNot, drawn_orders, AreDrawnAs, EachEndsWithItsOrder};
 
 /// Gathering orders into updates loses none and moves none; each update has at most the user data that a packet takes, and ends only where the next order
@@ -26,7 +29,7 @@ pub fn orders_are_gathered_as_far_as_they_fit()
 {}
 
 /// Of a pending drawing nothing is sent, or, once, what it is walked as. Each drawing that is sent goes as exactly one order of its shape, in order;
-/// orders that draw nothing stand just before it, and none stands anywhere else.
+/// just before it stand cache orders of what it names, and no other orders.
 pub fn each_sent_drawing_goes_as_one_order()
     ensures walk { (size : Size) (c : Confirmed) (w : Walk) (p : Pending) → IsSentOnceOrNot size c w p }
     ensures orders { (size : Size) (c : Confirmed) (w : Walk) (ps : List Pending) (uses : Uses)
@@ -44,6 +47,20 @@ pub fn cache_orders_stand_at_misses()
         → (use_of c uses cache key content).index ≡ cache_index (entries_of c cache) (uses_of cache uses) key }
     ensures remembered { (c : Confirmed) (uses : Uses) (cache key : ℕ) (content : ℕ → SentOrder)
         → (use_of c uses cache key content).uses ≡ (cache, key) ∷ uses }
+{}
+
+/// The rectangles of bitmap updates in a frame are its tiles, by ascending number, with the pixels of the picture that it shows: exactly those tiles of
+/// the picture that are dirty or were asked for.
+pub fn rectangles_are_the_tiles_to_send()
+    ensures rectangles { (size : Size) (c : Confirmed) (uses : Uses) (f : FrameOf)
+        → tiles_among (frame_orders size c uses f) ≡ map (tile_order size f.picture) f.tiles }
+    ensures frame { (size : Size) (c : Confirmed) (first : Bool) (held : Held) (asked : Tiles) (picture : List ℕ) (ps : List Pending)
+        → (frame_over size c first held asked picture ps).tiles ≡ tiles_in size (either_tiles (dirty_tiles size c first held ps) asked) }
+    ensures ascending { (size : Size) (tiles : Tiles) → IsAscending (tiles_in size tiles) }
+    ensures only { (size : Size) (tiles : Tiles) (tile : ℕ) → IsOneOf tile (tiles_in size tiles)
+        → (tiles tile ≡ true) × IsOneOf tile (picture_tiles size) }
+    ensures each { (size : Size) (tiles : Tiles) (tile : ℕ) → tiles tile ≡ true → IsOneOf tile (picture_tiles size)
+        → IsOneOf tile (tiles_in size tiles) }
 {}
 
 /// The pixels of a tile or an image go packed exactly where the viewer takes packed pixels without a header and the packed bytes are fewer.
