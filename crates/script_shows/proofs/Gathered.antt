@@ -2,12 +2,21 @@
 use Rattle.std.proofs.Common.{◌≡◌, ℕ, ◌+◌, ◌<◌, ◌≤◌, List, [], ◌∷◌, ◌++◌, length, refl, ap, ◌∙◌, subst, arith}
 use Rattle.std.specs.Prelude.{Bool, true, false, nat_le, ⊤, if◌then◌else◌}
 use Rattle.std.proofs.lemmas.Bool.Decides.{nat_tests}
+use Rattle.px_core.specs.Rectangle.{is_session_size}
+use Rattle.session_rules.specs.declared.entry.Entry.{Entry}
+use Rattle.session_rules.specs.Journal.{Head, IsLegalJournal}
+use Rattle.session_rules.specs.Steps.{TakeOf}
+use Rattle.board_laws.proofs.Fitting.{sides_of}
+use Rattle.order_means.specs.ClientState.{ClientState}
 use Rattle.caps_sets.specs.declared.confirmed.Confirmed.{Confirmed}
 use Rattle.order_fields.specs.OrderTable.{Registers}
 use Rattle.host_bytes.specs.UpdateBodies.{orders_user_data}
-use Rattle.frame_rules.specs.FrameOrders.{SentOrder}
+use Rattle.frame_rules.specs.FrameOrders.{SentOrder, orders_before_tiles}
 use Rattle.frame_rules.specs.FrameBytes.{bytes_of_order, bytes_of_orders, registers_after_order, most_user_data, joins_update, onto_update, gathered_after, gathered}
 use Rattle.frame_rules.specs.FrameRead.{AreShort}
+use Rattle.frame_rules.specs.Encoder.{Encoder, encoder_frame}
+use Rattle.frame_rules.specs.Describes.{DescribesClient, HasAllCaches}
+use Rattle.frame_shows.proofs.JournalShown.{sound_take}
 use Rattle.script_shows.specs.Gathering.{bytes_in, FitsUpdate, BeginsAnew, AreGathered, orders_of_updates, EachFits}
 
 -- ---- no order is lost, and none is moved
@@ -92,3 +101,12 @@ each_fits c regs (o ∷ os) h = let short = h.0 in (omega (arith, short), each_f
 
 pub frame_gathered : (c : Confirmed) (regs : Registers) (os : List SentOrder) → AreShort c regs os → AreGathered (gathered (bytes_of_orders c regs os))
 frame_gathered c regs os h = gathered_full (bytes_of_orders c regs os) (each_fits c regs os h)
+
+-- of every take
+pub take_gathered : (head : Head) (c : Confirmed) (j : List Entry) (e : Encoder) (t : TakeOf) (client : ClientState)
+    → is_session_size head.size.w head.size.h ≡ true → HasAllCaches c → IsLegalJournal head j → t.before ≤ t.number
+    → DescribesClient head.size c j t.before e client
+    → AreGathered (gathered (bytes_of_orders c e.registers (orders_before_tiles head.size c e.uses (encoder_frame head.size c j e t))))
+take_gathered head c j e t client sized all legal up old =
+    frame_gathered c e.registers (orders_before_tiles head.size c e.uses (encoder_frame head.size c j e t))
+    (sound_take head c j sized all legal e t client (sides_of head.size.w head.size.h sized) up old).short

@@ -1,3 +1,4 @@
+mod Rows
 pub mod GlyphBits
 pub mod PendingHolds
 pub mod OrdersHold

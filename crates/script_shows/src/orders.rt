@@ -1,7 +1,8 @@
 //! Laws of a frame's orders, tiles and updates, each as the contract of a function that does nothing.
 
-ghost use Rattle.std.specs.Prelude.{◌≡◌, ℕ, ◌&&◌, nat_lt, Bool, true, false, List, [], ◌∷◌, length, map};
+ghost use Rattle.std.specs.Prelude.{◌≡◌, ℕ, ◌≤◌, ◌&&◌, nat_lt, Bool, true, false, List, [], ◌∷◌, length, map};
 ghost use Rattle.px_core.specs.declared.surface.Size.{Size};
+ghost use Rattle.px_core.specs.Rectangle.{is_session_size};
 ghost use Rattle.px_core.specs.Tiles.{Tiles, either_tiles, picture_tiles, tiles_in};
 ghost use Rattle.caps_sets.specs.declared.confirmed.Confirmed.{Confirmed};
 ghost use Rattle.order_fields.specs.OrderTable.{Registers};
@@ -9,23 +10,33 @@ ghost use Rattle.run_lengths.specs.Packer.{packed};
 ghost use Rattle.byte_fields.specs.Pixels.{pixels_bytes};
 ghost use Rattle.cache_use.specs.CacheUse.{misses, cache_index, uses_of};
 ghost use Rattle.host_bytes.specs.WirePixels.{data_of};
+ghost use Rattle.session_rules.specs.declared.entry.Entry.{Entry};
+ghost use Rattle.session_rules.specs.Journal.{Head, IsLegalJournal};
+ghost use Rattle.session_rules.specs.Steps.{TakeOf};
+ghost use Rattle.order_means.specs.ClientState.{ClientState};
 ghost use Rattle.frame_rules.specs.Blocks.{Held};
 ghost use Rattle.frame_rules.specs.Pending.{Pending};
 ghost use Rattle.frame_rules.specs.Frame.{Walk, FrameOf, sent_from, frame_over};
-ghost use Rattle.frame_rules.specs.FrameOrders.{SentOrder, Uses, entries_of, use_of, orders_from, tile_order, frame_orders};
+ghost use Rattle.frame_rules.specs.FrameOrders.{SentOrder, Uses, entries_of, use_of, orders_from, orders_before_tiles, tile_order, frame_orders};
 ghost use Rattle.frame_rules.specs.FrameBytes.{bytes_of_orders, gathered};
 ghost use Rattle.frame_rules.specs.FrameRead.{AreShort};
+ghost use Rattle.frame_rules.specs.Encoder.{Encoder, encoder_frame};
+ghost use Rattle.frame_rules.specs.Describes.{DescribesClient, HasAllCaches};
 ghost use Rattle.script_shows.specs.Gathering.{AreGathered, orders_of_updates, EachFits};
 ghost use Rattle.script_shows.specs.TilesSent.{tiles_among, IsOneOf, IsAscending, dirty_tiles};
 ghost use Rattle.script_shows.specs.SentOnce.{IsSentOnceOrNot, drawn_orders, AreDrawnAs, EachEndsWithItsOrder};
 
 /// Gathering orders into updates loses none and moves none; each update has at most the user data that a packet takes, and ends only where the next order
-/// wouldn't have fitted, as long as each order fits into an update of its own, as the orders of every frame do.
+/// wouldn't have fitted, as long as each order fits into an update of its own, as those of every take over a legal journal do.
 pub fn orders_are_gathered_as_far_as_they_fit()
     ensures stay { (orders : List (List ℕ)) → orders_of_updates (gathered orders) ≡ orders }
     ensures full { (orders : List (List ℕ)) → EachFits orders → AreGathered (gathered orders) }
     ensures frame { (c : Confirmed) (regs : Registers) (orders : List SentOrder) → AreShort c regs orders
         → AreGathered (gathered (bytes_of_orders c regs orders)) }
+    ensures take { (head : Head) (c : Confirmed) (j : List Entry) (e : Encoder) (t : TakeOf) (client : ClientState)
+        → is_session_size head.size.w head.size.h ≡ true → HasAllCaches c
+        → IsLegalJournal head j → t.before ≤ t.number → DescribesClient head.size c j t.before e client
+        → AreGathered (gathered (bytes_of_orders c e.registers (orders_before_tiles head.size c e.uses (encoder_frame head.size c j e t)))) }
 {}
 
 /// Of a pending drawing nothing is sent, or, once, what it is walked as. Each drawing that is sent goes as exactly one order of its shape, in order;
