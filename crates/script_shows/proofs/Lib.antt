@@ -8,3 +8,4 @@ pub mod Gathered
 pub mod SentOnce
 pub mod Packed
 pub mod TilesSent
+pub mod Runs

@@ -4,6 +4,8 @@ ghost use Rattle.std.specs.Prelude.{◌≡◌, ℕ, ◌≤◌, ◌&&◌, nat_lt,
 ghost use Rattle.px_core.specs.declared.surface.Size.{Size};
 ghost use Rattle.px_core.specs.Rectangle.{is_session_size};
 ghost use Rattle.px_core.specs.Tiles.{Tiles, either_tiles, picture_tiles, tiles_in};
+ghost use Rattle.draw_ops.specs.Content.{GlyphOf};
+ghost use Rattle.draw_ops.specs.Slots.{Loaded};
 ghost use Rattle.caps_sets.specs.declared.confirmed.Confirmed.{Confirmed};
 ghost use Rattle.order_fields.specs.OrderTable.{Registers};
 ghost use Rattle.run_lengths.specs.Packer.{packed};
@@ -17,12 +19,13 @@ ghost use Rattle.order_means.specs.ClientState.{ClientState};
 ghost use Rattle.frame_rules.specs.Blocks.{Held};
 ghost use Rattle.frame_rules.specs.Pending.{Pending};
 ghost use Rattle.frame_rules.specs.Frame.{Walk, FrameOf, sent_from, frame_over};
-ghost use Rattle.frame_rules.specs.FrameOrders.{SentOrder, Uses, entries_of, use_of, orders_from, orders_before_tiles, tile_order, frame_orders};
+ghost use Rattle.frame_rules.specs.FrameOrders.{SentOrder, Uses, entries_of, use_of, run_use, run_pairs, orders_from, orders_before_tiles, tile_order, frame_orders};
 ghost use Rattle.frame_rules.specs.FrameBytes.{bytes_of_orders, gathered};
 ghost use Rattle.frame_rules.specs.FrameRead.{AreShort};
 ghost use Rattle.frame_rules.specs.Encoder.{Encoder, encoder_frame};
 ghost use Rattle.frame_rules.specs.Describes.{DescribesClient, HasAllCaches};
 ghost use Rattle.script_shows.specs.Gathering.{AreGathered, orders_of_updates, EachFits};
+ghost use Rattle.script_shows.specs.Runs.{indices_in, AreOrdersOfRun};
 ghost use Rattle.script_shows.specs.TilesSent.{tiles_among, IsOneOf, IsAscending, dirty_tiles};
 ghost use Rattle.script_shows.specs.SentOnce.{IsSentOnceOrNot, drawn_orders, AreDrawnAs, EachEndsWithItsOrder};
 
@@ -49,6 +52,7 @@ pub fn each_sent_drawing_goes_as_one_order()
 {}
 
 /// A use of a cache has a cache order exactly where it misses among the uses so far, with the index of the use; and each use is remembered.
+/// The cache orders of a run's glyphs are for indices of their uses, which are those that the run's order names.
 pub fn cache_orders_stand_at_misses()
     ensures miss { (c : Confirmed) (uses : Uses) (cache key : ℕ) (content : ℕ → SentOrder) → misses (entries_of c cache) (uses_of cache uses) key ≡ true
         → (use_of c uses cache key content).orders ≡ content (cache_index (entries_of c cache) (uses_of cache uses) key) ∷ [] }
@@ -58,6 +62,10 @@ pub fn cache_orders_stand_at_misses()
         → (use_of c uses cache key content).index ≡ cache_index (entries_of c cache) (uses_of cache uses) key }
     ensures remembered { (c : Confirmed) (uses : Uses) (cache key : ℕ) (content : ℕ → SentOrder)
         → (use_of c uses cache key content).uses ≡ (cache, key) ∷ uses }
+    ensures run { (c : Confirmed) (uses : Uses) (cache : ℕ) (glyphs : List (Loaded GlyphOf))
+        → AreOrdersOfRun cache (run_use c uses cache glyphs).indices (run_use c uses cache glyphs).orders }
+    ensures named { (c : Confirmed) (uses : Uses) (cache : ℕ) (glyphs : List (Loaded GlyphOf)) (run : List (ℕ × ℕ)) → length glyphs ≤ length run
+        → indices_in (run_pairs (run_use c uses cache glyphs).indices run) ≡ (run_use c uses cache glyphs).indices }
 {}
 
 /// The rectangles of bitmap updates in a frame are its tiles, by ascending number, with the pixels of the picture that it shows: exactly those tiles of
