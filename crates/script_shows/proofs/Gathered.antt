@@ -1,6 +1,6 @@
 -- Orders are gathered as far as they fit.
-use Rattle.std.proofs.Common.{◌≡◌, ℕ, ◌+◌, ◌<◌, ◌≤◌, List, [], ◌∷◌, ◌++◌, length, refl, ap, ◌∙◌, subst, arith}
-use Rattle.std.specs.Prelude.{Bool, true, false, nat_le, ⊤, if◌then◌else◌}
+use Rattle.std.proofs.Common.{◌≡◌, ℕ, ◌+◌, ◌<◌, ◌≤◌, List, [], ◌∷◌, length, refl, ap, ◌∙◌, subst, arith}
+use Rattle.std.specs.Prelude.{Bool, true, false, nat_le, if◌then◌else◌}
 use Rattle.std.proofs.lemmas.Bool.Decides.{nat_tests}
 use Rattle.px_core.specs.Rectangle.{is_session_size}
 use Rattle.session_rules.specs.declared.entry.Entry.{Entry}
@@ -12,7 +12,7 @@ use Rattle.caps_sets.specs.declared.confirmed.Confirmed.{Confirmed}
 use Rattle.order_fields.specs.OrderTable.{Registers}
 use Rattle.host_bytes.specs.UpdateBodies.{orders_user_data}
 use Rattle.frame_rules.specs.FrameOrders.{SentOrder, orders_before_tiles}
-use Rattle.frame_rules.specs.FrameBytes.{bytes_of_order, bytes_of_orders, registers_after_order, most_user_data, joins_update, onto_update, gathered_after, gathered}
+use Rattle.frame_rules.specs.FrameBytes.{bytes_of_orders, registers_after_order, most_user_data, joins_update, onto_update, gathered_after, gathered}
 use Rattle.frame_rules.specs.FrameRead.{AreShort}
 use Rattle.frame_rules.specs.Encoder.{Encoder, encoder_frame}
 use Rattle.frame_rules.specs.Describes.{DescribesClient, HasAllCaches}

@@ -1,5 +1,5 @@
 -- The bits of every glyph that a legal journal loads are bytes, those of the board's signs included.
-use Rattle.std.proofs.Common.{◌≡◌, ℕ, zero, suc, ◌+◌, ◌-◌, ◌*◌, ◌/◌, ◌%◌, ◌^◌, ◌<◌, ◌≤◌, List, [], ◌∷◌, ◌++◌, refl, subst, arith, Some, None}
+use Rattle.std.proofs.Common.{◌≡◌, ℕ, zero, suc, ◌+◌, ◌-◌, ◌*◌, ◌/◌, ◌%◌, ◌<◌, ◌≤◌, List, [], ◌∷◌, ◌++◌, refl, subst, arith, Some, None}
 use Rattle.std.specs.Prelude.{⊤, Bool, true, false, ◌&&◌, ◌==◌, nat_le, nat_lt, Option, IfSome, IsTrue, is_none, option_map, option_to_list, option_and_then, slice_get}
 use Rattle.std.specs.Prelude.{if◌then◌else◌, pos, min, max}
 use Rattle.std.proofs.lemmas.Bool.{and_parts}
@@ -22,7 +22,7 @@ use Rattle.session_rules.specs.Board.{ink_color, checkered, shaded, board_reacti
 use Rattle.session_rules.specs.Journal.{Head, Reached, Refusal, reached_at_first, reached_after_entry, refusal_of, are_legal_after, IsLegalJournal, drawings_of}
 use Rattle.session_rules.proofs.OwnSteps.{is_entry_in_range-legal}
 use Rattle.board_laws.proofs.Reactions.{first_holds, line_if, line_of}
-use Rattle.frame_rules.specs.Describes.{drawings_from, shape_numbered, glyph_in, glyph_loaded}
+use Rattle.frame_rules.specs.Describes.{drawings_from, glyph_in, glyph_loaded}
 use Rattle.capture_laws.specs.Sent.{AreBytes}
 use Rattle.capture_laws.proofs.OrderBytes.{bytes_nil, bytes_cons}
 

@@ -1,6 +1,6 @@
 -- The orders of what is sent hold bytes: numbers of caches, sides, bits, and runs of indices and deltas.
-use Rattle.std.proofs.Common.{◌≡◌, ℕ, zero, suc, ◌+◌, ◌*◌, ◌<◌, ◌≤◌, List, [], ◌∷◌, ◌++◌, length, refl, ap, ◌∙◌, subst, arith, Some, None}
-use Rattle.std.specs.Prelude.{⊤, Bool, true, false, ◌&&◌, ◌==◌, nat_lt, min, Option}
+use Rattle.std.proofs.Common.{◌≡◌, ℕ, zero, suc, ◌+◌, ◌*◌, ◌<◌, ◌≤◌, List, [], ◌∷◌, ◌++◌, length, refl, arith, Some, None}
+use Rattle.std.specs.Prelude.{⊤, Bool, true, false, ◌&&◌, ◌==◌, nat_lt, Option}
 use Rattle.std.proofs.lemmas.Bool.Decides.{nat_tests}
 use Rattle.px_core.specs.declared.surface.Size.{Size}
 use Rattle.px_core.specs.declared.rectangle.Rect.{Rect}
@@ -10,24 +10,23 @@ use Rattle.draw_ops.specs.Content.{ImageOf, GlyphOf}
 use Rattle.draw_ops.specs.Slots.{Loaded}
 use Rattle.caps_sets.specs.declared.cache_size.CacheSize.{CacheSize}
 use Rattle.caps_sets.specs.declared.confirmed.Confirmed.{Confirmed}
-use Rattle.caps_sets.specs.Confirmed.{cache_size, first_cache}
+use Rattle.caps_sets.specs.Confirmed.{first_cache}
 use Rattle.cache_use.specs.CacheUse.{misses, distinct_keys, oldest_key, new_index, miss_index, index_after, last_index, cache_index, uses_of}
 use Rattle.cache_use.proofs.Indices.{cache_index_below}
 use Rattle.frame_rules.specs.Support.{image_cache, run_cache, serves_image, serves_run}
 use Rattle.frame_rules.specs.Frame.{Sent}
 use Rattle.frame_rules.specs.FrameOrders.{SentOrder, Uses, or_0, use_by, entries_of, first_glyph_cache, brush_cache, brush_use, image_use, glyph_use, run_use, run_pairs}
 use Rattle.frame_rules.specs.FrameOrders.{bounds_of, sending_by, sending_of, orders_from, start_orders, black_orders}
-use Rattle.frame_rules.specs.FrameOrders.SentOrder.{Drawn, CacheImage, CacheGlyph, CacheBrush, FrameMarker}
+use Rattle.frame_rules.specs.FrameOrders.SentOrder.{Drawn, CacheImage, CacheGlyph, CacheBrush}
 use Rattle.frame_rules.specs.Describes.{HasAllCaches}
-use Rattle.order_fields.specs.NamedDrawing.NamedDrawing.{Dst as DstBlt, Pat as PatBlt, Scr as ScrBlt, Opaque as OpaqueRect, SaveBlock, RestoreBlock, Mem as MemBlt, Mem3 as Mem3Blt, Glyphs as GlyphIndex}
-use Rattle.cache_laws.specs.Sound.{IsSoundImage}
+use Rattle.order_fields.specs.NamedDrawing.NamedDrawing.{Pat as PatBlt, Mem as MemBlt, Mem3 as Mem3Blt, Glyphs as GlyphIndex}
 use Rattle.cache_laws.specs.Run.{AreDeltas}
 use Rattle.cache_laws.proofs.GlyphUse.{glyph_entries}
 use Rattle.frame_shows.proofs.SentKeeps.{first_serves}
 use Rattle.capture_laws.specs.Sent.{AreBytes}
 use Rattle.capture_laws.specs.OrderBytes.{HoldsBytes, HoldBytes}
 use Rattle.capture_laws.proofs.OrderBytes.{bytes_nil, bytes_cons}
-use Rattle.script_shows.proofs.PendingHolds.{AreOfBytes, IsSoundIfAny, RunHolds, Holds, AllHold, run_of}
+use Rattle.script_shows.proofs.PendingHolds.{AreOfBytes, IsSoundIfAny, RunHolds, AllHold, run_of}
 
 pub bytes_held_append : (xs ys : List SentOrder) → HoldBytes xs → HoldBytes ys → HoldBytes (xs ++ ys)
 bytes_held_append [] ys h k = k

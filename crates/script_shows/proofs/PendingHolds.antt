@@ -1,6 +1,6 @@
 -- What the drawings that are sent hold: their images are sound, the bits of their glyphs are bytes, and their runs are short and of small deltas.
-use Rattle.std.proofs.Common.{◌≡◌, ℕ, ◌<◌, ◌≤◌, List, [], ◌∷◌, ◌++◌, length, refl, sym, subst, arith, Some, None}
-use Rattle.std.specs.Prelude.{⊤, Bool, true, false, ◌&&◌, nat_le, Option, IfSome}
+use Rattle.std.proofs.Common.{◌≡◌, ℕ, ◌≤◌, List, [], ◌∷◌, ◌++◌, length, refl, sym, subst, arith, Some, None}
+use Rattle.std.specs.Prelude.{⊤, Bool, true, false, ◌&&◌, nat_le, Option}
 use Rattle.std.proofs.lemmas.Bool.{and_parts}
 use Rattle.std.proofs.lemmas.Bool.Decides.{nat_tests}
 use Rattle.px_core.specs.declared.surface.Size.{Size}

@@ -1,5 +1,5 @@
 -- The definitions, computed on worked lists: orders of updates, orders that draw, rectangles, and lists that aren't what the laws say.
-use Rattle.std.proofs.Common.{◌≡◌, ℕ, List, [], ◌∷◌, refl, arith, None}
+use Rattle.std.proofs.Common.{◌≡◌, [], ◌∷◌, refl, arith, None}
 use Rattle.std.specs.Prelude.{pos, false}
 use Rattle.px_core.specs.Rectangle.{boxed}
 use Rattle.order_fields.specs.NamedDrawing.NamedDrawing.{Opaque as OpaqueRect, Pat as PatBlt}

@@ -1,6 +1,6 @@
 -- Each cache order of a run's glyphs is for an index that the run's order names, and that order names the indices of its glyphs' uses.
 use Rattle.std.proofs.Common.{◌≡◌, ℕ, ◌+◌, ◌≤◌, List, [], ◌∷◌, ◌++◌, length, refl, ap, sym, arith, inl, inr}
-use Rattle.std.specs.Prelude.{Bool, true, false, ⊤}
+use Rattle.std.specs.Prelude.{Bool, true, false}
 use Rattle.draw_ops.specs.Content.{GlyphOf}
 use Rattle.draw_ops.specs.Slots.{Loaded}
 use Rattle.caps_sets.specs.declared.confirmed.Confirmed.{Confirmed}

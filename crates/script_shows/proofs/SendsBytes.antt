@@ -1,5 +1,5 @@
 -- What steps send is bytes: the orders of each frame over a legal journal hold bytes.
-use Rattle.std.proofs.Common.{◌≡◌, ℕ, ◌<◌, ◌≤◌, List, [], ◌∷◌, ◌++◌, length, refl, sym, subst, arith, append_assoc, Some, None}
+use Rattle.std.proofs.Common.{◌≡◌, ℕ, ◌≤◌, List, [], ◌∷◌, ◌++◌, length, refl, sym, subst, arith, append_assoc, Some, None}
 use Rattle.std.specs.Prelude.{Bool, true, false, ◌&&◌, ◌==◌, nat_lt, ⊤, Option, option_to_list, if◌then◌else◌}
 use Rattle.px_core.specs.declared.surface.Size.{Size}
 use Rattle.px_core.specs.Rectangle.{is_session_size}
@@ -11,7 +11,7 @@ use Rattle.caps_sets.specs.declared.confirmed.Confirmed.{Confirmed}
 use Rattle.input_events.specs.declared.event.Event.{Event}
 use Rattle.session_rules.specs.declared.entry.Role.{Role}
 use Rattle.session_rules.specs.declared.entry.Entry.{Entry}
-use Rattle.session_rules.specs.declared.entry.Entry.TheVariants.{Join, Leave, Give, Input, Draw}
+use Rattle.session_rules.specs.declared.entry.Entry.TheVariants.{Give, Input}
 use Rattle.session_rules.specs.Journal.{Head, Refusal, state_after, refusal_of, is_f12, IsLegalJournal}
 use Rattle.session_rules.specs.Steps.{Step, Answer, Effect, TakeOf, entered, outcome_of, effect_of, outcome, take_of, entries_from, join_effect, row_role}
 use Rattle.session_rules.specs.Steps.{input_effect, is_release, receiver_of, has_work, take_effect}
@@ -23,7 +23,7 @@ use Rattle.session_rules.proofs.Takes.{IsBehind, IsBehind-session_after}
 use Rattle.board_laws.proofs.Fitting.{Sides, sides_of}
 use Rattle.frame_rules.specs.Blocks.{Held}
 use Rattle.frame_rules.specs.Pending.{Pending, pending_drawings}
-use Rattle.frame_rules.specs.Frame.{Walk, Sent, sent_from, first_dirty, framed_by, frame_over, is_first, most_orders}
+use Rattle.frame_rules.specs.Frame.{Walk, sent_from, first_dirty, framed_by, frame_over, is_first, most_orders}
 use Rattle.frame_rules.specs.FrameOrders.{SentOrder, Uses, orders_from, start_orders, black_orders, orders_before_tiles}
 use Rattle.frame_rules.specs.Encoder.{Encoder, encoder_frame}
 use Rattle.frame_rules.specs.Describes.{HasAllCaches, glyph_loaded}

@@ -5,7 +5,7 @@ use Rattle.px_core.specs.Tiles.{Tiles}
 use Rattle.caps_sets.specs.declared.confirmed.Confirmed.{Confirmed}
 use Rattle.frame_rules.specs.Blocks.{Held}
 use Rattle.frame_rules.specs.Pending.{Pending}
-use Rattle.frame_rules.specs.Frame.{Walk, most_orders, first_dirty, jumped, walk_after}
+use Rattle.frame_rules.specs.Frame.{most_orders, first_dirty, jumped, walk_after}
 use Rattle.frame_rules.specs.FrameOrders.{FrameOrder}
 use Rattle.frame_rules.specs.FrameOrders.FrameOrder.{Ordered, Tile, Synchronize}
 
