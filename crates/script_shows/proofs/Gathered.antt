@@ -54,7 +54,8 @@ from_nothing (u ∷ v ∷ more) h =
     let same : 0 + bytes_in u ≡ bytes_in u = omega arith in
     (omega (arith, fits), subst (λ n. BeginsAnew n v) same h.1, h.2)
 
-onto_first : (o : List ℕ) (updates : List (List (List ℕ))) (used : ℕ) → AreGatheredAfter (used + length o) updates → AreGatheredAfter used (onto_update o updates)
+onto_first : (o : List ℕ) (updates : List (List (List ℕ))) (used : ℕ) → AreGatheredAfter (used + length o) updates
+    → AreGatheredAfter used (onto_update o updates)
 onto_first o [] used h = absurd h
 onto_first o (u ∷ []) used h = omega (arith, h)
 onto_first o (u ∷ v ∷ more) used h =

@@ -1,6 +1,7 @@
 -- The bits of every glyph that a legal journal loads are bytes, those of the board's signs included.
 use Rattle.std.proofs.Common.{◌≡◌, ℕ, zero, suc, ◌+◌, ◌-◌, ◌*◌, ◌/◌, ◌%◌, ◌<◌, ◌≤◌, List, [], ◌∷◌, ◌++◌, refl, subst, arith, Some, None}
-use Rattle.std.specs.Prelude.{⊤, Bool, true, false, ◌&&◌, ◌==◌, nat_le, nat_lt, Option, IfSome, IsTrue, is_none, option_map, option_to_list, option_and_then, slice_get}
+use Rattle.std.specs.Prelude.{⊤, Bool, true, false, ◌&&◌, ◌==◌, nat_le, nat_lt, Option, IfSome, IsTrue, is_none, option_map, option_to_list}
+use Rattle.std.specs.Prelude.{option_and_then, slice_get}
 use Rattle.std.specs.Prelude.{if◌then◌else◌, pos, min, max}
 use Rattle.std.proofs.lemmas.Bool.{and_parts}
 use Rattle.std.proofs.lemmas.Bool.Decides.{nat_tests}
@@ -10,14 +11,17 @@ use Rattle.draw_ops.specs.declared.shape.Drawing.{Drawing}
 use Rattle.draw_ops.specs.declared.shape.Shape.{Shape}
 use Rattle.draw_ops.specs.declared.shape.Shape.TheVariants.{Fill, Dst, Pat, Copy, Blit, Blit3, Text, Line, Save, Restore, LoadImage, LoadBrush, LoadGlyph}
 use Rattle.draw_ops.specs.Content.{GlyphOf}
-use Rattle.draw_ops.specs.Ranges.{is_u8, is_u16, is_u32, are_bytes, is_point_in_range, is_glyph_in_range, is_shape_in_range, is_clip_in_range, is_drawing_in_range}
+use Rattle.draw_ops.specs.Ranges.{is_u8, is_u16, is_u32, are_bytes, is_point_in_range, is_glyph_in_range, is_shape_in_range, is_clip_in_range}
+use Rattle.draw_ops.specs.Ranges.{is_drawing_in_range}
 use Rattle.input_events.specs.declared.event.Event.{Event}
 use Rattle.input_events.specs.declared.event.Event.TheVariants.{Sync, Scan, Unicode, Mouse, MouseX}
 use Rattle.session_rules.specs.declared.entry.Entry.{Entry}
 use Rattle.session_rules.specs.declared.entry.Entry.TheVariants.{Join, Leave, Give, Input, Draw}
-use Rattle.session_rules.specs.Board.{Board, Point, Reaction, unclipped, board_image, board_brush, board_font, popup_removal, closing, dotting, lifting, opening, popup_place}
+use Rattle.session_rules.specs.Board.{Board, Point, Reaction, unclipped, board_image, board_brush, board_font, popup_removal, closing, dotting}
+use Rattle.session_rules.specs.Board.{lifting, opening, popup_place}
 use Rattle.session_rules.specs.Board.{stroke, stroking, mouse_lines, mouse_reaction, point_on, is_down, is_button_1, is_button_2, is_move, clearing, inverting}
-use Rattle.session_rules.specs.Board.{scrolling, patterning, stamping, key_lines, is_member, writing_sign, sign_lines, sign_of, sign_place, sign_text, load_unless}
+use Rattle.session_rules.specs.Board.{scrolling, patterning, stamping, key_lines, is_member, writing_sign, sign_lines, sign_of, sign_place, sign_text}
+use Rattle.session_rules.specs.Board.{load_unless}
 use Rattle.session_rules.specs.Board.{ink_color, checkered, shaded, board_reaction, opening_board}
 use Rattle.session_rules.specs.Journal.{Head, Reached, Refusal, reached_at_first, reached_after_entry, refusal_of, are_legal_after, IsLegalJournal, drawings_of}
 use Rattle.session_rules.proofs.OwnSteps.{is_entry_in_range-legal}

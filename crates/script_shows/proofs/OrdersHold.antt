@@ -15,7 +15,8 @@ use Rattle.cache_use.specs.CacheUse.{misses, distinct_keys, oldest_key, new_inde
 use Rattle.cache_use.proofs.Indices.{cache_index_below}
 use Rattle.frame_rules.specs.Support.{image_cache, run_cache, serves_image, serves_run}
 use Rattle.frame_rules.specs.Frame.{Sent}
-use Rattle.frame_rules.specs.FrameOrders.{SentOrder, Uses, or_0, use_by, entries_of, first_glyph_cache, brush_cache, brush_use, image_use, glyph_use, run_use, run_pairs}
+use Rattle.frame_rules.specs.FrameOrders.{SentOrder, Uses, or_0, use_by, entries_of, first_glyph_cache, brush_cache, brush_use, image_use, glyph_use}
+use Rattle.frame_rules.specs.FrameOrders.{run_use, run_pairs}
 use Rattle.frame_rules.specs.FrameOrders.{bounds_of, sending_by, sending_of, orders_from, start_orders, black_orders}
 use Rattle.frame_rules.specs.FrameOrders.SentOrder.{Drawn, CacheImage, CacheGlyph, CacheBrush}
 use Rattle.frame_rules.specs.Describes.{HasAllCaches}
@@ -89,7 +90,8 @@ use_holds : (b : Bool) (index : ℕ) (uses : Uses) (content : ℕ → SentOrder)
 use_holds true index uses content h = (h, tt)
 use_holds false index uses content h = tt
 
-image_use_holds : (c : Confirmed) (uses : Uses) (cache : ℕ) (o : Option (Loaded ImageOf)) → cache < 256 → IsSoundIfAny o → HoldBytes (image_use c uses cache o).orders
+image_use_holds : (c : Confirmed) (uses : Uses) (cache : ℕ) (o : Option (Loaded ImageOf)) → cache < 256 → IsSoundIfAny o
+    → HoldBytes (image_use c uses cache o).orders
 image_use_holds c uses cache None few h = tt
 image_use_holds c uses cache (Some image) few h =
     let narrow = h.few_columns in

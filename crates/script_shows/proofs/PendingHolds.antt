@@ -20,7 +20,8 @@ use Rattle.frame_rules.specs.Blocks.{Place, positions_of, least_free}
 use Rattle.frame_rules.specs.Pending.{Pending, image_of, glyphs_of, run_glyphs, onto_optional, pending_of, pending_drawings}
 use Rattle.frame_rules.specs.Cautious.{cut, cut_if, as_walked}
 use Rattle.frame_rules.specs.Support.{supports}
-use Rattle.frame_rules.specs.Frame.{Walk, Sent, sent_if, saved_at, saved_if, given_up, restored_from, block_if, reads_clean_tiles, walked, walked_as, walked_pending}
+use Rattle.frame_rules.specs.Frame.{Walk, Sent, sent_if, saved_at, saved_if, given_up, restored_from, block_if, reads_clean_tiles, walked, walked_as}
+use Rattle.frame_rules.specs.Frame.{walked_pending}
 use Rattle.frame_rules.specs.Frame.{sent_from}
 use Rattle.frame_rules.specs.Describes.{glyph_loaded}
 use Rattle.frame_laws.proofs.CutDrawing.{cut_does}

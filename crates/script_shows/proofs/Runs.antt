@@ -35,7 +35,8 @@ later cache i is (CacheGlyph of_cache at_index glyph ∷ os) h = ((h.0.0, inr h.
 later cache i is (CacheBrush entry brush ∷ os) h = absurd h.0
 later cache i is (FrameMarker ends ∷ os) h = absurd h.0
 
-of_run_append : (cache : ℕ) (is : List ℕ) (xs ys : List SentOrder) → AreOrdersOfRun cache is xs → AreOrdersOfRun cache is ys → AreOrdersOfRun cache is (xs ++ ys)
+of_run_append : (cache : ℕ) (is : List ℕ) (xs ys : List SentOrder) → AreOrdersOfRun cache is xs → AreOrdersOfRun cache is ys
+    → AreOrdersOfRun cache is (xs ++ ys)
 of_run_append cache is [] ys h k = k
 of_run_append cache is (x ∷ xs) ys h k = (h.0, of_run_append cache is xs ys h.1 k)
 

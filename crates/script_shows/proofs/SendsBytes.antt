@@ -97,7 +97,8 @@ caches_after run a (Frame take) h k v = h v
 -- ---- steps
 
 module _ (head : Head) (sized : is_session_size head.size.w head.size.h ≡ true) where
-  module _ (run : Run Encoder) (legal : IsLegalJournal head run.journal) (behind : IsBehind run.play) (all : (v : ℕ) → HasAllCaches (run.confirmed v)) (u : ℕ) where
+  module _ (run : Run Encoder) (legal : IsLegalJournal head run.journal) (behind : IsBehind run.play) (all : (v : ℕ) → HasAllCaches (run.confirmed v))
+      (u : ℕ) where
     abbrev AnswerHolds : Answer → Type 0
     AnswerHolds answer = AnswerHoldsBytes head.size run u answer
 

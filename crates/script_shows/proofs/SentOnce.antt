@@ -16,12 +16,15 @@ use Rattle.frame_rules.specs.Blocks.{Place, positions_of, least_free}
 use Rattle.frame_rules.specs.Pending.{Pending}
 use Rattle.frame_rules.specs.Cautious.{as_walked}
 use Rattle.frame_rules.specs.Support.{supports, image_cache, run_cache}
-use Rattle.frame_rules.specs.Frame.{Walk, Sent, sent_if, saved_at, saved_if, given_up, restored_from, block_if, reads_clean_tiles, walked, walked_as, walked_pending}
+use Rattle.frame_rules.specs.Frame.{Walk, Sent, sent_if, saved_at, saved_if, given_up, restored_from, block_if, reads_clean_tiles, walked, walked_as}
+use Rattle.frame_rules.specs.Frame.{walked_pending}
 use Rattle.frame_rules.specs.Frame.{sent_from}
-use Rattle.frame_rules.specs.FrameOrders.{SentOrder, Uses, or_0, use_by, entries_of, first_glyph_cache, brush_cache, brush_use, image_use, glyph_use, run_use, run_pairs}
+use Rattle.frame_rules.specs.FrameOrders.{SentOrder, Uses, or_0, use_by, entries_of, first_glyph_cache, brush_cache, brush_use, image_use, glyph_use}
+use Rattle.frame_rules.specs.FrameOrders.{run_use, run_pairs}
 use Rattle.frame_rules.specs.FrameOrders.{bounds_of, sending_by, sending_of, orders_from}
 use Rattle.frame_rules.specs.FrameOrders.SentOrder.{Drawn, CacheImage, CacheGlyph, CacheBrush, FrameMarker}
-use Rattle.script_shows.specs.SentOnce.{IsSentOnceOrNot, drawn_orders, IsOrderOf, AreDrawnAs, NamesImage, NamesBrush, NamesGlyphs, IsUsedBy, AreUsedBy, EachEndsWithItsOrder}
+use Rattle.script_shows.specs.SentOnce.{IsSentOnceOrNot, drawn_orders, IsOrderOf, AreDrawnAs, NamesImage, NamesBrush, NamesGlyphs, IsUsedBy}
+use Rattle.script_shows.specs.SentOnce.{AreUsedBy, EachEndsWithItsOrder}
 use Rattle.script_shows.proofs.Packed.{index_is}
 
 -- ---- the walk

@@ -41,7 +41,8 @@ pub fn every_front_of_every_capture_shows_the_journal()
         → EveryViewerOfOpeningFront (opening_of first_grammar bytes) front }
 {}
 
-/// A capture that was cut after any of a script's steps, in a line or between lines, with a line of a refusal or without one, shows each viewer its first takes.
+/// A capture that was cut after any of a script's steps, in a line or between lines, with a line of a refusal or without one, shows each viewer its first
+/// takes.
 pub fn every_capture_that_was_cut_shows_the_journal()
     ensures whole { (bytes front : List ℕ) → IfOpened (opening_of whole_grammar bytes) (λ s. IsCutCaptureOf s front)
         → EveryViewerOfOpeningFront (opening_of whole_grammar bytes) front }
