@@ -1,7 +1,8 @@
 -- Each drawing that is sent goes as exactly one order of its shape, after the cache orders of what it uses; one that isn't sent goes as none.
-use Rattle.std.proofs.Common.{◌≡◌, ℕ, ◌+◌, List, [], ◌∷◌, ◌++◌, refl, ap, sym, ◌∙◌, subst, append_assoc, Some, None, ◌⊎◌, inl, inr}
-use Rattle.std.specs.Prelude.{Bool, true, false, ◌&&◌, Option, ⊤}
+use Rattle.std.proofs.Common.{◌≡◌, ℕ, ◌+◌, List, [], ◌∷◌, ◌++◌, length, refl, ap, sym, ◌∙◌, subst, append_assoc, Some, None, ◌⊎◌, inl, inr}
+use Rattle.std.specs.Prelude.{Bool, true, false, ◌&&◌, nat_lt, Option, ⊤}
 use Rattle.px_core.specs.declared.surface.Size.{Size}
+use Rattle.px_core.specs.Tiles.{Tiles}
 use Rattle.px_core.specs.declared.rectangle.Rect.{Rect}
 use Rattle.draw_ops.specs.declared.shape.Shape.{Shape}
 use Rattle.draw_ops.specs.declared.shape.Shape.TheVariants.{Fill, Dst, Pat, Copy, Blit, Blit3, Text, Line, Save, Restore, LoadImage, LoadBrush, LoadGlyph}
@@ -12,16 +13,16 @@ use Rattle.cache_use.specs.CacheUse.{misses, cache_index, uses_of}
 use Rattle.order_fields.specs.NamedDrawing.{NamedDrawing}
 use Rattle.order_fields.specs.NamedDrawing.NamedDrawing.{Dst as DstBlt, Pat as PatBlt, Scr as ScrBlt, Opaque as OpaqueRect, SaveBlock, RestoreBlock}
 use Rattle.order_fields.specs.NamedDrawing.NamedDrawing.{Mem as MemBlt, Mem3 as Mem3Blt, Glyphs as GlyphIndex}
-use Rattle.frame_rules.specs.Blocks.{Place, positions_of, least_free}
+use Rattle.frame_rules.specs.Blocks.{Held, Place, positions_of, least_free}
 use Rattle.frame_rules.specs.Pending.{Pending}
 use Rattle.frame_rules.specs.Cautious.{as_walked}
 use Rattle.frame_rules.specs.Support.{supports, image_cache, run_cache}
 use Rattle.frame_rules.specs.Frame.{Walk, Sent, sent_if, saved_at, saved_if, given_up, restored_from, block_if, reads_clean_tiles, walked, walked_as}
 use Rattle.frame_rules.specs.Frame.{walked_pending}
-use Rattle.frame_rules.specs.Frame.{sent_from}
+use Rattle.frame_rules.specs.Frame.{FrameOf, most_orders, first_dirty, framed_by, frame_over, sent_from}
 use Rattle.frame_rules.specs.FrameOrders.{SentOrder, Uses, or_0, use_by, entries_of, first_glyph_cache, brush_cache, brush_use, image_use, glyph_use}
 use Rattle.frame_rules.specs.FrameOrders.{run_use, run_pairs}
-use Rattle.frame_rules.specs.FrameOrders.{bounds_of, sending_by, sending_of, orders_from}
+use Rattle.frame_rules.specs.FrameOrders.{bounds_of, sending_by, sending_of, orders_from, start_orders, black_orders, orders_before_tiles}
 use Rattle.frame_rules.specs.FrameOrders.SentOrder.{Drawn, CacheImage, CacheGlyph, CacheBrush, FrameMarker}
 use Rattle.script_shows.specs.SentOnce.{IsSentOnceOrNot, drawn_orders, IsOrderOf, AreDrawnAs, NamesImage, NamesBrush, NamesGlyphs, IsUsedBy}
 use Rattle.script_shows.specs.SentOnce.{AreUsedBy, EachEndsWithItsOrder}
@@ -279,3 +280,45 @@ module _ (c : Confirmed) where
   pub sent_drawn : (size : Size) (w : Walk) (ps : List Pending) (uses : Uses)
       → AreDrawnAs (sent_from size c w ps) (drawn_orders (orders_from c uses (sent_from size c w ps)))
   sent_drawn size w ps uses = drawn_as (sent_from size c w ps) uses (sent_end size w ps uses)
+
+  -- ---- a frame
+
+  pub frame_drawn : (size : Size) (first : Bool) (held : Held) (asked : Tiles) (picture : List ℕ) (ps : List Pending) (uses : Uses)
+      → AreDrawnAs (frame_over size c first held asked picture ps).sent (drawn_orders (orders_from c uses (frame_over size c first held asked picture ps).sent))
+  frame_drawn size first held asked picture ps uses = by (nat_lt most_orders (length ps))
+    where
+      w : Walk
+      w = record { dirty = first_dirty size first c; held = held }
+
+      by : (jump : Bool) → AreDrawnAs (framed_by jump size c first w asked picture ps).sent
+          (drawn_orders (orders_from c uses (framed_by jump size c first w asked picture ps).sent))
+      by true = tt
+      by false = sent_drawn size w ps uses
+
+  pub frame_ends : (size : Size) (first : Bool) (held : Held) (asked : Tiles) (picture : List ℕ) (ps : List Pending) (uses : Uses)
+      → EachEndsWithItsOrder c uses (frame_over size c first held asked picture ps).sent
+  frame_ends size first held asked picture ps uses = by (nat_lt most_orders (length ps))
+    where
+      w : Walk
+      w = record { dirty = first_dirty size first c; held = held }
+
+      by : (jump : Bool) → EachEndsWithItsOrder c uses (framed_by jump size c first w asked picture ps).sent
+      by true = tt
+      by false = sent_end size w ps uses
+
+  start_draws_nothing : (b : Bool) → drawn_orders (start_orders b) ≡ []
+  start_draws_nothing true = refl
+  start_draws_nothing false = refl
+
+  black_draws : (size : Size) (b : Bool) → drawn_orders (black_orders size b) ≡ black_orders size b
+  black_draws size true = refl
+  black_draws size false = refl
+
+  pub whole_drawn : (size : Size) (uses : Uses) (f : FrameOf)
+      → drawn_orders (orders_before_tiles size c uses f) ≡ black_orders size (f.first && c.pat) ++ drawn_orders (orders_from c uses f.sent)
+  whole_drawn size uses f =
+      let black = black_orders size (f.first && c.pat) in
+      let sent = orders_from c uses f.sent in
+      drawn_append (start_orders c.marker) (black ++ sent)
+      ∙ (ap (λ (l : List SentOrder). l ++ drawn_orders (black ++ sent)) (start_draws_nothing c.marker)
+      ∙ (drawn_append black sent ∙ ap (λ (l : List SentOrder). l ++ drawn_orders sent) (black_draws size (f.first && c.pat))))

@@ -1,6 +1,6 @@
 //! Laws of a frame's orders, tiles and updates, each as the contract of a function that does nothing.
 
-ghost use Rattle.std.specs.Prelude.{◌≡◌, ℕ, ◌≤◌, ◌&&◌, nat_lt, Bool, true, false, List, [], ◌∷◌, length, map};
+ghost use Rattle.std.specs.Prelude.{◌≡◌, ℕ, ◌≤◌, ◌&&◌, nat_lt, Bool, true, false, List, [], ◌∷◌, ◌++◌, length, map};
 ghost use Rattle.px_core.specs.declared.surface.Size.{Size};
 ghost use Rattle.px_core.specs.Rectangle.{is_session_size};
 ghost use Rattle.px_core.specs.Tiles.{Tiles, either_tiles, picture_tiles, tiles_in};
@@ -20,7 +20,7 @@ ghost use Rattle.frame_rules.specs.Blocks.{Held};
 ghost use Rattle.frame_rules.specs.Pending.{Pending};
 ghost use Rattle.frame_rules.specs.Frame.{Walk, FrameOf, sent_from, frame_over};
 ghost use Rattle.frame_rules.specs.FrameOrders.{SentOrder, Uses, entries_of, use_of, run_use, run_pairs, orders_from, orders_before_tiles};
-ghost use Rattle.frame_rules.specs.FrameOrders.{tile_order, frame_orders};
+ghost use Rattle.frame_rules.specs.FrameOrders.{black_orders, tile_order, frame_orders};
 ghost use Rattle.frame_rules.specs.FrameBytes.{bytes_of_orders, gathered};
 ghost use Rattle.frame_rules.specs.FrameRead.{AreShort};
 ghost use Rattle.frame_rules.specs.Encoder.{Encoder, encoder_frame};
@@ -44,12 +44,19 @@ pub fn orders_are_gathered_as_far_as_they_fit()
 {}
 
 /// Of a pending drawing nothing is sent, or, once, what it is walked as. Each drawing that is sent goes as exactly one order of its shape, in order;
-/// just before it stand cache orders of what it names, and no other orders.
+/// just before it stand cache orders of what it names, and no other orders. So it is with each drawing of every frame, after the black fill of a first one.
 pub fn each_sent_drawing_goes_as_one_order()
     ensures walk { (size : Size) (c : Confirmed) (w : Walk) (p : Pending) → IsSentOnceOrNot size c w p }
     ensures orders { (size : Size) (c : Confirmed) (w : Walk) (ps : List Pending) (uses : Uses)
         → AreDrawnAs (sent_from size c w ps) (drawn_orders (orders_from c uses (sent_from size c w ps))) }
     ensures caches { (size : Size) (c : Confirmed) (w : Walk) (ps : List Pending) (uses : Uses) → EachEndsWithItsOrder c uses (sent_from size c w ps) }
+    ensures frame { (size : Size) (c : Confirmed) (first : Bool) (held : Held) (asked : Tiles) (picture : List ℕ) (ps : List Pending) (uses : Uses)
+        → AreDrawnAs (frame_over size c first held asked picture ps).sent
+        (drawn_orders (orders_from c uses (frame_over size c first held asked picture ps).sent)) }
+    ensures frame_caches { (size : Size) (c : Confirmed) (first : Bool) (held : Held) (asked : Tiles) (picture : List ℕ) (ps : List Pending) (uses : Uses)
+        → EachEndsWithItsOrder c uses (frame_over size c first held asked picture ps).sent }
+    ensures whole { (size : Size) (c : Confirmed) (uses : Uses) (f : FrameOf) → drawn_orders (orders_before_tiles size c uses f)
+        ≡ black_orders size (f.first && c.pat) ++ drawn_orders (orders_from c uses f.sent) }
 {}
 
 /// A use of a cache has a cache order exactly where it misses among the uses so far, with the index of the use; and each use is remembered.
