@@ -1,4 +1,6 @@
 //! Worked scripts, and scripts that meet faults. The captures stand as they were worked out by hand from the standard's tables.
+ghost use Rattle.std.specs.Io.{WritesAtMost};
+
 use crate::words::words as command_words;
 use crate::{ScriptFault, run_script, top};
 use edge_io::{Bytes, Keep, PlanGate, PlanSink, PlanSource};
@@ -221,7 +223,9 @@ impl Env for OddWord {
 }
 
 /// Puts a word at the front of a buffer that has room for it.
-fn put_word(buf: &mut [u8], word: &[u8]) -> Result<usize, FillError> {
+fn put_word(buf: &mut [u8], word: &[u8]) -> Result<usize, FillError>
+    ensures { WritesAtMost result buf.new }
+{
     match buf.get_mut(..word.len()) {
         Some(front) => {
             front.copy_from_slice(word);
