@@ -1,7 +1,9 @@
--- Some sizes of the presets, and the cache that serves.
-use Rattle.std.proofs.Common.{◌≡◌, refl, Some, None}
+-- Some sizes of the presets, the cache that serves, and what words confirm.
+use Rattle.std.proofs.Common.{◌≡◌, [], ◌∷◌, refl, Some, None, true, codes}
 use Rattle.std.specs.Prelude.{nat_le, ◌&&◌}
 use Rattle.caps_sets.specs.Confirmed.{full, bare, marked, sized, with_bitmap_cache, with_glyph_cache, cache_size, first_cache}
+use Rattle.caps_sets.specs.Presets.{presets, confirmed_by}
+use Rattle.line_text.specs.Words.{words_of}
 
 -- the lowest bitmap cache of `full` for 64 by 64 pixels is cache 2
 third_bitmap_cache : cache_size full.bitmaps 2 ≡ sized 336 12288
@@ -19,3 +21,30 @@ last_glyph_cache = refl
 
 overridden : cache_size (with_glyph_cache 0 (sized 3 4) bare).glyphs 0 ≡ sized 3 4
 overridden = refl
+
+-- what words confirm
+marked_alone : confirmed_by presets (words_of (codes "marked")) ≡ Some (record full { marker = true })
+marked_alone = refl
+
+later_overrides_count : confirmed_by presets (words_of (codes "full bc2=1,2 cautious bc2=336,12287 gc9=0,65535"))
+    ≡ Some (record full {
+      bitmaps = sized 120 768 ∷ sized 120 3072 ∷ sized 336 12287 ∷ [];
+      glyphs = sized 254 4 ∷ sized 254 4 ∷ sized 254 8 ∷ sized 254 8 ∷ sized 254 16 ∷ sized 254 32 ∷ sized 254 64 ∷ sized 254 128 ∷ sized 254 256 ∷ sized 0 65535 ∷ [];
+      cautious = true;
+    })
+later_overrides_count = refl
+
+no_words : confirmed_by presets (words_of []) ≡ None
+no_words = refl
+
+unknown_preset : confirmed_by presets (words_of (codes "cautious full")) ≡ None
+unknown_preset = refl
+
+fourth_bitmap_cache : confirmed_by presets (words_of (codes "bare bc3=1,1")) ≡ None
+fourth_bitmap_cache = refl
+
+cell_past_the_limit : confirmed_by presets (words_of (codes "bare bc0=1,65536")) ≡ None
+cell_past_the_limit = refl
+
+a_word_too_many : confirmed_by presets (words_of (codes "full ")) ≡ None
+a_word_too_many = refl

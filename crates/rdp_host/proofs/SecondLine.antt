@@ -1,8 +1,7 @@
 -- The second line was found: an invite isn't a solo script's, and before any other the viewer joins.
-use Rattle.std.proofs.Common.{◌≡◌, ℕ, ◌+◌, ◌^◌, ◌<◌, List, [], ◌∷◌, ◌++◌, refl, ap, sym, ◌∙◌, subst, Some, None, Bool, true, false, arith}
+use Rattle.std.proofs.Common.{◌≡◌, ℕ, ◌^◌, ◌<◌, List, [], ◌∷◌, ◌++◌, refl, ap, sym, ◌∙◌, subst, Some, None, Bool, true, false, arith}
 use Rattle.std.specs.Prelude.{Option, Result, Err, ◌||◌, ◌&&◌, not, is_some, if◌then◌else◌}
 use Rattle.std.specs.Io.KnownBytes.{Appends, IsAtEnd}
-use Rattle.std.proofs.lemmas.Bool.Decides.{nat_tests}
 use Rattle.px_core.specs.declared.surface.Size.{Size}
 use Rattle.line_text.specs.Lines.{Line, lines_of, is_past_limits}
 use Rattle.line_text.specs.Words.{words_of}

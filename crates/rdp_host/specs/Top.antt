@@ -1,22 +1,26 @@
 -- What the program does, by its words.
-use Rattle.std.specs.Prelude.{◌≡◌, ℕ, List, [], ◌∷◌, ◌++◌, Bool, false, codes, OnOk, OnErr, IfErr}
+use Rattle.std.specs.Prelude.{◌≡◌, ℕ, List, [], ◌∷◌, ◌++◌, Bool, false, ◌&&◌, ◌==◌, length, codes, OnOk, OnErr, IfErr}
 use Rattle.std.specs.Io.KnownBytes.{Appends}
 use Rattle.std.specs.declared.option.Option.{Option}
+use Rattle.std.specs.declared.option.Option.TheVariants.{Some, None}
 use Rattle.std.specs.declared.result.Result.{Result}
 use Rattle.std.specs.declared.result.Result.TheVariants.{Ok, Err}
 use Rattle.edge_io.specs.Sink.{WritesFront}
 use Rattle.line_text.specs.Words.{is_same_word}
+use Rattle.host_words.specs.Words.{RequestOf, request_of}
 use Rattle.solo_script.specs.Steps.{WritesCause, IsWriteFault}
 use Rattle.solo_script.specs.declared.fault.ScriptFault.{ScriptFault}
 use Rattle.solo_script.specs.declared.fault.ScriptFault.TheVariants.{Line, ReadFault, WriteFault, OutOfMemory}
 use Rattle.rdp_host.specs.Run.{RunsScript, ReadsCause}
 
--- the words are the program's name and the mode script
+-- whether a request is the mode script, which has no argument
+abbrev pub is_script_request : Option RequestOf → Bool
+is_script_request None = false
+is_script_request (Some request) = is_same_word request.mode (codes "script") && length request.args == 0
+
+-- the words ask for the mode script
 abbrev pub asks_for_script : List (List ℕ) → Bool
-asks_for_script [] = false
-asks_for_script (name ∷ []) = false
-asks_for_script (name ∷ mode ∷ []) = is_same_word mode (codes "script")
-asks_for_script (name ∷ mode ∷ more ∷ words) = false
+asks_for_script words = is_script_request (request_of words)
 
 -- what is printed where the words ask for no mode
 abbrev pub usage : List ℕ

@@ -1,8 +1,9 @@
-ghost use Rattle.std.specs.Prelude.{◌≡◌, [], false, map, string_bytes, IsTrue};
-ghost use Rattle.rdp_host.specs.Top.{asks_for_script, script_status, outside, RunsMode, WritesUsage};
+ghost use Rattle.std.specs.Prelude.{◌≡◌, [], false, Some, map, string_bytes, IsTrue};
+ghost use Rattle.rdp_host.specs.Top.{asks_for_script, is_script_request, script_status, outside, RunsMode, WritesUsage};
 
 use crate::script::run_script;
 use edge_io::{Gate, Sink, Source};
+use host_words::{OutOfMemory, Request};
 use line_text::is_same_word;
 use solo_script::{ScriptFault, put};
 use std::alloc::Global;
@@ -35,8 +36,8 @@ pub(crate) const OUT_OF_MEMORY: u8 = 6;
 
 /// The whole program, over any input, output and gate; the answer is its exit status. The words begin with the program's name.
 ///
-/// `script` reads a script from the input and writes its capture to the output. Other words write the usage line. The gate isn't
-/// touched.
+/// The words are read by `clap` as one simple command with a mode and its arguments. `script` reads a script from the input and writes
+/// its capture to the output. Other words write the usage line. The gate isn't touched.
 pub fn top<R: Threads + Wait + Sync, S: Source, K: Sink, G: Gate>(
     _rt: &R,
     alloc: Global,
@@ -57,21 +58,18 @@ pub fn top<R: Threads + Wait + Sync, S: Source, K: Sink, G: Gate>(
     ensures input { asks_for_script (map string_bytes words.now) ≡ false → input.new ≡ input.old }
     ensures gate { gate.new ≡ gate.old }
 {
-    if is_script(words) {
-        status(run_script(alloc, input, output))
-    } else {
-        refuse_words(output)
+    match Request::read(alloc, words) {
+        Ok(Some(request)) if is_script(&request) => status(run_script(alloc, input, output)),
+        Ok(_) => refuse_words(output),
+        Err(OutOfMemory) => OUT_OF_MEMORY,
     }
 }
 
-/// Whether the words are the program's name and the mode `script`.
-fn is_script(words: &[String]) -> bool
-    ensures { result ≡ asks_for_script (map string_bytes words.now) }
+/// Whether a request is the mode `script`, which has no argument.
+fn is_script(request: &Request<'_>) -> bool
+    ensures { result ≡ is_script_request (Some request.now) }
 {
-    match words {
-        [_, mode] => is_same_word(mode.as_bytes(), SCRIPT.as_bytes()),
-        _ => false,
-    }
+    is_same_word(request.mode().as_bytes(), SCRIPT.as_bytes()) && request.args().is_empty()
 }
 
 /// The exit status that an answer of a script's run is.

@@ -3,6 +3,7 @@
 ghost use Rattle.std.specs.Prelude.{◌≡◌, ℕ, [], ◌∷◌, IfOk, OnErr};
 ghost use Rattle.saved_blocks.specs.Blocks.{placed, positions_of, place_of, without_slot, IsFree, IsLeastFree, AreApart};
 
+use crate::OutOfMemory;
 use crate::room::room_for;
 use saved_blocks::Place;
 use std::alloc::Global;
@@ -63,6 +64,33 @@ impl Blocks {
             Ok(()) => Ok(position),
             Err(_) => Err(PlaceFault::OutOfMemory),
         }
+    }
+
+    /// Where a slot's block stands, where the slot holds one.
+    pub fn get(&self, slot: u8) -> Option<Place>
+        ensures { result ≡ place_of slot self.now }
+    {
+        for (held, place) in &self.held {
+            if *held == slot {
+                return Some(*place);
+            }
+        }
+        None
+    }
+
+    /// What holds of all blocks; it does nothing.
+    pub fn are_apart(&self)
+        ensures { AreApart self.now }
+    {
+        let _ = &self.held;
+    }
+
+    /// The same blocks once more.
+    pub fn copy(&self, alloc: Global) -> Result<Blocks, OutOfMemory>
+        ensures { IfOk result (λ blocks. blocks ≡ self.now) }
+    {
+        let held = Vec::from_slice(alloc, &self.held)?;
+        Ok(Blocks { held })
     }
 
     /// Gives up a slot's block; a slot that holds none stays so. Takes no memory.

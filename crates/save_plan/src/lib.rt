@@ -8,3 +8,4 @@ mod room;
 mod tests;
 
 pub use blocks::{Blocks, PlaceFault};
+pub use out_of_memory::OutOfMemory;

@@ -1,2 +1,4 @@
 pub mod Share
 pub mod Packet
+pub mod Areas
+pub mod SampleClient

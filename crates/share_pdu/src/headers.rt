@@ -1,4 +1,4 @@
-//! The headers of a share data PDU with an update ([MS-RDPBCGR] 2.2.8.1.1.1 and 2.2.9.1.1).
+//! The headers of a share data PDU ([MS-RDPBCGR] 2.2.8.1.1.1), among them those of an update (2.2.9.1.1).
 //!
 //! | offset | size | field | value |
 //! |---|---|---|---|
@@ -8,12 +8,14 @@
 //! | 6 | 4 | shareId | `EA 03 01 00` |
 //! | 10 | 2 | pad1, streamId | `00 01` |
 //! | 12 | 2 | uncompressedLength | of what stands from pduType2 on |
-//! | 14 | 4 | pduType2, compressedType, compressedLength | `02 00 00 00`, an update that isn't compressed |
-//! | 18 | | the update's body | to the end |
+//! | 14 | 1 | pduType2 | what the PDU is; `02` an update |
+//! | 15 | 3 | compressedType, compressedLength | `00 00 00`, not compressed |
+//! | 18 | | the body | to the end |
 
 ghost use Rattle.std.specs.Prelude.{◌≡◌, ◌≤◌, ◌++◌, OnOk, OnErr};
 ghost use Rattle.wire_num.specs.Written.{AppendsFront};
 ghost use Rattle.share_pdu.specs.Share.{share_headers};
+ghost use Rattle.share_pdu.specs.Data.{data_headers};
 
 use wire_num::OutOfMemory;
 
@@ -23,16 +25,29 @@ const HEADERS: u16 = 18;
 /// How many of them stand from pduType2 on.
 const FROM_TYPE: u16 = 4;
 
-/// Writes the headers before a body of so many bytes at the end. An `Err` leaves a front of them there.
+/// The pduType2 of an update (PDUTYPE2_UPDATE).
+const UPDATE: u8 = 0x02;
+
+/// Writes the headers before an update's body of so many bytes at the end. An `Err` leaves a front of them there.
 pub fn put_share_headers(out: &mut Vec<u8>, length: u16) -> Result<(), OutOfMemory>
     requires { length ≤ 65517 }
     ensures ok { OnOk result (out.new.items ≡ out.old.items ++ share_headers length) }
     ensures memory { OnErr result (AppendsFront out.old.items (share_headers length) out.new.items) }
 {
+    put_data_headers(out, UPDATE, length)
+}
+
+/// Writes the headers before a body of so many bytes, of a PDU of this pduType2, at the end. An `Err` leaves a front of them
+/// there.
+pub fn put_data_headers(out: &mut Vec<u8>, kind: u8, length: u16) -> Result<(), OutOfMemory>
+    requires { length ≤ 65517 }
+    ensures ok { OnOk result (out.new.items ≡ out.old.items ++ data_headers kind length) }
+    ensures memory { OnErr result (AppendsFront out.old.items (data_headers kind length) out.new.items) }
+{
     let [total, total_high] = (HEADERS + length).to_le_bytes();
     let [part, part_high] = (FROM_TYPE + length).to_le_bytes();
     out.extend_from_slice(&[
-        total, total_high, 0x17, 0, 0xEA, 3, 0xEA, 3, 1, 0, 0, 1, part, part_high, 2, 0, 0, 0,
+        total, total_high, 0x17, 0, 0xEA, 3, 0xEA, 3, 1, 0, 0, 1, part, part_high, kind, 0, 0, 0,
     ])?;
     Ok(())
 }

@@ -1,0 +1,8 @@
+use Rattle.caps_sets.proofs.ConfirmText.{confirm_is_text, text_is_confirm, first_fault, fault_is_told}
+use Rattle.caps_sets.proofs.confirm_active.confirms_are_read_exactly.Goals as goal
+
+pub returns-clause-exact : goal.returns-clause-exact
+returns-clause-exact c = λ bytes confirmed. (confirm_is_text bytes confirmed, text_is_confirm bytes confirmed)
+
+pub returns-clause-refused : goal.returns-clause-refused
+returns-clause-refused c = λ bytes fault. (first_fault bytes fault, fault_is_told bytes fault)

@@ -1,0 +1,120 @@
+-- The capability sets that are read ([MS-RDPBCGR] 2.2.7.1): their types, their least lengths, and what each says. Offsets count from a set's first byte, as
+-- in its table there.
+use Rattle.std.specs.Prelude.{ℕ, zero, suc, ◌+◌, ◌-◌, ◌==◌, Bool, false, ◌&&◌, ◌||◌, not, List, [], ◌∷◌, drop, replicate, if◌then◌else◌}
+use Rattle.byteorder.specs.Endian.{little_number}
+use Rattle.wire_num.specs.Field.{has_bits}
+use Rattle.caps_sets.specs.declared.cache_size.CacheSize.{CacheSize}
+use Rattle.caps_sets.specs.declared.confirmed.Confirmed.{Confirmed}
+use Rattle.caps_sets.specs.declared.set_kind.SetKind.{SetKind}
+use Rattle.caps_sets.specs.declared.set_kind.SetKind.TheVariants.{General, Bitmap, Order, BitmapCache, Brush, GlyphCache, Other}
+use Rattle.caps_sets.specs.Confirmed.{sized}
+
+-- what a set is, by its type
+abbrev pub kind_of : ℕ → SetKind
+kind_of type =
+    if type == 1 then General
+    else (if type == 2 then Bitmap
+    else (if type == 3 then Order
+    else (if type == 4 then BitmapCache
+    else (if type == 15 then Brush
+    else (if type == 16 then GlyphCache
+    else Other)))))
+
+-- the least length of a set: its header, and where it is read all its fields
+abbrev pub least_length : SetKind → ℕ
+least_length General = 24
+least_length Bitmap = 28
+least_length Order = 88
+least_length BitmapCache = 40
+least_length Brush = 8
+least_length GlyphCache = 52
+least_length Other = 4
+
+-- the number of so many bytes at an offset, in the content behind a set's header of four bytes
+abbrev pub number_in : ℕ → ℕ → List ℕ → ℕ
+number_in size offset content = little_number size (drop (offset - 4) content)
+
+-- ---- what a set says
+
+-- extraFlags: NO_BITMAP_COMPRESSION_HDR ([MS-RDPBCGR] 2.2.7.1.1)
+abbrev pub says_no_header : List ℕ → Bool
+says_no_header content = has_bits 1024 (number_in 2 14 content)
+
+-- orderSupport: the byte at this place isn't 0 ([MS-RDPBCGR] 2.2.7.1.3)
+abbrev pub says_support : ℕ → List ℕ → Bool
+says_support place content = not (number_in 1 (36 + place) content == 0)
+
+-- orderFlags: ZEROBOUNDSDELTASSUPPORT
+abbrev pub says_zero_bounds : List ℕ → Bool
+says_zero_bounds content = has_bits 8 (number_in 2 34 content)
+
+-- orderSupportExFlags: ALTSEC_FRAME_MARKER_SUPPORT, where orderFlags say by ORDERFLAGS_EXTRA_FLAGS that they are valid
+abbrev pub says_marker : List ℕ → Bool
+says_marker content = has_bits 128 (number_in 2 34 content) && has_bits 4 (number_in 2 70 content)
+
+-- so many caches from an offset on: entries, and the bytes of the greatest cell
+abbrev pub caches_in : ℕ → ℕ → List ℕ → List CacheSize
+caches_in zero offset content = []
+caches_in (suc n) offset content = sized (number_in 2 offset content) (number_in 2 (offset + 2) content) ∷ caches_in n (offset + 4) content
+
+-- Cache0Entries to Cache2MaximumCellSize ([MS-RDPBCGR] 2.2.7.1.4.1)
+unfoldable pub says_bitmaps : List ℕ → List CacheSize
+says_bitmaps content = caches_in 3 28 content
+
+-- brushSupportLevel: BRUSH_COLOR_8x8 or BRUSH_COLOR_FULL ([MS-RDPBCGR] 2.2.7.1.7)
+abbrev pub says_brush : List ℕ → Bool
+says_brush content = (number_in 4 4 content == 1) || (number_in 4 4 content == 2)
+
+-- GlyphCache ([MS-RDPBCGR] 2.2.7.1.8)
+unfoldable pub says_glyphs : List ℕ → List CacheSize
+says_glyphs content = caches_in 10 4 content
+
+-- GlyphSupportLevel
+abbrev pub says_glyph_level : List ℕ → ℕ
+says_glyph_level content = number_in 2 48 content
+
+-- ---- what is confirmed
+
+-- what is confirmed without a set
+abbrev pub nothing : Confirmed
+nothing = record {
+  dst = false;
+  pat = false;
+  scr = false;
+  mem = false;
+  mem3 = false;
+  save = false;
+  glyph = false;
+  zero_bounds = false;
+  marker = false;
+  no_header = false;
+  brush = false;
+  glyph_level = 0;
+  bitmaps = replicate 3 (sized 0 0);
+  glyphs = replicate 10 (sized 0 0);
+  cautious = false;
+}
+
+-- the orders of an Order set, in place of those of earlier ones
+abbrev pub with_orders : List ℕ → Confirmed → Confirmed
+with_orders content c = record c {
+  dst = says_support 0 content;
+  pat = says_support 1 content;
+  scr = says_support 2 content;
+  mem = says_support 3 content;
+  mem3 = says_support 4 content;
+  save = says_support 11 content;
+  glyph = says_support 27 content;
+  zero_bounds = says_zero_bounds content;
+  marker = says_marker content;
+}
+
+-- what is confirmed with one more set, by its content: it counts in place of earlier ones of its kind
+abbrev pub with_set : SetKind → List ℕ → Confirmed → Confirmed
+with_set General content c = record c { no_header = says_no_header content }
+with_set Bitmap content c = c
+with_set Order content c = with_orders content c
+with_set BitmapCache content c = record c { bitmaps = says_bitmaps content }
+with_set Brush content c = record c { brush = says_brush content }
+with_set GlyphCache content c = record c { glyphs = says_glyphs content; glyph_level = says_glyph_level content }
+with_set Other content c = c

@@ -1,0 +1,63 @@
+-- The Confirm Active PDU ([MS-RDPBCGR] 2.2.1.13.2.1), behind its share control header.
+use Rattle.std.specs.Prelude.{ℕ, zero, suc, ◌+◌, ◌-◌, nat_le, ◌&&◌, List, length, slice_index, Result, Ok, Err, if◌then◌else◌}
+use Rattle.wire_num.specs.Field.{is_any, placed}
+use Rattle.wire_num.specs.Layout.{Layout, Open, Any, Little, ◌▸◌, fields_at}
+use Rattle.byte_fields.specs.Field.{Read, then_read, map_read, bytes_at}
+use Rattle.caps_sets.specs.declared.confirmed.Confirmed.{Confirmed}
+use Rattle.caps_sets.specs.declared.set_kind.SetKind.{SetKind}
+use Rattle.caps_sets.specs.declared.caps_fault.CapsFault.{CapsFault}
+use Rattle.caps_sets.specs.declared.caps_fault.CapsFault.TheVariants.{BadCaps}
+use Rattle.caps_sets.specs.CapabilitySets.{kind_of, least_length, with_set, nothing}
+
+-- shareId; originatorId; lengthSourceDescriptor; lengthCombinedCapabilities, which isn't compared
+unfoldable pub confirm_lengths : Layout
+confirm_lengths =
+    Any 4
+    ▸ Any 2
+    ▸ Little 2 is_any
+    ▸ Any 2
+    ▸ Open
+
+-- sourceDescriptor, of so many bytes; numberCapabilities; pad2Octets
+unfoldable pub confirm_counts : ℕ → Layout
+confirm_counts source =
+    Any source
+    ▸ Little 2 is_any
+    ▸ Any 2
+    ▸ Open
+
+-- capabilitySetType; lengthCapability ([MS-RDPBCGR] 2.2.1.13.1.1.1)
+unfoldable pub set_header : Layout
+set_header =
+    Little 2 is_any
+    ▸ Little 2 is_any
+    ▸ Open
+
+-- the content of a set that begins with bs, of a length that counts its header; where this is below the least one, or past the end, the set is refused at its
+-- first byte
+unfoldable pub with_content_of : ℕ → SetKind → Confirmed → List ℕ → List ℕ → Read Confirmed
+with_content_of n kind c bs more =
+    if nat_le (least_length kind) n && nat_le n (4 + length more)
+    then map_read (λ content. with_set kind content c) (bytes_at (n - 4) more) else Err bs
+
+-- a set: header; content
+unfoldable pub set_at : Confirmed → List ℕ → Read Confirmed
+set_at c bs =
+    then_read (fields_at set_header bs) (λ header more.
+    with_content_of (slice_index header 1) (kind_of (slice_index header 0)) c bs more)
+
+-- so many sets, in any order; the last one of a kind counts
+abbrev pub sets_at : ℕ → Confirmed → List ℕ → Read Confirmed
+sets_at zero c bs = Ok (c, bs)
+sets_at (suc n) c bs = then_read (set_at c bs) (λ more after. sets_at n more after)
+
+-- what stands before the sets, and as many of them as are counted; what follows them isn't read
+unfoldable pub confirm_at : List ℕ → Read Confirmed
+confirm_at bs =
+    then_read (fields_at confirm_lengths bs) (λ lengths more.
+    then_read (fields_at (confirm_counts (slice_index lengths 0)) more) (λ counts sets.
+    sets_at (slice_index counts 0) nothing sets))
+
+-- what a Confirm Active PDU confirms
+abbrev pub confirmed_of : List ℕ → Result Confirmed CapsFault
+confirmed_of bs = placed BadCaps bs (confirm_at bs)

@@ -1,0 +1,183 @@
+//! The Confirm Active PDU ([MS-RDPBCGR] 2.2.1.13.2.1), behind its share control header.
+//!
+//! | size | field | value |
+//! |---|---|---|
+//! | 4 | shareId | not read |
+//! | 2 | originatorId | not read |
+//! | 2 | lengthSourceDescriptor | n |
+//! | 2 | lengthCombinedCapabilities | not read |
+//! | n | sourceDescriptor | not read |
+//! | 2 | numberCapabilities | how many sets there are |
+//! | 2 | pad2Octets | not read |
+//! | | capabilitySets | in any order; the last one of a kind counts, and a missing one confirms nothing |
+//!
+//! What follows the sets isn't read.
+
+ghost use Rattle.std.specs.Prelude.{◌≡◌, ◌↔◌, ◌≤◌, ◌+◌, ◌∷◌, [], List, ℕ, length, Ok, Err};
+ghost use Rattle.wire_num.specs.Layout.{fields_at};
+ghost use Rattle.wire_num.specs.Cursor.{rest, ReadsFields, ReadsFieldsAs};
+ghost use Rattle.caps_sets.specs.CapabilitySets.{kind_of, least_length, with_set, nothing};
+ghost use Rattle.caps_sets.specs.ConfirmActive.{confirm_lengths, confirm_counts, set_header, set_at, sets_at, confirm_at, confirmed_of};
+ghost use Rattle.caps_sets.specs.Grammar.{IsConfirmActive};
+ghost use Rattle.caps_sets.specs.Faults.{IsFirstFault};
+
+use crate::bitmap_cache_set::says_bitmaps;
+use crate::brush_set::says_brush;
+use crate::caps_fault::CapsFault;
+use crate::general_set::says_no_header;
+use crate::glyph_cache_set::{says_glyph_level, says_glyphs};
+use crate::order_set::with_orders;
+use crate::set_kind::{HEADER_SIZE, SetKind, kind_of, least_length};
+use crate::{BITMAP_CACHES, CacheSize, Caches, Confirmed, GLYPH_CACHES};
+use wire_num::{Cursor, Short};
+
+/// The bytes of shareId.
+const SHARE_ID_SIZE: usize = 4;
+
+/// The bytes of originatorId, of lengthCombinedCapabilities, and of pad2Octets.
+const FIELD_SIZE: usize = 2;
+
+/// A cache without an entry.
+const NO_CACHE: CacheSize = CacheSize {
+    entries: 0,
+    cell: 0,
+};
+
+/// Reads what a Confirm Active PDU confirms, from behind its share control header on ([MS-RDPBCGR] 2.2.1.13.2.1).
+pub fn read_confirm(body: &[u8]) -> Result<Confirmed, CapsFault>
+    ensures { result ≡ confirmed_of body.now }
+{
+    let mut cursor = Cursor::new(body);
+    match read_confirm_active(&mut cursor) {
+        Ok(confirmed) => Ok(confirmed),
+        Err(_) => Err(CapsFault::BadCaps { at: cursor.at() }),
+    }
+}
+
+/// The law of Confirm Active PDUs: one is read exactly where its fields and as many sets as they count stand there, and then
+/// confirms what the last set of each kind says. It is refused exactly for the first fault there, at its place.
+pub fn confirms_are_read_exactly()
+    ensures exact { (bytes : List ℕ) (confirmed : Confirmed) → (confirmed_of bytes ≡ Ok confirmed) ↔ IsConfirmActive bytes confirmed }
+    ensures refused { (bytes : List ℕ) (fault : CapsFault) → (confirmed_of bytes ≡ Err fault) ↔ IsFirstFault bytes fault }
+{}
+
+/// Reads what stands before the sets, and these.
+#[tactic(auto, unfolding(crate::specs::ConfirmActive::confirm_at))]
+fn read_confirm_active(cursor: &mut Cursor<'_>) -> Result<Confirmed, Short>
+    ensures { ReadsFields confirm_at result cursor.old cursor.new }
+{
+    let source = read_lengths(cursor)?;
+    let count = read_counts(source, cursor)?;
+    read_sets(count, cursor)
+}
+
+/// Reads how many bytes the source descriptor has.
+#[tactic(auto, unfolding(crate::specs::ConfirmActive::confirm_lengths, wire_num::specs::Field::passing_at))]
+fn read_lengths(cursor: &mut Cursor<'_>) -> Result<u16, Short>
+    ensures { ReadsFieldsAs (λ source. source ∷ []) (fields_at confirm_lengths) result cursor.old cursor.new }
+{
+    cursor.bytes(SHARE_ID_SIZE)?;
+    cursor.bytes(FIELD_SIZE)?;
+    let source = cursor.u16_le()?;
+    cursor.bytes(FIELD_SIZE)?;
+    Ok(source)
+}
+
+/// Reads how many sets there are, behind a source descriptor of so many bytes.
+#[tactic(auto, unfolding(crate::specs::ConfirmActive::confirm_counts, wire_num::specs::Field::passing_at))]
+fn read_counts(source: u16, cursor: &mut Cursor<'_>) -> Result<u16, Short>
+    ensures { ReadsFieldsAs (λ count. count ∷ []) (fields_at (confirm_counts source)) result cursor.old cursor.new }
+{
+    cursor.bytes(source as usize)?;
+    let count = cursor.u16_le()?;
+    cursor.bytes(FIELD_SIZE)?;
+    Ok(count)
+}
+
+/// Reads so many sets.
+fn read_sets(count: u16, cursor: &mut Cursor<'_>) -> Result<Confirmed, Short>
+    ensures { ReadsFields (sets_at count nothing) result cursor.old cursor.new }
+{
+    let mut confirmed = nothing();
+    for _ in 0..count {
+        confirmed = read_set(confirmed, cursor)?;
+    }
+    Ok(confirmed)
+}
+
+/// Reads the next set, and gives what is confirmed with it.
+#[tactic(auto, unfolding(crate::specs::ConfirmActive::set_at, crate::specs::ConfirmActive::with_content_of))]
+fn read_set(confirmed: Confirmed, cursor: &mut Cursor<'_>) -> Result<Confirmed, Short>
+    ensures { ReadsFields (set_at confirmed) result cursor.old cursor.new }
+{
+    let at = cursor.at();
+    let (set_type, length) = read_header(cursor)?;
+    let kind = kind_of(set_type);
+    if length < least_length(kind) || (length - HEADER_SIZE) as usize > cursor.left() {
+        cursor.go_to(at);
+        return Err(Short { at });
+    }
+    let content = cursor.bytes((length - HEADER_SIZE) as usize)?;
+    Ok(with_set(confirmed, kind, content))
+}
+
+/// Reads a set's type and length.
+#[tactic(auto, unfolding(crate::specs::ConfirmActive::set_header, wire_num::specs::Field::passing_at))]
+fn read_header(cursor: &mut Cursor<'_>) -> Result<(u16, u16), Short>
+    ensures { ReadsFieldsAs (λ header. header.0 ∷ header.1 ∷ []) (fields_at set_header) result cursor.old cursor.new }
+{
+    let set_type = cursor.u16_le()?;
+    let length = cursor.u16_le()?;
+    Ok((set_type, length))
+}
+
+/// What is confirmed with one more set, by its content.
+fn with_set(confirmed: Confirmed, kind: SetKind, content: &[u8]) -> Confirmed
+    requires { least_length kind ≤ 4 + length content.now }
+    ensures { result ≡ with_set kind content.now confirmed }
+{
+    match kind {
+        SetKind::General => Confirmed {
+            no_header: says_no_header(content),
+            ..confirmed
+        },
+        SetKind::Order => with_orders(confirmed, content),
+        SetKind::BitmapCache => Confirmed {
+            bitmaps: says_bitmaps(content),
+            ..confirmed
+        },
+        SetKind::Brush => Confirmed {
+            brush: says_brush(content),
+            ..confirmed
+        },
+        SetKind::GlyphCache => Confirmed {
+            glyphs: says_glyphs(content),
+            glyph_level: says_glyph_level(content),
+            ..confirmed
+        },
+        SetKind::Bitmap | SetKind::Other => confirmed,
+    }
+}
+
+/// What is confirmed without a set.
+fn nothing() -> Confirmed
+    ensures { result ≡ nothing }
+{
+    Confirmed {
+        dst: false,
+        pat: false,
+        scr: false,
+        mem: false,
+        mem3: false,
+        save: false,
+        glyph: false,
+        zero_bounds: false,
+        marker: false,
+        no_header: false,
+        brush: false,
+        glyph_level: 0,
+        bitmaps: Caches::new([NO_CACHE; BITMAP_CACHES]),
+        glyphs: Caches::new([NO_CACHE; GLYPH_CACHES]),
+        cautious: false,
+    }
+}

@@ -1,0 +1,13 @@
+pub mod Numbers
+pub mod Answers
+pub mod Channels
+pub mod Connecting
+pub mod Domain
+pub mod Headers
+pub mod Info
+pub mod Shares
+pub mod Deeds
+pub mod Packets
+pub mod Replies
+pub mod Told
+pub mod Hearing

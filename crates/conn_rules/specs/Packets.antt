@@ -1,0 +1,102 @@
+-- What the host makes of a whole packet, by what the client is to send next ([MS-RDPBCGR] 1.3.1.1).
+use Rattle.std.specs.Prelude.{ℕ, Bool, true, false, List, Result, Ok, Err}
+use Rattle.std.specs.List.{slice_range}
+use Rattle.byte_fields.specs.Field.{Read, bind, place_in}
+use Rattle.wire_num.specs.declared.range.Range.{Range}
+use Rattle.wire_num.specs.Layout.{fields_at}
+use Rattle.tpkt_x224.specs.Request.{request_of}
+use Rattle.mcs_ber.specs.ConnectInitial.{user_data_of}
+use Rattle.mcs_dom.specs.declared.domain_pdu.DomainPdu.{DomainPdu}
+use Rattle.mcs_dom.specs.declared.domain_pdu.DomainPdu.TheVariants.{Erect, Attach, Join, Data, Bye}
+use Rattle.mcs_dom.specs.DomainPdu.{domain_pdu_of}
+use Rattle.info_lic.specs.ClientInfo.{name_of}
+use Rattle.share_pdu.specs.ClientPdu.{share_pdu_of}
+use Rattle.conn_rules.specs.declared.refusal.Refusal.{Refusal}
+use Rattle.conn_rules.specs.declared.stage.Stage.{Stage}
+use Rattle.conn_rules.specs.declared.stage.Stage.TheVariants as stage
+use Rattle.conn_rules.specs.declared.stage.SharePhase.{SharePhase}
+use Rattle.conn_rules.specs.Answers.{Judged, goes_to}
+use Rattle.conn_rules.specs.Numbers.{place_behind, bad_tpdu, bad_domain}
+use Rattle.conn_rules.specs.Headers.{mcs_headers}
+use Rattle.conn_rules.specs.Connecting.{request_judged, initial_judged}
+use Rattle.conn_rules.specs.Domain.{placed_pdu, leaves, erect_judged, attach_judged, own, joined, by_channel, too_early}
+use Rattle.conn_rules.specs.Info.{info_judged}
+use Rattle.conn_rules.specs.Shares.{read_deed}
+use Rattle.conn_rules.specs.Deeds.{deed_judged}
+
+-- where the MCS PDU of a packet begins: behind the TPKT header and the X.224 Data header
+abbrev pub mcs_place : ℕ
+mcs_place = 7
+
+-- the bytes of a body of data
+abbrev pub body_in : List ℕ → Range → List ℕ
+body_in mcs body = slice_range mcs body.from body.to
+
+-- ---- data
+
+-- the Client Info PDU, once the user channel and 1003 are joined
+abbrev pub info_data : ℕ → Bool → List ℕ → ℕ → ℕ → Range → Judged
+info_data channels false mcs user channel body = too_early channels mcs_place user
+info_data channels true mcs user channel body =
+    by_channel channels mcs_place user channel (stage.Joins channels true true)
+    (info_judged channels mcs_place user (place_behind mcs_place body.from) (name_of (body_in mcs body)))
+
+abbrev pub both : Bool → Bool → Bool
+both true io = io
+both false io = false
+
+-- share PDUs
+abbrev pub share_data : ℕ → SharePhase → List ℕ → ℕ → ℕ → Range → Judged
+share_data channels here mcs user channel body =
+    by_channel channels mcs_place user channel (stage.Shares channels here)
+    (deed_judged channels mcs_place user here (place_behind mcs_place body.from)
+    (read_deed here (place_behind mcs_place body.from) (body_in mcs body) (share_pdu_of (body_in mcs body))))
+
+-- ---- domain PDUs
+
+-- joins, in any order and number, and Client Info
+abbrev pub joins_judged : ℕ → Bool → Bool → List ℕ → DomainPdu → Judged
+joins_judged channels user io mcs Erect = bad_domain mcs_place
+joins_judged channels user io mcs Attach = bad_domain mcs_place
+joins_judged channels user io mcs (Join initiator channel) = own channels mcs_place initiator (joined channels mcs_place user io channel)
+joins_judged channels user io mcs (Data initiator channel body) = info_data channels (both user io) mcs initiator channel body
+joins_judged channels user io mcs (Bye reason) = leaves
+
+abbrev pub shares_judged : ℕ → SharePhase → List ℕ → DomainPdu → Judged
+shares_judged channels here mcs Erect = bad_domain mcs_place
+shares_judged channels here mcs Attach = bad_domain mcs_place
+shares_judged channels here mcs (Join initiator channel) = bad_domain mcs_place
+shares_judged channels here mcs (Data initiator channel body) = share_data channels here mcs initiator channel body
+shares_judged channels here mcs (Bye reason) = leaves
+
+abbrev pub pdu_in : List ℕ → Result DomainPdu Refusal
+pdu_in mcs = placed_pdu mcs_place (domain_pdu_of mcs)
+
+-- ---- packets
+
+-- an MCS PDU, by the stage
+abbrev pub mcs_judged : Stage → List ℕ → Judged
+mcs_judged stage.Request mcs = goes_to stage.Request
+mcs_judged (stage.Initial asked) mcs = initial_judged asked mcs_place mcs (user_data_of mcs)
+mcs_judged (stage.Erect channels) mcs = bind (pdu_in mcs) (λ p. erect_judged channels mcs_place p)
+mcs_judged (stage.Attach channels) mcs = bind (pdu_in mcs) (λ p. attach_judged channels mcs_place p)
+mcs_judged (stage.Joins channels user io) mcs = bind (pdu_in mcs) (λ p. joins_judged channels user io mcs p)
+mcs_judged (stage.Shares channels here) mcs = bind (pdu_in mcs) (λ p. shares_judged channels here mcs p)
+mcs_judged stage.Over mcs = goes_to stage.Over
+mcs_judged (stage.Refused k at) mcs = goes_to (stage.Refused k at)
+
+-- behind both headers, of which the first field that breaks its rule is refused
+abbrev pub behind_headers : List ℕ → Read (List ℕ) → Stage → Judged
+behind_headers packet (Ok v) here = mcs_judged here v.1
+behind_headers packet (Err left) here = bad_tpdu (place_in packet left)
+
+-- a whole packet; nothing is looked at once the stream is over or refused
+abbrev pub packet_judged : Stage → List ℕ → Judged
+packet_judged stage.Request packet = request_judged (request_of packet)
+packet_judged (stage.Initial asked) packet = behind_headers packet (fields_at mcs_headers packet) (stage.Initial asked)
+packet_judged (stage.Erect channels) packet = behind_headers packet (fields_at mcs_headers packet) (stage.Erect channels)
+packet_judged (stage.Attach channels) packet = behind_headers packet (fields_at mcs_headers packet) (stage.Attach channels)
+packet_judged (stage.Joins channels user io) packet = behind_headers packet (fields_at mcs_headers packet) (stage.Joins channels user io)
+packet_judged (stage.Shares channels here) packet = behind_headers packet (fields_at mcs_headers packet) (stage.Shares channels here)
+packet_judged stage.Over packet = goes_to stage.Over
+packet_judged (stage.Refused k at) packet = goes_to (stage.Refused k at)

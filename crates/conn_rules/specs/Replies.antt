@@ -1,0 +1,24 @@
+-- The bytes of the host's replies, whole packets each.
+use Rattle.std.specs.Prelude.{ℕ, List, [], ◌++◌}
+use Rattle.px_core.specs.declared.surface.Size.{Size}
+use Rattle.tpkt_x224.specs.Confirm.{confirm_of}
+use Rattle.mcs_ber.specs.ConnectResponse.{connect_response}
+use Rattle.gcc_per.specs.ServerData.{create_response}
+use Rattle.mcs_dom.specs.AttachUser.{attach_user_confirm}
+use Rattle.mcs_dom.specs.ChannelJoin.{channel_join_confirm}
+use Rattle.mcs_dom.specs.SendData.{send_data_indication}
+use Rattle.info_lic.specs.Licence.{licence}
+use Rattle.caps_sets.specs.DemandActive.{demand_active}
+use Rattle.share_pdu.specs.Final.{final_bytes}
+use Rattle.conn_rules.specs.declared.answer.Reply.{Reply}
+use Rattle.conn_rules.specs.declared.answer.Reply.TheVariants.{Nothing, Confirm, Response, Attached, Joined, Welcome, Final}
+
+-- a reply of a session with a picture of this size
+abbrev pub reply_bytes : Size → Reply → List ℕ
+reply_bytes size Nothing = []
+reply_bytes size (Confirm request) = confirm_of request
+reply_bytes size (Response channels asked) = connect_response (create_response channels asked)
+reply_bytes size (Attached user) = attach_user_confirm user
+reply_bytes size (Joined user channel) = channel_join_confirm user channel
+reply_bytes size Welcome = send_data_indication licence ++ send_data_indication (demand_active size)
+reply_bytes size (Final which user) = send_data_indication (final_bytes which user)

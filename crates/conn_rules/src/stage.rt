@@ -1,0 +1,37 @@
+//! Where a client is in its connection sequence ([MS-RDPBCGR] 1.3.1.1).
+
+use caps_sets::Confirmed;
+use share_pdu::Final;
+
+/// What the client is to send next, or how its stream has ended. A client with so many static virtual channels has the user
+/// channel 1004 and so many more.
+#[derive(Clone, Copy, PartialEq, Eq)]
+pub enum Stage {
+    /// X.224 Connection Request.
+    Request,
+    /// MCS Connect-Initial, after a request for these protocols.
+    Initial { asked: u32 },
+    /// MCS Erect Domain Request.
+    Erect { channels: u8 },
+    /// MCS Attach User Request.
+    Attach { channels: u8 },
+    /// MCS Channel Join Requests, and the Client Info PDU once the user channel and the I/O channel are joined.
+    Joins { channels: u8, user: bool, io: bool },
+    /// Share PDUs on the I/O channel.
+    Shares { channels: u8, phase: SharePhase },
+    /// Nothing: the client has left, or asked for the end.
+    Over,
+    /// Nothing: its stream was refused by this number at this place.
+    Refused { k: u8, at: u64 },
+}
+
+/// Which share PDU is next.
+#[derive(Clone, Copy, PartialEq, Eq)]
+pub enum SharePhase {
+    /// Confirm Active.
+    Confirm,
+    /// The PDU of the finalisation that this answer is due to, from a client that confirmed this.
+    Finish { confirmed: Confirmed, next: Final },
+    /// Any: the Font List was answered.
+    Ready,
+}

@@ -1,0 +1,10 @@
+pub mod Fields
+pub mod Events
+pub mod Runs
+pub mod Colors
+pub mod Loads
+pub mod Ascii
+pub mod StepForms
+pub mod LineForms
+pub mod AnswerLines
+pub mod Ranges

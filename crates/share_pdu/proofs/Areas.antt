@@ -1,0 +1,109 @@
+-- Areas one by one.
+use Rattle.std.proofs.Common.{◌≡◌, ℕ, zero, suc, ◌+◌, ◌<◌, ◌-◌, List, [], ◌∷◌, ◌++◌, refl, ap, ◌∙◌, sym, subst, arith}
+use Rattle.std.specs.Prelude.{Option, Some, None, option_to_list, slice_get, slice_index, Ok, Err, IsOk, IsErr}
+use Rattle.byte_fields.specs.Field.{Read, then_read, map_read}
+use Rattle.wire_num.specs.Layout.{fields_at}
+use Rattle.px_core.specs.declared.rectangle.Rect.{Rect}
+use Rattle.share_pdu.specs.Bodies.{refresh_header, refresh_at, area_at, areas_at, areas_by, passed_areas_at}
+
+abbrev with_area : Option Rect → Read (List Rect) → Read (List Rect)
+with_area area r = map_read (λ areas. option_to_list area ++ areas) r
+
+step : (n k : ℕ) (bs : List ℕ) → k < n → areas_at (n - k) bs ≡ then_read (area_at bs) (λ area more. with_area area (areas_at (n - (k + 1)) more))
+step n k bs h =
+    let e : n - k ≡ suc (n - (k + 1)) = omega (arith, h) in
+    ap (λ m. areas_at m bs) e
+
+-- an area is there
+pub one_area : (n k : ℕ) (bs more : List ℕ) (area : Option Rect) → k < n → area_at bs ≡ Ok (area, more) → areas_at (n - k) bs ≡ with_area area (areas_at (n - (k + 1)) more)
+one_area n k bs more area h e = step n k bs h ∙ ap (λ r. then_read r (λ area more. with_area area (areas_at (n - (k + 1)) more))) e
+
+-- an area isn't there
+pub no_area : (n k : ℕ) (bs left : List ℕ) → k < n → area_at bs ≡ Err left → areas_at (n - k) bs ≡ Err left
+no_area n k bs left h e = step n k bs h ∙ ap (λ r. then_read r (λ area more. with_area area (areas_at (n - (k + 1)) more))) e
+
+-- ---- without their values
+
+dropped : (f : List Rect → List Rect) (r : Read (List Rect)) → map_read {B = List ℕ} (λ _. []) (map_read f r) ≡ map_read (λ _. []) r
+dropped f (Ok v) = refl
+dropped f (Err left) = refl
+
+pub passed_area : (n k : ℕ) (bs more : List ℕ) (area : Option Rect) → k < n → area_at bs ≡ Ok (area, more)
+    → passed_areas_at (n - (k + 1)) more ≡ passed_areas_at (n - k) bs
+passed_area n k bs more area h e =
+    sym (ap (map_read (λ _. [])) (one_area n k bs more area h e) ∙ dropped (λ areas. option_to_list area ++ areas) (areas_at (n - (k + 1)) more))
+
+pub refused_area : (n k : ℕ) (bs left : List ℕ) → k < n → area_at bs ≡ Err left → passed_areas_at (n - k) bs ≡ Err left
+refused_area n k bs left h e = ap (map_read (λ _. [])) (no_area n k bs left h e)
+
+-- ---- a body
+
+is_ok_of : (r : Read (List Rect)) (v : List ℕ × List ℕ) → map_read (λ _. []) r ≡ Ok v → IsOk r
+is_ok_of (Ok w) v e = refl
+is_ok_of (Err left) v e = absurd (let no : ⊥ = cc in no)
+
+is_err_of : (r : Read (List Rect)) (left : List ℕ) → map_read {B = List ℕ} (λ _. []) r ≡ Err left → IsErr r
+is_err_of (Ok w) left e = absurd (let no : ⊥ = cc in no)
+is_err_of (Err l) left e = refl
+
+abbrev on_count : Read (List ℕ) → Read (List Rect)
+on_count r = then_read r (λ values more. areas_at (slice_index values 0) more)
+
+by_count : (bs : List ℕ) (r : Read (List ℕ)) → fields_at refresh_header bs ≡ r → refresh_at bs ≡ on_count r
+unfolding refresh_at
+by_count bs r e = ap on_count e
+
+-- the number isn't there, or an area isn't
+pub no_number : (bs left : List ℕ) → fields_at refresh_header bs ≡ Err left → IsErr (refresh_at bs)
+no_number bs left e = subst IsErr (sym (by_count bs (Err left) e)) refl
+
+pub areas_missing : (bs more left : List ℕ) (count : ℕ) → fields_at refresh_header bs ≡ Ok (count ∷ [], more) → passed_areas_at count more ≡ Err left → IsErr (refresh_at bs)
+areas_missing bs more left count e h = subst IsErr (sym (by_count bs (Ok (count ∷ [], more)) e)) (is_err_of (areas_at count more) left h)
+
+-- all are there
+pub areas_found : (bs more : List ℕ) (count : ℕ) (v : List ℕ × List ℕ) → fields_at refresh_header bs ≡ Ok (count ∷ [], more) → passed_areas_at count more ≡ Ok v
+    → (refresh_at bs ≡ areas_at count more) × IsOk (areas_at count more)
+areas_found bs more count v e h = (by_count bs (Ok (count ∷ [], more)) e, is_ok_of (areas_at count more) v h)
+
+-- ---- looking for one
+
+-- an area that is skipped, or isn't the one
+ok_within : (area : Option Rect) (r : Read (List Rect)) → IsOk (with_area area r) → IsOk r
+ok_within area (Ok v) e = refl
+ok_within area (Err left) e = e
+
+pub areas_left : (n k : ℕ) (bs more : List ℕ) (area : Option Rect) → k < n → area_at bs ≡ Ok (area, more) → IsOk (areas_at (n - k) bs) → IsOk (areas_at (n - (k + 1)) more)
+areas_left n k bs more area h e ok = ok_within area (areas_at (n - (k + 1)) more) (subst IsOk (one_area n k bs more area h e) ok)
+
+listed : (area : Option Rect) (r : Read (List Rect)) → IsOk r → areas_by (with_area area r) ≡ option_to_list area ++ areas_by r
+listed area (Ok v) ok = refl
+listed area (Err left) ok = absurd (let no : ⊥ = cc in no)
+
+pub areas_listed : (n k : ℕ) (bs more : List ℕ) (area : Option Rect) → k < n → area_at bs ≡ Ok (area, more) → IsOk (areas_at (n - k) bs)
+    → areas_by (areas_at (n - k) bs) ≡ option_to_list area ++ areas_by (areas_at (n - (k + 1)) more)
+areas_listed n k bs more area h e ok =
+    ap areas_by (one_area n k bs more area h e) ∙ listed area (areas_at (n - (k + 1)) more) (areas_left n k bs more area h e ok)
+
+refused_ok : (left : List ℕ) (r : Read (List Rect)) → r ≡ Err left → IsOk r → ⊥
+refused_ok left (Ok v) e ok = let no : ⊥ = cc in no
+refused_ok left (Err l) e ok = let no : ⊥ = cc in no
+
+pub none_refused : (n k : ℕ) (bs left : List ℕ) → k < n → area_at bs ≡ Err left → IsOk (areas_at (n - k) bs) → ⊥
+none_refused n k bs left h e ok = refused_ok left (areas_at (n - k) bs) (no_area n k bs left h e) ok
+
+get_behind : (a : Rect) (xs : List Rect) (k : ℕ) → 0 < k → slice_get (a ∷ xs) k ≡ slice_get xs (k - 1)
+get_behind a xs zero h = absurd (omega (arith, h))
+get_behind a xs (suc k) h = let e : suc k - 1 ≡ k = omega arith in rw e refl
+
+abbrev got : List ℕ → Option Rect → Read (Option Rect)
+got more area = Ok (area, more)
+
+-- what is looked for behind an area that isn't it, or behind one that is skipped
+pub found_behind : (n k left : ℕ) (bs more : List ℕ) (area : Option Rect) (a : Rect) → k < n → area_at bs ≡ Ok (area, more) → area ≡ Some a → IsOk (areas_at (n - k) bs)
+    → 0 < left → slice_get (areas_by (areas_at (n - (k + 1)) more)) (left - 1) ≡ slice_get (areas_by (areas_at (n - k) bs)) left
+found_behind n k left bs more area a h e is ok some =
+    sym (ap (λ xs. slice_get xs left) (areas_listed n k bs more (Some a) h (e ∙ ap (got more) is) ok) ∙ get_behind a (areas_by (areas_at (n - (k + 1)) more)) left some)
+
+pub found_after_none : (n k left : ℕ) (bs more : List ℕ) (area : Option Rect) → k < n → area_at bs ≡ Ok (area, more) → area ≡ None → IsOk (areas_at (n - k) bs)
+    → slice_get (areas_by (areas_at (n - (k + 1)) more)) left ≡ slice_get (areas_by (areas_at (n - k) bs)) left
+found_after_none n k left bs more area h e is ok = sym (ap (λ xs. slice_get xs left) (areas_listed n k bs more None h (e ∙ ap (got more) is) ok))
