@@ -1,6 +1,7 @@
 //! Places that were worked out by hand.
 
 use crate::{Blocks, PlaceFault};
+use saved_blocks::Place;
 use std::test::Fail;
 
 #[test]
@@ -46,5 +47,24 @@ fn sixteen_slots_share_all_positions(rt: HostRuntime) -> Result<(), Fail> {
         let position = blocks.place(slot, 60, 60)?;
         assert_eq!(rt; position, 3_600 * u32::from(slot), "slot {slot}");
     }
+    Ok(())
+}
+
+#[test]
+fn a_copy_keeps_its_blocks_where_they_stand(rt: HostRuntime) -> Result<(), Fail> {
+    let mut blocks = Blocks::new(rt.alloc());
+    blocks.place(3, 10, 10)?;
+    blocks.place(5, 4, 20)?;
+    let copy = blocks.copy(rt.alloc())?;
+    blocks.free(5);
+    // 10 by 10 takes 10 * 20 positions, so the second block stands at 200.
+    let second = Place {
+        position: 200,
+        w: 4,
+        h: 20,
+    };
+    assert!(rt; copy.get(5) == Some(second));
+    assert!(rt; blocks.get(5).is_none());
+    assert!(rt; copy.get(4).is_none());
     Ok(())
 }

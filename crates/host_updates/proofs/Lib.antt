@@ -1,0 +1,4 @@
+pub mod Headers
+pub mod Contents
+pub mod Judged
+pub mod Pushed

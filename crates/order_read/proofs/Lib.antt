@@ -1,0 +1,10 @@
+pub mod NumberBytes
+pub mod BoundEdges
+pub mod ValuesRead
+pub mod KnownTypes
+pub mod PrimaryRead
+pub mod RowsTurned
+pub mod PixelBytes
+pub mod Appending
+pub mod OthersRead
+pub mod StreamsRead

@@ -1,0 +1,82 @@
+-- The orders of a body, one after the other.
+use Rattle.std.proofs.Common.{◌≡◌, ◌≤◌, ◌<◌, ◌+◌, ◌*◌, ◌-◌, ◌%◌, ℕ, suc, List, [], ◌∷◌, ◌++◌, length, refl, ap, sym, subst, ◌∙◌, append_assoc, append-nil, arith, true, Some, None}
+use Rattle.std.specs.Prelude.{Ok, Err, ◌==◌, if◌then◌else◌}
+use Rattle.std.proofs.lemmas.Bool.Decides.{nat_tests}
+use Rattle.byte_fields.specs.Number.{little_at}
+use Rattle.wire_num.specs.Cursor.{CursorOf, rest}
+use Rattle.order_fields.specs.OrderTable.{Registers}
+use Rattle.order_fields.specs.OrderStream.{Order, Stream, seen, order_at, order_by, primary_at, form_of, orders_in, then_orders, with_orders, stream_end, Form}
+use Rattle.order_fields.specs.OrderStream.Form.{PrimaryForm}
+use Rattle.order_read.specs.declared.order_fault.OrderFault.{OrderFault}
+use Rattle.order_read.specs.declared.order_fault.OrderFault.TheVariants.{BadOrder, OutOfMemory}
+use Rattle.order_read.specs.declared.read.Read.{Read}
+use Rattle.order_read.specs.Reading.{Appends, ReadsOrder, ReadsAll}
+use Rattle.order_read.proofs.Appending.{appends_none, appends_more}
+
+-- a primary order by its control byte
+pub primary_first : (regs : Registers) (control : ℕ) (a b : List ℕ) → little_at 1 a ≡ Ok (control, b) → control % 4 ≡ 1 → order_at regs a ≡ primary_at regs control b
+primary_first regs control [] b e class = absurd (let no : ⊥ = cc in no)
+primary_first regs control (x ∷ xs) b e class =
+    let pair : ◌≡◌ {A = ℕ × List ℕ} (x + 256 * 0, xs) (control, b) = cc in
+    let value : x + 256 * 0 ≡ control = ap (λ p. p.0) pair in
+    let same : x ≡ control = omega (arith, value) in
+    let test : (control % 4 == 1) ≡ true = grind (arith, nat_tests) in
+    let form : form_of control ≡ PrimaryForm = ap (λ b. if b then PrimaryForm else (if control == 3 then Form.SecondaryForm else (if control == 54 then Form.MarkerForm else Form.NoForm))) test in
+    ap (λ (n : ℕ). order_by (form_of n) regs n xs) same ∙ ap (λ f. order_by f regs control xs) form ∙ ap (primary_at regs control) (ap (λ p. p.1) pair)
+
+-- ---- streams
+
+-- orders were read and appended, and the others stand where the reading goes on
+pub record HasRead (whole here : Stream) (bytes : List ℕ) (old now : List Read) : Type 0 where
+  pub sent : List Order
+  pub reading : whole ≡ with_orders sent here
+  pub told : Appends bytes sent old now
+
+pub none_read : (whole : Stream) (bytes : List ℕ) (old : List Read) → HasRead whole whole bytes old old
+none_read whole bytes old = record { sent = []; reading = refl; told = appends_none bytes old }
+
+joined : (xs ys : List Order) (s : Stream) → with_orders xs (with_orders ys s) ≡ with_orders (xs ++ ys) s
+joined xs ys s = ap (λ os. record s { orders = os }) (sym (append_assoc xs ys s.orders))
+
+next : (n k : ℕ) (bs : List ℕ) (regs : Registers) → k < n → orders_in bs (n - k) regs ≡ then_orders (order_at regs bs) regs (λ rest after. orders_in rest (n - (k + 1)) after)
+next n k bs regs lt = let is : n - k ≡ suc (n - (k + 1)) = omega arith in ap (λ m. orders_in bs m regs) is
+
+pub one_order : (n k : ℕ) (bs more : List ℕ) (regs after : Registers) (os : List Order) → k < n → order_at regs bs ≡ Ok (seen os after, more) → orders_in bs (n - k) regs ≡ with_orders os (orders_in more (n - (k + 1)) after)
+one_order n k bs more regs after os lt e = next n k bs regs lt ∙ ap (λ r. then_orders r regs (λ rest after. orders_in rest (n - (k + 1)) after)) e
+
+no_order : (n k : ℕ) (bs left : List ℕ) (regs : Registers) → k < n → order_at regs bs ≡ Err left → orders_in bs (n - k) regs ≡ record { orders = []; after = regs; refused = Some left }
+no_order n k bs left regs lt e = next n k bs regs lt ∙ ap (λ r. then_orders r regs (λ rest after. orders_in rest (n - (k + 1)) after)) e
+
+pub more_read : (whole here after : Stream) (bytes : List ℕ) (os : List Order) (old now next : List Read) → HasRead whole here bytes old now → here ≡ with_orders os after → Appends bytes os now next → HasRead whole after bytes old next
+more_read whole here after bytes os old now next p e told = record {
+  sent = p.sent ++ os;
+  reading = p.reading ∙ ap (with_orders p.sent) e ∙ joined p.sent os after;
+  told = appends_more bytes p.sent os old now next p.told told;
+}
+
+-- an order was refused, or no memory was left
+pub order_refused : (fault : OrderFault) (whole : Stream) (n k : ℕ) (regs kept : Registers) (old cur new : CursorOf) (before now after last : List Read) → k < n → cur.bytes ≡ old.bytes
+    → HasRead whole (orders_in (rest cur) (n - k) regs) old.bytes before now → ReadsOrder {X = Unit {0}} (Err fault) regs kept cur new now after → ReadsAll {X = Unit {0}} whole (Err fault) kept old new before last
+order_refused (BadOrder at) whole n k regs kept old cur new before now after last lt same p read =
+    let is : whole ≡ with_orders p.sent (record { orders = []; after = regs; refused = Some (rest new) }) = p.reading ∙ ap (with_orders p.sent) (no_order n k (rest cur) (rest new) regs lt read.0) in
+    (ap (λ (s : Stream). s.refused) is, ap (λ (s : Stream). s.after) is ∙ sym read.2, read.1 ∙ same)
+order_refused OutOfMemory whole n k regs kept old cur new before now after last lt same p read = tt
+
+ended : (n k : ℕ) (bs : List ℕ) (regs : Registers) → n ≤ k → orders_in bs (n - k) regs ≡ stream_end regs bs
+ended n k bs regs le = let none : n - k ≡ 0 = omega arith in ap (λ m. orders_in bs m regs) none
+
+-- bytes are left
+pub left_over : (whole : Stream) (n k : ℕ) (bs bytes : List ℕ) (regs : Registers) (before now : List Read) → n ≤ k → HasRead whole (orders_in bs (n - k) regs) bytes before now → 0 < length bs
+    → (whole.refused ≡ Some bs) × (whole.after ≡ regs)
+left_over whole n k [] bytes regs before now le p some = absurd (omega arith)
+left_over whole n k (b ∷ bs) bytes regs before now le p some =
+    let is : whole ≡ with_orders p.sent (stream_end regs (b ∷ bs)) = p.reading ∙ ap (with_orders p.sent) (ended n k (b ∷ bs) regs le) in
+    (ap (λ (s : Stream). s.refused) is, ap (λ (s : Stream). s.after) is)
+
+-- no byte is left
+pub all_there : (whole : Stream) (n k : ℕ) (bs bytes : List ℕ) (regs : Registers) (before now : List Read) → n ≤ k → HasRead whole (orders_in bs (n - k) regs) bytes before now → bs ≡ []
+    → (whole.refused ≡ None) × (whole.after ≡ regs) × Appends bytes whole.orders before now
+all_there whole n k bs bytes regs before now le p none =
+    let is : whole ≡ with_orders p.sent (stream_end regs []) = p.reading ∙ ap (with_orders p.sent) (ended n k bs regs le ∙ ap (stream_end regs) none) in
+    let sent : p.sent ≡ whole.orders = sym (ap (λ (s : Stream). s.orders) is ∙ append-nil p.sent) in
+    (ap (λ (s : Stream). s.refused) is, ap (λ (s : Stream). s.after) is, subst (λ (os : List Order). Appends bytes os before now) sent p.told)

@@ -1,0 +1,25 @@
+-- What the call says that reads a primary order.
+use Rattle.std.specs.Prelude.{◌≡◌, ℕ, List, Option, Result, Ok, Err, ⊤}
+use Rattle.wire_num.specs.Cursor.{CursorOf, rest}
+use Rattle.order_fields.specs.OrderTable.{FieldList, Edges, Registers}
+use Rattle.order_fields.specs.OrderStream.{primary_at, seen_primary}
+use Rattle.order_read.specs.declared.order_fault.OrderFault.{OrderFault}
+use Rattle.order_read.specs.declared.order_fault.OrderFault.TheVariants.{BadOrder, OutOfMemory}
+use Rattle.order_read.specs.declared.read.Read.{Read}
+use Rattle.order_read.specs.Told.{told_read}
+use Rattle.order_read.specs.Told.Told.{Drawn}
+use Rattle.order_read.specs.Told.{optional_rect}
+
+-- the call read a drawing and kept it
+pub record IsDrawn (control : ℕ) (before after : Registers) (read : Read) (old new : CursorOf) : Type 0 where
+  pub fields : FieldList
+  pub bounds : Option Edges
+  pub stands : primary_at before control (rest old) ≡ Ok (seen_primary before fields bounds, rest new)
+  pub bytes : new.bytes ≡ old.bytes
+  pub told : (body : List ℕ) → told_read body read ≡ Drawn fields (optional_rect bounds)
+  pub kept : after ≡ (seen_primary before fields bounds).after
+
+abbrev pub ReadsPrimary : ℕ → Registers → Registers → Result Read OrderFault → CursorOf → CursorOf → Type 0
+ReadsPrimary control before after (Ok read) old new = IsDrawn control before after read old new
+ReadsPrimary control before after (Err (BadOrder at)) old new = (primary_at before control (rest old) ≡ Err (rest new)) × (new.bytes ≡ old.bytes) × (at ≡ new.at)
+ReadsPrimary control before after (Err OutOfMemory) old new = ⊤

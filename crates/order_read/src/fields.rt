@@ -1,0 +1,160 @@
+//! The fields of a primary order, read over the last ones of its type ([MS-RDPEGDI] 2.2.2.2.1.1.2).
+
+ghost use Rattle.std.specs.Prelude.{◌≡◌, ◌<◌, ◌≤◌, length, take, [], true, is_some, IfOk, OnOk};
+ghost use Rattle.wire_num.specs.Cursor.{ReadsField, ReadsFieldAs};
+ghost use Rattle.order_fields.specs.OrderTable.{FitsKind, FitKinds, row_of, last_values, AreRegisters};
+ghost use Rattle.order_fields.specs.OrderStream.{value_at, field_at, counted_at};
+ghost use Rattle.order_read.specs.Reading.{ReadsOr};
+ghost use Rattle.order_read.specs.Parts.{IsShort, AreShort, ReadsNumbers, fields_at};
+
+use crate::OrderFault;
+use crate::number::{read_byte, read_color, read_moved, read_short, read_signed};
+use order_fields::{FieldKind, Fields, Regs, is_counted, kinds_of};
+use std::alloc::Global;
+use wire_num::{Cursor, Short};
+
+/// The most values that an order has: those of GlyphIndex.
+const MOST_VALUES: usize = 21;
+
+/// The bytes of a signed number that isn't in the delta form.
+const SIGNED_SIZE: usize = 2;
+
+/// Reads the value of a field that stands there; `delta` says whether coordinates are in the delta form.
+fn read_value(
+    cursor: &mut Cursor<'_>,
+    kind: FieldKind,
+    delta: bool,
+    last: i64,
+) -> Result<i64, Short>
+    requires size { IsShort kind }
+    requires last { FitsKind kind last }
+    ensures read { ReadsField (value_at kind delta last) result cursor.old cursor.new }
+    ensures fits { IfOk result (FitsKind kind) }
+{
+    match kind {
+        FieldKind::Coordinate if delta => read_moved(cursor, last),
+        FieldKind::Coordinate | FieldKind::Signed => read_signed(cursor, SIGNED_SIZE),
+        FieldKind::Number(size) => read_short(cursor, size),
+        FieldKind::Color => Ok(i64::from(read_color(cursor)?)),
+    }
+}
+
+/// Reads a field; one that doesn't stand there has its last value.
+fn read_field(
+    cursor: &mut Cursor<'_>,
+    present: bool,
+    kind: FieldKind,
+    delta: bool,
+    last: i64,
+) -> Result<i64, Short>
+    requires size { IsShort kind }
+    requires last { FitsKind kind last }
+    ensures read { ReadsField (field_at present kind delta last) result cursor.old cursor.new }
+    ensures fits { IfOk result (FitsKind kind) }
+{
+    if present {
+        read_value(cursor, kind, delta, last)
+    } else {
+        Ok(last)
+    }
+}
+
+/// Reads the fields over their last values, and gives the flags that are left.
+fn read_values(
+    cursor: &mut Cursor<'_>,
+    kinds: &[FieldKind],
+    flags: u32,
+    delta: bool,
+    values: &mut [i64],
+) -> Result<u32, Short>
+    requires count { length values.old ≡ length kinds.now }
+    requires sized { AreShort kinds.now }
+    requires fits { FitKinds kinds.now values.old }
+    ensures read { ReadsNumbers kinds.now flags delta values.old values.new result cursor.old cursor.new }
+    ensures fits { OnOk result (FitKinds kinds.now values.new) }
+{
+    let mut left = flags;
+    for i in 0..kinds.len() {
+        values[i] = read_field(cursor, left % 2 == 1, kinds[i], delta, values[i])?;
+        left /= 2;
+    }
+    Ok(left)
+}
+
+/// Reads counted bytes, which are one field: a count byte and that many bytes.
+fn read_counted<'a>(cursor: &mut Cursor<'a>) -> Result<&'a [u8], Short>
+    ensures read { ReadsFieldAs (λ bytes. bytes.now) (counted_at true []) result cursor.old cursor.new }
+    ensures fits { IfOk result (λ bytes. length bytes.now < 256) }
+{
+    let at = cursor.at();
+    let count = read_byte(cursor)?;
+    match cursor.bytes(usize::from(count)) {
+        Ok(bytes) => Ok(bytes),
+        Err(_) => {
+            cursor.go_to(at);
+            Err(Short { at })
+        }
+    }
+}
+
+/// Reads all fields of an order of a type over its last values.
+fn read_over(
+    alloc: Global,
+    cursor: &mut Cursor<'_>,
+    kind: u8,
+    flags: u32,
+    delta: bool,
+    regs: &Regs,
+    values: &mut [i64],
+) -> Result<Fields, OrderFault>
+    requires kind { is_some (row_of kind) ≡ true }
+    requires sound { AreRegisters regs.now }
+    requires last { values.old ≡ (last_values regs.now kind).numbers }
+    ensures { ReadsOr (λ o. o) (fields_at kind flags delta regs.now) result cursor.old cursor.new }
+{
+    let left = read_values(cursor, kinds_of(kind), flags, delta, values)?;
+    if !is_counted(kind) {
+        return Ok(Fields::plain(kind, values));
+    }
+    let bytes = if left % 2 == 1 {
+        read_counted(cursor)?
+    } else {
+        regs.last_bytes(kind)
+    };
+    Ok(Fields::new(alloc, kind, values, bytes)?)
+}
+
+/// Puts values at the front of others.
+fn put_front(all: &mut [i64], values: &[i64])
+    requires { length values.now ≤ length all.old }
+    ensures { take (length values.now) all.new ≡ values.now }
+{
+    all[..values.len()].copy_from_slice(values);
+}
+
+/// Reads all fields of an order of a type.
+#[tactic(auto, using(crate::proofs::KnownTypes::few_last))]
+pub fn read_fields(
+    alloc: Global,
+    cursor: &mut Cursor<'_>,
+    kind: u8,
+    flags: u32,
+    delta: bool,
+    regs: &Regs,
+) -> Result<Fields, OrderFault>
+    requires { is_some (row_of kind) ≡ true }
+    ensures { ReadsOr (λ o. o) (fields_at kind flags delta regs.now) result cursor.old cursor.new }
+{
+    let last = regs.last_values(kind);
+    let mut all = [0; MOST_VALUES];
+    put_front(&mut all, last);
+    read_over(
+        alloc,
+        cursor,
+        kind,
+        flags,
+        delta,
+        regs,
+        &mut all[..last.len()],
+    )
+}

@@ -1,0 +1,100 @@
+//! A primary order ([MS-RDPEGDI] 2.2.2.2.1.1.2).
+//!
+//! | size | part | there |
+//! |---|---|---|
+//! | 1 | controlFlags: standard 01, bounds 04, type change 08, delta coordinates 10, zero bounds deltas 20, and how many flag bytes are omitted in the two top bits | always |
+//! | 1 | orderType | where its bit is set |
+//! | 0 to 3 | fieldFlags, the lowest byte first | as many as aren't omitted |
+//! | 0 to 9 | bounds | where the order has some and they aren't the last ones |
+//! | | the fields | each where its flag is set |
+
+ghost use Rattle.std.specs.Prelude.{◌≡◌, ◌≤◌, ◌∷◌, true, is_some, drop, length, IfOk, OnErr};
+ghost use Rattle.wire_num.specs.Cursor.{ReadsField, rest};
+ghost use Rattle.order_fields.specs.OrderTable.{row_of, FitBounds};
+ghost use Rattle.order_fields.specs.OrderStream.{type_at, primary_at};
+ghost use Rattle.order_fields.specs.Kept.{optional_edges};
+ghost use Rattle.order_read.specs.Reading.{ReadsOr};
+ghost use Rattle.order_read.specs.Parts.{list_and_bounds_at};
+ghost use Rattle.order_read.specs.Primary.{ReadsPrimary};
+
+use crate::bits::has_bit;
+use crate::edges::{optional_rect_of, read_bounds};
+use crate::fields::read_fields;
+use crate::number::{read_byte, read_number};
+use crate::{OrderFault, Read};
+use order_fields::{Bounds, Fields, Regs, flag_bytes_of, is_order_type};
+use std::alloc::Global;
+use wire_num::{Cursor, Short};
+
+/// The bits of the control byte: TS_BOUNDS, TS_TYPE_CHANGE, TS_DELTA_COORDINATES, TS_ZERO_BOUNDS_DELTAS, and the first of the two that count omitted flag bytes.
+const BOUNDS: u8 = 0x04;
+
+const TYPE_CHANGE: u8 = 0x08;
+
+const DELTA_COORDINATES: u8 = 0x10;
+
+const ZERO_BOUNDS_DELTAS: u8 = 0x20;
+
+const ZERO_FIELD_BYTE: u8 = 0x40;
+
+/// Reads the order's type, where it stands there; else it is the last one.
+fn read_type(cursor: &mut Cursor<'_>, changed: bool, last: u8) -> Result<u8, Short>
+    ensures { ReadsField (type_at changed last) result cursor.old cursor.new }
+{
+    if changed { read_byte(cursor) } else { Ok(last) }
+}
+
+/// Reads an order's flags, so many bytes, its bounds, and its fields.
+fn read_list(
+    alloc: Global,
+    cursor: &mut Cursor<'_>,
+    kind: u8,
+    size: u8,
+    control: u8,
+    regs: &Regs,
+) -> Result<(Fields, Option<Bounds>), OrderFault>
+    requires kind { is_some (row_of kind) ≡ true }
+    requires size { size ≤ 3 }
+    ensures read { ReadsOr (λ p. (p.0, optional_edges p.1)) (list_and_bounds_at kind size control regs.now) result cursor.old cursor.new }
+    ensures fits { IfOk result (λ p. FitBounds (optional_edges p.1)) }
+{
+    let flags = read_number(cursor, usize::from(size))? as u32;
+    let same = has_bit(control, ZERO_BOUNDS_DELTAS);
+    let bounds = read_bounds(cursor, has_bit(control, BOUNDS), same, regs.last_bounds())?;
+    let delta = has_bit(control, DELTA_COORDINATES);
+    let fields = read_fields(alloc, cursor, kind, flags, delta, regs)?;
+    Ok((fields, bounds))
+}
+
+/// Reads the order behind its control byte, which stands at `first`, and keeps it in the registers. An `Err` leaves them as they were.
+pub fn read_primary(
+    alloc: Global,
+    cursor: &mut Cursor<'_>,
+    first: usize,
+    control: u8,
+    regs: &mut Regs,
+) -> Result<Read, OrderFault>
+    requires place { first ≤ length cursor.old.bytes }
+    requires control { drop first cursor.old.bytes ≡ control ∷ rest cursor.old }
+    ensures read { ReadsPrimary control regs.old regs.new result cursor.old cursor.new }
+    ensures unchanged { OnErr result (regs.new ≡ regs.old) }
+{
+    let typed = cursor.at();
+    let kind = read_type(cursor, has_bit(control, TYPE_CHANGE), regs.last_kind())?;
+    if !is_order_type(kind) {
+        cursor.go_to(typed);
+        return Err(OrderFault::BadOrder { at: typed });
+    }
+    let omitted = control / ZERO_FIELD_BYTE;
+    let all = flag_bytes_of(kind);
+    if all < omitted {
+        cursor.go_to(first);
+        return Err(OrderFault::BadOrder { at: first });
+    }
+    let (fields, bounds) = read_list(alloc, cursor, kind, all - omitted, control, regs)?;
+    regs.keep(&fields, bounds);
+    Ok(Read::Primary {
+        fields,
+        bounds: optional_rect_of(bounds),
+    })
+}

@@ -1,0 +1,4 @@
+pub mod Entered
+pub mod Reactions
+pub mod Sound
+pub mod Joins
