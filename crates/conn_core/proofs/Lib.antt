@@ -1,0 +1,5 @@
+pub mod Fronts
+pub mod Areas
+pub mod Part
+pub mod Wanted
+pub mod Loop

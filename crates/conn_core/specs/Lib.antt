@@ -1,0 +1,4 @@
+pub mod Judges
+pub mod Feeds
+pub mod Stream
+pub mod Kept

@@ -1,0 +1,214 @@
+//! What is heard of a stream: whole packets are answered and told, and what is left waits for the next bytes.
+
+ghost use Rattle.std.specs.Prelude.{◌≡◌, ◌<◌, ◌≤◌, ℕ, ◌+◌, [], false, length, take, Ok, IfOk, OnOk, OnErr};
+ghost use Rattle.tpkt_x224.specs.declared.tpkt.Packet.TheVariants.{Whole, Part};
+ghost use Rattle.tpkt_x224.specs.Tpkt.{packet_at};
+ghost use Rattle.conn_rules.specs.Hearing.{is_over, judged_heard, heard};
+ghost use Rattle.conn_rules.specs.Packets.{packet_judged};
+ghost use Rattle.conn_core.specs.Feeds.{Appends, AppendsSome};
+ghost use Rattle.conn_core.specs.Stream.{hearing, refused_talk, part_heard, IsStanding, wanted_length};
+ghost use Rattle.conn_core.specs.Judges.{IsWritable};
+
+use crate::fault::Fault;
+use crate::packets::judge_packet;
+use crate::refusals::{BAD_LENGTH, NOT_TPKT};
+use crate::replies::write_reply;
+use crate::talk::Talk;
+use crate::told::tell;
+use conn_rules::{Answer, ConnStep, Stage};
+use input_pdu::Event;
+use out_of_memory::OutOfMemory;
+use tpkt_x224::{Packet, next_packet};
+
+/// The bytes of a TPKT header.
+const TPKT_SIZE: usize = 4;
+/// The place of a packet's length in it.
+const LENGTH: u64 = 2;
+
+/// Vectors that are taken again and again: the events of an Input PDU, and the data of a packet that is written.
+#[derive(Drop)]
+pub struct Room {
+    pub events: Vec<Event>,
+    pub body: Vec<u8>,
+}
+
+/// Hears bytes: appends replies to `out` and steps to `steps`. An `Err` leaves a front of both there.
+pub fn hear(
+    talk: &mut Talk,
+    part: &mut Vec<u8>,
+    room: &mut Room,
+    bytes: &[u8],
+    out: &mut Vec<u8>,
+    steps: &mut Vec<ConnStep>,
+) -> Result<(), OutOfMemory>
+    requires { IsStanding (hearing talk.old part.old.items) }
+    ensures heard { OnOk result (hearing talk.new part.new.items ≡ (heard (hearing talk.old part.old.items) bytes.now).after) }
+    ensures appended { OnOk result (Appends (heard (hearing talk.old part.old.items) bytes.now) out.old.items out.new.items steps.old.items steps.new.items) }
+    ensures memory { OnErr result (AppendsSome (heard (hearing talk.old part.old.items) bytes.now) out.old.items out.new.items steps.old.items steps.new.items) }
+    ensures standing { OnOk result (IsStanding (hearing talk.new part.new.items)) }
+    ensures size { talk.new.size ≡ talk.old.size }
+{
+    let mut left = bytes;
+    while !left.is_empty() {
+        if is_over(talk.stage) {
+            return Ok(());
+        }
+        let n = hear_some(talk, part, room, left, out, steps)?;
+        left = &left[n..];
+    }
+    Ok(())
+}
+
+/// Hears the first bytes: as many as the part of a packet that is there lacks, or all of them. Gives how many they are.
+fn hear_some(
+    talk: &mut Talk,
+    part: &mut Vec<u8>,
+    room: &mut Room,
+    bytes: &[u8],
+    out: &mut Vec<u8>,
+    steps: &mut Vec<ConnStep>,
+) -> Result<usize, OutOfMemory>
+    requires standing { IsStanding (hearing talk.old part.old.items) }
+    requires open { is_over talk.old.stage ≡ false }
+    requires some { 0 < length bytes.now }
+    ensures heard { IfOk result (λ n. hearing talk.new part.new.items ≡ (heard (hearing talk.old part.old.items) (take n bytes.now)).after) }
+    ensures appended { IfOk result (λ n. Appends (heard (hearing talk.old part.old.items) (take n bytes.now)) out.old.items out.new.items steps.old.items steps.new.items) }
+    ensures memory { OnErr result (AppendsSome (heard (hearing talk.old part.old.items) bytes.now) out.old.items out.new.items steps.old.items steps.new.items) }
+    ensures some { IfOk result (λ n. 0 < n) }
+    ensures few { IfOk result (λ n. n ≤ length bytes.now) }
+    ensures size { talk.new.size ≡ talk.old.size }
+{
+    let n = lacking(part).min(bytes.len());
+    part.extend_from_slice(&bytes[..n])?;
+    hear_part(talk, part, room, out, steps)?;
+    Ok(n)
+}
+
+/// Whether nothing more is looked at.
+fn is_over(stage: Stage) -> bool
+    ensures { result ≡ is_over stage }
+{
+    match stage {
+        Stage::Request
+        | Stage::Initial { .. }
+        | Stage::Erect { .. }
+        | Stage::Attach { .. }
+        | Stage::Joins { .. }
+        | Stage::Shares { .. } => false,
+        Stage::Over | Stage::Refused { .. } => true,
+    }
+}
+
+/// How many bytes the header of a packet lacks, or, behind it, the packet.
+#[tactic(auto, using(crate::proofs::Wanted::lacks))]
+fn lacking(part: &[u8]) -> usize
+    requires { packet_at part.now ≡ Part }
+    ensures wanted { result + length part.now ≡ wanted_length part.now }
+    ensures some { 0 < result }
+{
+    wanted_length(part) - part.len()
+}
+
+/// How many bytes there must be before more can be said: the header, and behind it the packet.
+fn wanted_length(part: &[u8]) -> usize
+    ensures { result ≡ wanted_length part.now }
+{
+    match part {
+        [_, _, high, low, ..] => usize::from(*high) * 256 + usize::from(*low),
+        _ => TPKT_SIZE,
+    }
+}
+
+/// Hears the part of a packet that is there, once more of it came: nothing, or all of it.
+fn hear_part(
+    talk: &mut Talk,
+    part: &mut Vec<u8>,
+    room: &mut Room,
+    out: &mut Vec<u8>,
+    steps: &mut Vec<ConnStep>,
+) -> Result<(), OutOfMemory>
+    requires wide { talk.old.size.w ≤ 65535 }
+    requires high { talk.old.size.h ≤ 65535 }
+    requires open { is_over talk.old.stage ≡ false }
+    requires alone { (n : ℕ) → packet_at part.old.items ≡ Whole n → n ≡ length part.old.items }
+    ensures heard { OnOk result (hearing talk.new part.new.items ≡ (part_heard talk.old part.old.items).after) }
+    ensures appended { OnOk result (Appends (part_heard talk.old part.old.items) out.old.items out.new.items steps.old.items steps.new.items) }
+    ensures memory { OnErr result (AppendsSome (part_heard talk.old part.old.items) out.old.items out.new.items steps.old.items steps.new.items) }
+    ensures size { talk.new.size ≡ talk.old.size }
+{
+    match next_packet(part) {
+        Packet::Whole(_) => {
+            hear_packet(talk, part, room, out, steps)?;
+            part.clear();
+        }
+        Packet::Part => {}
+        Packet::NotTpkt => {
+            refuse(talk, NOT_TPKT, 0);
+            part.clear();
+        }
+        Packet::BadLength => {
+            refuse(talk, BAD_LENGTH, LENGTH);
+            part.clear();
+        }
+    }
+    Ok(())
+}
+
+/// Refuses the stream so many bytes behind the first one of the packet at hand.
+fn refuse(talk: &mut Talk, k: u8, n: u64)
+    ensures { talk.new ≡ refused_talk talk.old k n }
+{
+    talk.stage = Stage::Refused {
+        k,
+        at: talk.place.saturating_add(n),
+    };
+}
+
+/// Hears a whole packet.
+fn hear_packet(
+    talk: &mut Talk,
+    packet: &[u8],
+    room: &mut Room,
+    out: &mut Vec<u8>,
+    steps: &mut Vec<ConnStep>,
+) -> Result<(), OutOfMemory>
+    requires wide { talk.old.size.w ≤ 65535 }
+    requires high { talk.old.size.h ≤ 65535 }
+    ensures heard { OnOk result (hearing talk.new [] ≡ (judged_heard (hearing talk.old []) packet.now (packet_judged talk.old.stage packet.now)).after) }
+    ensures appended { OnOk result (Appends (judged_heard (hearing talk.old []) packet.now (packet_judged talk.old.stage packet.now)) out.old.items out.new.items steps.old.items steps.new.items) }
+    ensures memory { OnErr result (AppendsSome (judged_heard (hearing talk.old []) packet.now (packet_judged talk.old.stage packet.now)) out.old.items out.new.items steps.old.items steps.new.items) }
+    ensures size { talk.new.size ≡ talk.old.size }
+{
+    match judge_packet(talk.stage, packet, &mut room.events) {
+        Ok(answer) => hear_answer(talk, packet, answer, room, out, steps),
+        Err(Fault::Refused(refusal)) => {
+            refuse(talk, refusal.k, refusal.at as u64);
+            Ok(())
+        }
+        Err(Fault::OutOfMemory) => Err(OutOfMemory),
+    }
+}
+
+/// Replies and tells what a packet was judged to be.
+fn hear_answer(
+    talk: &mut Talk,
+    packet: &[u8],
+    answer: Answer,
+    room: &mut Room,
+    out: &mut Vec<u8>,
+    steps: &mut Vec<ConnStep>,
+) -> Result<(), OutOfMemory>
+    requires wide { talk.old.size.w ≤ 65535 }
+    requires high { talk.old.size.h ≤ 65535 }
+    requires writable { IsWritable answer.reply }
+    ensures heard { OnOk result (hearing talk.new [] ≡ (judged_heard (hearing talk.old []) packet.now (Ok answer)).after) }
+    ensures appended { OnOk result (Appends (judged_heard (hearing talk.old []) packet.now (Ok answer)) out.old.items out.new.items steps.old.items steps.new.items) }
+    ensures memory { OnErr result (AppendsSome (judged_heard (hearing talk.old []) packet.now (Ok answer)) out.old.items out.new.items steps.old.items steps.new.items) }
+    ensures size { talk.new.size ≡ talk.old.size }
+{
+    write_reply(out, talk.size, &mut room.body, answer.reply)?;
+    tell(talk.stage, packet, answer.news, &mut room.events, steps)?;
+    talk.stage = answer.next;
+    talk.place = talk.place.saturating_add(packet.len() as u64);
+    Ok(())
+}
