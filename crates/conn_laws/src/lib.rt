@@ -1,0 +1,6 @@
+//! Laws of what is heard of a client's stream: what follows Ready, and what follows the end.
+#![tactic(auto)]
+
+mod laws;
+
+pub use laws::{nothing_follows_the_end, once_ready_nothing_is_replied};

@@ -1,0 +1,11 @@
+pub mod Repaint
+pub mod Seen
+pub mod Cuts
+pub mod Paintings
+pub mod Rules
+pub mod Inks
+pub mod Runs
+pub mod Dots
+pub mod Lines
+pub mod Sound
+pub mod Many

@@ -1,0 +1,24 @@
+use Rattle.std.proofs.Common.{◌≡◌, ℕ, ◌+◌, ◌*◌, ◌-◌, ◌<◌, length, get_or, refl, ap, ◌∙◌, sym, arith}
+use Rattle.std.specs.Prelude.{pos, option_copied}
+use Rattle.std.proofs.lemmas.Bool.Decides.{nat_tests}
+use borrow.Rule.Slice.PartMut.{mid_of}
+use Rattle.rop3_core.specs.Rop3.{ternary_raster}
+use Rattle.draw_ops.specs.Drawing.{pattern_of}
+use Rattle.surface_flat.specs.Textures.{source_color, mixed_color}
+use Rattle.surface_flat.proofs.Repaint.{same_mix, stretch_fits, length_mid, stretch_pixel, untouched, next_row_down}
+use Rattle.surface_flat.proofs.mix.mix_part.Goals as goal
+
+pub loop-y-preserved : goal.loop-y-preserved
+loop-y-preserved c = let p = c.args.part in let mix = c.args.mix in let size = c.args.size in let cur = c.loop-y.pixels in let old = c.args.pixels.now in let y = c.loop-y.y in
+    let high : y < size.h = omega (arith, c.requires.inside.rows) in
+    let whole = c.loop-y.auto.pixels ∙ c.requires.canvas.sized in
+    let n = size.w * y + p.x in
+    let m = (n + p.w) - n in
+    let em : (n + p.w) - n ≡ p.w = omega arith in
+    let wide = length_mid n ((n + p.w) - n) p.w cur (stretch_fits size p.x y p.w cur whole high c.requires.inside.columns) em in
+    next_row_down size p.x p.y p.w (mixed_color size old p mix) old cur c.rop_row.new.d y n ((n + p.w) - n) c.loop-y.invariant whole c.loop-y.auto.y high c.requires.inside.columns refl em
+    (c.rop_row.auto.d ∙ wide)
+    (λ i below. c.rop_row.ensures i (omega (arith, below, wide))
+    ∙ same_mix mix.rop _ _ _ _ _ _ (c.set_pattern.ensures i (omega (arith, below, c.requires.pattern, c.loop-y.auto.pattern))) (c.set_source.ensures i below)
+    (stretch_pixel size n ((n + p.w) - n) p.x y i cur refl (omega (arith, below, em))
+    ∙ untouched size p.x p.y p.w (y - p.y) (mixed_color size old p mix) old cur (p.x + i) y c.loop-y.invariant (omega (arith, below, c.requires.inside.columns)) high (grind (arith, nat_tests, c.loop-y.auto.y))))

@@ -1,0 +1,9 @@
+use Rattle.std.proofs.Common.{sym, subst}
+use Rattle.draw_ops.specs.Fits.{AllFitState}
+use Rattle.surface_flat.specs.Held.{state_of}
+use Rattle.surface_flat.specs.Surfaces.{SurfaceOf}
+use Rattle.surface_flat.proofs.Many.{small_saves}
+use Rattle.surface_flat.proofs.surface.Surface.rooms_for.Goals as goal
+
+pub take_rooms-requires : goal.take_rooms-requires
+take_rooms-requires c = small_saves c.args.self.now.size c.args.self.now.state c.args.ds.now c.requires

@@ -1,0 +1,10 @@
+pub mod Surfaces
+pub mod Refused
+pub mod Bits
+pub mod Courses
+pub mod Held
+pub mod Lined
+pub mod Parts
+pub mod Pens
+pub mod Texts
+pub mod Textures

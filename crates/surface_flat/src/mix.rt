@@ -1,0 +1,91 @@
+//! Raster operations by rows.
+ghost use Rattle.std.specs.Prelude.{◌≡◌, ℕ, ◌+◌, ◌*◌, ◌%◌, ◌<◌, ◌≤◌, length, get_or, pos, IfSome, option_copied};
+ghost use Rattle.draw_ops.specs.Drawing.{pattern_of};
+ghost use Rattle.surface_flat.specs.Parts.{in_part, IsCanvas, IsInside, IsRepainted};
+ghost use Rattle.surface_flat.specs.Textures.{source_color, mixed_color, CoversPart};
+
+use crate::part::Part;
+use crate::texture::Texture;
+use draw_ops::Brush;
+use px_core::Size;
+use rop3_core::rop_row;
+
+/// The columns, and the rows, of a brush.
+const BRUSH_SIDE: usize = 8;
+
+/// A raster operation by its code, with a brush as its pattern and a texture as its source; one that is missing counts as 0.
+#[derive(Clone, Copy)]
+pub(crate) struct Mix<'a> {
+    pub(crate) rop: u8,
+    pub(crate) brush: Option<&'a Brush>,
+    pub(crate) texture: Option<Texture<'a>>,
+}
+
+/// Makes each pixel of a part what a raster operation makes of it. Two rows of the part's width are for the operands of one row.
+pub(crate) fn mix_part(
+    pixels: &mut [u32],
+    size: Size,
+    part: Part,
+    mix: Mix,
+    pattern: &mut [u32],
+    source: &mut [u32],
+)
+    requires canvas { IsCanvas size pixels.old }
+    requires inside { IsInside size part }
+    requires texture { IfSome mix.texture (CoversPart part) }
+    requires pattern { length pattern.old ≡ part.w }
+    requires source { length source.old ≡ part.w }
+    ensures { IsRepainted size (in_part part) (mixed_color size pixels.old part mix.entry) pixels.old pixels.new }
+{
+    let width = size.w as usize;
+    for y in part.y..part.y + part.h {
+        set_pattern(pattern, mix.brush, part.x, y);
+        set_source(source, mix.texture, part, y);
+        let at = width * y + part.x;
+        rop_row(mix.rop, pattern, source, &mut pixels[at..at + part.w]);
+    }
+}
+
+/// The pattern of row y from column x on: a brush's, or 0.
+pub(crate) fn set_pattern(row: &mut [u32], brush: Option<&Brush>, x: usize, y: usize)
+    requires { x + length row.old ≤ 65536 }
+    ensures { (k : ℕ) → k < length row.old → get_or row.new k 0 ≡ pattern_of (option_copied brush.entry) (pos (x + k)) (pos y) }
+{
+    match brush {
+        None => row.fill(0),
+        Some(brush) => repeat_brush(row, brush.pixels(), x, y),
+    }
+}
+
+/// Row y of a brush from column x on, as often as it fits.
+fn repeat_brush(row: &mut [u32], brush: &[u32], x: usize, y: usize)
+    requires short { x + length row.old ≤ 65536 }
+    requires brush { length brush.now ≡ 64 }
+    ensures { (k : ℕ) → k < length row.old → get_or row.new k 0 ≡ get_or brush.now (8 * (y % 8) + (x + k) % 8) 0 }
+{
+    let from = BRUSH_SIDE * (y % BRUSH_SIDE);
+    for k in 0..row.len() {
+        row[k] = if k < BRUSH_SIDE {
+            brush[from + (x + k) % BRUSH_SIDE]
+        } else {
+            row[k - BRUSH_SIDE]
+        };
+    }
+}
+
+/// The source of row y of a part: a texture's row, or 0.
+fn set_source(row: &mut [u32], texture: Option<Texture>, part: Part, y: usize)
+    requires wide { length row.old ≡ part.w }
+    requires above { part.y ≤ y }
+    requires below { y < part.y + part.h }
+    requires texture { IfSome texture (CoversPart part) }
+    ensures { (k : ℕ) → k < part.w → get_or row.new k 0 ≡ source_color part texture.entry (part.x + k) y }
+{
+    match texture {
+        None => row.fill(0),
+        Some(texture) => {
+            let from = texture.w * (texture.y + (y - part.y)) + texture.x;
+            row.copy_from_slice(&texture.pixels[from..from + part.w]);
+        }
+    }
+}
