@@ -1,5 +1,5 @@
 -- Lines, one pixel after another.
-use Rattle.std.proofs.Common.{◌≡◌, ◌≢◌, ℕ, zero, suc, ◌+◌, ◌*◌, ◌/◌, ◌%◌, ◌-◌, ◌≤◌, ◌<◌, List, length, get_or, set, Bool, true, false, refl, ap, sym, ◌∙◌, subst, arith, get_or-set_same, get_or-set_other}
+use Rattle.std.proofs.Common.{◌≡◌, ℕ, ◌+◌, ◌*◌, ◌-◌, ◌≤◌, ◌<◌, List, length, get_or, set, Bool, true, false, refl, ap, sym, ◌∙◌, arith, get_or-set_same, get_or-set_other}
 use Rattle.std.specs.Prelude.{◌&&◌, ◌==◌, nat_le, nat_lt, slice_set, if◌then◌else◌}
 use Rattle.std.proofs.lemmas.Nat.{same_from_place}
 use Rattle.std.proofs.lemmas.List.{length-set}
@@ -7,12 +7,12 @@ use Rattle.std.proofs.Math.Nat.{mul_comm}
 use Rattle.std.proofs.lemmas.Bool.{and_parts, and_from}
 use Rattle.std.proofs.lemmas.Bool.Decides.{nat_tests}
 use Rattle.px_core.specs.declared.surface.Size.{Size}
-use Rattle.px_core.specs.Picture.{item, pixel_count, pixel_at}
+use Rattle.px_core.specs.Picture.{pixel_count, pixel_at}
 use Rattle.px_core.proofs.Pictures.{item-get_or}
 use Rattle.surface_flat.specs.declared.part.Part.{Part}
 use Rattle.surface_flat.specs.declared.line.Course.{Course}
 use Rattle.surface_flat.specs.Parts.{in_part, IsInside, IsRepainted}
-use Rattle.surface_flat.specs.Courses.{apart, step, rise, is_course_place, by_steepness, is_course_pixel, is_dot, IsCourse}
+use Rattle.surface_flat.specs.Courses.{apart, step, rise, is_course_place, by_steepness, is_course_pixel, is_dot}
 use Rattle.surface_flat.proofs.Repaint.{under_true, under_false, and_false, painted_twice, added, row_before}
 
 -- ---- one pixel

@@ -1,11 +1,11 @@
 -- Glyphs that were drawn bit by bit.
-use Rattle.std.proofs.Common.{◌≡◌, ℕ, ◌+◌, ◌*◌, ◌/◌, ◌%◌, ◌-◌, ◌^◌, ◌≤◌, ◌<◌, List, length, get_or, Bool, true, false, refl, ap, sym, ◌∙◌, arith}
-use Rattle.std.specs.Prelude.{◌&&◌, ◌==◌, nat_le, nat_lt, pos, ◌-ℤ◌, ◌+ℤ◌, ℤ, if◌then◌else◌}
+use Rattle.std.proofs.Common.{◌≡◌, ℕ, ◌+◌, ◌*◌, ◌/◌, ◌%◌, ◌-◌, ◌^◌, ◌≤◌, ◌<◌, List, length, Bool, true, false, refl, ap, sym, ◌∙◌, arith}
+use Rattle.std.specs.Prelude.{◌&&◌, ◌==◌, pos, ◌-ℤ◌, ◌+ℤ◌, ℤ, if◌then◌else◌}
 use Rattle.std.proofs.lemmas.Int.{ints}
 use Rattle.std.proofs.lemmas.Bool.Decides.{nat_tests}
 use Rattle.px_core.specs.declared.surface.Size.{Size}
 use Rattle.px_core.specs.declared.rectangle.Rect.{Rect}
-use Rattle.px_core.specs.Picture.{Area, both, item, nat_of, pixel_count, pixel_at, painted, where_chosen}
+use Rattle.px_core.specs.Picture.{Area, both, nat_of, pixel_count, pixel_at, painted, where_chosen}
 use Rattle.px_core.specs.Rectangle.{in_rect}
 use Rattle.px_core.proofs.Pictures.{item-get_or}
 use Rattle.rop3_core.specs.Palette.{session_colors}

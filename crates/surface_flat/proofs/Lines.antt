@@ -1,7 +1,7 @@
 -- The pixels of a line are those of its course.
-use Rattle.std.proofs.Common.{◌≡◌, ◌≢◌, ℕ, zero, suc, ◌+◌, ◌*◌, ◌/◌, ◌-◌, ◌≤◌, ◌<◌, List, length, Bool, true, false, refl, ap, sym, ◌∙◌, arith}
-use Rattle.std.specs.Prelude.{◌&&◌, ◌||◌, not, ◌==◌, nat_le, nat_lt, ℤ, pos, negsuc, ◌+ℤ◌, ◌-ℤ◌, ◌≤ℤ◌, ◌<ℤ◌, int_le, int_lt, nat_abs, if◌then◌else◌, None}
-use Rattle.std.specs.Int.{int_min, int_max}
+use Rattle.std.proofs.Common.{◌≡◌, ℕ, zero, suc, ◌+◌, ◌*◌, ◌/◌, ◌-◌, ◌≤◌, ◌<◌, List, length, Bool, true, false, refl, ap, sym, ◌∙◌, arith}
+use Rattle.std.specs.Prelude.{◌&&◌, ◌||◌, not, ◌==◌, nat_le, nat_lt, ℤ, pos, negsuc, ◌+ℤ◌, ◌-ℤ◌, int_le, nat_abs, if◌then◌else◌, None}
+use Rattle.std.specs.Int.{int_min}
 use Rattle.std.specs.Ordering.{int_eq}
 use Rattle.std.proofs.lemmas.Int.{ints, clamps}
 use Rattle.std.proofs.lemmas.Nat.{mul-le, div_below}
@@ -9,10 +9,10 @@ use Rattle.std.proofs.lemmas.Bool.{and_from, and_parts}
 use Rattle.std.proofs.lemmas.Bool.Decides.{nat_tests, Decides-int_eq}
 use Rattle.px_core.specs.declared.surface.Size.{Size}
 use Rattle.px_core.specs.Picture.{Area, pixel_count, pixel_at, where_chosen}
-use Rattle.px_core.specs.Rectangle.{boxed, within, in_rect, whole}
+use Rattle.px_core.specs.Rectangle.{within, in_rect, whole}
 use Rattle.px_core.proofs.Stretches.{within-from, same_test}
 use Rattle.draw_ops.specs.Fits.{is_corner, broken_if, line_rule}
-use Rattle.draw_ops.specs.Formulas.{towards, is_on_long_line, line_area, line_rect, solid, picture_after}
+use Rattle.draw_ops.specs.Formulas.{towards, is_on_long_line, line_rect, solid, picture_after}
 use Rattle.rop3_core.specs.Palette.{session_colors}
 use Rattle.surface_flat.specs.declared.part.Part.{Part}
 use Rattle.surface_flat.specs.declared.line.Ends.{Ends}
@@ -21,7 +21,6 @@ use Rattle.surface_flat.specs.Parts.{in_part, IsRepainted}
 use Rattle.surface_flat.specs.Courses.{apart, step, rise, is_course_place, is_course_pixel, IsCourse}
 use Rattle.surface_flat.specs.Lined.{lined, IsCourseOf}
 use Rattle.surface_flat.proofs.Repaint.{none_painted, and_false}
-use Rattle.surface_flat.proofs.Rules.{IsNearCorner, corner_is}
 use Rattle.surface_flat.proofs.Paintings.{painted_is}
 
 -- ---- shifted coordinates

@@ -1,11 +1,11 @@
 -- Drawings one after another.
-use Rattle.std.proofs.Common.{◌≡◌, ℕ, zero, suc, ◌+◌, ◌<◌, List, [], ◌∷◌, ◌++◌, length, refl, ap, sym, ◌∙◌, arith}
+use Rattle.std.proofs.Common.{◌≡◌, ℕ, zero, suc, List, [], ◌∷◌, ◌++◌, refl, arith}
 use Rattle.std.specs.Prelude.{All, Option, Some, None, option_map}
 use Rattle.px_core.specs.declared.surface.Size.{Size}
 use Rattle.draw_ops.specs.declared.shape.Drawing.{Drawing}
 use Rattle.draw_ops.specs.Slots.{SurfaceState}
-use Rattle.draw_ops.specs.Drawing.{state_after_drawing, state_after_drawings}
-use Rattle.draw_ops.specs.Fits.{broken_rule, slot_misfit, first_some, Misfit, FitsState, AllFitState}
+use Rattle.draw_ops.specs.Drawing.{state_after_drawing}
+use Rattle.draw_ops.specs.Fits.{broken_rule, slot_misfit, FitsState, AllFitState}
 use Rattle.draw_ops.specs.Fits.Misfit.{Rule}
 use Rattle.surface_flat.specs.declared.room.Room.{Room}
 use Rattle.surface_flat.specs.Held.{IsRoomFor, AreRooms, IsSmallSave}

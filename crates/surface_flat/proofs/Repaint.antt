@@ -1,7 +1,6 @@
 -- Repainted pictures, one row after another.
-use Rattle.std.proofs.Common.{◌≡◌, ℕ, zero, suc, ◌+◌, ◌*◌, ◌-◌, ◌≤◌, ◌<◌, List, [], ◌∷◌, ◌++◌, length, take, drop, get_or, Bool, true, false, refl, ap, sym, ◌∙◌, subst, arith, rules, inl, inr}
-use Rattle.std.specs.Prelude.{◌&&◌, ◌||◌, nat_le, nat_lt, if◌then◌else◌, ◌⊎◌}
-use Rattle.std.proofs.lemmas.Bool.{and_from, and_parts}
+use Rattle.std.proofs.Common.{◌≡◌, ℕ, suc, ◌+◌, ◌*◌, ◌-◌, ◌≤◌, ◌<◌, List, length, get_or, Bool, true, false, refl, ap, sym, ◌∙◌, subst, arith, rules, inl, inr}
+use Rattle.std.specs.Prelude.{◌&&◌, nat_le, nat_lt, if◌then◌else◌}
 use Rattle.std.proofs.lemmas.Bool.Decides.{nat_tests}
 use Rattle.std.proofs.lemmas.List.{places}
 use Rattle.std.proofs.lemmas.Bool.{cases_lt}
@@ -9,11 +8,11 @@ use Rattle.std.proofs.lemmas.Nat.{mul-add-lt}
 use Rattle.std.proofs.Math.Nat.{mul_comm}
 use borrow.Rule.Slice.PartMut.{put_mid, mid_of}
 use Rattle.px_core.specs.declared.surface.Size.{Size}
-use Rattle.px_core.specs.Picture.{item, pixel_count, pixel_at}
+use Rattle.px_core.specs.Picture.{pixel_count, pixel_at}
 use Rattle.px_core.proofs.Pictures.{item-get_or}
 use Rattle.rop3_core.specs.Rop3.{ternary_raster}
 use Rattle.surface_flat.specs.declared.part.Part.{Part}
-use Rattle.surface_flat.specs.Parts.{Pixels, part_at, in_part, IsCanvas, IsInside, IsRepainted}
+use Rattle.surface_flat.specs.Parts.{Pixels, part_at, in_part, IsRepainted}
 
 -- ---- a stretch of a list, written anew
 

@@ -1,6 +1,6 @@
 -- Texts, one glyph after another.
-use Rattle.std.proofs.Common.{◌≡◌, ℕ, zero, suc, ◌+◌, ◌*◌, ◌/◌, ◌%◌, ◌≤◌, ◌<◌, List, [], ◌∷◌, length, get_or, drop, Bool, true, false, refl, ap, sym, ◌∙◌, arith}
-use Rattle.std.specs.Prelude.{◌&&◌, ◌||◌, nat_le, ℤ, pos, negsuc, ◌+ℤ◌, ◌-ℤ◌, ◌≤ℤ◌, ◌<ℤ◌, int_le, int_lt, Option, Some, None}
+use Rattle.std.proofs.Common.{◌≡◌, ℕ, ◌+◌, ◌/◌, ◌%◌, List, [], ◌∷◌, Bool, true, false, refl, ap, ◌∙◌, arith}
+use Rattle.std.specs.Prelude.{◌&&◌, ◌||◌, ℤ, pos, negsuc, ◌+ℤ◌, ◌-ℤ◌, ◌≤ℤ◌, ◌<ℤ◌, Option, Some, None}
 use Rattle.std.specs.Int.{int_min, int_max}
 use Rattle.std.proofs.lemmas.Int.{ints, clamps}
 use Rattle.std.proofs.lemmas.Bool.{and_from, and_parts}
@@ -11,7 +11,7 @@ use Rattle.px_core.specs.Rectangle.{boxed, within, in_rect, joint}
 use Rattle.px_core.proofs.Stretches.{within-low, within-high, within-from}
 use Rattle.rop3_core.specs.Palette.{session_colors}
 use Rattle.draw_ops.specs.Content.{GlyphOf}
-use Rattle.draw_ops.specs.Formulas.{solid, glyph_area, glyph_cell, inked, is_bit_set, run_area, cell_of, run_cells, joint_of, Painting, painted_area, picture_after}
+use Rattle.draw_ops.specs.Formulas.{solid, glyph_area, glyph_cell, is_bit_set, run_area, cell_of, run_cells, joint_of, painted_area, picture_after}
 use Rattle.draw_ops.specs.Drawing.{writing}
 
 -- ---- the smallest rectangle that has all cells

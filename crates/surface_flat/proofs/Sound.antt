@@ -1,6 +1,6 @@
 -- What holds of every surface still holds after a drawing.
-use Rattle.std.proofs.Common.{◌≡◌, ℕ, zero, suc, ◌+◌, ◌*◌, ◌≤◌, List, [], ◌∷◌, length, replicate, Bool, true, false, refl, ap, sym, ◌∙◌, subst, arith, inl, inr}
-use Rattle.std.specs.Prelude.{◌⊎◌, ◌&&◌, nat_le, not, ℤ, pos, slice_set, slice_get, Option, Some, None, IfSome, IsTrue, option_map, if◌then◌else◌}
+use Rattle.std.proofs.Common.{◌≡◌, ℕ, zero, suc, ◌+◌, ◌*◌, ◌≤◌, List, [], ◌∷◌, length, replicate, Bool, true, false, refl, ap, ◌∙◌, subst, arith, inl, inr}
+use Rattle.std.specs.Prelude.{◌⊎◌, ◌&&◌, nat_le, not, ℤ, Option, Some, None, IfSome, IsTrue}
 use Rattle.std.proofs.lemmas.List.{length-set, length-replicate}
 use Rattle.std.proofs.lemmas.Bool.{and_parts}
 use Rattle.std.proofs.lemmas.Bool.Decides.{nat_tests}
@@ -16,16 +16,14 @@ use Rattle.draw_ops.specs.declared.shape.Shape.{Shape}
 use Rattle.draw_ops.specs.declared.shape.Shape.TheVariants.{Fill, Dst, Pat, Copy, Blit, Blit3, Text, Line, Save, Restore, LoadImage, LoadBrush, LoadGlyph}
 use Rattle.draw_ops.specs.Content.{ImageOf, GlyphOf}
 use Rattle.draw_ops.specs.Slots.{SurfaceState, Loaded, Slots, lookup, filled_slot, empty_slots, glyph_slot, opening_surface}
-use Rattle.draw_ops.specs.Drawing.{content_of, loaded, block_of, slots_after, painting_of, drawn_picture, state_after_drawing}
+use Rattle.draw_ops.specs.Drawing.{content_of, loaded, block_of, slots_after, painting_of, state_after_drawing}
 use Rattle.draw_ops.specs.Formulas.{Painting, picture_after}
-use Rattle.draw_ops.specs.Fits.{first_some, rect_rule, clip_rule, no_clip_rule, code_rule, copied_rule, image_slot_rule, brush_slot_rule, run_rule, starts_at_0, deltas_are_small, broken_if, rules_of, broken_rule, slot_misfit, slot_tests, source_test, block_test, too_small_if, image_rule, glyph_rule, Misfit, FitsState, AllFitState}
-use Rattle.draw_ops.specs.Fits.Misfit.{Rule}
+use Rattle.draw_ops.specs.Fits.{first_some, rect_rule, clip_rule, no_clip_rule, code_rule, copied_rule, image_slot_rule, brush_slot_rule, run_rule, starts_at_0, deltas_are_small, rules_of, broken_rule, slot_misfit, slot_tests, source_test, block_test, too_small_if, image_rule, glyph_rule}
 use Rattle.draw_ops.specs.Ranges.{HasColors}
 use Rattle.draw_laws.proofs.Rows.{drawn_length}
 use Rattle.draw_laws.proofs.KeptColors.{drawing_keeps, opening_has}
 use Rattle.surface_flat.specs.Surfaces.{AllInSlots, IsSoundSurface}
 use Rattle.surface_flat.specs.Held.{Held, held_in, state_of, IsDrawn, IsPaintable, IsSaveInside, IsSmallSave}
-use Rattle.surface_flat.specs.Pens.{IsPenAtStart}
 use Rattle.surface_flat.specs.Textures.{HasSource, IsRestorable}
 use Rattle.surface_flat.proofs.Rules.{kept_if, passed, rect_keeps, place_keeps}
 

@@ -1,5 +1,5 @@
 -- The bits of a glyph's rows, as they are read from a part of its cell.
-use Rattle.std.specs.Prelude.{◌≡◌, ℕ, ◌+◌, ◌-◌, ◌*◌, ◌/◌, ◌%◌, ◌^◌, ◌==◌, ◌≤◌, Bool, ℤ, pos, negsuc, ◌≤ℤ◌, List, length, get_or, if◌then◌else◌}
+use Rattle.std.specs.Prelude.{ℕ, ◌+◌, ◌-◌, ◌*◌, ◌/◌, ◌%◌, ◌^◌, ◌==◌, ◌≤◌, Bool, ℤ, pos, negsuc, ◌≤ℤ◌, List, length, get_or, if◌then◌else◌}
 use Rattle.px_core.specs.declared.surface.Size.{Size}
 use Rattle.px_core.specs.Picture.{pixel_at}
 use Rattle.surface_flat.specs.declared.part.Part.{Part}

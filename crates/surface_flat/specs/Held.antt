@@ -1,5 +1,5 @@
 -- What the slots of a surface hold, and what a drawing puts into them.
-use Rattle.std.specs.Prelude.{◌≡◌, ℕ, ◌+◌, ◌*◌, ◌≤◌, List, [], ◌∷◌, length, Option, None, IfSome, IsTrue}
+use Rattle.std.specs.Prelude.{◌≡◌, ℕ, ◌*◌, ◌≤◌, List, [], ◌∷◌, length, Option, None, IfSome, IsTrue}
 use Rattle.px_core.specs.declared.rectangle.Rect.{Rect}
 use Rattle.std.specs.Arc.{arc_value}
 use Rattle.px_core.specs.declared.surface.Size.{Size}

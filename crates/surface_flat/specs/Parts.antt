@@ -1,5 +1,5 @@
 -- Parts of a picture, and pictures of which an area was painted anew.
-use Rattle.std.specs.Prelude.{◌≡◌, ℕ, ◌+◌, ◌*◌, ◌<◌, ◌≤◌, nat_le, nat_lt, Bool, false, ◌&&◌, pos, ◌+ℤ◌, ◌≤ℤ◌, List, length, Option, Some, None, if◌then◌else◌}
+use Rattle.std.specs.Prelude.{◌≡◌, ℕ, ◌+◌, ◌<◌, ◌≤◌, nat_le, nat_lt, Bool, false, ◌&&◌, pos, ◌+ℤ◌, ◌≤ℤ◌, List, length, Option, Some, None, if◌then◌else◌}
 use Rattle.px_core.specs.declared.rectangle.Rect.{Rect}
 use Rattle.px_core.specs.declared.surface.Size.{Size}
 use Rattle.px_core.specs.Picture.{pixel_count, pixel_at}

@@ -1,10 +1,9 @@
 -- What a surface is seen as, and what holds of every surface.
-use Rattle.std.specs.Prelude.{◌≡◌, ℕ, ◌*◌, IsTrue, List, length, Option, Some, None}
+use Rattle.std.specs.Prelude.{◌≡◌, ℕ, ◌*◌, IsTrue, length, Some, None}
 use Rattle.px_core.specs.declared.surface.Size.{Size}
 use Rattle.px_core.specs.Picture.{pixel_count}
 use Rattle.px_core.specs.Rectangle.{is_session_size}
-use Rattle.draw_ops.specs.Content.{ImageOf, GlyphOf}
-use Rattle.draw_ops.specs.Slots.{SurfaceState, Loaded, Slots, lookup}
+use Rattle.draw_ops.specs.Slots.{SurfaceState, Slots, lookup}
 use Rattle.draw_ops.specs.StateColors.{StateHasColors}
 use Rattle.draw_ops.specs.Fits.{image_rule, glyph_rule}
 

@@ -1,4 +1,3 @@
-use Rattle.std.proofs.Common.{◌+◌}
 use Rattle.surface_flat.specs.Parts.{part_at, in_part, IsRepainted}
 use Rattle.surface_flat.specs.Textures.{copied_color}
 use Rattle.surface_flat.proofs.copies.copy_downwards.Given as goal

@@ -1,7 +1,5 @@
-use Rattle.std.proofs.Common.{◌≡◌, ℕ, ◌+◌, ◌*◌, ◌-◌, ◌<◌, ◌≤◌, length, get_or, refl, ap, ◌∙◌, sym, arith}
-use Rattle.std.specs.Prelude.{pos}
+use Rattle.std.proofs.Common.{◌≡◌, ◌+◌, ◌*◌, ◌-◌, ◌<◌, get_or, refl, ap, ◌∙◌, arith}
 use Rattle.px_core.specs.Picture.{pixel_at}
-use Rattle.rop3_core.specs.Rop3.{ternary_raster}
 use Rattle.surface_flat.specs.Textures.{copied_color}
 use Rattle.surface_flat.proofs.Repaint.{same_mix, stretch_fits, length_mid, stretch_pixel, row_stretch}
 use Rattle.surface_flat.proofs.copies.copy_row.Goals as goal

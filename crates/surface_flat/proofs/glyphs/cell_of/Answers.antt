@@ -1,4 +1,4 @@
-use Rattle.std.proofs.Common.{◌≡◌, ◌∙◌, arith, w32, to_z, of_z, pos, ◌+ℤ◌, ◌≤ℤ◌}
+use Rattle.std.proofs.Common.{◌∙◌, arith, ◌+ℤ◌}
 use Rattle.std.proofs.lemmas.Int.{ints}
 use Rattle.surface_flat.proofs.Rules.{glyph_keeps, same_rect}
 use Rattle.surface_flat.proofs.glyphs.cell_of.Goals as goal

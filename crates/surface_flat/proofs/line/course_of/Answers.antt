@@ -1,6 +1,6 @@
-use Rattle.std.proofs.Common.{◌≡◌, ℕ, ◌<◌, arith}
+use Rattle.std.proofs.Common.{◌<◌, arith}
 use Rattle.std.proofs.lemmas.Int.{ints}
-use Rattle.surface_flat.specs.Courses.{apart, IsCourse}
+use Rattle.surface_flat.specs.Courses.{apart}
 use Rattle.surface_flat.proofs.Lines.{IsShifted, level_is, steep_is, ends_are_apart}
 use Rattle.surface_flat.proofs.line.course_of.Goals as goal
 

@@ -1,10 +1,6 @@
-use Rattle.std.proofs.Common.{◌≡◌, ℕ, ◌+◌, ◌*◌, ◌-◌, ◌<◌, length, get_or, refl, ap, ◌∙◌, sym, arith}
-use Rattle.std.specs.Prelude.{pos, option_copied}
+use Rattle.std.proofs.Common.{◌≡◌, ◌+◌, ◌*◌, ◌-◌, ◌<◌, refl, ◌∙◌, arith}
 use Rattle.std.proofs.lemmas.Bool.Decides.{nat_tests}
-use borrow.Rule.Slice.PartMut.{mid_of}
-use Rattle.rop3_core.specs.Rop3.{ternary_raster}
-use Rattle.draw_ops.specs.Drawing.{pattern_of}
-use Rattle.surface_flat.specs.Textures.{source_color, mixed_color}
+use Rattle.surface_flat.specs.Textures.{mixed_color}
 use Rattle.surface_flat.proofs.Repaint.{same_mix, stretch_fits, length_mid, stretch_pixel, untouched, next_row_down}
 use Rattle.surface_flat.proofs.mix.mix_part.Goals as goal
 

@@ -1,4 +1,4 @@
-use Rattle.std.proofs.Common.{◌≡◌, ℕ, ap, subst, ◌∙◌, w32, to_z, of_z}
+use Rattle.std.proofs.Common.{◌≡◌, ap, subst, ◌∙◌, w32, to_z, of_z}
 use Rattle.std.proofs.lemmas.Int.{to_z-of_z}
 use Rattle.std.specs.Prelude.{pos, Some}
 use Rattle.px_core.specs.Picture.{rows_of}

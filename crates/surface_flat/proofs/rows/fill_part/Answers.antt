@@ -1,4 +1,4 @@
-use Rattle.std.proofs.Common.{◌≡◌, ℕ, ◌+◌, ◌*◌, ◌-◌, ◌<◌, length, get_or, replicate, refl, ◌∙◌, ap, arith}
+use Rattle.std.proofs.Common.{◌≡◌, ◌+◌, ◌*◌, ◌-◌, ◌<◌, length, get_or, refl, ◌∙◌, ap, arith}
 use Rattle.std.proofs.lemmas.List.{get_or-replicate}
 use borrow.Rule.Slice.PartMut.{mid_of}
 use Rattle.surface_flat.proofs.Repaint.{stretch_fits, length_mid, no_rows, all_rows, next_row_down}

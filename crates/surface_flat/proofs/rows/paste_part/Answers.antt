@@ -1,4 +1,4 @@
-use Rattle.std.proofs.Common.{◌≡◌, ℕ, ◌+◌, ◌*◌, ◌-◌, ◌<◌, ◌≤◌, length, get_or, refl, ◌∙◌, ap, arith}
+use Rattle.std.proofs.Common.{◌≡◌, ◌+◌, ◌*◌, ◌-◌, ◌<◌, length, get_or, refl, ◌∙◌, ap, arith}
 use Rattle.surface_flat.specs.Textures.{texture_color}
 use Rattle.surface_flat.proofs.Repaint.{stretch_fits, length_mid, mid_item, no_rows, all_rows, next_row_down}
 use Rattle.surface_flat.proofs.rows.paste_part.Goals as goal

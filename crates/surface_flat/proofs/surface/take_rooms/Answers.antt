@@ -1,5 +1,4 @@
-use Rattle.std.proofs.Common.{◌≡◌, ◌<◌, ◌+◌, List, [], ◌∷◌, ◌++◌, get_or, take, length, sym, subst, ap, ◌∙◌, cond, arith}
-use Rattle.std.specs.Prelude.{is_ok}
+use Rattle.std.proofs.Common.{◌≡◌, ◌<◌, ◌+◌, List, [], ◌∷◌, ◌++◌, take, length, sym, subst, ap, ◌∙◌, arith}
 use Rattle.std.proofs.lemmas.List.{take_more}
 use Rattle.draw_ops.specs.declared.shape.Drawing.{Drawing}
 use Rattle.surface_flat.specs.declared.room.Room.{Room}

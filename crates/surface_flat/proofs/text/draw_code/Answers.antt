@@ -1,7 +1,7 @@
-use Rattle.std.proofs.Common.{◌≡◌, ℕ, ap, sym, ◌∙◌, subst, w32, to_z, of_z, rules, refl}
-use Rattle.std.specs.Prelude.{Option, Some, None, option_copied, option_map, ℤ}
+use Rattle.std.proofs.Common.{◌≡◌, ap, sym, ◌∙◌, w32, to_z, of_z, rules}
+use Rattle.std.specs.Prelude.{Option, Some, ℤ}
 use Rattle.std.proofs.lemmas.Int.{to_z-of_z}
-use Rattle.px_core.specs.Picture.{both, nowhere, painted}
+use Rattle.px_core.specs.Picture.{both, painted}
 use Rattle.px_core.specs.Rectangle.{in_clip}
 use Rattle.rop3_core.specs.Palette.{session_colors}
 use Rattle.draw_ops.specs.Content.{GlyphOf}

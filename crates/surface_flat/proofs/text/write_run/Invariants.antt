@@ -1,4 +1,4 @@
-use Rattle.std.proofs.Common.{◌≡◌, ℕ, ◌+◌, ◌*◌, ◌≤◌, drop, pos, ◌+ℤ◌}
+use Rattle.std.proofs.Common.{◌≡◌, ◌*◌, ◌≤◌, drop, pos, ◌+ℤ◌}
 use Rattle.px_core.specs.Picture.{both, painted}
 use Rattle.px_core.specs.Rectangle.{in_clip}
 use Rattle.rop3_core.specs.Palette.{session_colors}

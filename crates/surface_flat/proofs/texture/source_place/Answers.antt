@@ -1,4 +1,4 @@
-use Rattle.std.proofs.Common.{◌≡◌, ℕ, arith, w64, pos, ◌+ℤ◌, ◌-ℤ◌, ◌≤ℤ◌, to_z, of_z, ℤ, refl, ap, sym, ◌∙◌}
+use Rattle.std.proofs.Common.{◌≡◌, arith, w64, pos, ◌+ℤ◌, ◌-ℤ◌, ◌≤ℤ◌, to_z, of_z, ℤ, refl, ap, ◌∙◌}
 use Rattle.std.specs.Prelude.{nat_abs, negsuc}
 use Rattle.std.proofs.lemmas.Int.{ints}
 use Rattle.surface_flat.proofs.texture.source_place.Goals as goal

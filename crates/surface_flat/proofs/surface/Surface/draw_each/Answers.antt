@@ -1,4 +1,4 @@
-use Rattle.std.proofs.Common.{◌≡◌, ◌<◌, List, ◌∷◌, get_or, drop, length, sym, subst, arith}
+use Rattle.std.proofs.Common.{◌<◌, List, length, sym, subst, arith}
 use Rattle.std.proofs.lemmas.List.{drop_more}
 use Rattle.draw_ops.specs.declared.shape.Drawing.{Drawing}
 use Rattle.draw_ops.specs.Fits.{FitsState, AllFitState}

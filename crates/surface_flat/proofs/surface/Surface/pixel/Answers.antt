@@ -1,4 +1,4 @@
-use Rattle.std.proofs.Common.{◌≡◌, ℕ, ◌+◌, ◌*◌, ◌<◌, ◌^◌, length, get_or, sym, subst, arith}
+use Rattle.std.proofs.Common.{ℕ, ◌+◌, ◌*◌, ◌<◌, ◌^◌, length, sym, subst, arith}
 use Rattle.std.proofs.lemmas.Nat.{rows}
 use Rattle.px_core.proofs.Colors.{colors_are_below}
 use Rattle.surface_flat.proofs.surface.Surface.pixel.Goals as goal

@@ -1,7 +1,3 @@
-use Rattle.std.proofs.Common.{sym, subst}
-use Rattle.draw_ops.specs.Fits.{AllFitState}
-use Rattle.surface_flat.specs.Held.{state_of}
-use Rattle.surface_flat.specs.Surfaces.{SurfaceOf}
 use Rattle.surface_flat.proofs.Many.{small_saves}
 use Rattle.surface_flat.proofs.surface.Surface.rooms_for.Goals as goal
 

@@ -1,0 +1,6 @@
+pub mod Gathered
+pub mod Begun
+pub mod CacheSteps
+pub mod NewCaches
+pub mod UseSteps
+pub mod TileShort
