@@ -1,0 +1,11 @@
+pub mod Lengths
+pub mod Distinct
+pub mod Serving
+pub mod Turns
+pub mod Cutting
+pub mod Pendings
+pub mod Cuttable
+pub mod Walking
+pub mod TileList
+pub mod PlannedBy
+pub mod TakeSteps

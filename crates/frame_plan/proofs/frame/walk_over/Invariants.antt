@@ -1,0 +1,7 @@
+use Rattle.std.proofs.Common.{◌≡◌}
+use Rattle.frame_rules.specs.Pending.{pending_between}
+use Rattle.frame_plan.proofs.frame.walk_over.Given as goal
+
+-- the drawings of the entries so far
+abbrev pub invariant-loop-entry : goal.invariant-loop-entry
+invariant-loop-entry l = l.pending.items ≡ pending_between l.session.head.size l.session.journal l.desk.number l.entry

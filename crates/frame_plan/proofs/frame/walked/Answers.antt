@@ -1,0 +1,52 @@
+use Rattle.std.proofs.Common.{◌≡◌, ◌≤◌, ◌<◌, ℕ, length, ap, sym, ◌∙◌, subst, arith, rules}
+use Rattle.frame_rules.specs.Pending.{pending_between}
+use Rattle.frame_rules.specs.Frame.{jumped}
+use Rattle.frame_plan.specs.Takes.{DeskModel}
+use Rattle.frame_plan.specs.Planning.{pending_at, begun_at, HasPlanned}
+use Rattle.frame_plan.specs.Walks.{walk_of, HasJumped, IsBegun}
+use Rattle.frame_plan.proofs.Pendings.{pending_count}
+use Rattle.frame_plan.proofs.PlannedBy.{planned_jump, planned_walk}
+use Rattle.frame_plan.proofs.frame.walked.Goals as goal
+use Rattle.frame_plan.proofs.frame.walked.Goals.{then-all-drawings_before-gt-MOST_ORDERS+in_ok-jump_over, else-all-drawings_before-gt-MOST_ORDERS+in_ok-walk_over}
+
+pub overflow_sub-all : goal.overflow_sub-all
+overflow_sub-all c =
+    let s = c.args.session.now in
+    let number : c.desk.inside.number ≡ c.args.desk.now.number = ap (λ (d : DeskModel). d.number) c.desk.view_is in
+    let seen = c.requires in
+    let end = c.length.ensures in
+    let low : c.desk.inside.number ≤ c.length.result = omega (arith, number, seen, end) in
+    let count = pending_count s.head.size s.journal c.desk.inside.number c.length.result low in
+    let all = c.drawings_before-all.ensures in
+    let before = c.drawings_before.ensures in
+    omega (arith, count, all, before)
+
+pub returns : goal.returns
+returns c =
+    let s = c.args.session.now in
+    let d = c.args.desk.now in
+    let number : c.desk.inside.number ≡ c.args.desk.now.number = ap (λ (d : DeskModel). d.number) c.desk.view_is in
+    let seen = c.requires in
+    let end = c.length.ensures in
+    let low : c.desk.inside.number ≤ c.length.result = omega (arith, number, seen, end) in
+    let count = pending_count s.head.size s.journal c.desk.inside.number c.length.result low in
+    let same : length (pending_between s.head.size s.journal c.desk.inside.number c.length.result) ≡ length (pending_at c.args.session.now c.args.desk.now) =
+    ap (λ n. length (pending_between s.head.size s.journal n c.length.result)) number
+    ∙ ap (λ n. length (pending_between s.head.size s.journal c.args.desk.now.number n)) end in
+    let all = c.drawings_before-all.ensures in
+    let before = c.drawings_before.ensures in
+    let begun : IsBegun c.in_ok-walker.walker (begun_at c.args.session.now c.args.desk.now) = search rules in
+    elim c.if-all-drawings_before-gt-MOST_ORDERS.branch [
+      | then-all-drawings_before-gt-MOST_ORDERS+in_ok-jump_over w ↦
+          let test = w.if-all-drawings_before-gt-MOST_ORDERS.true in
+          let many : 256 < length (pending_at c.args.session.now c.args.desk.now) = omega (arith, test, count, same, all, before) in
+          let new = w.jump_over.new.walker in
+          let jumps = subst (λ (n : ℕ). HasJumped c.in_ok-walker.walker (jumped s.head.size (walk_of c.in_ok-walker.walker) (pending_between s.head.size s.journal n (length s.journal))) new)
+          number w.in_ok-jump_over.ensures in
+          subst (HasPlanned c.args.session.now c.args.desk.now) (sym w.walker-is) (planned_jump c.args.session.now c.args.desk.now c.in_ok-walker.walker new begun many jumps)
+      | else-all-drawings_before-gt-MOST_ORDERS+in_ok-walk_over w ↦
+          let test = w.if-all-drawings_before-gt-MOST_ORDERS.false in
+          let few : length (pending_at c.args.session.now c.args.desk.now) ≤ 256 = omega (arith, test, count, same, all, before) in
+          subst (HasPlanned c.args.session.now c.args.desk.now) (sym w.walker-is)
+          (planned_walk c.args.session.now c.args.desk.now c.in_ok-walker.walker w.walk_over.new.walker begun few w.in_ok-walk_over.ensures)
+    ]

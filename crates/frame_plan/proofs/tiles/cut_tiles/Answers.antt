@@ -1,0 +1,33 @@
+use Rattle.std.proofs.Common.{◌≡◌, ◌-◌, ◌+◌, ℕ, List, [], ◌∷◌, ◌++◌, refl, ap, sym, ◌∙◌, rules}
+use Rattle.std.specs.Prelude.{◌&&◌}
+use Rattle.std.proofs.lemmas.Bool.{and_parts}
+use Rattle.px_core.specs.Rectangle.{has_pixel}
+use Rattle.px_core.specs.Tiles.{either_tiles, tile_on}
+use Rattle.px_core.specs.TileFlags.{tiles}
+use Rattle.frame_plan.specs.Takes.{tile_taken}
+use Rattle.frame_plan.proofs.TileList.{tiles_from, one_taken, none_taken}
+use Rattle.frame_plan.proofs.tiles.cut_tiles.Goals as goal
+use Rattle.frame_plan.proofs.tiles.cut_tiles.Goals.{then-is_taken+in_ok-pixels+in_ok-push, else-is_taken}
+
+pub loop-tile-preserved : goal.loop-tile-preserved
+loop-tile-preserved c =
+    let size = c.args.surface.now.size in
+    let picture = c.args.surface.now.state.picture in
+    let set = either_tiles (tiles c.args.dirty.now) (tiles c.args.asked.now) in
+    let n = c.tile_numbers-tile-end.result in
+    let k = c.loop-tile.tile in
+    let rest = tiles_from c.args.surface.now.size (either_tiles (tiles c.args.dirty.now) (tiles c.args.asked.now)) (tile_taken c.args.surface.now.size c.args.surface.now.state.picture)
+    (c.tile_numbers-tile-end.result - (c.loop-tile.tile + 1)) (c.loop-tile.tile + 1) in
+    let is : c.is_taken.result ≡ (has_pixel (tile_on c.args.surface.now.size c.loop-tile.tile)
+    && either_tiles (tiles c.args.dirty.now) (tiles c.args.asked.now) c.loop-tile.tile) = search rules in
+    elim c.if-is_taken.branch [
+      | then-is_taken+in_ok-pixels+in_ok-push w ↦
+          let both = and_parts (has_pixel (tile_on size k)) (set k) (sym is ∙ w.if-is_taken.true) in
+          let items : c.if-is_taken.all.items ≡ c.loop-tile.all.items ++ tile_taken c.args.surface.now.size c.args.surface.now.state.picture c.loop-tile.tile ∷ [] = search rules in
+          ap (λ (ts : List (ℕ × List ℕ)). ts ++ rest) items
+          ∙ one_taken size set (tile_taken size picture) n k c.loop-tile.all.items _ c.loop-tile-test.true both.0 both.1 c.loop-tile.invariant
+      | else-is_taken w ↦
+          ap (λ (ts : List (ℕ × List ℕ)). ts ++ rest) (ap (λ v. v.items) w.all-is)
+          ∙ none_taken size set (tile_taken size picture) n k c.loop-tile.all.items _ (has_pixel (tile_on size k)) (set k) c.loop-tile-test.true refl refl
+          (sym is ∙ w.if-is_taken.false) c.loop-tile.invariant
+    ]

@@ -1,0 +1,6 @@
+pub mod Takes
+pub mod Plans
+pub mod Walks
+pub mod Needs
+pub mod Cuts
+pub mod Planning

@@ -1,0 +1,134 @@
+//! What a cautious viewer's drawings are walked as: cut to the pixels that they may change, or passed over (profile).
+ghost use Rattle.std.specs.Prelude.{◌≡◌, ◌≤ℤ◌, ◌==◌, negsuc, pos, true, IsTrue};
+ghost use Rattle.px_core.specs.Rectangle.{common, clipped, whole, is_session_size, IsPlaced};
+ghost use Rattle.frame_rules.specs.Cautious.{area_of, changes_nothing, moved, cut_to, is_cut, cut, as_walked};
+ghost use Rattle.frame_plan.specs.Cuts.{IsWalkable, IsCuttable, IsWalkableAs, NearSource};
+
+use crate::Pending;
+use crate::area::{clipped, common, whole};
+use caps_sets::Confirmed;
+use draw_ops::Shape;
+use px_core::{Rect, Size, has_pixel};
+
+/// The code of the raster operation that leaves every pixel as it was.
+const DESTINATION: u8 = 0xAA;
+
+/// What a viewer's drawing is walked as; `None` where it is passed over.
+pub(crate) fn as_walked(size: Size, confirmed: &Confirmed, pending: Pending) -> Option<Pending>
+    requires size { IsTrue (is_session_size size.w size.h) }
+    requires cuttable { IsCuttable size pending }
+    ensures walked { result ≡ as_walked size confirmed.now pending }
+    ensures walkable { IsWalkableAs result }
+{
+    if confirmed.cautious {
+        cut(size, pending)
+    } else {
+        Some(pending)
+    }
+}
+
+/// A drawing cut to the pixels that it may change, without a clip; `None` where there are none, or its code changes nothing.
+fn cut(size: Size, pending: Pending) -> Option<Pending>
+    requires size { IsTrue (is_session_size size.w size.h) }
+    requires cuttable { IsCuttable size pending }
+    ensures cut { result ≡ cut size pending }
+    ensures walkable { IsWalkableAs result }
+{
+    let drawing = pending.drawing();
+    if !is_cut(&drawing.shape) {
+        return Some(pending);
+    }
+    let area = common(whole(size), clipped(pending.rect(), drawing.clip));
+    if !has_pixel(area) {
+        return None;
+    }
+    let shape = cut_to(area, &drawing.shape)?;
+    Some(pending.cut_to(shape, area))
+}
+
+/// Whether a shape is one of those that are cut.
+fn is_cut(shape: &Shape) -> bool
+    ensures { result ≡ is_cut shape.now }
+{
+    match shape {
+        Shape::Fill { .. }
+        | Shape::Dst { .. }
+        | Shape::Pat { .. }
+        | Shape::Copy { .. }
+        | Shape::Blit { .. }
+        | Shape::Blit3 { .. } => true,
+        _ => false,
+    }
+}
+
+/// A shape that is cut with another rectangle and with its source moved along; `None` where its code changes nothing.
+fn cut_to(area: Rect, shape: &Shape) -> Option<Shape>
+    requires area { IsPlaced area }
+    requires source { NearSource shape.now }
+    requires cut { is_cut shape.now ≡ true }
+    ensures { result ≡ cut_to area shape.now }
+{
+    match shape {
+        Shape::Fill { color, .. } => Some(Shape::Fill {
+            rect: area,
+            color: *color,
+        }),
+        Shape::Dst { rop, .. } if *rop != DESTINATION => Some(Shape::Dst {
+            rect: area,
+            rop: *rop,
+        }),
+        Shape::Pat { rop, brush, .. } if *rop != DESTINATION => Some(Shape::Pat {
+            rect: area,
+            rop: *rop,
+            brush: *brush,
+        }),
+        Shape::Copy { rect, rop, sx, sy } if *rop != DESTINATION => Some(Shape::Copy {
+            rect: area,
+            rop: *rop,
+            sx: moved(rect.x, area.x, *sx),
+            sy: moved(rect.y, area.y, *sy),
+        }),
+        Shape::Blit {
+            rect,
+            rop,
+            image,
+            sx,
+            sy,
+        } if *rop != DESTINATION => Some(Shape::Blit {
+            rect: area,
+            rop: *rop,
+            image: *image,
+            sx: moved(rect.x, area.x, *sx),
+            sy: moved(rect.y, area.y, *sy),
+        }),
+        Shape::Blit3 {
+            rect,
+            rop,
+            image,
+            sx,
+            sy,
+            brush,
+        } if *rop != DESTINATION => Some(Shape::Blit3 {
+            rect: area,
+            rop: *rop,
+            image: *image,
+            sx: moved(rect.x, area.x, *sx),
+            sy: moved(rect.y, area.y, *sy),
+            brush: *brush,
+        }),
+        _ => None,
+    }
+}
+
+/// A source's coordinate, moved as far as its rectangle's corner.
+fn moved(from: i32, to: i32, at: i32) -> i32
+    requires from_low { negsuc 65535 ≤ℤ from }
+    requires from_high { from ≤ℤ pos 65536 }
+    requires to_low { negsuc 65535 ≤ℤ to }
+    requires to_high { to ≤ℤ pos 65536 }
+    requires at_low { negsuc 65535 ≤ℤ at }
+    requires at_high { at ≤ℤ pos 65536 }
+    ensures { result ≡ moved from to at }
+{
+    at + (to - from)
+}

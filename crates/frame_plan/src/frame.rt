@@ -1,0 +1,153 @@
+//! A viewer's take: the frame that is due to it.
+ghost use Rattle.std.specs.Prelude.{◌≡◌, ◌≤◌, length, IfOk, OnOk, OnErr, IsTrue};
+ghost use Rattle.frame_rules.specs.Pending.{pending_between};
+ghost use Rattle.session_core.specs.SessionModel.{is_here, asked_by};
+ghost use Rattle.frame_plan.specs.Takes.{taken_as};
+ghost use Rattle.frame_plan.specs.Plans.{is_work, frame_at, taken_if, desk_if, asked_if};
+ghost use Rattle.frame_rules.specs.Frame.{jumped};
+ghost use Rattle.frame_plan.specs.Walks.{walk_of, HasWalkedAll, HasJumped};
+ghost use Rattle.frame_plan.specs.Planning.{planned_as, HasPlanned};
+ghost use Rattle.frame_plan.specs.declared.taken.Taken.TheVariants.{Nothing};
+
+use crate::area::whole;
+use crate::tiles::cut_tiles;
+use crate::walk::Walker;
+use crate::{Desk, OutOfMemory, Sent, Take, Taken, TakenTile};
+use save_plan::Blocks;
+use session_core::Session;
+use std::alloc::Global;
+use std::mem;
+
+/// The most drawings that go as orders in one frame.
+const MOST_ORDERS: u64 = 256;
+
+/// Takes the frame that is due to a viewer, who has seen a front of the journal: `Nothing` where the viewer is suppressed, or the journal
+/// hasn't grown since its last frame and no tile is asked for. What it asked for is then served. An `Err`, which also comes at the
+/// viewer's frame 2^64, leaves the session and the desk as they were.
+pub fn plan(alloc: Global, session: &mut Session, desk: &mut Desk) -> Result<Taken, OutOfMemory>
+    requires present { IsTrue (is_here session.old desk.old.v) }
+    requires seen { desk.old.number ≤ length session.old.journal }
+    ensures taken { IfOk result (λ taken. taken ≡ taken_if (is_work session.old desk.old) session.old desk.old) }
+    ensures desk { OnOk result (desk.new ≡ desk_if (is_work session.old desk.old) session.old desk.old) }
+    ensures asked { OnOk result (asked_by session.new ≡ asked_if (is_work session.old desk.old) desk.old.v (asked_by session.old)) }
+    ensures head { session.new.head ≡ session.old.head }
+    ensures journal { session.new.journal ≡ session.old.journal }
+    ensures suppressed { session.new.suppressed ≡ session.old.suppressed }
+    ensures nothing { result ≡ Ok Nothing → session.new ≡ session.old }
+    ensures unchanged { OnErr result ((session.new ≡ session.old) × (desk.new ≡ desk.old)) }
+{
+    if !is_work(session, desk) {
+        return Ok(Taken::Nothing);
+    }
+    let Some(taken) = desk.taken.checked_add(1) else {
+        return Err(OutOfMemory);
+    };
+    let planned = plan_frame(alloc, session, desk)?;
+    let held = planned.held.copy(alloc)?;
+    let take = Take {
+        size: session.size(),
+        first: planned.first,
+        serial: mem::replace(&mut desk.taken, taken),
+        before: mem::replace(&mut desk.number, session.length()),
+        number: session.length(),
+        sent: planned.sent,
+        tiles: planned.tiles,
+        held_before: mem::replace(&mut desk.held, planned.held),
+        held,
+    };
+    session.served(desk.v);
+    Ok(Taken::Frame(take))
+}
+
+/// What a frame is planned as.
+#[derive(Drop)]
+struct Planned {
+    first: bool,
+    sent: Vec<Sent>,
+    tiles: Vec<TakenTile>,
+    held: Blocks,
+}
+
+/// Whether there is something to take.
+fn is_work(session: &Session, desk: &Desk) -> bool
+    requires { IsTrue (is_here session.now desk.now.v) }
+    ensures { result ≡ is_work session.now desk.now }
+{
+    session.is_legal();
+    let size = session.size();
+    !session.suppressed(desk.v)
+        && (desk.number != session.length() || session.asked(desk.v).meets(whole(size), size))
+}
+
+/// The frame that is due, apart from its numbers.
+fn plan_frame(alloc: Global, session: &Session, desk: &Desk) -> Result<Planned, OutOfMemory>
+    requires present { IsTrue (is_here session.now desk.now.v) }
+    requires seen { desk.now.number ≤ length session.now.journal }
+    ensures { IfOk result (λ planned. planned_as planned ≡ taken_as session.now.head.size (frame_at session.now desk.now)) }
+{
+    session.is_legal();
+    let walker = walked(alloc, session, desk)?;
+    let tiles = cut_tiles(alloc, session.look(), &walker.dirty, session.asked(desk.v))?;
+    Ok(Planned {
+        first: desk.number == 0,
+        sent: walker.sent,
+        tiles,
+        held: walker.held,
+    })
+}
+
+/// The walk over what is pending, or the jump over it where it is too much.
+fn walked(alloc: Global, session: &Session, desk: &Desk) -> Result<Walker, OutOfMemory>
+    requires { desk.now.number ≤ length session.now.journal }
+    ensures { IfOk result (λ walker. HasPlanned session.now desk.now walker) }
+{
+    session.is_legal();
+    let size = session.size();
+    let mut walker = Walker::begin(alloc, size, desk.number == 0, &desk.confirmed, &desk.held)?;
+    let all = session.drawings_before(session.length());
+    if all - session.drawings_before(desk.number) > MOST_ORDERS {
+        jump_over(alloc, session, desk.number, &mut walker)?;
+    } else {
+        walk_over(alloc, session, desk, &mut walker)?;
+    }
+    Ok(walker)
+}
+
+/// Walks over the drawings of all entries from the desk's number on.
+fn walk_over(
+    alloc: Global,
+    session: &Session,
+    desk: &Desk,
+    walker: &mut Walker,
+) -> Result<(), OutOfMemory>
+    requires { desk.now.number ≤ length session.now.journal }
+    ensures { OnOk result (HasWalkedAll session.now.head.size desk.now.confirmed walker.old (pending_between session.now.head.size session.now.journal desk.now.number (length session.now.journal)) walker.new) }
+{
+    session.is_legal();
+    let mut pending = Vec::new(alloc);
+    for entry in desk.number..session.length() {
+        session.put_pending(entry, &mut pending)?;
+    }
+    walker.walk_all(session.size(), &desk.confirmed, pending)
+}
+
+/// Jumps over the drawings of all entries from a number on, one entry after the other.
+fn jump_over(
+    alloc: Global,
+    session: &Session,
+    before: u64,
+    walker: &mut Walker,
+) -> Result<(), OutOfMemory>
+    requires { before ≤ length session.now.journal }
+    ensures { OnOk result (HasJumped walker.old (jumped session.now.head.size (walk_of walker.old) (pending_between session.now.head.size session.now.journal before (length session.now.journal))) walker.new) }
+{
+    session.is_legal();
+    let size = session.size();
+    let mut pending = Vec::new(alloc);
+    for entry in before..session.length() {
+        pending.clear();
+        session.put_pending(entry, &mut pending)?;
+        walker.jump_all(size, &pending);
+    }
+    Ok(())
+}

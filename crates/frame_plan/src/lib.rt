@@ -1,0 +1,31 @@
+//! The plan of a frame: which pending drawings of a session go to a viewer as orders, and which tiles go as bitmaps (profile).
+#![tactic(auto)]
+
+mod area;
+mod cut;
+mod desk;
+mod frame;
+pub mod laws;
+mod needs;
+mod sent;
+mod support;
+mod take;
+mod taken;
+mod tile;
+mod tiles;
+mod turn;
+mod walk;
+
+pub use desk::Desk;
+pub use frame::plan;
+pub use out_of_memory::OutOfMemory;
+pub use sent::Sent;
+pub use session_core::Pending;
+pub use support::{image_cache, run_cache};
+pub use take::Take;
+pub use taken::Taken;
+pub use tile::TakenTile;
+pub use tiles::tile_on;
+
+#[cfg(test)]
+mod tests;

@@ -1,0 +1,134 @@
+//! Which drawings a viewer can be sent as orders, by what it confirmed (profile).
+ghost use Rattle.std.specs.Prelude.{◌≡◌, ℕ, ◌*◌, ◌&&◌, not, is_some, map};
+ghost use Rattle.cache_use.specs.CacheUse.{is_used};
+ghost use Rattle.caps_sets.specs.Confirmed.{first_cache};
+ghost use Rattle.frame_rules.specs.Support.{serves_image, greatest_cell, distinct_loads, image_cache, run_cache, has_glyph_level, supports};
+
+use crate::Pending;
+use crate::needs::{Needs, first_cache};
+use caps_sets::Confirmed;
+use draw_ops::{Image, Shape};
+use session_core::LoadedGlyph;
+
+/// The most entries of a bitmap cache that are used.
+const BITMAP_ENTRIES: usize = 512;
+
+/// The most entries of a glyph cache that are used.
+const GLYPH_ENTRIES: usize = 254;
+
+/// The bytes in which cells are counted here: each cell is a multiple.
+const WORD: usize = 4;
+
+/// The bytes of a pixel in a cell.
+const PIXEL: usize = 3;
+
+/// The number of the bitmap cache that a drawing's image goes to, where one serves.
+pub fn image_cache(confirmed: &Confirmed, pending: &Pending) -> Option<usize>
+    ensures { result ≡ image_cache confirmed.now pending.now.image }
+{
+    match pending.image() {
+        Some(image) => cache_for(confirmed, image.content()),
+        None => None,
+    }
+}
+
+/// The number of the bitmap cache that an image goes to, where one serves.
+fn cache_for(confirmed: &Confirmed, image: &Image) -> Option<usize>
+    ensures { result ≡ first_cache (serves_image image.now) confirmed.now.bitmaps }
+{
+    let columns = usize::from(image.w()).div_ceil(WORD);
+    let needs = Needs {
+        entries: 1,
+        most: BITMAP_ENTRIES,
+        words: PIXEL * (columns * usize::from(image.h())),
+    };
+    first_cache(confirmed.bitmaps.sizes(), needs)
+}
+
+/// The number of the glyph cache that a run's glyphs go to, where one serves.
+pub fn run_cache(confirmed: &Confirmed, pending: &Pending) -> Option<usize>
+    ensures { result ≡ run_cache confirmed.now pending.now.glyphs }
+{
+    let glyphs = pending.glyphs();
+    let needs = Needs {
+        entries: distinct_loads(glyphs),
+        most: GLYPH_ENTRIES,
+        words: greatest_words(glyphs),
+    };
+    first_cache(confirmed.glyphs.sizes(), needs)
+}
+
+/// How many different loads a run draws.
+fn distinct_loads(glyphs: &[LoadedGlyph]) -> usize
+    ensures { result ≡ distinct_loads glyphs.now }
+{
+    let mut count = 0;
+    for at in 0..glyphs.len() {
+        if !is_among(glyphs[at].number(), &glyphs[at + 1..]) {
+            count += 1;
+        }
+    }
+    count
+}
+
+/// Whether a load is among those of glyphs.
+fn is_among(number: u64, glyphs: &[LoadedGlyph]) -> bool
+    ensures { result ≡ is_used number (map (λ g. g.number) glyphs.now) }
+{
+    for glyph in glyphs {
+        if number == glyph.number() {
+            return true;
+        }
+    }
+    false
+}
+
+/// The cell of the greatest glyph of a run, in words.
+fn greatest_words(glyphs: &[LoadedGlyph]) -> usize
+    ensures { 4 * result ≡ greatest_cell glyphs.now }
+{
+    let mut most = 0;
+    for glyph in glyphs {
+        most = most.max(glyph.content().bits().len().div_ceil(WORD));
+    }
+    most
+}
+
+/// Whether a level of glyph support has glyph caches.
+fn has_glyph_level(level: u16) -> bool
+    ensures { result ≡ has_glyph_level level }
+{
+    1 <= level && level <= 2
+}
+
+/// Whether the viewer has the order of a drawing, and caches that hold what it needs.
+pub(crate) fn supports(confirmed: &Confirmed, pending: &Pending) -> bool
+    ensures { result ≡ supports confirmed.now pending.now pending.now.drawing.shape }
+{
+    match &pending.drawing().shape {
+        Shape::Fill { .. } => confirmed.pat,
+        Shape::Dst { .. } => confirmed.dst,
+        Shape::Pat { .. } => confirmed.pat && confirmed.brush,
+        Shape::Copy { .. } => confirmed.scr,
+        Shape::Blit { .. } => confirmed.mem && image_cache(confirmed, pending).is_some(),
+        Shape::Blit3 { .. } => {
+            confirmed.mem3 && image_cache(confirmed, pending).is_some() && confirmed.brush
+        }
+        Shape::Text { .. } => supports_text(confirmed, pending),
+        Shape::Save { .. } | Shape::Restore { .. } => confirmed.save,
+        Shape::Line { .. }
+        | Shape::LoadImage { .. }
+        | Shape::LoadBrush { .. }
+        | Shape::LoadGlyph { .. } => false,
+    }
+}
+
+/// Whether the viewer has the order of a run of glyphs, and a cache that holds them.
+fn supports_text(confirmed: &Confirmed, pending: &Pending) -> bool
+    ensures { result ≡ (not confirmed.now.cautious && ((confirmed.now.glyph && has_glyph_level confirmed.now.glyph_level) && is_some (run_cache confirmed.now pending.now.glyphs))) }
+{
+    !confirmed.cautious
+        && confirmed.glyph
+        && has_glyph_level(confirmed.glyph_level)
+        && run_cache(confirmed, pending).is_some()
+}

@@ -1,0 +1,44 @@
+-- What the session keeps of a reaction.
+use Rattle.std.proofs.Common.{◌≡◌, ℕ, List, refl, ap, sym, subst, ◌∙◌, Some}
+use Rattle.std.specs.Prelude.{IsTrue, All}
+use Rattle.std.specs.Box.{box_value}
+use Rattle.px_core.specs.Rectangle.{is_session_size}
+use Rattle.draw_ops.specs.declared.shape.Drawing.{Drawing}
+use Rattle.draw_ops.specs.Fits.{AllFitState}
+use Rattle.draw_ops.specs.Ranges.{HasColors}
+use Rattle.input_events.specs.declared.event.Event.{Event}
+use Rattle.board_app.specs.Boards.{board_of}
+use Rattle.session_rules.specs.declared.entry.Entry.TheVariants.{Input}
+use Rattle.session_rules.specs.Agreement.{BoardAgrees}
+use Rattle.session_rules.specs.Board.{board_reaction}
+use Rattle.session_rules.specs.Journal.{Head, drawings_of}
+use Rattle.frame_rules.specs.Pending.{pending_drawings}
+use Rattle.board_laws.proofs.Fitting.{sides_of}
+use Rattle.board_laws.proofs.Reactions.{board_reacts}
+use Rattle.session_laws.proofs.Reactions.{reaction_colored}
+use Rattle.session_core.specs.declared.standing.Standing.{Standing}
+use Rattle.session_core.specs.declared.events.Reaction.{Reaction}
+use Rattle.session_core.specs.declared.kept.Kept.{Kept}
+use Rattle.session_core.specs.Keeping.{IsKept}
+use Rattle.session_core.specs.Reacting.{Reacts}
+use Rattle.session_core.specs.Showing.{all_shown}
+use Rattle.session_core.specs.Standing.{reached_of}
+use Rattle.session_core.proofs.Colored.{all_colored}
+
+pub reaction_fits : (s : Standing) (e : Event) (r : Reaction) (ds : List Drawing) → IsTrue (is_session_size s.surface.size.w s.surface.size.h) → BoardAgrees s.surface.size s.surface.state (board_of s.board)
+    → Reacts s e r → ds ≡ r.drawings.items → AllFitState s.surface.size s.surface.state ds
+reaction_fits s e r ds size agrees h is = subst (AllFitState s.surface.size s.surface.state) (sym (is ∙ h.drawings))
+    (board_reacts s.surface.size s.surface.state (board_of s.board) e (sides_of s.surface.size.w s.surface.size.h size) agrees).0
+
+pub reaction_colors : (s : Standing) (e : Event) (r : Reaction) (ds : List Drawing) → Reacts s e r → ds ≡ r.drawings.items → All HasColors ds
+reaction_colors s e r ds h is = subst (All HasColors) (sym (is ∙ h.drawings)) (all_colored _ (reaction_colored s.surface.size (board_of s.board) e))
+
+-- the entry of an event is kept with the board that it found and with what its drawings show
+pub reaction_kept : (head : Head) (s : Standing) (n by first : ℕ) (e : Event) (r : Reaction) → s.surface.size ≡ head.size → s.board.size ≡ head.size → Reacts s e r → first ≡ s.surface.state.count
+    → IsKept head.size (reached_of s n).state (record { entry = Input by e; first = first; board = Some r.found; shown = r.shown })
+reaction_kept head s n by first e r surface board h count = record {
+  first = count;
+  board = (ap (λ b. b.size) h.found ∙ board, ap board_of h.found);
+  shown = subst (λ z. all_shown (board_reaction z (board_of s.board) e).drawings r.shown.items ≡ pending_drawings z s.surface.state (board_reaction z (board_of s.board) e).drawings) surface
+      (subst (λ ds. all_shown ds r.shown.items ≡ pending_drawings s.surface.size s.surface.state ds) h.drawings h.shown);
+}

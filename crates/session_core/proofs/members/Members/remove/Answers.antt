@@ -1,0 +1,21 @@
+use Rattle.std.proofs.Common.{◌≡◌, ◌∙◌, [], Some, false, refl, ap, sym}
+use Rattle.px_core.specs.Tiles.{either_tiles, tiles_of}
+use Rattle.px_core.specs.TileFlags.{tiles}
+use Rattle.session_core.specs.Members.{viewer_of, place_of, tiles_asked}
+use Rattle.session_core.proofs.MemberSteps.{part_kept, kept_here, replaced_by, kept_removed, viewers_removed, kept_pushed}
+use Rattle.session_core.proofs.members.Members.remove.Goals as goal
+
+pub returns-clause-viewers : goal.returns-clause-viewers
+returns-clause-viewers c =
+    let at : place_of c.args.v c.self.inside.list.items ≡ Some c.place_here-i.result = rw c.deref.ensures.value at c.place_here-i.ensures.place in
+    rw (c.remove.ensures.items, ← c.self.view_is) (viewers_removed c.args.v c.self.inside.list.items c.place_here-i.result at)
+
+pub returns-clause-asked : goal.returns-clause-asked
+returns-clause-asked c u ne =
+    let at : place_of c.args.v c.self.inside.list.items ≡ Some c.place_here-i.result = rw c.deref.ensures.value at c.place_here-i.ensures.place in
+    rw (c.remove.ensures.items, ← c.self.view_is) (ap tiles (kept_removed (λ m. m.asked) [] c.args.v c.self.inside.list.items c.place_here-i.result at u ne))
+
+pub returns-clause-stopped : goal.returns-clause-stopped
+returns-clause-stopped c u ne =
+    let at : place_of c.args.v c.self.inside.list.items ≡ Some c.place_here-i.result = rw c.deref.ensures.value at c.place_here-i.ensures.place in
+    rw (c.remove.ensures.items, ← c.self.view_is) (kept_removed (λ m. m.suppressed) false c.args.v c.self.inside.list.items c.place_here-i.result at u ne)

@@ -1,0 +1,6 @@
+use Rattle.rle_enc.proofs.Pending.{on_ok_as}
+use Rattle.order_fields.specs.NamedDrawing.NamedDrawing.{Dst}
+use Rattle.viewer_sender.proofs.plain.put_dst.Goals as goal
+
+pub returns : goal.returns
+returns c = on_ok_as _ _ c.put_drawn-2.result c.put_drawn-2.ensures (λ writes. writes (Dst c.args.r c.args.rop) c.dst_blt.ensures)

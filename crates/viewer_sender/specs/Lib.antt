@@ -1,0 +1,5 @@
+pub mod Senders
+pub mod OwnTakes
+pub mod Shown
+pub mod Goes
+pub mod Runs

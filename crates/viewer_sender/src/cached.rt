@@ -1,0 +1,134 @@
+//! Orders that take a brush or an image from a cache ([MS-RDPEGDI] 2.2.2.2.1.1.2.3, 2.2.2.2.1.1.2.9 and 2.2.2.2.1.1.2.10).
+ghost use Rattle.std.specs.Prelude.{◌≡◌, ℕ, ◌<◌, [], ◌∷◌, ◌++◌, length, IfOk, OnOk};
+ghost use Rattle.order_fields.specs.NamedDrawing.NamedDrawing.{Pat, Mem, Mem3};
+ghost use Rattle.caps_sets.specs.declared.confirmed.Confirmed.{Confirmed};
+ghost use Rattle.frame_rules.specs.Support.{image_cache};
+ghost use Rattle.frame_rules.specs.FrameOrders.{Uses, or_0, bounds_of, sending, image_use, brush_use};
+ghost use Rattle.frame_rules.specs.FrameOrders.SentOrder.{Drawn};
+ghost use Rattle.frame_write.specs.Stands.{CachesStand};
+ghost use Rattle.frame_write.specs.Writes.{Writes, used};
+ghost use Rattle.viewer_sender.specs.Goes.{FitsDrawn, ImageGoes, BrushGoes};
+
+use crate::OutOfMemory;
+use crate::plain::put_drawn;
+use frame_plan::{Pending, image_cache};
+use frame_write::FrameWriter;
+use order_prim::{mem_blt, mem3_blt, pat_blt};
+use px_core::Rect;
+use std::alloc::Global;
+
+/// Adds the orders of a raster operation with a brush as its pattern.
+pub(crate) fn put_pat(
+    alloc: Global,
+    writer: &mut FrameWriter,
+    pending: &Pending,
+    r: Rect,
+    rop: u8,
+    clip: Option<Rect>,
+) -> Result<(), OutOfMemory>
+    requires fits { (entry : ℕ) → entry < 256 → FitsDrawn r (Pat r rop entry) clip }
+    requires brush { BrushGoes pending.now.brush }
+    ensures { OnOk result (Writes writer.old writer.new (λ uses. let b = brush_use writer.old.confirmed uses pending.now.brush in
+        sending (b.orders ++ Drawn r (Pat r rop b.index) (bounds_of r clip) ∷ []) b.uses)) }
+{
+    let entry = use_brush(alloc, writer, pending)?;
+    put_drawn(writer, &pat_blt(r, rop, entry), r, clip)
+}
+
+/// Adds the orders of a raster operation with an image as its source.
+pub(crate) fn put_blit(
+    alloc: Global,
+    writer: &mut FrameWriter,
+    pending: &Pending,
+    r: Rect,
+    rop: u8,
+    sx: i32,
+    sy: i32,
+    clip: Option<Rect>,
+) -> Result<(), OutOfMemory>
+    requires fits { (cache index : ℕ) → cache < 3 → index < 65536 → FitsDrawn r (Mem cache index r rop sx sy) clip }
+    requires image { ImageGoes pending.now.image }
+    ensures { OnOk result (Writes writer.old writer.new (λ uses.
+        let cache = or_0 (image_cache writer.old.confirmed pending.now.image) in
+        let i = image_use writer.old.confirmed uses cache pending.now.image in
+        sending (i.orders ++ Drawn r (Mem cache i.index r rop sx sy) (bounds_of r clip) ∷ []) i.uses)) }
+{
+    let cache = cache_of(writer, pending);
+    let index = use_image(alloc, writer, cache, pending)?;
+    put_drawn(writer, &mem_blt(cache, index, r, rop, sx, sy), r, clip)
+}
+
+/// Adds the orders of a raster operation with an image as its source and a brush as its pattern: the image goes first.
+pub(crate) fn put_blit3(
+    alloc: Global,
+    writer: &mut FrameWriter,
+    pending: &Pending,
+    r: Rect,
+    rop: u8,
+    sx: i32,
+    sy: i32,
+    clip: Option<Rect>,
+) -> Result<(), OutOfMemory>
+    requires fits { (cache index entry : ℕ) → cache < 3 → index < 65536 → entry < 256 → FitsDrawn r (Mem3 cache index r rop sx sy entry) clip }
+    requires image { ImageGoes pending.now.image }
+    requires brush { BrushGoes pending.now.brush }
+    ensures { OnOk result (Writes writer.old writer.new (λ uses.
+        let cache = or_0 (image_cache writer.old.confirmed pending.now.image) in
+        let i = image_use writer.old.confirmed uses cache pending.now.image in
+        let b = brush_use writer.old.confirmed i.uses pending.now.brush in
+        sending (i.orders ++ (b.orders ++ Drawn r (Mem3 cache i.index r rop sx sy b.index) (bounds_of r clip) ∷ [])) b.uses)) }
+{
+    let cache = cache_of(writer, pending);
+    let index = use_image(alloc, writer, cache, pending)?;
+    let entry = use_brush(alloc, writer, pending)?;
+    put_drawn(
+        writer,
+        &mem3_blt(cache, index, r, rop, sx, sy, entry),
+        r,
+        clip,
+    )
+}
+
+/// The number of the bitmap cache that a drawing's image goes to.
+fn cache_of(writer: &FrameWriter, pending: &Pending) -> u8
+    ensures number { result ≡ or_0 (image_cache writer.now.confirmed pending.now.image) }
+    ensures few { result < 3 }
+{
+    let _three = writer.confirmed.bitmaps.sizes();
+    match image_cache(&writer.confirmed, pending) {
+        Some(cache) => cache as u8,
+        None => 0,
+    }
+}
+
+/// Uses a drawing's image, if it has one; answers its entry.
+fn use_image(
+    alloc: Global,
+    writer: &mut FrameWriter,
+    cache: u8,
+    pending: &Pending,
+) -> Result<u16, OutOfMemory>
+    requires cache { cache < 3 }
+    requires image { ImageGoes pending.now.image }
+    ensures index { IfOk result (λ index. (uses : Uses) → CachesStand writer.old.confirmed writer.old.caches uses → index ≡ (image_use writer.old.confirmed uses cache pending.now.image).index) }
+    ensures orders { OnOk result (Writes writer.old writer.new (λ uses. used (image_use writer.old.confirmed uses cache pending.now.image))) }
+{
+    match pending.image() {
+        Some(image) => writer.use_image(alloc, cache, image.number(), image.content()),
+        None => Ok(0),
+    }
+}
+
+/// Uses a drawing's brush, if it has one; answers its entry.
+fn use_brush(alloc: Global, writer: &mut FrameWriter, pending: &Pending) -> Result<u8, OutOfMemory>
+    requires { BrushGoes pending.now.brush }
+    ensures index { IfOk result (λ entry. (uses : Uses) → CachesStand writer.old.confirmed writer.old.caches uses → entry ≡ (brush_use writer.old.confirmed uses pending.now.brush).index) }
+    ensures orders { OnOk result (Writes writer.old writer.new (λ uses. used (brush_use writer.old.confirmed uses pending.now.brush))) }
+{
+    let Some(brush) = pending.brush() else {
+        return Ok(0);
+    };
+    let index = writer.use_brush(alloc, brush.number(), brush.content())?;
+    let [entry, _] = index.to_le_bytes();
+    Ok(entry)
+}

@@ -1,0 +1,155 @@
+//! A frame in bytes: its orders gathered into updates, a bitmap update for each tile, and the mark's own update.
+ghost use Rattle.std.specs.Prelude.{◌≡◌, ◌&&◌, ◌++◌, [], IfOk, OnOk, IsTrue, flat_map};
+ghost use Rattle.px_core.specs.Rectangle.{is_session_size, whole};
+ghost use Rattle.px_core.specs.Tiles.{tile_on};
+ghost use Rattle.bitmap_upd.specs.Place.{IsUpdated};
+ghost use Rattle.host_bytes.specs.UpdateBodies.{tile_packet};
+ghost use Rattle.frame_rules.specs.Frame.{FrameOf};
+ghost use Rattle.frame_rules.specs.FrameOrders.{Uses, sending, start_orders, black_orders, uses_after, orders_before_tiles};
+ghost use Rattle.frame_rules.specs.FrameBytes.{mark_bytes, frame_bytes, registers_after_orders};
+ghost use Rattle.frame_plan.specs.Takes.{taken_as};
+ghost use Rattle.frame_write.specs.Gathering.{nothing_gathered, gathering, packets_of, closed};
+ghost use Rattle.frame_write.specs.Stands.{CachesStand};
+ghost use Rattle.frame_write.specs.Writes.{Writes};
+ghost use Rattle.viewer_sender.specs.Goes.{AllGo, TilesGo};
+ghost use Rattle.viewer_sender.specs.Runs.{frame_sending};
+
+use crate::OutOfMemory;
+use crate::drawing::put_drawings;
+use crate::plain::put_fill;
+use frame_plan::{Take, TakenTile};
+use frame_write::FrameWriter;
+use px_core::{Rect, Size, meet};
+use std::alloc::Global;
+
+/// The columns, and the rows, of a tile (profile).
+const TILE_SIDE: u32 = 64;
+
+/// How many tiles a row of tiles has (profile).
+const TILES_IN_ROW: u32 = 32;
+
+/// The packets of a take's frame.
+pub(crate) fn write_frame(
+    alloc: Global,
+    writer: &mut FrameWriter,
+    take: &Take,
+) -> Result<Vec<u8>, OutOfMemory>
+    requires size { IsTrue (is_session_size take.now.size.w take.now.size.h) }
+    requires drawings { AllGo take.now.frame.sent }
+    requires tiles { TilesGo take.now.size take.now.frame.tiles }
+    requires empty { writer.old.updates ≡ nothing_gathered }
+    ensures bytes { IfOk result (λ out. (uses : Uses) (f : FrameOf) → CachesStand writer.old.confirmed writer.old.caches uses → take.now.frame ≡ taken_as take.now.size f
+        → out.items ≡ frame_bytes take.now.size writer.old.confirmed writer.old.registers uses f) }
+    ensures registers { OnOk result ((uses : Uses) (f : FrameOf) → CachesStand writer.old.confirmed writer.old.caches uses → take.now.frame ≡ taken_as take.now.size f
+        → writer.new.registers ≡ registers_after_orders writer.old.registers (orders_before_tiles take.now.size writer.old.confirmed uses f)) }
+    ensures caches { OnOk result ((uses : Uses) (f : FrameOf) → CachesStand writer.old.confirmed writer.old.caches uses → take.now.frame ≡ taken_as take.now.size f
+        → CachesStand writer.old.confirmed writer.new.caches (uses_after writer.old.confirmed uses f.sent)) }
+    ensures confirmed { OnOk result (writer.new.confirmed ≡ writer.old.confirmed) }
+    ensures empty { OnOk result (writer.new.updates ≡ nothing_gathered) }
+{
+    put_orders(alloc, writer, take)?;
+    writer.updates.close()?;
+    put_tiles(alloc, writer, take.size(), take.tiles())?;
+    put_mark(writer)?;
+    Ok(writer.updates.take_packets(alloc))
+}
+
+/// Adds the orders of a frame before its tiles.
+fn put_orders(alloc: Global, writer: &mut FrameWriter, take: &Take) -> Result<(), OutOfMemory>
+    requires size { IsTrue (is_session_size take.now.size.w take.now.size.h) }
+    requires drawings { AllGo take.now.frame.sent }
+    ensures { OnOk result (Writes writer.old writer.new (λ uses. frame_sending take.now.size writer.old.confirmed take.now.frame.first uses take.now.frame.sent)) }
+{
+    put_start(writer)?;
+    put_black(writer, take.size(), take.is_first())?;
+    put_drawings(alloc, writer, take.sent())
+}
+
+/// Adds the marker of a frame's begin, where the viewer has markers.
+fn put_start(writer: &mut FrameWriter) -> Result<(), OutOfMemory>
+    ensures { OnOk result (Writes writer.old writer.new (λ uses. sending (start_orders writer.old.confirmed.marker) uses)) }
+{
+    if writer.confirmed.marker {
+        writer.put_marker(false)
+    } else {
+        Ok(())
+    }
+}
+
+/// Adds the black fill of a first frame, where the viewer has PatBlt.
+fn put_black(writer: &mut FrameWriter, size: Size, first: bool) -> Result<(), OutOfMemory>
+    requires { IsTrue (is_session_size size.w size.h) }
+    ensures { OnOk result (Writes writer.old writer.new (λ uses. sending (black_orders size (first && writer.old.confirmed.pat)) uses)) }
+{
+    if first && writer.confirmed.pat {
+        put_fill(writer, whole(size), 0, None)
+    } else {
+        Ok(())
+    }
+}
+
+/// Writes the packets of tiles, one after the other.
+fn put_tiles(
+    alloc: Global,
+    writer: &mut FrameWriter,
+    size: Size,
+    tiles: &[TakenTile],
+) -> Result<(), OutOfMemory>
+    requires size { IsTrue (is_session_size size.w size.h) }
+    requires tiles { TilesGo size tiles.now }
+    ensures { OnOk result (writer.new ≡ record writer.old {
+      updates = record writer.old.updates {
+        packets = writer.old.updates.packets ++ flat_map (λ tile. tile_packet writer.old.confirmed.no_header (tile_on size tile.0) tile.1) tiles.now;
+      };
+    }) }
+{
+    for tile in tiles {
+        let no_header = writer.confirmed.no_header;
+        let r = tile_on(size, tile.number());
+        writer.updates.put_tile(alloc, r, tile.pixels(), no_header)?;
+    }
+    Ok(())
+}
+
+/// The rectangle of a tile on a picture, of which it has a pixel.
+fn tile_on(size: Size, tile: u32) -> Rect
+    requires size { IsTrue (is_session_size size.w size.h) }
+    requires place { IsUpdated (tile_on size tile) }
+    ensures { result ≡ tile_on size tile }
+{
+    let cell = Rect {
+        x: (TILE_SIDE * (tile % TILES_IN_ROW)) as i32,
+        y: (TILE_SIDE * (tile / TILES_IN_ROW)) as i32,
+        w: TILE_SIDE,
+        h: TILE_SIDE,
+    };
+    match meet(cell, whole(size)) {
+        Some(r) => r,
+        None => cell,
+    }
+}
+
+/// The rectangle of a whole picture.
+fn whole(size: Size) -> Rect
+    ensures { result ≡ whole size }
+{
+    Rect {
+        x: 0,
+        y: 0,
+        w: size.w,
+        h: size.h,
+    }
+}
+
+/// Writes the mark's own update behind the packets that are whole; no update is begun.
+fn put_mark(writer: &mut FrameWriter) -> Result<(), OutOfMemory>
+    requires { writer.old.updates ≡ gathering writer.old.updates.packets [] 0 [] }
+    ensures { OnOk result (writer.new ≡ record writer.old { updates = gathering (writer.old.updates.packets ++ mark_bytes writer.old.confirmed.marker) [] 0 [] }) }
+{
+    if writer.confirmed.marker {
+        writer.updates.put_marker(true)?;
+        writer.updates.close()
+    } else {
+        writer.updates.put_synchronize()
+    }
+}

@@ -1,0 +1,16 @@
+//! What one viewer is sent: takes of its frames, and their bytes, from which its client shows the session's picture ([MS-RDPEGDI] 2.2.2.2 and [MS-RDPBCGR] 2.2.9.1.1).
+#![tactic(auto)]
+
+mod bounds;
+mod cached;
+mod drawing;
+mod fault;
+mod frame;
+mod plain;
+mod sender;
+mod text;
+
+pub use fault::SendFault;
+pub use frame_plan::{Take, Taken};
+pub use out_of_memory::OutOfMemory;
+pub use sender::Sender;

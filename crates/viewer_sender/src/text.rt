@@ -1,0 +1,85 @@
+//! Runs of glyphs ([MS-RDPEGDI] 2.2.2.2.1.1.2.13): the glyphs that the viewer's cache hasn't go before the order, in the run's order.
+ghost use Rattle.std.specs.Prelude.{◌≡◌, ℕ, ◌<◌, ◌≤◌, ◌+◌, [], ◌∷◌, ◌++◌, List, length, IfOk, OnOk};
+ghost use Rattle.order_fields.specs.NamedDrawing.NamedDrawing.{Glyphs};
+ghost use Rattle.frame_rules.specs.Support.{run_cache};
+ghost use Rattle.frame_rules.specs.FrameOrders.{Uses, or_0, bounds_of, sending, run_use, run_pairs};
+ghost use Rattle.frame_rules.specs.FrameOrders.SentOrder.{Drawn};
+ghost use Rattle.frame_write.specs.Stands.{CachesStand};
+ghost use Rattle.frame_write.specs.Writes.{Writes};
+ghost use Rattle.viewer_sender.specs.Goes.{FitsDrawn, GlyphsGo};
+ghost use Rattle.viewer_sender.specs.Runs.{run_sending};
+
+use crate::OutOfMemory;
+use crate::plain::put_drawn;
+use draw_ops::Run;
+use frame_plan::{Pending, run_cache};
+use frame_write::FrameWriter;
+use order_prim::glyph_index;
+use px_core::Rect;
+use session_core::LoadedGlyph;
+use std::alloc::Global;
+
+/// Adds the orders of a run of glyphs from a pen at (x, y).
+pub(crate) fn put_text(
+    alloc: Global,
+    writer: &mut FrameWriter,
+    pending: &Pending,
+    x: i32,
+    y: i32,
+    color: u32,
+    run: &Run,
+    clip: Option<Rect>,
+) -> Result<(), OutOfMemory>
+    requires fits { (cache : ℕ) (pairs : List ℕ) → cache < 10 → length pairs < 256 → FitsDrawn pending.now.rect (Glyphs cache x y color pairs) clip }
+    requires number { length pending.now.glyphs ≡ length run.now }
+    requires few { length run.now ≤ 64 }
+    requires glyphs { GlyphsGo pending.now.glyphs }
+    ensures { OnOk result (Writes writer.old writer.new (λ uses.
+        let cache = or_0 (run_cache writer.old.confirmed pending.now.glyphs) in
+        let g = run_use writer.old.confirmed uses cache pending.now.glyphs in
+        sending (g.orders ++ Drawn pending.now.rect (Glyphs cache x y color (run_pairs g.indices run.now)) (bounds_of pending.now.rect clip) ∷ []) g.uses)) }
+{
+    let cache = cache_of(writer, pending);
+    let pairs = use_run(alloc, writer, cache, pending.glyphs(), run.pairs())?;
+    let area = pending.rect();
+    let order = glyph_index(alloc, cache, x, y, color, area, &pairs)?;
+    put_drawn(writer, &order, area, clip)
+}
+
+/// The number of the glyph cache that a run's glyphs go to.
+fn cache_of(writer: &FrameWriter, pending: &Pending) -> u8
+    ensures number { result ≡ or_0 (run_cache writer.now.confirmed pending.now.glyphs) }
+    ensures few { result < 10 }
+{
+    let _ten = writer.confirmed.glyphs.sizes();
+    match run_cache(&writer.confirmed, pending) {
+        Some(cache) => cache as u8,
+        None => 0,
+    }
+}
+
+/// Uses the glyphs of a run, in its order; answers the pairs of entry and delta.
+fn use_run(
+    alloc: Global,
+    writer: &mut FrameWriter,
+    cache: u8,
+    glyphs: &[LoadedGlyph],
+    run: &[(u8, u8)],
+) -> Result<Vec<u8>, OutOfMemory>
+    requires cache { cache < 10 }
+    requires number { length glyphs.now ≡ length run.now }
+    requires glyphs { GlyphsGo glyphs.now }
+    ensures number { IfOk result (λ pairs. length pairs.items ≡ length run.now + length run.now) }
+    ensures pairs { IfOk result (λ pairs. (uses : Uses) → CachesStand writer.old.confirmed writer.old.caches uses
+        → pairs.items ≡ run_pairs (run_use writer.old.confirmed uses cache glyphs.now).indices run.now) }
+    ensures orders { OnOk result (Writes writer.old writer.new (λ uses. run_sending (run_use writer.old.confirmed uses cache glyphs.now))) }
+{
+    let mut pairs = Vec::new(alloc);
+    for (i, glyph) in glyphs.iter().enumerate() {
+        let index = writer.use_glyph(alloc, cache, glyph.number(), glyph.content())?;
+        let [entry, _] = index.to_le_bytes();
+        let (_, delta) = run[i];
+        pairs.extend_from_slice(&[entry, delta])?;
+    }
+    Ok(pairs)
+}
