@@ -101,7 +101,7 @@ plain_at (x ∷ xs) (suc i) g h below is = plain_at xs i g h.1 (omega (arith, be
 
 cells_at : (gs : List (Loaded GlyphOf)) (ps : List (ℕ × ℕ)) (i : ℕ) (x y : ℤ) (g : Loaded GlyphOf) → i < length gs → i < length ps → g ≡ slice_index_or gs i g
     → cells_along (drop i gs) (drop i ps) x y
-        ≡ glyph_cell g.content (x +ℤ pos (slice_index_or ps i (0, 0)).1) y ∷ cells_along (drop (suc i) gs) (drop (suc i) ps) (x +ℤ pos (slice_index_or ps i (0, 0)).1) y
+    ≡ glyph_cell g.content (x +ℤ pos (slice_index_or ps i (0, 0)).1) y ∷ cells_along (drop (suc i) gs) (drop (suc i) ps) (x +ℤ pos (slice_index_or ps i (0, 0)).1) y
 cells_at [] ps i x y g below within is = absurd (omega (arith, below))
 cells_at (a ∷ gs) [] i x y g below within is = absurd (omega (arith, within))
 cells_at (a ∷ gs) (p ∷ ps) zero x y g below within is = ap (λ (h : Loaded GlyphOf). glyph_cell h.content (x +ℤ pos p.1) y ∷ cells_along gs ps (x +ℤ pos p.1) y) (sym is)
@@ -119,7 +119,7 @@ pub one_cell : (gs : List (Loaded GlyphOf)) (ps : List (ℕ × ℕ)) (i : ℕ) (
 one_cell gs ps i x y pen g r each last is moves cell =
     cell ∙ ap (λ z. glyph_cell g.content z y) moves
     ∙ sym (ap joint_of (cells_at gs ps i x y g (omega (arith, each, last)) (omega (arith, last)) is
-        ∙ ap (λ cells. glyph_cell g.content (x +ℤ pos (slice_index_or ps i (0, 0)).1) y ∷ cells) (none_left gs (suc i) _ _ y (omega (arith, each, last)))))
+    ∙ ap (λ cells. glyph_cell g.content (x +ℤ pos (slice_index_or ps i (0, 0)).1) y ∷ cells) (none_left gs (suc i) _ _ y (omega (arith, each, last)))))
 
 joint_more : (c : Rect) (d : Rect) (cells : List Rect) → joint_of (c ∷ d ∷ cells) ≡ joint c (joint_of (d ∷ cells))
 joint_more c d cells = refl
@@ -133,7 +133,7 @@ more_cells gs ps i x y pen g first rest r each left is moves cell others joins =
     let here = cells_at gs ps i x y g (omega (arith, each, left)) (omega (arith, left)) is in
     let then_ = cells_at gs ps (suc i) (x +ℤ pos (slice_index_or ps i (0, 0)).1) y (slice_index_or gs (suc i) g) (omega (arith, each, left)) left (found gs (suc i) g (omega (arith, each, left))) in
     let other_cells : rest ≡ joint_of (cells_along (drop (suc i) gs) (drop (suc i) ps) (x +ℤ pos (slice_index_or ps i (0, 0)).1) y) =
-        others ∙ ap (λ k. joint_of (cells_along (drop k gs) (drop k ps) pen y)) next ∙ ap (λ z. joint_of (cells_along (drop (suc i) gs) (drop (suc i) ps) z y)) moves in
+    others ∙ ap (λ k. joint_of (cells_along (drop k gs) (drop k ps) pen y)) next ∙ ap (λ z. joint_of (cells_along (drop (suc i) gs) (drop (suc i) ps) z y)) moves in
     joins ∙ ap (λ z. joint z rest) (cell ∙ ap (λ z. glyph_cell g.content z y) moves) ∙ ap (joint (glyph_cell g.content (x +ℤ pos (slice_index_or ps i (0, 0)).1) y)) (other_cells ∙ ap joint_of then_)
     ∙ sym (ap joint_of here ∙ ap (λ cells. joint_of (glyph_cell g.content (x +ℤ pos (slice_index_or ps i (0, 0)).1) y ∷ cells)) then_)
   where

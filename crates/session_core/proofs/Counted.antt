@@ -26,7 +26,7 @@ count_from size st (e ∷ es) =
     let after : (state_after_drawings size st.surface ds).count ≡ st.surface.count + length ds = count_drawings size st.surface ds in
     let rest = count_from size (state_after_entry size st e) es in
     let both : length (pending_drawings size st.surface ds ++ pending_from size (state_after_entry size st e) es)
-        ≡ length (pending_drawings size st.surface ds) + length (pending_from size (state_after_entry size st e) es) = length-append _ _ in
+    ≡ length (pending_drawings size st.surface ds) + length (pending_from size (state_after_entry size st e) es) = length-append _ _ in
     omega (arith, here, after, rest, both)
 
 -- so many drawings stand before an entry

@@ -20,7 +20,7 @@ not_none x h = absurd (cc h)
 -- the tests of a drawing whose numbers are in range
 tests_of : (head : Head) (r : Reached) (v : ℕ) (d : Drawing) → v < 4294967296 → is_drawing_in_range d ≡ true
     → refusal_of head r (Draw v d) ≡ first_some (unless (holds r v) (NotHolder r.holder) ∷ first_some (drawing_tests head.size r.state.surface d) ∷ room_test r
-        ∷ unless (nat_le (r.image_pixels + shape_pixels d.shape) most_image_pixels) JournalFull ∷ [])
+    ∷ unless (nat_le (r.image_pixels + shape_pixels d.shape) most_image_pixels) JournalFull ∷ [])
 tests_of head r v d small range = let number : is_u32 v ≡ true = grind (arith, nat_tests, small) in rw (number, range) refl
 
 pub not_holder : (head : Head) (r : Reached) (v : ℕ) (d : Drawing) → v < 4294967296 → is_drawing_in_range d ≡ true → holds r v ≡ false
@@ -30,7 +30,7 @@ not_holder head r v d small range h = tests_of head r v d small range ∙ rw h r
 -- the tests behind that of the holder
 behind_holder : (head : Head) (r : Reached) (v : ℕ) (d : Drawing) → v < 4294967296 → is_drawing_in_range d ≡ true → holds r v ≡ true
     → refusal_of head r (Draw v d) ≡ first_some (first_some (drawing_tests head.size r.state.surface d) ∷ room_test r
-        ∷ unless (nat_le (r.image_pixels + shape_pixels d.shape) most_image_pixels) JournalFull ∷ [])
+    ∷ unless (nat_le (r.image_pixels + shape_pixels d.shape) most_image_pixels) JournalFull ∷ [])
 behind_holder head r v d small range h = tests_of head r v d small range ∙ rw h refl
 
 pub breaks_rule : (head : Head) (r : Reached) (v : ℕ) (d : Drawing) (why : DrawRefusal) → v < 4294967296 → is_drawing_in_range d ≡ true → holds r v ≡ true
@@ -39,7 +39,7 @@ breaks_rule head r v d (fault.BadDrawing rule) small range h k = (behind_holder 
   where
     by : (broken_rule head.size d ≡ Some rule) ⊎ ((broken_rule head.size d ≡ None) × (names_board_slot d.shape ≡ true) × (rule ≡ 5))
         → first_some (first_some (drawing_tests head.size r.state.surface d) ∷ room_test r ∷ unless (nat_le (r.image_pixels + shape_pixels d.shape) most_image_pixels) JournalFull ∷ [])
-            ≡ Some (BadDrawing rule)
+        ≡ Some (BadDrawing rule)
     by (inl e) = rw e refl
     by (inr e) = rw (e.0, e.1, e.2) refl
 breaks_rule head r v d (fault.NotHolder holder) small range h k = absurd k

@@ -118,7 +118,6 @@ brush_other size slot st d h = by d.shape h
     by (shape.LoadBrush at brush) k = lookup-other st.brushes at slot _ (same_number slot at k)
     by (shape.LoadGlyph font code glyph) k = refl
 
-
 pub glyph_other : (size : Size) (slot : ℕ) (st : SurfaceState) (d : Drawing) → fills (Glyph slot) d.shape ≡ false → lookup slot (state_after_drawing size st d).glyphs ≡ lookup slot st.glyphs
 glyph_other size slot st d h = by d.shape h
   where

@@ -161,7 +161,7 @@ kept_here {A} f other v (m ∷ ms) i x h is = by (λ j. kept_here f other v ms j
 pub replaced_by : {A B : Type 0} (F : A → B) (f : Member → A) (other : A) (v : ℕ) (ms : List Member) (i : ℕ) (x y : Member) (t : B) → place_of v ms ≡ Some i
     → x ≡ slice_index_or ms i x → y.number ≡ x.number → F (f y) ≡ t
     → (u : ℕ) → F (kept_for other (map (λ (m : Member). (m.number, f m)) (slice_set ms i y)) u)
-        ≡ replaced_for v t (λ w. F (kept_for other (map (λ (m : Member). (m.number, f m)) ms) w)) u
+    ≡ replaced_for v t (λ w. F (kept_for other (map (λ (m : Member). (m.number, f m)) ms) w)) u
 replaced_by {A} {B} F f other v ms i x y t h is same to u = ap F (kept_changed f other v ms i y h (same ∙ number_at v ms i x h is) u) ∙ by (v == u)
   where
     rest : A

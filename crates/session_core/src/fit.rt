@@ -49,13 +49,7 @@ fn brush_is_there(surface: &Surface, slot: u8) -> Result<(), DrawRefusal>
 }
 
 /// Whether a slot has an image in which the source lies.
-fn source_fits(
-    surface: &Surface,
-    slot: u8,
-    rect: Rect,
-    sx: i32,
-    sy: i32,
-) -> Result<(), DrawRefusal>
+fn source_fits(surface: &Surface, slot: u8, rect: Rect, sx: i32, sy: i32) -> Result<(), DrawRefusal>
     ensures { SaysFit result (first_some (empty_if_none slot (lookup slot surface.now.state.images) ∷ source_test (lookup slot surface.now.state.images) slot rect sx sy ∷ [])) }
 {
     match image_sides(surface, slot) {

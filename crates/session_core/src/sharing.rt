@@ -122,10 +122,7 @@ fn share_shape(alloc: Global, shape: &Shape) -> Result<Shape, OutOfMemory>
 }
 
 /// Further handles of glyphs.
-pub fn share_glyphs(
-    alloc: Global,
-    glyphs: &[LoadedGlyph],
-) -> Result<Vec<LoadedGlyph>, OutOfMemory>
+pub fn share_glyphs(alloc: Global, glyphs: &[LoadedGlyph]) -> Result<Vec<LoadedGlyph>, OutOfMemory>
     ensures { IfOk result (λ shared. shared.items ≡ glyphs.now) }
 {
     let mut shared = Vec::new(alloc);

@@ -150,10 +150,7 @@ pub fn glyphs_after(
 }
 
 /// Appends a glyph that may be missing.
-fn push_glyph(
-    glyphs: &mut Vec<LoadedGlyph>,
-    glyph: Option<LoadedGlyph>,
-) -> Result<(), OutOfMemory>
+fn push_glyph(glyphs: &mut Vec<LoadedGlyph>, glyph: Option<LoadedGlyph>) -> Result<(), OutOfMemory>
     ensures { OnOk result (glyphs.new.items ≡ glyphs.old.items ++ option_to_list glyph) }
 {
     if let Some(glyph) = glyph {

@@ -18,8 +18,8 @@ returns-then-i-pairs-clause-rect t c =
     let ey : to_z w32 (of_z w32 c.args.y) ≡ c.args.y = grind (arith, common_steps, to_z-of_z) in
     let ep : to_z w32 (of_z w32 c.moved-pen.result) ≡ c.moved-pen.result = grind (arith, common_steps, to_z-of_z) in
     one_cell c.args.glyphs.now c.args.pairs.now c.args.i c.args.x c.args.y c.moved-pen.result c.index-glyphs-i.result c.cell-first.result c.requires.each c.if-i-pairs.true
-        c.index-glyphs-i.is (c.moved-pen.ensures ∙ ap (λ z. z +ℤ pos (slice_index_or c.args.pairs.now c.args.i (0, 0)).1) ex)
-        (c.cell-first.ensures.cell ∙ (λ i. glyph_cell (c.content.ensures i) (ep i) (ey i)))
+    c.index-glyphs-i.is (c.moved-pen.ensures ∙ ap (λ z. z +ℤ pos (slice_index_or c.args.pairs.now c.args.i (0, 0)).1) ex)
+    (c.cell-first.ensures.cell ∙ (λ i. glyph_cell (c.content.ensures i) (ep i) (ey i)))
 
 pub returns-else-i-pairs-clause-rect : goal.returns-else-i-pairs-clause-rect
 returns-else-i-pairs-clause-rect t c =
@@ -27,6 +27,6 @@ returns-else-i-pairs-clause-rect t c =
     let ey : to_z w32 (of_z w32 c.args.y) ≡ c.args.y = grind (arith, common_steps, to_z-of_z) in
     let ep : to_z w32 (of_z w32 c.moved-pen.result) ≡ c.moved-pen.result = grind (arith, common_steps, to_z-of_z) in
     more_cells c.args.glyphs.now c.args.pairs.now c.args.i c.args.x c.args.y c.moved-pen.result c.index-glyphs-i.result c.cell-first.result c.rect_from.result c.joint.result
-        c.requires.each (omega (arith, c.requires.some, c.if-i-pairs.false)) c.index-glyphs-i.is (c.moved-pen.ensures ∙ ap (λ z. z +ℤ pos (slice_index_or c.args.pairs.now c.args.i (0, 0)).1) ex)
-        (c.cell-first.ensures.cell ∙ (λ i. glyph_cell (c.content.ensures i) (ep i) (ey i)))
-        (c.rect_from.ensures.rect ∙ (λ i. joint_of (cells_along (drop (c.args.i + 1) c.args.glyphs.now) (drop (c.args.i + 1) c.args.pairs.now) (ep i) (ey i)))) c.joint.ensures.joint
+    c.requires.each (omega (arith, c.requires.some, c.if-i-pairs.false)) c.index-glyphs-i.is (c.moved-pen.ensures ∙ ap (λ z. z +ℤ pos (slice_index_or c.args.pairs.now c.args.i (0, 0)).1) ex)
+    (c.cell-first.ensures.cell ∙ (λ i. glyph_cell (c.content.ensures i) (ep i) (ey i)))
+    (c.rect_from.ensures.rect ∙ (λ i. joint_of (cells_along (drop (c.args.i + 1) c.args.glyphs.now) (drop (c.args.i + 1) c.args.pairs.now) (ep i) (ey i)))) c.joint.ensures.joint

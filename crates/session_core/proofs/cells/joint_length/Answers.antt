@@ -15,6 +15,6 @@ returns c =
     let eg : to_z w32 (of_z w32 c.greater-end.result) ≡ c.greater-end.result = grind (arith, common_steps, to_z-of_z) in
     let el : to_z w32 (of_z w32 c.lesser.result) ≡ c.lesser.result = grind (arith, common_steps, to_z-of_z) in
     distance_is c.args.a c.args.b c.greater-end.result c.lesser.result c.args.m c.args.n c.abs_diff.result
-        (c.abs_diff.ensures ∙ (λ i. nat_abs (eg i -ℤ el i)))
-        (c.greater-end.ensures ∙ (λ i. int_max ((e1 ∙ c.end_of.ensures ∙ ap (λ z. z +ℤ pos c.args.m) ea) i) ((e2 ∙ c.end_of-2.ensures ∙ ap (λ z. z +ℤ pos c.args.n) eb) i)))
-        (c.lesser.ensures ∙ (λ i. int_min (ea i) (eb i)))
+    (c.abs_diff.ensures ∙ (λ i. nat_abs (eg i -ℤ el i)))
+    (c.greater-end.ensures ∙ (λ i. int_max ((e1 ∙ c.end_of.ensures ∙ ap (λ z. z +ℤ pos c.args.m) ea) i) ((e2 ∙ c.end_of-2.ensures ∙ ap (λ z. z +ℤ pos c.args.n) eb) i)))
+    (c.lesser.ensures ∙ (λ i. int_min (ea i) (eb i)))

@@ -18,26 +18,25 @@ pub returns-in_err-keeps_rules : goal.returns-in_err-keeps_rules
 returns-in_err-keeps_rules c head n same =
     let p = err_from_is_err_and c.from_residual.result c.from_residual.ensures.1 in
     rw (p.1, p.2) (breaks_rule head (reached_of c.args.standing.now n) c.args.v c.args.d.now c.in_err-keeps_rules.field-0.0 c.ranges.v.fits (c.drawing_is_in_range.ensures c.requires.colors)
-        (sym (c.holds.ensures n) ∙ c.if-not-holds.false)
-        (subst (λ s. KeepsRules (Err c.in_err-keeps_rules.field-0.0) (broken_rule s c.args.d.now) (names_board_slot c.args.d.now.shape)) (sym same) c.in_err-keeps_rules.ensures))
+    (sym (c.holds.ensures n) ∙ c.if-not-holds.false)
+    (subst (λ s. KeepsRules (Err c.in_err-keeps_rules.field-0.0) (broken_rule s c.args.d.now) (names_board_slot c.args.d.now.shape)) (sym same) c.in_err-keeps_rules.ensures))
 
 pub returns-in_err-fit : goal.returns-in_err-fit
 returns-in_err-fit c head n same =
     let p = err_from_is_err_and c.from_residual-in_err-fit.result c.from_residual-in_err-fit.ensures.1 in
     let kept : (broken_rule c.args.standing.now.surface.size c.args.d.now ≡ None) × (names_board_slot c.args.d.now.shape ≡ false) = c.in_ok-keeps_rules.ensures in
     rw (p.1, p.2) (lacks_slot head (reached_of c.args.standing.now n) c.args.v c.args.d.now c.in_err-fit.field-0.0 c.ranges.v.fits (c.drawing_is_in_range.ensures c.requires.colors)
-        (sym (c.holds.ensures n) ∙ c.if-not-holds.false) (ap (λ s. broken_rule s c.args.d.now) same ∙ kept.0) kept.1
-        (subst (λ s. SaysFit (Err c.in_err-fit.field-0.0) (slot_misfit s c.args.standing.now.surface.state c.args.d.now.shape)) (sym same) c.in_err-fit.ensures))
+    (sym (c.holds.ensures n) ∙ c.if-not-holds.false) (ap (λ s. broken_rule s c.args.d.now) same ∙ kept.0) kept.1
+    (subst (λ s. SaysFit (Err c.in_err-fit.field-0.0) (slot_misfit s c.args.standing.now.surface.state c.args.d.now.shape)) (sym same) c.in_err-fit.ensures))
 
 pub returns-then-is_full : goal.returns-then-is_full
 returns-then-is_full c head n same =
     let kept : (broken_rule c.args.standing.now.surface.size c.args.d.now ≡ None) × (names_board_slot c.args.d.now.shape ≡ false) = c.in_ok-keeps_rules.ensures in
-    let fits : slot_misfit c.args.standing.now.surface.size c.args.standing.now.surface.state c.args.d.now.shape ≡ None = c.in_ok-fit.ensures in
-    (
+    let fits : slot_misfit c.args.standing.now.surface.size c.args.standing.now.surface.state c.args.d.now.shape ≡ None = c.in_ok-fit.ensures in (
       by_room head (reached_of c.args.standing.now n) c.args.v c.args.d.now c.is_full.result c.ranges.v.fits (c.drawing_is_in_range.ensures c.requires.colors)
           (sym (c.holds.ensures n) ∙ c.if-not-holds.false) (ap (λ s. broken_rule s c.args.d.now) same ∙ kept.0) kept.1
           (ap (λ s. slot_misfit s c.args.standing.now.surface.state c.args.d.now.shape) same ∙ fits) c.is_full.ensures
-      ∙ rw c.if-is_full.true refl,
+          ∙ rw c.if-is_full.true refl,
       not_none _,
     )
 
@@ -46,6 +45,6 @@ returns c head n same =
     let kept : (broken_rule c.args.standing.now.surface.size c.args.d.now ≡ None) × (names_board_slot c.args.d.now.shape ≡ false) = c.in_ok-keeps_rules.ensures in
     let fits : slot_misfit c.args.standing.now.surface.size c.args.standing.now.surface.state c.args.d.now.shape ≡ None = c.in_ok-fit.ensures in
     by_room head (reached_of c.args.standing.now n) c.args.v c.args.d.now c.is_full.result c.ranges.v.fits (c.drawing_is_in_range.ensures c.requires.colors)
-        (sym (c.holds.ensures n) ∙ c.if-not-holds.false) (ap (λ s. broken_rule s c.args.d.now) same ∙ kept.0) kept.1
-        (ap (λ s. slot_misfit s c.args.standing.now.surface.state c.args.d.now.shape) same ∙ fits) c.is_full.ensures
+    (sym (c.holds.ensures n) ∙ c.if-not-holds.false) (ap (λ s. broken_rule s c.args.d.now) same ∙ kept.0) kept.1
+    (ap (λ s. slot_misfit s c.args.standing.now.surface.state c.args.d.now.shape) same ∙ fits) c.is_full.ensures
     ∙ rw c.if-is_full.false refl

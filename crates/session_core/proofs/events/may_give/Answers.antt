@@ -20,9 +20,9 @@ pub returns-then-standing-ge-MOST_ENTRIES : goal.returns-then-standing-ge-MOST_E
 returns-then-standing-ge-MOST_ENTRIES c head n =
     let r = reached_of c.args.standing.now n in
     let given : (c.if-holds.to ≡ receiver_of r c.args.v) × (refusal_of head r (Give c.args.v c.if-holds.to) ≡ first_some (room_test r ∷ [])) = elim c.if-holds.branch [
-      then-holds w ↦ holder_gives head r c.args.v c.if-holds.to c.ranges.v.fits (omega (arith, w.to-is, w.next_of-to.type_inv)) (sym (c.holds.ensures n) ∙ w.if-holds.true)
+      | then-holds w ↦ holder_gives head r c.args.v c.if-holds.to c.ranges.v.fits (omega (arith, w.to-is, w.next_of-to.type_inv)) (sym (c.holds.ensures n) ∙ w.if-holds.true)
           (w.to-is ∙ w.next_of-to.ensures ∙ ap (λ ms. next_of (viewers_of ms) c.args.v) w.list.ensures)
-    | else-holds+then-is_owner w ↦ owner_takes head r c.args.v c.if-holds.to c.ranges.v.fits (sym (c.holds.ensures n) ∙ w.if-holds.false) (sym (w.is_owner.ensures n) ∙ w.if-is_owner.true) w.to-is
+      | else-holds+then-is_owner w ↦ owner_takes head r c.args.v c.if-holds.to c.ranges.v.fits (sym (c.holds.ensures n) ∙ w.if-holds.false) (sym (w.is_owner.ensures n) ∙ w.if-is_owner.true) w.to-is
     ] in
     (ap (λ to. refusal_of head r (Give c.args.v to)) (sym given.0) ∙ given.1 ∙ full r c.if-standing-ge-MOST_ENTRIES.true, not_none _)
 
@@ -30,8 +30,8 @@ pub returns : goal.returns
 returns c head n =
     let r = reached_of c.args.standing.now n in
     let given : (c.if-holds.to ≡ receiver_of r c.args.v) × (refusal_of head r (Give c.args.v c.if-holds.to) ≡ first_some (room_test r ∷ [])) = elim c.if-holds.branch [
-      then-holds w ↦ holder_gives head r c.args.v c.if-holds.to c.ranges.v.fits (omega (arith, w.to-is, w.next_of-to.type_inv)) (sym (c.holds.ensures n) ∙ w.if-holds.true)
+      | then-holds w ↦ holder_gives head r c.args.v c.if-holds.to c.ranges.v.fits (omega (arith, w.to-is, w.next_of-to.type_inv)) (sym (c.holds.ensures n) ∙ w.if-holds.true)
           (w.to-is ∙ w.next_of-to.ensures ∙ ap (λ ms. next_of (viewers_of ms) c.args.v) w.list.ensures)
-    | else-holds+then-is_owner w ↦ owner_takes head r c.args.v c.if-holds.to c.ranges.v.fits (sym (c.holds.ensures n) ∙ w.if-holds.false) (sym (w.is_owner.ensures n) ∙ w.if-is_owner.true) w.to-is
+      | else-holds+then-is_owner w ↦ owner_takes head r c.args.v c.if-holds.to c.ranges.v.fits (sym (c.holds.ensures n) ∙ w.if-holds.false) (sym (w.is_owner.ensures n) ∙ w.if-is_owner.true) w.to-is
     ] in
     (given.0, given.1 ∙ roomy r c.if-standing-ge-MOST_ENTRIES.false)

@@ -13,7 +13,7 @@ returns-then-not-holds c head n other = (
 pub returns-then-standing-ge-MOST_ENTRIES : goal.returns-then-standing-ge-MOST_ENTRIES
 returns-then-standing-ge-MOST_ENTRIES c head n other = (
   input_by_room head (reached_of c.args.standing.now n) c.args.v c.args.e c.ranges.v.fits c.event_is_in_range.ensures (sym (c.holds.ensures n) ∙ c.if-not-holds.false) other
-  ∙ full (reached_of c.args.standing.now n) c.if-standing-ge-MOST_ENTRIES.true,
+      ∙ full (reached_of c.args.standing.now n) c.if-standing-ge-MOST_ENTRIES.true,
   not_none _,
 )
 

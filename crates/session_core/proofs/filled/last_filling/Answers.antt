@@ -11,10 +11,10 @@ loop-i-preserved c =
     let d = c.index-ds-i.result in
     let within : c.loop-i.i ≤ length ds = omega arith in
     let more : last_filling c.args.wanted (take (c.loop-i.i + 1) ds) ≡ (if fills c.args.wanted d.shape then Some (length (take c.loop-i.i ds)) else last_filling c.args.wanted (take c.loop-i.i ds)) =
-        ap (last_filling c.args.wanted) (take_more ds c.loop-i.i d (omega arith) c.index-ds-i.is) ∙ filling_push c.args.wanted (take c.loop-i.i ds) d in
+    ap (last_filling c.args.wanted) (take_more ds c.loop-i.i d (omega arith) c.index-ds-i.is) ∙ filling_push c.args.wanted (take c.loop-i.i ds) d in
     elim c.if-fills.branch [
-      then-fills w ↦ w.last-is ∙ sym (more ∙ here (fills c.args.wanted d.shape) _ (sym (fills_is c.args.wanted ds c.loop-i.i d c.fills.result c.index-ds-i.is c.fills.ensures) ∙ w.if-fills.true) ∙ ap Some (length_take ds c.loop-i.i within))
-    | else-fills w ↦ w.last-is ∙ c.loop-i.invariant ∙ sym (more ∙ not_here (fills c.args.wanted d.shape) (length (take c.loop-i.i ds)) (sym (fills_is c.args.wanted ds c.loop-i.i d c.fills.result c.index-ds-i.is c.fills.ensures) ∙ w.if-fills.false))
+      | then-fills w ↦ w.last-is ∙ sym (more ∙ here (fills c.args.wanted d.shape) _ (sym (fills_is c.args.wanted ds c.loop-i.i d c.fills.result c.index-ds-i.is c.fills.ensures) ∙ w.if-fills.true) ∙ ap Some (length_take ds c.loop-i.i within))
+      | else-fills w ↦ w.last-is ∙ c.loop-i.invariant ∙ sym (more ∙ not_here (fills c.args.wanted d.shape) (length (take c.loop-i.i ds)) (sym (fills_is c.args.wanted ds c.loop-i.i d c.fills.result c.index-ds-i.is c.fills.ensures) ∙ w.if-fills.false))
     ]
 
 pub returns-clause-within : goal.returns-clause-within

@@ -30,7 +30,7 @@ run_rect-rect-requires-clause-plain c =
     let st = state_after_drawings c.args.surface.now.size c.args.surface.now.state c.args.before.now in
     let full = all_there _ (slots_as c.args.surface.now.size st c.args.d.now _ c.requires.fits c.in-Text.is) in
     subst ArePlain (sym (c.deref.ensures.value ∙ c.in_ok-glyphs-in-Text.ensures ∙ ap (run_glyphs st.glyphs c.in-Text.font) c.pairs.ensures))
-        (run_plain st.glyphs c.in-Text.font _ (plain_after c.args.surface.now.size c.args.before.now c.args.surface.now.state c.requires.before c.is_sound.ensures.glyphs) full)
+    (run_plain st.glyphs c.in-Text.font _ (plain_after c.args.surface.now.size c.args.before.now c.args.surface.now.state c.requires.before c.is_sound.ensures.glyphs) full)
 
 pub run_rect-rect-requires-clause-pen : goal.run_rect-rect-requires-clause-pen
 run_rect-rect-requires-clause-pen c =
@@ -76,8 +76,8 @@ returns-in_ok-glyphs-in-Text c =
     let full = all_there _ (slots_as c.args.surface.now.size st c.args.d.now _ c.requires.fits c.in-Text.is) in
     let glyphs = c.in_ok-glyphs-in-Text.ensures ∙ ap (run_glyphs st.glyphs c.in-Text.font) c.pairs.ensures in
     text_is c.args.surface.now.size st c.args.d.now c.with_held-in-Text.result c.in-Text.x c.in-Text.y _ c.in-Text.font _ c.run_rect-rect.result c.in_ok-glyphs-in-Text.glyphs.items c.in-Text.is full
-        (c.run_rect-rect.ensures.rect ∙ (λ i. joint_of (cells_along ((c.deref.ensures.value ∙ glyphs) i) (c.pairs-in-Text.ensures i) (ex i) (ey i)))) glyphs
-        c.with_held-in-Text.ensures.rect c.with_held-in-Text.ensures.image c.with_held-in-Text.ensures.brush c.with_held-in-Text.ensures.glyphs
+    (c.run_rect-rect.ensures.rect ∙ (λ i. joint_of (cells_along ((c.deref.ensures.value ∙ glyphs) i) (c.pairs-in-Text.ensures i) (ex i) (ey i)))) glyphs
+    c.with_held-in-Text.ensures.rect c.with_held-in-Text.ensures.image c.with_held-in-Text.ensures.brush c.with_held-in-Text.ensures.glyphs
 
 pub returns-in-Line : goal.returns-in-Line
 returns-in-Line c =

@@ -14,8 +14,7 @@ returns-clause-asked c =
     let at : place_of c.args.v c.self.inside.list.items ≡ Some c.place_here-i.result = rw c.deref.ensures.value at c.place_here-i.ensures.place in
     let y : Member = record { number = c.index_mut.result.now.number; role = c.index_mut.result.now.role; asked = c.none.result; suppressed = c.index_mut.result.now.suppressed } in
     rw (← c.self.view_is) (λ k u. replaced_by tiles (λ m. m.asked) [] c.args.v c.self.inside.list.items c.place_here-i.result c.index_mut.result.now y
-        _ at c.index_mut.ensures.value refl c.none.ensures u k)
+    _ at c.index_mut.ensures.value refl c.none.ensures u k)
 
 pub returns-clause-stopped : goal.returns-clause-stopped
 returns-clause-stopped c = rw (← c.self.view_is) (part_kept (λ m. (m.number, m.suppressed)) c.self.inside.list.items c.place_here-i.result c.index_mut.result.now _ c.index_mut.ensures.value refl)
-

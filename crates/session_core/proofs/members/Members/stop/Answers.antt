@@ -17,4 +17,4 @@ returns-clause-stopped c =
     let at : place_of c.args.v c.self.inside.list.items ≡ Some c.place_here-i.result = rw c.deref.ensures.value at c.place_here-i.ensures.place in
     let y : Member = record { number = c.index_mut.result.now.number; role = c.index_mut.result.now.role; asked = c.index_mut.result.now.asked; suppressed = c.args.stop } in
     rw (← c.self.view_is) (λ k u. replaced_by (λ b. b) (λ m. m.suppressed) false c.args.v c.self.inside.list.items c.place_here-i.result c.index_mut.result.now y
-        c.args.stop at c.index_mut.ensures.value refl refl u k)
+    c.args.stop at c.index_mut.ensures.value refl refl u k)

@@ -62,7 +62,7 @@ draw-requires-clause-rules c =
     let ks = c.self.inside.kept.items in
     let legal = c.in_ok-may_draw.ensures c.self.inside.head (length ks) (sym h.surface_size) in
     subst (λ z. broken_rule z c.args.d ≡ None) (sym h.surface_size)
-        (keeps_rules c.self.inside.head.size s.surface.state c.args.d (FitsState-legal c.self.inside.head (reached_of s (length ks)) c.args.v c.args.d legal))
+    (keeps_rules c.self.inside.head.size s.surface.state c.args.d (FitsState-legal c.self.inside.head (reached_of s (length ks)) c.args.v c.args.d legal))
 
 pub draw-requires-clause-entries : goal.draw-requires-clause-entries
 draw-requires-clause-entries c =
@@ -97,7 +97,7 @@ invariant_of-self-2 c =
             shown = subst (λ z. all_shown (c.args.d ∷ []) c.in_ok-shown.shown.items ≡ pending_drawings z s.surface.state (c.args.d ∷ [])) h.surface_size c.in_ok-shown.ensures;
           })
           (subst (λ z. reached_of c.draw.new.self (length ks + 1) ≡ reached_after_entry z (reached_of s (length ks)) (Draw c.args.v c.args.d)) h.surface_size
-              (c.if-not-draw.ensures.reached (length ks) c.args.v))
+          (c.if-not-draw.ensures.reached (length ks) c.args.v))
           (c.draw.ensures.size ∙ h.surface_size) (ap (λ b. b.size) c.draw.ensures.board ∙ h.board_size));
       room_left = omega (arith, c.if-not-make_room.ensures.room, c.push_reserved.ensures.len, c.push_reserved.ensures.capacity, ap length c.draw.ensures.members, ap length c.list.ensures);
     }

@@ -29,7 +29,7 @@ returns-in_err-to-clause-journal c =
     let no = c.in_err-to.ensures c.self.inside.head (length ks) in
     let k = event_refused c.self.inside.head (reached_of s (length ks)) (Give c.args.v (receiver_of (reached_of s (length ks)) c.args.v)) c.in_err-to.field-0.0 no.0 no.1 in
     rw (p.1, p.2) (event_stays c.in_err-to.field-0.0 _ _
-        (entry_made c.self.inside.head s ks c.args.self.now (λ r. Give c.args.v (receiver_of r c.args.v)) None c.self.invariant.is_session c.self.view_is k.entry_is))
+    (entry_made c.self.inside.head s ks c.args.self.now (λ r. Give c.args.v (receiver_of r c.args.v)) None c.self.invariant.is_session c.self.view_is k.entry_is))
 
 pub invariant_of-self : goal.invariant_of-self
 invariant_of-self c = record {
@@ -76,4 +76,4 @@ returns-clause-journal c =
     ∙ ap (λ es. es ++ Give c.args.v c.in_ok-to.to ∷ []) (ap journal_of c.make_room.ensures.items)
     ∙ ap (λ to. journal_of ks ++ Give c.args.v to ∷ []) yes.0
     ∙ goes_on_entry c.self.inside.head s ks c.args.self.now (Some Accepted) (λ (x : Reached). Give c.args.v (receiver_of x c.args.v)) _ c.self.invariant.is_session c.self.view_is
-        (ap (λ o. journal_of ks ++ option_to_list o) (sym k.entry_is))
+    (ap (λ o. journal_of ks ++ option_to_list o) (sym k.entry_is))

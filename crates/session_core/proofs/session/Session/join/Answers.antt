@@ -25,14 +25,14 @@ returns-in_err-role-clause-answer c =
     let p = err_from_is_err_and c.from_residual.result c.from_residual.ensures.1 in
     let ks = c.self.inside.kept.items in
     rw (p.1, p.2) (answered c.self.inside.head c.self.inside.standing ks c.args.self.now _ (JoinStep c.args.name.now) c.self.invariant.is_session c.self.view_is
-        (refused_answer _ _ (c.in_err-role.ensures (length ks)).0))
+    (refused_answer _ _ (c.in_err-role.ensures (length ks)).0))
 
 pub returns-in_err-role-clause-journal : goal.returns-in_err-role-clause-journal
 returns-in_err-role-clause-journal c =
     let p = err_from_is_err_and c.from_residual.result c.from_residual.ensures.1 in
     let ks = c.self.inside.kept.items in
     rw (p.1, p.2) (refused_stays c.in_err-role.field-0.0 _ _
-        (entry_now c.self.inside.head c.self.inside.standing ks c.args.self.now (JoinStep c.args.name.now) _ c.self.invariant.is_session c.self.view_is (c.in_err-role.ensures (length ks)).1))
+    (entry_now c.self.inside.head c.self.inside.standing ks c.args.self.now (JoinStep c.args.name.now) _ c.self.invariant.is_session c.self.view_is (c.in_err-role.ensures (length ks)).1))
 
 pub invariant_of-self : goal.invariant_of-self
 invariant_of-self c = record {
@@ -59,8 +59,17 @@ invariant_of-self-2 c =
           (record { first = c.count-first.ensures; board = tt; shown = refl })
           (c.admit-v.ensures.reached c.self.inside.head.size (length ks))
           (ap (λ s. s.size) c.admit-v.ensures.surface ∙ h.surface_size) (ap (λ b. b.size) c.admit-v.ensures.board ∙ h.board_size));
-      room_left = omega (arith, c.if-not-make_room.ensures.room, c.push_reserved.ensures.len, c.push_reserved.ensures.capacity, length_viewers s.members,
-          length_viewers c.admit-v.new.self.members, ap length viewers, length_push (viewers_of s.members) (record { number = s.joins + 1; role = c.in_ok-role.role }), ap length c.list.ensures);
+      room_left = omega (
+        arith,
+        c.if-not-make_room.ensures.room,
+        c.push_reserved.ensures.len,
+        c.push_reserved.ensures.capacity,
+        length_viewers s.members,
+        length_viewers c.admit-v.new.self.members,
+        ap length viewers,
+        length_push (viewers_of s.members) (record { number = s.joins + 1; role = c.in_ok-role.role }),
+        ap length c.list.ensures,
+      );
     }
 
 pub returns-clause-answer : goal.returns-clause-answer
@@ -69,7 +78,7 @@ returns-clause-answer c =
     let let_in = c.in_ok-role.ensures (length ks) in
     let k = joined c.self.inside.head (reached_of c.self.inside.standing (length ks)) c.args.name.now c.in_ok-role.role let_in.0 let_in.1 let_in.2 in
     answered c.self.inside.head c.self.inside.standing ks c.args.self.now (Some (Joined c.admit-v.result)) (JoinStep c.args.name.now) c.self.invariant.is_session c.self.view_is
-        (ap Joined c.admit-v.ensures.number ∙ sym k.answer_is)
+    (ap Joined c.admit-v.ensures.number ∙ sym k.answer_is)
 
 pub returns-clause-journal : goal.returns-clause-journal
 returns-clause-journal c =
@@ -80,7 +89,7 @@ returns-clause-journal c =
     ∙ ap (λ es. es ++ Join c.admit-v.result c.in_ok-role.role ∷ []) (ap journal_of c.make_room.ensures.items)
     ∙ ap (λ v. journal_of ks ++ Join v c.in_ok-role.role ∷ []) c.admit-v.ensures.number
     ∙ goes_on c.self.inside.head c.self.inside.standing ks c.args.self.now (Some (Joined c.admit-v.result)) (JoinStep c.args.name.now) _ c.self.invariant.is_session c.self.view_is
-        (ap (λ o. journal_of ks ++ option_to_list o) (sym k.entry_is))
+    (ap (λ o. journal_of ks ++ option_to_list o) (sym k.entry_is))
 
 pub returns-clause-asked : goal.returns-clause-asked
 returns-clause-asked c = rw (← c.self.view_is) c.admit-v.ensures.asked
@@ -93,8 +102,7 @@ returns-clause-fresh c =
     let ks = c.self.inside.kept.items in
     let s = c.self.inside.standing in
     let sound = sound_now _ _ _ c.self.invariant.is_session in
-    let away : is_present c.admit-v.result (viewers_of s.members) ≡ false = absent_past c.admit-v.result 0 s.joins (viewers_of s.members) (omega (arith, c.admit-v.ensures.number)) sound.numbered in
-    (
+    let away : is_present c.admit-v.result (viewers_of s.members) ≡ false = absent_past c.admit-v.result 0 s.joins (viewers_of s.members) (omega (arith, c.admit-v.ensures.number)) sound.numbered in (
       (λ i. c.admit-v.ensures.asked i c.admit-v.result) ∙ ap tiles (kept_absent (λ m. m.asked) [] c.admit-v.result s.members away),
       (λ i. c.admit-v.ensures.stopped i c.admit-v.result) ∙ kept_absent (λ m. m.suppressed) false c.admit-v.result s.members away,
     )

@@ -28,20 +28,28 @@ invariant_of-self c =
           (record { first = c.count-first.ensures ∙ ap (λ s. s.state.count) c.dismiss.ensures.surface; board = tt; shown = refl })
           (c.dismiss.ensures.reached c.self.inside.head.size _)
           (ap (λ s. s.size) c.dismiss.ensures.surface ∙ h.surface_size) (ap (λ b. b.size) c.dismiss.ensures.board ∙ h.board_size));
-      room_left = omega (arith, c.self.invariant.room_left, c.push_reserved.ensures.len, c.push_reserved.ensures.capacity, length_viewers c.self.inside.standing.members,
-          length_viewers c.dismiss.new.self.members, ap length viewers, one_fewer c.args.v (viewers_of c.self.inside.standing.members) here);
+      room_left = omega (
+        arith,
+        c.self.invariant.room_left,
+        c.push_reserved.ensures.len,
+        c.push_reserved.ensures.capacity,
+        length_viewers c.self.inside.standing.members,
+        length_viewers c.dismiss.new.self.members,
+        ap length viewers,
+        one_fewer c.args.v (viewers_of c.self.inside.standing.members) here,
+      );
     }
 
 pub returns-clause-asked : goal.returns-clause-asked
 returns-clause-asked c =
     let viewers = ap (λ r. r.viewers) (c.dismiss.ensures.reached c.self.inside.head.size 0) in
     let away : is_present c.args.v (viewers_of c.dismiss.new.self.members) ≡ false =
-        ap (is_present c.args.v) viewers ∙ gone c.args.v 0 _ _ (sound_now _ _ _ c.self.invariant.is_session).numbered in
+    ap (is_present c.args.v) viewers ∙ gone c.args.v 0 _ _ (sound_now _ _ _ c.self.invariant.is_session).numbered in
     rw (← c.self.view_is) (replaced_where c.args.v _ _ _ c.dismiss.ensures.asked (ap tiles (kept_absent (λ m. m.asked) [] c.args.v c.dismiss.new.self.members away)))
 
 pub returns-clause-suppressed : goal.returns-clause-suppressed
 returns-clause-suppressed c =
     let viewers = ap (λ r. r.viewers) (c.dismiss.ensures.reached c.self.inside.head.size 0) in
     let away : is_present c.args.v (viewers_of c.dismiss.new.self.members) ≡ false =
-        ap (is_present c.args.v) viewers ∙ gone c.args.v 0 _ _ (sound_now _ _ _ c.self.invariant.is_session).numbered in
+    ap (is_present c.args.v) viewers ∙ gone c.args.v 0 _ _ (sound_now _ _ _ c.self.invariant.is_session).numbered in
     rw (← c.self.view_is) (replaced_where c.args.v _ _ _ c.dismiss.ensures.stopped (kept_absent (λ m. m.suppressed) false c.args.v c.dismiss.new.self.members away))

@@ -15,7 +15,7 @@ put_drawn-requires c =
     let below : c.args.k < length (journal_of ks) = rw (← c.self.view_is) at c.requires in
     let within : c.args.k < length ks = omega (arith, below, length_journal ks) in
     let puts = puts_drawn c.self.inside.head c.self.inside.standing ks c.args.k c.in-Draw.by c.index-kept.result.now c.in-Draw.d c.self.invariant.is_session
-        (item_at ks c.args.k c.index-kept.result.now within c.index-kept.ensures) c.in-Draw.is in
+    (item_at ks c.args.k c.index-kept.result.now within c.index-kept.ensures) c.in-Draw.is in
     rw c.deref.ensures.value puts.each
 
 pub put_reaction-requires-clause-ready : goal.put_reaction-requires-clause-ready
@@ -24,7 +24,7 @@ put_reaction-requires-clause-ready c =
     let below : c.args.k < length (journal_of ks) = rw (← c.self.view_is) at c.requires in
     let within : c.args.k < length ks = omega (arith, below, length_journal ks) in
     (puts_reaction c.self.inside.head c.self.inside.standing ks c.args.k c.in-Input.by c.index-kept.result.now c.in-Input.event c.self.invariant.is_session
-        (item_at ks c.args.k c.index-kept.result.now within c.index-kept.ensures) c.in-Input.is).ready
+    (item_at ks c.args.k c.index-kept.result.now within c.index-kept.ensures) c.in-Input.is).ready
 
 pub put_reaction-requires-clause-each : goal.put_reaction-requires-clause-each
 put_reaction-requires-clause-each c =
@@ -32,7 +32,7 @@ put_reaction-requires-clause-each c =
     let below : c.args.k < length (journal_of ks) = rw (← c.self.view_is) at c.requires in
     let within : c.args.k < length ks = omega (arith, below, length_journal ks) in
     let puts = puts_reaction c.self.inside.head c.self.inside.standing ks c.args.k c.in-Input.by c.index-kept.result.now c.in-Input.event c.self.invariant.is_session
-        (item_at ks c.args.k c.index-kept.result.now within c.index-kept.ensures) c.in-Input.is in
+    (item_at ks c.args.k c.index-kept.result.now within c.index-kept.ensures) c.in-Input.is in
     rw c.deref-in-Input.ensures.value puts.each
 
 pub returns-in-Draw-clause-ok : goal.returns-in-Draw-clause-ok
@@ -41,7 +41,7 @@ returns-in-Draw-clause-ok c =
     let below : c.args.k < length (journal_of ks) = rw (← c.self.view_is) at c.requires in
     let within : c.args.k < length ks = omega (arith, below, length_journal ks) in
     let puts = puts_drawn c.self.inside.head c.self.inside.standing ks c.args.k c.in-Draw.by c.index-kept.result.now c.in-Draw.d c.self.invariant.is_session
-        (item_at ks c.args.k c.index-kept.result.now within c.index-kept.ensures) c.in-Draw.is in
+    (item_at ks c.args.k c.index-kept.result.now within c.index-kept.ensures) c.in-Draw.is in
     let made = ap (all_shown (c.in-Draw.d ∷ [])) c.deref.ensures.value ∙ puts.pending in
     puts_ok c.put_drawn.result c.args.out.now.items c.put_drawn.new.out.items _ _ (made ∙ seen_so c.self.inside.head c.self.inside.standing ks c.args.self.now c.args.k c.self.view_is) c.put_drawn.ensures.ok
 
@@ -51,7 +51,7 @@ returns-in-Draw-clause-memory c =
     let below : c.args.k < length (journal_of ks) = rw (← c.self.view_is) at c.requires in
     let within : c.args.k < length ks = omega (arith, below, length_journal ks) in
     let puts = puts_drawn c.self.inside.head c.self.inside.standing ks c.args.k c.in-Draw.by c.index-kept.result.now c.in-Draw.d c.self.invariant.is_session
-        (item_at ks c.args.k c.index-kept.result.now within c.index-kept.ensures) c.in-Draw.is in
+    (item_at ks c.args.k c.index-kept.result.now within c.index-kept.ensures) c.in-Draw.is in
     let made = ap (all_shown (c.in-Draw.d ∷ [])) c.deref.ensures.value ∙ puts.pending in
     puts_err c.put_drawn.result c.args.out.now.items c.put_drawn.new.out.items _ _ (made ∙ seen_so c.self.inside.head c.self.inside.standing ks c.args.self.now c.args.k c.self.view_is) c.put_drawn.ensures.memory
 
@@ -61,7 +61,7 @@ returns-in-Input-clause-ok c =
     let below : c.args.k < length (journal_of ks) = rw (← c.self.view_is) at c.requires in
     let within : c.args.k < length ks = omega (arith, below, length_journal ks) in
     let puts = puts_reaction c.self.inside.head c.self.inside.standing ks c.args.k c.in-Input.by c.index-kept.result.now c.in-Input.event c.self.invariant.is_session
-        (item_at ks c.args.k c.index-kept.result.now within c.index-kept.ensures) c.in-Input.is in
+    (item_at ks c.args.k c.index-kept.result.now within c.index-kept.ensures) c.in-Input.is in
     let made = ap (all_shown (drawings_made c.index-kept.result.now.board c.in-Input.event)) c.deref-in-Input.ensures.value ∙ puts.pending in
     puts_ok c.put_reaction.result c.args.out.now.items c.put_reaction.new.out.items _ _ (made ∙ seen_so c.self.inside.head c.self.inside.standing ks c.args.self.now c.args.k c.self.view_is) c.put_reaction.ensures.ok
 
@@ -71,7 +71,7 @@ returns-in-Input-clause-memory c =
     let below : c.args.k < length (journal_of ks) = rw (← c.self.view_is) at c.requires in
     let within : c.args.k < length ks = omega (arith, below, length_journal ks) in
     let puts = puts_reaction c.self.inside.head c.self.inside.standing ks c.args.k c.in-Input.by c.index-kept.result.now c.in-Input.event c.self.invariant.is_session
-        (item_at ks c.args.k c.index-kept.result.now within c.index-kept.ensures) c.in-Input.is in
+    (item_at ks c.args.k c.index-kept.result.now within c.index-kept.ensures) c.in-Input.is in
     let made = ap (all_shown (drawings_made c.index-kept.result.now.board c.in-Input.event)) c.deref-in-Input.ensures.value ∙ puts.pending in
     puts_err c.put_reaction.result c.args.out.now.items c.put_reaction.new.out.items _ _ (made ∙ seen_so c.self.inside.head c.self.inside.standing ks c.args.self.now c.args.k c.self.view_is) c.put_reaction.ensures.memory
 
@@ -81,7 +81,7 @@ returns-in-Join-clause-ok c =
     let below : c.args.k < length (journal_of ks) = rw (← c.self.view_is) at c.requires in
     let within : c.args.k < length ks = omega (arith, below, length_journal ks) in
     let none = puts_none c.self.inside.head c.self.inside.standing ks c.args.k c.index-kept.result.now (Join c.in-Join.v c.in-Join.role) c.self.invariant.is_session
-        (item_at ks c.args.k c.index-kept.result.now within c.index-kept.ensures) c.in-Join.is refl in
+    (item_at ks c.args.k c.index-kept.result.now within c.index-kept.ensures) c.in-Join.is refl in
     puts_nothing c.args.out.now.items _ (sym (seen_so c.self.inside.head c.self.inside.standing ks c.args.self.now c.args.k c.self.view_is) ∙ none)
 
 pub returns-in-Leave-clause-ok : goal.returns-in-Leave-clause-ok
@@ -90,7 +90,7 @@ returns-in-Leave-clause-ok c =
     let below : c.args.k < length (journal_of ks) = rw (← c.self.view_is) at c.requires in
     let within : c.args.k < length ks = omega (arith, below, length_journal ks) in
     let none = puts_none c.self.inside.head c.self.inside.standing ks c.args.k c.index-kept.result.now (Leave c.in-Leave.v) c.self.invariant.is_session
-        (item_at ks c.args.k c.index-kept.result.now within c.index-kept.ensures) c.in-Leave.is refl in
+    (item_at ks c.args.k c.index-kept.result.now within c.index-kept.ensures) c.in-Leave.is refl in
     puts_nothing c.args.out.now.items _ (sym (seen_so c.self.inside.head c.self.inside.standing ks c.args.self.now c.args.k c.self.view_is) ∙ none)
 
 pub returns-in-Give-clause-ok : goal.returns-in-Give-clause-ok
@@ -99,5 +99,5 @@ returns-in-Give-clause-ok c =
     let below : c.args.k < length (journal_of ks) = rw (← c.self.view_is) at c.requires in
     let within : c.args.k < length ks = omega (arith, below, length_journal ks) in
     let none = puts_none c.self.inside.head c.self.inside.standing ks c.args.k c.index-kept.result.now (Give c.in-Give.by c.in-Give.to) c.self.invariant.is_session
-        (item_at ks c.args.k c.index-kept.result.now within c.index-kept.ensures) c.in-Give.is refl in
+    (item_at ks c.args.k c.index-kept.result.now within c.index-kept.ensures) c.in-Give.is refl in
     puts_nothing c.args.out.now.items _ (sym (seen_so c.self.inside.head c.self.inside.standing ks c.args.self.now c.args.k c.self.view_is) ∙ none)

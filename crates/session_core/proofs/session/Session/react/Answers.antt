@@ -38,7 +38,7 @@ returns-in_err-may_react-clause-journal c =
     let no = c.in_err-may_react.ensures c.self.inside.head (length ks) c.requires in
     let k = event_refused c.self.inside.head (reached_of s (length ks)) (Input c.args.v c.args.e) c.in_err-may_react.field-0.0 no.0 no.1 in
     rw (p.1, p.2) (event_stays c.in_err-may_react.field-0.0 _ _
-        (entry_made c.self.inside.head s ks c.args.self.now (λ r. Input c.args.v c.args.e) None c.self.invariant.is_session c.self.view_is k.entry_is))
+    (entry_made c.self.inside.head s ks c.args.self.now (λ r. Input c.args.v c.args.e) None c.self.invariant.is_session c.self.view_is k.entry_is))
 
 pub react_to-requires-clause-agrees : goal.react_to-requires-clause-agrees
 react_to-requires-clause-agrees c =
@@ -93,7 +93,7 @@ invariant_of-self-2 c =
       is_session = rw (c.push_reserved.ensures.items, c.make_room.ensures.items) (appended head s c.react.new.self ks _ h legal
           (reaction_kept head s (length ks) c.args.v c.count-first.result c.args.e c.in_ok-reaction.reaction h.surface_size h.board_size made c.count-first.ensures)
           (subst (λ z. reached_of c.react.new.self (length ks + 1) ≡ reached_after_entry z (reached_of s (length ks)) (Input c.args.v c.args.e)) h.surface_size
-              (c.if-not-react.ensures.reached (length ks) c.args.v c.args.e (c.deref.ensures.value ∙ made.drawings) made.board))
+          (c.if-not-react.ensures.reached (length ks) c.args.v c.args.e (c.deref.ensures.value ∙ made.drawings) made.board))
           (c.react.ensures.size ∙ h.surface_size) (c.react.ensures.board ∙ h.board_size));
       room_left = omega (arith, c.if-not-make_room.ensures.room, c.push_reserved.ensures.len, c.push_reserved.ensures.capacity, ap length c.react.ensures.members, ap length c.list.ensures);
     }
