@@ -26,6 +26,3 @@ pub use take::Take;
 pub use taken::Taken;
 pub use tile::TakenTile;
 pub use tiles::tile_on;
-
-#[cfg(test)]
-mod tests;
