@@ -1,5 +1,5 @@
 -- What is answered once the client is ready: nothing.
-use Rattle.std.proofs.Common.{◌≡◌, ℕ, List, [], ◌∷◌, ◌++◌, refl, ap, sym, ◌∙◌, Bool, true, false, cond}
+use Rattle.std.proofs.Common.{◌≡◌, ℕ, List, [], ◌∷◌, ◌++◌, refl, ap, ◌∙◌, Bool, true, false, cond}
 use Rattle.std.specs.Prelude.{◌==◌, Option, Some, None, Result, Ok, Err}
 use Rattle.byte_fields.specs.Field.{Read, bind}
 use Rattle.wire_num.specs.declared.range.Range.{Range}
@@ -7,7 +7,6 @@ use Rattle.wire_num.specs.Layout.{fields_at}
 use Rattle.mcs_dom.specs.declared.domain_pdu.DomainPdu.{DomainPdu}
 use Rattle.mcs_dom.specs.declared.domain_pdu.DomainPdu.TheVariants.{Erect, Attach, Join, Data, Bye}
 use Rattle.input_events.specs.declared.event.Event.{Event}
-use Rattle.input_pdu.specs.Events.{events_of}
 use Rattle.share_pdu.specs.declared.client_pdu.ClientPdu.{ClientPdu}
 use Rattle.share_pdu.specs.declared.client_pdu.ClientPdu.TheVariants as pdu
 use Rattle.share_pdu.specs.declared.share_fault.ShareFault.{ShareFault}
@@ -29,7 +28,7 @@ use Rattle.conn_rules.specs.Headers.{mcs_headers}
 use Rattle.conn_rules.specs.Packets.{mcs_place, body_in, share_data, shares_judged, pdu_in, behind_headers, packet_judged}
 use Rattle.conn_rules.specs.Replies.{reply_bytes}
 use Rattle.conn_rules.specs.Told.{is_ready}
-use Rattle.conn_rules.specs.Hearing.{Hearing, Heard, silent, is_over, judged_heard, packet_heard, packets_heard, between, with_rest, before_rest, cut_heard, heard}
+use Rattle.conn_rules.specs.Hearing.{Hearing, Heard, silent, is_over, judged_heard, packet_heard, packets_heard, between, before_rest, heard}
 use Rattle.conn_rules.proofs.Pieces.{over_silent}
 use Rattle.tpkt_x224.specs.Pieces.{packets_of}
 

@@ -3,4 +3,4 @@
 
 mod laws;
 
-pub use laws::{nothing_follows_the_end, once_ready_nothing_is_replied};
+pub use laws::{nothing_follows_the_end, once_ready_nothing_is_replied, steps_come_in_order};
