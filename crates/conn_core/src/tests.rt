@@ -203,3 +203,54 @@ fn bytes_after_a_bye_are_dropped(rt: HostRuntime) -> Result<(), Fail> {
     assert_eq!(rt; conn.part(), 0);
     Ok(())
 }
+
+#[test]
+fn first_packets_that_break_a_rule_are_refused(rt: HostRuntime) -> Result<(), Fail> {
+    let mut out = Vec::new(rt.alloc());
+    let mut steps = Vec::new(rt.alloc());
+    let mut conn = Conn::new(rt.alloc(), SIZE)?;
+    // a front of a packet is none yet
+    assert_eq!(rt; conn.feed(&[3, 0, 0, 19, 14], &mut out, &mut steps), Ok(()));
+    assert_eq!(rt; conn.part(), 5);
+    // another version; a length below 7; no Connection Request
+    let streams: [(&[u8], u8, u64); 3] = [
+        (&[4], 1, 0),
+        (&[3, 0, 0, 6], 2, 2),
+        (&[3, 0, 0, 11, 6, 0xD0, 0, 0, 0, 0, 0], 3, 5),
+    ];
+    for (bytes, k, at) in streams {
+        let mut conn = Conn::new(rt.alloc(), SIZE)?;
+        let refused = Err(ConnFault::Refused { k, at });
+        assert_eq!(rt; conn.feed(bytes, &mut out, &mut steps), refused);
+    }
+    assert_eq!(rt; out.len(), 0);
+    assert_eq!(rt; steps.len(), 0);
+    Ok(())
+}
+
+#[test]
+fn the_asked_protocols_are_echoed_and_none_is_selected(rt: HostRuntime) -> Result<(), Fail> {
+    let mut bytes = SAMPLE;
+    bytes[15] = 3;
+    let mut replies = REPLIES;
+    replies[95] = 3;
+    let mut out = Vec::new(rt.alloc());
+    let mut steps = Vec::new(rt.alloc());
+    let mut conn = Conn::new(rt.alloc(), SIZE)?;
+    assert_eq!(rt; conn.feed(&bytes, &mut out, &mut steps), Ok(()));
+    assert_eq!(rt; out.as_slice(), replies.as_slice());
+    Ok(())
+}
+
+#[test]
+fn a_depth_of_32_bits_alone_is_refused(rt: HostRuntime) -> Result<(), Fail> {
+    let mut bytes = SAMPLE;
+    bytes[295] = 8;
+    bytes[297] = 8;
+    let mut out = Vec::new(rt.alloc());
+    let mut steps = Vec::new(rt.alloc());
+    let mut conn = Conn::new(rt.alloc(), SIZE)?;
+    let refused = Err(ConnFault::Refused { k: 8, at: 155 });
+    assert_eq!(rt; conn.feed(&bytes, &mut out, &mut steps), refused);
+    Ok(())
+}
