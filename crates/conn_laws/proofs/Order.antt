@@ -131,7 +131,7 @@ in_order_then Ended b c (one ∷ steps) more p q = absurd p
 -- ---- answers
 
 -- what a packet tells of a client that connects, and where it is then
-abbrev EarlyNews : News → Progress → Type 0
+abbrev pub EarlyNews : News → Progress → Type 0
 EarlyNews news.Nothing after = after ≡ Connecting
 EarlyNews (news.Step (step.Named name)) after = after ≡ Connecting
 EarlyNews (news.Step (step.Ready confirmed)) after = after ≡ Ready
@@ -144,7 +144,7 @@ EarlyNews (news.Step step.Packet) after = ⊥
 EarlyNews news.Pdu after = ⊥
 
 -- and of one that is ready
-abbrev LaterNews : News → Progress → Type 0
+abbrev pub LaterNews : News → Progress → Type 0
 LaterNews news.Nothing after = after ≡ Ready
 LaterNews (news.Step (step.Named name)) after = ⊥
 LaterNews (news.Step (step.Ready confirmed)) after = ⊥
@@ -156,13 +156,13 @@ LaterNews (news.Step step.Bye) after = after ≡ Ended
 LaterNews (news.Step step.Packet) after = ⊥
 LaterNews news.Pdu after = after ≡ Ready
 
-abbrev NewsOf : Progress → News → Progress → Type 0
+abbrev pub NewsOf : Progress → News → Progress → Type 0
 NewsOf Connecting what after = EarlyNews what after
 NewsOf Ready what after = LaterNews what after
 NewsOf Ended what after = ⊥
 
 -- an answer to a client that is so far
-abbrev Suits : Progress → Judged → Type 0
+abbrev pub Suits : Progress → Judged → Type 0
 Suits here (Ok answer) = NewsOf here answer.news (progress_of answer.next)
 Suits here (Err refusal) = ⊤
 
@@ -397,7 +397,7 @@ headers_suit : (s : Stage) (packet : List ℕ) (r : Read (List ℕ)) → is_over
 headers_suit s packet (Ok v) e = mcs_suits s v.1 e refl
 headers_suit s packet (Err left) e = tt
 
-packet_suits : (s : Stage) (packet : List ℕ) → is_over s ≡ false → Suits (progress_of s) (packet_judged s packet)
+pub packet_suits : (s : Stage) (packet : List ℕ) → is_over s ≡ false → Suits (progress_of s) (packet_judged s packet)
 packet_suits stage.Request packet e = request_suits (request_of packet)
 packet_suits (stage.Initial asked) packet e = headers_suit (stage.Initial asked) packet (fields_at mcs_headers packet) e
 packet_suits (stage.Erect channels) packet e = headers_suit (stage.Erect channels) packet (fields_at mcs_headers packet) e

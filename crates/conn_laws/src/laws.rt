@@ -5,6 +5,7 @@ ghost use Rattle.px_core.specs.declared.surface.Size.{Size};
 ghost use Rattle.conn_rules.specs.declared.conn_step.ConnStep.{ConnStep};
 ghost use Rattle.conn_rules.specs.Hearing.{Hearing, silent, between, is_over, heard, host_handshake};
 ghost use Rattle.conn_rules.specs.Told.{is_ready};
+ghost use Rattle.conn_laws.specs.Placed.{AreBytes, ArePlaced};
 ghost use Rattle.conn_laws.specs.Progress.{Progress, progress_of, ComeInOrder};
 ghost use Rattle.conn_laws.specs.Progress.Progress.{Connecting};
 
@@ -25,4 +26,10 @@ pub fn steps_come_in_order()
     ensures further { (h : Hearing) (bytes : List ℕ) → ComeInOrder (progress_of h.stage) (heard h bytes).steps (progress_of (heard h bytes).after.stage) }
     ensures joined { (first middle last : Progress) (steps more : List ConnStep) → ComeInOrder first steps middle → ComeInOrder middle more last
         → ComeInOrder first (steps ++ more) last }
+{}
+
+/// The areas that a stream of bytes tells have their corners and their sides within 65,536 pixels; and what is left of a packet is bytes.
+pub fn areas_lie_near()
+    ensures areas { (h : Hearing) (bytes : List ℕ) → AreBytes h.part → AreBytes bytes → ArePlaced (heard h bytes).steps }
+    ensures part { (h : Hearing) (bytes : List ℕ) → AreBytes h.part → AreBytes bytes → AreBytes (heard h bytes).after.part }
 {}

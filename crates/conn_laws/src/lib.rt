@@ -3,4 +3,6 @@
 
 mod laws;
 
-pub use laws::{nothing_follows_the_end, once_ready_nothing_is_replied, steps_come_in_order};
+pub use laws::{
+    areas_lie_near, nothing_follows_the_end, once_ready_nothing_is_replied, steps_come_in_order,
+};
