@@ -18,3 +18,4 @@ pub mod Reacted
 pub mod ShownLemmas
 pub mod PutLemmas
 pub mod Opening
+pub mod ManyRows

@@ -14,3 +14,4 @@ pub mod Refusing
 pub mod Entered
 pub mod Reacting
 pub mod Putting
+pub mod ManyRows
