@@ -1,6 +1,6 @@
 -- A row is added to those of a list.
-use Rattle.std.proofs.Common.{◌≡◌, ◌≢◌, ℕ, zero, suc, ◌+◌, ◌<◌, ◌≤◌, List, [], ◌∷◌, ◌++◌, length, refl, ap, sym, ◌∙◌, arith, length-append, eq-eqb}
-use Rattle.std.specs.Prelude.{Bool, true, false, ◌&&◌, ◌==◌, not, nat_le, nat_lt, slice_index, IsTrue, is_some, is_none, Option, Some, None, if◌then◌else◌}
+use Rattle.std.proofs.Common.{◌≡◌, ◌≢◌, ℕ, zero, suc, ◌<◌, ◌≤◌, List, [], ◌∷◌, ◌++◌, length, refl, ap, ◌∙◌, arith, length-append}
+use Rattle.std.specs.Prelude.{Bool, true, false, ◌&&◌, ◌==◌, not, nat_le, nat_lt, slice_index, is_some, is_none, Option, Some, None, if◌then◌else◌}
 use Rattle.std.proofs.lemmas.Bool.{and_parts, and_from}
 use Rattle.std.proofs.lemmas.List.Elements.{All-push}
 use Rattle.std.proofs.lemmas.Bool.Decides.{nat_tests}
@@ -8,9 +8,10 @@ use Rattle.std.specs.Str.{IsAscii}
 use Rattle.std.proofs.lemmas.Str.Ascii.{IsAscii-nil}
 use Rattle.line_text.specs.Words.{is_same_word}
 use Rattle.info_lic.specs.Name.{IsName}
-use Rattle.session_rules.specs.declared.entry.Role.{Role}
 use Rattle.session_rules.specs.Journal.{Head, Row}
 use Rattle.session_rules.specs.Steps.{row_role, is_new_name, are_names_distinct}
+use Rattle.session_core.specs.declared.head.Invite.{Invite}
+use Rattle.session_core.specs.Heads.{rows_of}
 use Rattle.session_core.specs.SessionModel.{AreInvited, new_session}
 use Rattle.frame_rules.specs.Encoder.{Encoder}
 use Rattle.script_rules.specs.Script.{is_name, is_name_byte, all_bytes, is_invited}
@@ -83,6 +84,11 @@ is_short_ascii (b ∷ bs) h =
     let both = and_parts (nat_le (length bs) 63) (all_bytes is_name_byte (b ∷ bs)) parts.0 in
     let short = both.0 in
     record { short = grind (arith, nat_tests, short); ascii = ascii (b ∷ bs) both.1 }
+
+-- the rows of a list of invites with one more
+pub rows_push : (xs : List Invite) (x : Invite) → rows_of (xs ++ x ∷ []) ≡ rows_of xs ++ record { name = x.name; role = x.role } ∷ []
+rows_push [] x = refl
+rows_push (y ∷ ys) x = ap (λ (rows : List Row). record { name = y.name; role = y.role } ∷ rows) (rows_push ys x)
 
 -- the rows of an invitation list with one more
 pub invited_push : (rows : List Row) (row : Row) → AreInvited rows → is_name row.name ≡ true → is_invited row.name rows ≡ false → length rows < 64 → AreInvited (rows ++ row ∷ [])

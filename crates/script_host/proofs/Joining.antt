@@ -1,6 +1,6 @@
 -- A run after a viewer joined, or wasn't let in.
-use Rattle.std.proofs.Common.{◌≡◌, ℕ, ◌+◌, ◌≤◌, ◌<◌, List, [], ◌∷◌, ◌++◌, length, refl, ap, sym, ◌∙◌, subst, arith, length-append}
-use Rattle.std.specs.Prelude.{Bool, true, false, ◌==◌, IsTrue, Option, Some, None, Err, option_to_list, if◌then◌else◌}
+use Rattle.std.proofs.Common.{◌≡◌, ℕ, ◌+◌, ◌≤◌, List, [], ◌∷◌, ◌++◌, length, refl, ap, sym, ◌∙◌, subst, arith, length-append}
+use Rattle.std.specs.Prelude.{Bool, true, false, ◌==◌, Option, Some, None, Err, option_to_list}
 use Rattle.std.proofs.lemmas.Bool.{eqb-true}
 use Rattle.std.proofs.lemmas.Bool.Decides.{nat_tests}
 use Rattle.px_core.specs.Tiles.{no_tiles}
@@ -8,8 +8,7 @@ use Rattle.caps_sets.specs.declared.confirmed.Confirmed.{Confirmed}
 use Rattle.session_rules.specs.declared.entry.Role.{Role}
 use Rattle.session_rules.specs.declared.entry.Entry.TheVariants.{Join}
 use Rattle.session_rules.specs.Journal.{Head, Reached, Refusal, Viewer, refusal_of, is_present}
-use Rattle.session_rules.specs.Journal.Refusal.{NotInvited}
-use Rattle.session_rules.specs.Steps.{Answer, Outcome, Play, row_role, join_effect, replaced_for, entered, outcome, outcome_of}
+use Rattle.session_rules.specs.Steps.{Answer, Outcome, Play, row_role, join_effect, entered, outcome, outcome_of}
 use Rattle.session_rules.specs.Steps.Step.{JoinStep}
 use Rattle.session_rules.specs.Steps.Answer.{Joined, Refused}
 use Rattle.session_laws.specs.Entering.{entry_of_step, answer_at}
@@ -17,14 +16,13 @@ use Rattle.session_laws.proofs.Entered.{entry_of_outcome, answer_of_outcome}
 use Rattle.session_core.specs.declared.faults.JoinFault.{JoinFault}
 use Rattle.session_core.specs.declared.faults.JoinFault.TheVariants as fault
 use Rattle.session_core.specs.Faults.{join_answer}
-use Rattle.session_core.specs.SessionModel.{reached_by, is_here, asked_by, is_suppressed}
+use Rattle.session_core.specs.SessionModel.{reached_by, asked_by, is_suppressed}
 use Rattle.frame_rules.specs.Encoder.{Encoder, first_encoder}
-use Rattle.viewer_sender.specs.Senders.{SenderModel, StandsFor, Follows}
+use Rattle.viewer_sender.specs.Senders.{SenderModel, StandsFor}
 use Rattle.script_rules.specs.Script.{Asked}
 use Rattle.script_rules.specs.Capture.{joined_line}
 use Rattle.script_rules.specs.CaptureText.{Run, run_after, run_by, line_by, line_in_run}
 use Rattle.script_rules.specs.Headline.{encoder_frames}
-use Rattle.script_host.specs.declared.seats.Seat.{Seat}
 use Rattle.script_host.specs.declared.answer.StepAnswer.{StepAnswer}
 use Rattle.script_host.specs.declared.answer.StepAnswer.TheVariants as says
 use Rattle.script_host.specs.Answers.{answer_of, IsVerdict}
@@ -177,3 +175,6 @@ join_on host new run name preset c v s r answer head journal asked suppressed no
     one {next} n role r stays own longer u true eq k = subst (λ w. IsViewerOf new w next) (eqb-true n u eq) own
     one {next} n role r stays own longer u false eq k = viewer_stays host new run next u longer (stays u eq)
         (r.present u (sym (ap (λ (x : Reached). is_present u x.viewers) r.reached) ∙ was_here u run.play.reached.viewers (record { number = n; role = role }) eq k))
+
+pub refused_as : (s : StepAnswer) (answer : Answer) (why : Refusal) → answer_of s ≡ Some answer → answer_of s ≡ Some (Refused why) → answer ≡ Refused why
+refused_as s answer why h k = cc (h, k)

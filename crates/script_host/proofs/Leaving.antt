@@ -1,16 +1,16 @@
 -- A run after a viewer left.
-use Rattle.std.proofs.Common.{◌≡◌, ℕ, ◌+◌, ◌≤◌, ◌<◌, List, [], ◌∷◌, ◌++◌, length, refl, ap, sym, ◌∙◌, subst, arith, append-nil, length-append}
-use Rattle.std.specs.Prelude.{Bool, true, false, ◌==◌, IsTrue, Option, Some, None, option_to_list, if◌then◌else◌, codes}
+use Rattle.std.proofs.Common.{◌≡◌, ℕ, ◌≤◌, ◌<◌, List, [], ◌∷◌, ◌++◌, length, refl, ap, sym, ◌∙◌, subst, arith, length-append}
+use Rattle.std.specs.Prelude.{Bool, true, false, ◌==◌, IsTrue, None, option_to_list, if◌then◌else◌, codes}
 use Rattle.std.proofs.lemmas.Bool.{eqb-true}
 use Rattle.std.proofs.lemmas.Bool.Decides.{nat_tests}
 use Rattle.px_core.specs.Rectangle.{is_session_size}
 use Rattle.px_core.specs.Tiles.{no_tiles}
 use Rattle.session_rules.specs.declared.entry.Entry.TheVariants.{Leave}
-use Rattle.session_rules.specs.Journal.{Head, Reached, Refusal, Viewer, reached_after, refusal_of, is_present, without_viewer, IsLegalJournal}
+use Rattle.session_rules.specs.Journal.{Reached, Viewer, is_present, without_viewer, IsLegalJournal}
 use Rattle.session_rules.specs.Steps.{Outcome, replaced_for, entered, outcome}
 use Rattle.session_rules.specs.Steps.Step.{LeaveStep}
 use Rattle.session_rules.specs.Steps.Answer.{Left}
-use Rattle.session_laws.specs.Reaching.{IsSoundReached, AreNumbered}
+use Rattle.session_laws.specs.Reaching.{IsSoundReached}
 use Rattle.session_laws.proofs.Sound.{sound_reached}
 use Rattle.session_core.specs.SessionModel.{reached_by, is_here, asked_by, is_suppressed}
 use Rattle.session_core.proofs.Sessions.{reached_at_end}
@@ -21,7 +21,7 @@ use Rattle.script_rules.specs.Capture.{of_viewer}
 use Rattle.script_rules.specs.CaptureText.{Run, run_after, run_by, line_by, line_in_run}
 use Rattle.script_rules.specs.Headline.{encoder_frames}
 use Rattle.script_host.specs.Hosts.{HostModel, sender_of}
-use Rattle.script_host.specs.Runs.{IsViewerOf, IsYetToCome, IsRunOf}
+use Rattle.script_host.specs.Runs.{IsViewerOf, IsRunOf}
 use Rattle.script_host.proofs.StepsOn.{session_reached, StaysFor, viewer_stays, later_stays, is_no_later, replaced_other}
 
 -- who is present among those that stay was present

@@ -1,12 +1,12 @@
 -- What a sender has sent after its take and the take's bytes.
-use Rattle.std.proofs.Common.{◌≡◌, ℕ, ◌+◌, List, refl, ap, sym, ◌∙◌, subst, arith}
+use Rattle.std.proofs.Common.{◌≡◌, ℕ, ◌+◌, List, refl, ap, sym, ◌∙◌, subst}
 use Rattle.std.specs.Prelude.{Bool, true, false}
 use Rattle.frame_rules.specs.Frame.{FrameOf}
 use Rattle.frame_rules.specs.FrameBytes.{frame_bytes}
 use Rattle.frame_rules.specs.Encoder.{Encoder, encoder_after_frame}
 use Rattle.session_core.specs.SessionModel.{SessionModel}
 use Rattle.frame_plan.specs.Takes.{TakeModel, taken_as}
-use Rattle.frame_plan.specs.Plans.{is_work, frame_at, taken_at, taken_if, desk_if}
+use Rattle.frame_plan.specs.Plans.{frame_at, taken_at, taken_if, desk_if}
 use Rattle.frame_plan.specs.declared.taken.Taken.TheVariants.{Frame, Nothing}
 use Rattle.viewer_sender.specs.Senders.{SenderModel, StandsFor, IsIdle, Follows, desk_of, with_desk, with_encoded}
 use Rattle.script_host.specs.declared.answer.StepAnswer.{StepAnswer}

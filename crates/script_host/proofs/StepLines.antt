@@ -1,10 +1,10 @@
 -- The line of a step is that of its answer.
-use Rattle.std.proofs.Common.{◌≡◌, ℕ, List, [], ◌++◌, refl, ap, sym, ◌∙◌, subst, append-nil}
-use Rattle.std.specs.Prelude.{Option, Some, None, option_to_list}
+use Rattle.std.proofs.Common.{◌≡◌, ℕ, List, ◌++◌, refl, ap, sym, ◌∙◌, subst, append-nil}
+use Rattle.std.specs.Prelude.{Option, Some, option_to_list}
 use Rattle.px_core.specs.declared.surface.Size.{Size}
 use Rattle.session_rules.specs.declared.entry.Entry.{Entry}
 use Rattle.session_rules.specs.Steps.{Answer}
-use Rattle.session_rules.specs.Steps.Answer.{Joined, Left, Accepted, Refused, Nothing, Frame}
+use Rattle.session_rules.specs.Steps.Answer.{Joined, Left, Accepted, Refused, Nothing}
 use Rattle.session_core.specs.Outcomes.{IsAnswered, GoesOn}
 use Rattle.script_rules.specs.Script.{Asked}
 use Rattle.script_rules.specs.Capture.{answer_line, viewer_of}

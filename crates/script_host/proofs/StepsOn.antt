@@ -1,5 +1,5 @@
 -- A run that stands for a host goes on as the host does.
-use Rattle.std.proofs.Common.{◌≡◌, ℕ, ◌+◌, ◌≤◌, ◌<◌, List, [], ◌∷◌, ◌++◌, length, refl, ap, sym, ◌∙◌, subst, arith, append-nil, length-append, eq-eqb}
+use Rattle.std.proofs.Common.{◌≡◌, ℕ, ◌≤◌, List, [], ◌∷◌, ◌++◌, length, refl, ap, sym, ◌∙◌, subst, arith, append-nil, length-append, eq-eqb}
 use Rattle.std.specs.Prelude.{Bool, true, false, ⊤, ◌==◌, nat_lt, IsTrue, Option, Some, None, option_to_list, if◌then◌else◌}
 use Rattle.std.proofs.lemmas.Bool.{eqb-true}
 use Rattle.std.proofs.lemmas.Bool.Decides.{nat_tests}
@@ -12,7 +12,7 @@ use Rattle.draw_ops.specs.declared.shape.Drawing.{Drawing}
 use Rattle.session_rules.specs.declared.entry.Entry.{Entry}
 use Rattle.session_rules.specs.declared.entry.Entry.TheVariants.{Join, Leave, Give, Input, Draw}
 use Rattle.session_rules.specs.Journal.{Head, Reached, Refusal, reached_at, reached_at_first, reached_after, refusal_of, is_f12, is_present}
-use Rattle.session_rules.specs.Steps.{Step, Answer, Play, Outcome, PerViewer, replaced_for, entered, outcome, outcome_of, is_release, receiver_of}
+use Rattle.session_rules.specs.Steps.{Step, Play, Outcome, PerViewer, replaced_for, entered, outcome, outcome_of, is_release, receiver_of}
 use Rattle.session_rules.specs.Steps.Step.{InputStep, DrawStep, RefreshStep, SuppressStep}
 use Rattle.session_rules.specs.Steps.Effect.{Enters, Answers}
 use Rattle.session_rules.specs.Steps.Answer.{Accepted}
@@ -23,7 +23,7 @@ use Rattle.session_core.proofs.Sessions.{reached_at_end}
 use Rattle.frame_rules.specs.Encoder.{Encoder}
 use Rattle.script_rules.specs.Script.{Asked}
 use Rattle.script_rules.specs.Capture.{viewer_of}
-use Rattle.script_rules.specs.CaptureText.{Run, run_after, run_by, confirmed_after, encoders_after}
+use Rattle.script_rules.specs.CaptureText.{Run, run_after, confirmed_after, encoders_after}
 use Rattle.script_rules.specs.Headline.{encoder_frames}
 use Rattle.script_host.specs.Hosts.{HostModel, sender_of}
 use Rattle.script_host.specs.Runs.{IsViewerOf, IsYetToCome, IsRunOf}

@@ -1,19 +1,18 @@
 -- A run after a viewer's take.
-use Rattle.std.proofs.Common.{◌≡◌, ℕ, ◌+◌, ◌≤◌, List, [], ◌++◌, length, refl, ap, sym, ◌∙◌, subst, arith, append-nil, eq-eqb}
-use Rattle.std.specs.Prelude.{Bool, true, false, ◌==◌, IsTrue, Some, None, if◌then◌else◌, codes}
+use Rattle.std.proofs.Common.{◌≡◌, ℕ, ◌≤◌, List, [], length, refl, ap, sym, ◌∙◌, subst, arith, append-nil, eq-eqb}
+use Rattle.std.specs.Prelude.{Bool, true, false, ◌==◌, IsTrue, Some, is_some, if◌then◌else◌, codes}
 use Rattle.px_core.specs.Tiles.{no_tiles}
 use Rattle.line_text.specs.Hexadecimal.{hexadecimal_text}
 use Rattle.caps_sets.specs.declared.confirmed.Confirmed.{Confirmed}
-use Rattle.session_rules.specs.declared.entry.Entry.{Entry}
-use Rattle.session_rules.specs.Journal.{Head, reached_at_first}
-use Rattle.session_rules.specs.Steps.{TakeOf, Outcome, take_of, take_effect, has_work, replaced_for, outcome, outcome_of}
+use Rattle.session_rules.specs.Journal.{reached_at_first}
+use Rattle.session_rules.specs.Steps.{Outcome, take_of, take_effect, has_work, replaced_for, outcome, outcome_of}
 use Rattle.session_rules.specs.Steps.Step.{TakeStep}
 use Rattle.session_rules.specs.Steps.Effect.{Takes, Answers}
 use Rattle.session_rules.specs.Steps.Answer.{Nothing}
 use Rattle.session_rules.proofs.Journals.{length-reached_after}
 use Rattle.session_core.specs.SessionModel.{SessionModel, reached_by, is_here, asked_by, is_suppressed}
 use Rattle.session_core.proofs.Sessions.{reached_at_end}
-use Rattle.frame_rules.specs.Frame.{FrameOf, frame_of}
+use Rattle.frame_rules.specs.Frame.{frame_of}
 use Rattle.frame_rules.specs.FrameBytes.{frame_bytes}
 use Rattle.frame_rules.specs.Encoder.{Encoder, take_bytes, encoder_after, encoder_after_frame}
 use Rattle.frame_plan.specs.Plans.{is_work, take_at, frame_at, asked_if, IsPlayOf}
@@ -28,8 +27,8 @@ use Rattle.script_host.specs.declared.answer.StepAnswer.TheVariants as says
 use Rattle.script_host.specs.Answers.{answer_text}
 use Rattle.script_host.specs.Hosts.{HostModel, sender_of}
 use Rattle.script_host.specs.Runs.{IsViewerOf, IsRunOf, IsInCourse}
-use Rattle.script_host.specs.Sent.{IsFrameOf, encoder_if, HasSent}
-use Rattle.script_host.proofs.StepsOn.{StaysFor, others_stay, quiet_same, same_journal, replaced_here, replaced_other}
+use Rattle.script_host.specs.Sent.{IsFrameOf, HasSent}
+use Rattle.script_host.proofs.StepsOn.{others_stay, quiet_same, same_journal, replaced_here, replaced_other}
 
 -- the number of entries that the journal has
 pub count_reached : (s : SessionModel) → (reached_by s).length ≡ length s.journal
@@ -195,6 +194,10 @@ module _ (host new : HostModel) (run : Run Encoder) (v : ℕ) (s t : SenderModel
           (frame_now r mine head journal asked suppressed seats w same found sent)
       by r mine head journal suppressed seats w same found false eq asked sent = subst Comes (sym (ap (λ b. outcome_of host.session.head run.play (take_effect b v)) eq))
           (idle_now r mine head journal asked suppressed seats w same sent)
+
+-- a viewer that is present has a sender
+pub has_sender : (host : HostModel) (v : ℕ) → IsInCourse host → IsTrue (is_here host.session v) → IsTrue (is_some (sender_of v host.seats))
+has_sender host v course mine = let w = course.is_run.present v mine in ap is_some w.found
 
 -- the sender of a viewer that is present may take and encode
 pub record IsMine (host : HostModel) (v : ℕ) (s : SenderModel) : Type 0 where

@@ -1,7 +1,6 @@
 -- A run after a step that is accepted or refused.
-use Rattle.std.proofs.Common.{◌≡◌, ℕ, List, ◌++◌, refl, ap, sym, ◌∙◌}
+use Rattle.std.proofs.Common.{◌≡◌, ℕ, List, ◌++◌, ap, sym, ◌∙◌}
 use Rattle.std.specs.Prelude.{false, Option, Some, option_to_list}
-use Rattle.session_rules.specs.Journal.{Head}
 use Rattle.session_rules.specs.Steps.{Answer, outcome}
 use Rattle.session_laws.specs.Entering.{is_take, entry_of_step, answer_at}
 use Rattle.session_laws.proofs.Entered.{entry_of_outcome, answer_of_outcome}

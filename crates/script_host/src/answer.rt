@@ -1,12 +1,15 @@
 //! What a step is answered, and its line.
-ghost use Rattle.std.specs.Prelude.{◌≡◌, ◌++◌, OnOk, OnErr};
+ghost use Rattle.std.specs.Prelude.{◌≡◌, ◌++◌, Ok, Err, IfOk, OnOk, OnErr};
 ghost use Rattle.line_text.specs.Words.{words_of};
 ghost use Rattle.line_text.specs.Hexadecimal.{HoldsFront};
-ghost use Rattle.script_host.specs.Answers.{answer_text};
+ghost use Rattle.session_core.specs.Faults.{join_answer, input_answer, draw_answer};
+ghost use Rattle.script_host.specs.declared.answer.StepAnswer.TheVariants.{Refused};
+ghost use Rattle.script_host.specs.Answers.{answer_text, answer_of, IsVerdict};
 
 use crate::OutOfMemory;
 use px_core::Size;
 use script_lines::{AnswerLine, Cause, write_answer};
+use session_core::{DrawRefusal, InputRefusal, JoinFault};
 use std::alloc::Global;
 
 /// What a step is answered.
@@ -65,4 +68,53 @@ impl StepAnswer {
             }
         }
     }
+}
+
+/// What an input event is answered.
+pub(crate) fn input_answer(given: Result<(), InputRefusal>) -> Result<StepAnswer, OutOfMemory>
+    ensures answer { IfOk result (λ answer. answer_of answer ≡ input_answer given) }
+    ensures verdict { IfOk result IsVerdict }
+{
+    match given {
+        Ok(()) => Ok(StepAnswer::Accepted),
+        Err(InputRefusal::NotHolder { holder }) => refused(Cause::NotHolder { holder }),
+        Err(InputRefusal::JournalFull) => refused(Cause::JournalFull),
+        Err(InputRefusal::OutOfMemory) => Err(OutOfMemory),
+    }
+}
+
+/// What a drawing is answered.
+pub(crate) fn draw_answer(given: Result<(), DrawRefusal>) -> Result<StepAnswer, OutOfMemory>
+    ensures answer { IfOk result (λ answer. answer_of answer ≡ draw_answer given) }
+    ensures verdict { IfOk result IsVerdict }
+{
+    match given {
+        Ok(()) => Ok(StepAnswer::Accepted),
+        Err(DrawRefusal::NotHolder { holder }) => refused(Cause::NotHolder { holder }),
+        Err(DrawRefusal::BadDrawing { rule }) => refused(Cause::BadDrawing { rule }),
+        Err(DrawRefusal::EmptySlot { slot }) => refused(Cause::EmptySlot { slot }),
+        Err(DrawRefusal::SlotSize { slot }) => refused(Cause::SlotSize { slot }),
+        Err(DrawRefusal::JournalFull) => refused(Cause::JournalFull),
+        Err(DrawRefusal::OutOfMemory) => Err(OutOfMemory),
+    }
+}
+
+/// What a join is answered that isn't let in.
+pub(crate) fn join_refusal(fault: JoinFault) -> Result<StepAnswer, OutOfMemory>
+    ensures answer { IfOk result (λ answer. answer_of answer ≡ join_answer (Err fault)) }
+    ensures verdict { IfOk result IsVerdict }
+{
+    match fault {
+        JoinFault::NotInvited => refused(Cause::NotInvited),
+        JoinFault::RoomFull => refused(Cause::RoomFull),
+        JoinFault::JoinsSpent => refused(Cause::JoinsSpent),
+        JoinFault::OutOfMemory => Err(OutOfMemory),
+    }
+}
+
+/// A refusal for this cause.
+fn refused(cause: Cause) -> Result<StepAnswer, OutOfMemory>
+    ensures { result ≡ Ok (Refused cause) }
+{
+    Ok(StepAnswer::Refused { cause })
 }

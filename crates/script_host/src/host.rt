@@ -19,6 +19,7 @@ ghost use Rattle.script_host.specs.Runs.{IsRunOf, IsInCourse, Advances};
 use crate::running::Running;
 use crate::{OutOfMemory, StepAnswer};
 use caps_sets::Confirmed;
+use info_lic::Name;
 use line_text::is_same_word;
 use px_core::Size;
 use script_lines::ViewerStep;
@@ -76,7 +77,11 @@ impl ScriptHost {
         ensures run { OnOk result ((run : Run Encoder) → IsRunOf self.old run → IsRunOf self.new run) }
         ensures unchanged { OnErr result (self.new ≡ self.old) }
     {
-        Err(OutOfMemory)
+        self.rows.push(Invite {
+            name: Name::new(name),
+            role,
+        })?;
+        Ok(())
     }
 
     /// A viewer joins by a row that has this name, where it is let in, and is sent frames by what it confirmed.
@@ -88,7 +93,11 @@ impl ScriptHost {
             → Advances self.old.session.head run (record { step = JoinStep name.now; preset = preset; confirmed = confirmed })
             (answer_text self.old.session.head.size 0 preset answer) self.new) }
     {
-        Err(OutOfMemory)
+        let name = Name::new(name);
+        match &mut self.running {
+            Some(running) => running.join(&name, confirmed),
+            None => self.begin(&name, confirmed),
+        }
     }
 
     /// A step of a viewer that is present.
@@ -102,7 +111,25 @@ impl ScriptHost {
             → Advances self.old.session.head run (without_preset (step_of viewer step))
             (answer_text self.old.session.head.size viewer preset answer) self.new) }
     {
-        Err(OutOfMemory)
+        match &mut self.running {
+            Some(running) => running.step(viewer, step),
+            None => unreachable!(),
+        }
+    }
+
+    /// The first step: the session is made, and a viewer joins.
+    fn begin(&mut self, name: &Name, confirmed: Confirmed) -> Result<StepAnswer, OutOfMemory>
+        requires { self.old.begun ≡ false }
+        ensures begun { OnOk result (self.new.begun ≡ true) }
+        ensures head { self.new.session.head ≡ self.old.session.head }
+        ensures done { IfOk result (λ answer. (run : Run Encoder) (preset : List (List ℕ)) → IsRunOf self.old run
+            → Advances self.old.session.head run (record { step = JoinStep name.now; preset = preset; confirmed = confirmed })
+            (answer_text self.old.session.head.size 0 preset answer) self.new) }
+    {
+        let mut running = Running::new(self.alloc, self.size, &self.rows)?;
+        let answer = running.join(name, confirmed)?;
+        self.running = Some(running);
+        Ok(answer)
     }
 
     /// The size of the picture, in pixels.
