@@ -358,7 +358,7 @@ fn past_256_fills_a_take_sends_the_tile(rt: HostRuntime) -> Result<(), Fail> {
     let mut wanted = joined(alloc, &[JOINED, FIRST, MANY_HEAD])?;
     repeat(&mut wanted, b"41", 255)?;
     wanted.extend_from_slice(MARK)?;
-    assert_eq!(rt; run(alloc, &script)?, (Ok(()), wanted.try_clone()?));
+    assert_eq!(rt; run(alloc, &script)?, (Ok(()), wanted.clone()?));
     repeat(&mut script, PIXEL, 257)?;
     script.extend_from_slice(b"take\n")?;
     wanted.extend_from_slice(TILE_HEAD)?;
