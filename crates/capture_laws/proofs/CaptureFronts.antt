@@ -9,7 +9,7 @@ use Rattle.session_rules.specs.declared.entry.Entry.{Entry}
 use Rattle.session_rules.specs.Journal.{picture_after_entries}
 use Rattle.session_rules.specs.Steps.{journal_of_steps, frame_numbers}
 use Rattle.order_means.specs.FrameMarks.{pictures_at_marks}
-use Rattle.script_rules.specs.Script.{whole_grammar, first_grammar, Script, Opening, opening_of}
+use Rattle.script_rules.specs.Script.{Script, Opening, opening_of}
 use Rattle.script_rules.specs.Script.Opening.{NoSize, Unended, Opened}
 use Rattle.script_rules.specs.Capture.{viewer_bytes}
 use Rattle.script_rules.specs.CaptureText.{capture_of}
@@ -17,7 +17,7 @@ use Rattle.script_rules.specs.Headline.{encoder_frames, known_picture, pictures_
 use Rattle.script_rules.specs.Headline.{EveryViewerOfOpening}
 use Rattle.capture_laws.specs.Sent.{EveryViewerIsSentTheJournal}
 use Rattle.capture_laws.specs.Fronts.{IsFront, SeesFirstOfJournal, EveryViewerOfFront, EveryViewerOfOpeningFront}
-use Rattle.capture_laws.proofs.Scripts.{whole_captures_show, first_captures_show}
+use Rattle.capture_laws.proofs.Scripts.{captures_show}
 use Rattle.capture_laws.proofs.StreamFronts.{marks_front}
 use Rattle.capture_laws.proofs.TextFronts.{bytes_in_front}
 
@@ -52,12 +52,7 @@ opening_front_sees NoSize capture front rest sees e = tt
 opening_front_sees Unended capture front rest sees e = tt
 opening_front_sees (Opened s) capture front rest sees e = script_front_sees s capture front rest sees e
 
-pub whole_fronts_show : (bytes front rest : List ℕ) → IfOpened (opening_of whole_grammar bytes) EveryViewerIsSentTheJournal
-    → capture_of encoder_frames whole_grammar bytes ≡ front ++ rest → EveryViewerOfOpeningFront (opening_of whole_grammar bytes) front
-whole_fronts_show bytes front rest sends e =
-    opening_front_sees (opening_of whole_grammar bytes) (capture_of encoder_frames whole_grammar bytes) front rest (whole_captures_show bytes sends) e
-
-pub first_fronts_show : (bytes front rest : List ℕ) → IfOpened (opening_of first_grammar bytes) EveryViewerIsSentTheJournal
-    → capture_of encoder_frames first_grammar bytes ≡ front ++ rest → EveryViewerOfOpeningFront (opening_of first_grammar bytes) front
-first_fronts_show bytes front rest sends e =
-    opening_front_sees (opening_of first_grammar bytes) (capture_of encoder_frames first_grammar bytes) front rest (first_captures_show bytes sends) e
+pub fronts_show : (bytes front rest : List ℕ) → IfOpened (opening_of bytes) EveryViewerIsSentTheJournal
+    → capture_of encoder_frames bytes ≡ front ++ rest → EveryViewerOfOpeningFront (opening_of bytes) front
+fronts_show bytes front rest sends e =
+    opening_front_sees (opening_of bytes) (capture_of encoder_frames bytes) front rest (captures_show bytes sends) e

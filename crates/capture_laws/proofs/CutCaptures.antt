@@ -2,16 +2,16 @@
 use Rattle.std.proofs.Common.{ℕ, List, [], ◌∷◌, ◌++◌, ap, sym, subst, ◌∙◌}
 use Rattle.session_rules.specs.Journal.{Head}
 use Rattle.session_rules.specs.Steps.{Play, journal_of_steps, frame_numbers, play_at_first, outcome}
-use Rattle.script_rules.specs.Script.{whole_grammar, first_grammar, Asked, Script, Opening, opening_of}
+use Rattle.script_rules.specs.Script.{Asked, Script, Opening, opening_of}
 use Rattle.script_rules.specs.Script.Opening.{NoSize, Unended, Opened}
 use Rattle.script_rules.specs.Capture.{viewer_bytes}
 use Rattle.script_rules.specs.CaptureText.{run_at_first, sent_from}
 use Rattle.script_rules.specs.Headline.{encoder_frames, AreByPresentFrom, steps_of, confirmed_in, IfOpened}
-use Rattle.script_rules.proofs.StepsOfScripts.{HasPremises, whole_scripts_have, first_scripts_have}
+use Rattle.script_rules.proofs.StepsOfScripts.{HasPremises, scripts_have}
 use Rattle.capture_laws.specs.Sent.{sent_to, run_of, PresetsConfirm}
 use Rattle.capture_laws.specs.Fronts.{IsFront, script_of, IsCutCapture, IsSentWhatIsWritten, EveryViewerOfFront, EveryViewerOfOpeningFront}
 use Rattle.capture_laws.proofs.Runs.{capture_is_read}
-use Rattle.capture_laws.proofs.Scripts.{whole_scripts_confirm, first_scripts_confirm}
+use Rattle.capture_laws.proofs.Scripts.{scripts_confirm}
 use Rattle.capture_laws.proofs.StreamFronts.{front_of_front}
 use Rattle.capture_laws.proofs.TextFronts.{bytes_in_front}
 use Rattle.capture_laws.proofs.CaptureFronts.{front_sees}
@@ -54,12 +54,5 @@ opening_cut_shows NoSize front has confirms sends = tt
 opening_cut_shows Unended front has confirms sends = tt
 opening_cut_shows (Opened s) front has confirms sends = script_cut_shows s front has confirms sends
 
-pub whole_cut_shows : (bytes front : List ℕ) → IfOpened (opening_of whole_grammar bytes) (λ s. IsSentWhatIsWritten s front)
-    → EveryViewerOfOpeningFront (opening_of whole_grammar bytes) front
-whole_cut_shows bytes front sends =
-    opening_cut_shows (opening_of whole_grammar bytes) front (whole_scripts_have bytes) (whole_scripts_confirm bytes) sends
-
-pub first_cut_shows : (bytes front : List ℕ) → IfOpened (opening_of first_grammar bytes) (λ s. IsSentWhatIsWritten s front)
-    → EveryViewerOfOpeningFront (opening_of first_grammar bytes) front
-first_cut_shows bytes front sends =
-    opening_cut_shows (opening_of first_grammar bytes) front (first_scripts_have bytes) (first_scripts_confirm bytes) sends
+pub cut_shows : (bytes front : List ℕ) → IfOpened (opening_of bytes) (λ s. IsSentWhatIsWritten s front) → EveryViewerOfOpeningFront (opening_of bytes) front
+cut_shows bytes front sends = opening_cut_shows (opening_of bytes) front (scripts_have bytes) (scripts_confirm bytes) sends

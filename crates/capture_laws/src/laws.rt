@@ -6,7 +6,7 @@ ghost use Rattle.caps_sets.specs.declared.confirmed.Confirmed.{Confirmed};
 ghost use Rattle.session_rules.specs.Journal.{Head};
 ghost use Rattle.session_rules.specs.Steps.{outcome};
 ghost use Rattle.order_means.specs.FrameMarks.{ClientReading, read_stream, pictures_at_marks};
-ghost use Rattle.script_rules.specs.Script.{Asked, Script, whole_grammar, first_grammar, opening_of};
+ghost use Rattle.script_rules.specs.Script.{Asked, Script, opening_of};
 ghost use Rattle.script_rules.specs.Capture.{viewer_of, viewer_bytes};
 ghost use Rattle.script_rules.specs.CaptureText.{Run, bytes_of_answer, run_after_all, lines_from, sent_from, capture_of, capture_of_script};
 ghost use Rattle.frame_rules.specs.Frame.{FrameOf};
@@ -27,16 +27,13 @@ pub fn viewer_bytes_are_those_sent()
 
 /// The preset words of a script's joins confirm what their viewers confirmed.
 pub fn presets_of_a_script_confirm()
-    ensures whole { (bytes : List ℕ) → IfOpened (opening_of whole_grammar bytes) (λ s. PresetsConfirm s.asked) }
-    ensures first { (bytes : List ℕ) → IfOpened (opening_of first_grammar bytes) (λ s. PresetsConfirm s.asked) }
+    ensures { (bytes : List ℕ) → IfOpened (opening_of bytes) (λ s. PresetsConfirm s.asked) }
 {}
 
 /// Where every viewer of a script's steps sees the journal in what it is sent, every viewer sees it in the script's capture.
 pub fn captures_of_scripts_show_the_journal()
-    ensures whole { (bytes : List ℕ) → IfOpened (opening_of whole_grammar bytes) EveryViewerIsSentTheJournal
-        → EveryViewerOfCapture whole_grammar bytes (capture_of encoder_frames whole_grammar bytes) }
-    ensures first { (bytes : List ℕ) → IfOpened (opening_of first_grammar bytes) EveryViewerIsSentTheJournal
-        → EveryViewerOfCapture first_grammar bytes (capture_of encoder_frames first_grammar bytes) }
+    ensures { (bytes : List ℕ) → IfOpened (opening_of bytes) EveryViewerIsSentTheJournal
+        → EveryViewerOfCapture bytes (capture_of encoder_frames bytes) }
 {}
 
 /// Each front of bytes that a client reads without a refusal is read without one, and the pictures at its marks are the first ones, wherever it is cut.
@@ -54,19 +51,15 @@ pub fn bytes_in_a_front_are_a_front()
 
 /// Where every viewer of a script's steps sees the journal in what it is sent, each front of the script's capture shows each viewer its first takes.
 pub fn fronts_of_captures_show_the_journal()
-    ensures whole { (bytes front rest : List ℕ) → IfOpened (opening_of whole_grammar bytes) EveryViewerIsSentTheJournal
-        → capture_of encoder_frames whole_grammar bytes ≡ front ++ rest → EveryViewerOfOpeningFront (opening_of whole_grammar bytes) front }
-    ensures first { (bytes front rest : List ℕ) → IfOpened (opening_of first_grammar bytes) EveryViewerIsSentTheJournal
-        → capture_of encoder_frames first_grammar bytes ≡ front ++ rest → EveryViewerOfOpeningFront (opening_of first_grammar bytes) front }
+    ensures { (bytes front rest : List ℕ) → IfOpened (opening_of bytes) EveryViewerIsSentTheJournal
+        → capture_of encoder_frames bytes ≡ front ++ rest → EveryViewerOfOpeningFront (opening_of bytes) front }
 {}
 
 /// Where the capture of a script was cut, in a line or between lines, and every viewer of the script's steps sees the journal in what it is sent,
 /// what was written shows each viewer its first takes. Nothing is asked of the frames of the steps after the cut.
 pub fn cut_captures_show_the_journal()
-    ensures whole { (bytes front : List ℕ) → IfOpened (opening_of whole_grammar bytes) (λ s. IsSentWhatIsWritten s front)
-        → EveryViewerOfOpeningFront (opening_of whole_grammar bytes) front }
-    ensures first { (bytes front : List ℕ) → IfOpened (opening_of first_grammar bytes) (λ s. IsSentWhatIsWritten s front)
-        → EveryViewerOfOpeningFront (opening_of first_grammar bytes) front }
+    ensures { (bytes front : List ℕ) → IfOpened (opening_of bytes) (λ s. IsSentWhatIsWritten s front)
+        → EveryViewerOfOpeningFront (opening_of bytes) front }
 {}
 
 /// Steps after steps: the run, the lines of a capture and what each viewer is sent go on from the run that the first steps leave.

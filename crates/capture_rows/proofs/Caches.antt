@@ -3,12 +3,11 @@ use Rattle.std.proofs.Common.{◌≡◌, ◌++◌, refl}
 use Rattle.std.specs.Fmt.{digits}
 use Rattle.std.specs.Prelude.{codes}
 use Rattle.rop3_core.specs.Rop3.{ternary_raster}
-use Rattle.script_rules.specs.Script.{whole_grammar}
 use Rattle.script_rules.specs.Capture.{ended}
 use Rattle.script_rules.specs.CaptureText.{capture_of}
 use Rattle.script_rules.specs.Headline.{encoder_frames}
 
-three_glyphs : capture_of encoder_frames whole_grammar (ended (codes "size 64 48")
+three_glyphs : capture_of encoder_frames (ended (codes "size 64 48")
     ++ ended (codes "invite ann owner")
     ++ ended (codes "join ann bare gc0=3,4")
     ++ ended (codes "take")
@@ -23,7 +22,7 @@ three_glyphs : capture_of encoder_frames whole_grammar (ended (codes "size 64 48
 unfolding digits ternary_raster
 three_glyphs = refl
 
-two_entries_and_three_images : capture_of encoder_frames whole_grammar (ended (codes "size 64 48")
+two_entries_and_three_images : capture_of encoder_frames (ended (codes "size 64 48")
     ++ ended (codes "invite ann owner")
     ++ ended (codes "join ann bare bc0=2,768")
     ++ ended (codes "image 0 16 16 FF0000")
@@ -41,7 +40,7 @@ two_entries_and_three_images : capture_of encoder_frames whole_grammar (ended (c
 unfolding digits ternary_raster
 two_entries_and_three_images = refl
 
-three_glyphs_and_two_entries : capture_of encoder_frames whole_grammar (ended (codes "size 64 48")
+three_glyphs_and_two_entries : capture_of encoder_frames (ended (codes "size 64 48")
     ++ ended (codes "invite ann owner")
     ++ ended (codes "join ann bare gc0=2,4")
     ++ ended (codes "take")

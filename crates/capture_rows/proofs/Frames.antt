@@ -3,12 +3,11 @@ use Rattle.std.proofs.Common.{◌≡◌, ◌++◌, refl}
 use Rattle.std.specs.Fmt.{digits}
 use Rattle.std.specs.Prelude.{codes}
 use Rattle.rop3_core.specs.Rop3.{ternary_raster}
-use Rattle.script_rules.specs.Script.{whole_grammar}
 use Rattle.script_rules.specs.Capture.{ended}
 use Rattle.script_rules.specs.CaptureText.{capture_of}
 use Rattle.script_rules.specs.Headline.{encoder_frames}
 
-marker_support : capture_of encoder_frames whole_grammar (ended (codes "size 64 48")
+marker_support : capture_of encoder_frames (ended (codes "size 64 48")
     ++ ended (codes "invite ann owner")
     ++ ended (codes "join ann marked")
     ++ ended (codes "take"))
@@ -17,7 +16,7 @@ marker_support : capture_of encoder_frames whole_grammar (ended (codes "size 64 
 unfolding digits ternary_raster
 marker_support = refl
 
-save_and_restore : capture_of encoder_frames whole_grammar (ended (codes "size 64 48")
+save_and_restore : capture_of encoder_frames (ended (codes "size 64 48")
     ++ ended (codes "invite ann owner")
     ++ ended (codes "join ann full")
     ++ ended (codes "take")
@@ -32,7 +31,7 @@ save_and_restore : capture_of encoder_frames whole_grammar (ended (codes "size 6
 unfolding digits ternary_raster
 save_and_restore = refl
 
-image_in_a_cache : capture_of encoder_frames whole_grammar (ended (codes "size 64 64")
+image_in_a_cache : capture_of encoder_frames (ended (codes "size 64 64")
     ++ ended (codes "invite ann owner")
     ++ ended (codes "join ann full")
     ++ ended (codes "take")
@@ -45,7 +44,7 @@ image_in_a_cache : capture_of encoder_frames whole_grammar (ended (codes "size 6
 unfolding digits ternary_raster
 image_in_a_cache = refl
 
-image_past_the_cell : capture_of encoder_frames whole_grammar (ended (codes "size 64 64")
+image_past_the_cell : capture_of encoder_frames (ended (codes "size 64 64")
     ++ ended (codes "invite ann owner")
     ++ ended (codes "join ann full bc2=336,12287")
     ++ ended (codes "take")
@@ -58,7 +57,7 @@ image_past_the_cell : capture_of encoder_frames whole_grammar (ended (codes "siz
 unfolding digits ternary_raster
 image_past_the_cell = refl
 
-copy_from_a_dirty_tile : capture_of encoder_frames whole_grammar (ended (codes "size 192 64")
+copy_from_a_dirty_tile : capture_of encoder_frames (ended (codes "size 192 64")
     ++ ended (codes "invite ann owner")
     ++ ended (codes "join ann full")
     ++ ended (codes "take")
@@ -72,7 +71,7 @@ copy_from_a_dirty_tile : capture_of encoder_frames whole_grammar (ended (codes "
 unfolding digits ternary_raster
 copy_from_a_dirty_tile = refl
 
-overlapping_copy_in_a_clip : capture_of encoder_frames whole_grammar (ended (codes "size 64 48")
+overlapping_copy_in_a_clip : capture_of encoder_frames (ended (codes "size 64 48")
     ++ ended (codes "invite ann owner")
     ++ ended (codes "join ann full")
     ++ ended (codes "take")
@@ -87,7 +86,7 @@ overlapping_copy_in_a_clip : capture_of encoder_frames whole_grammar (ended (cod
 unfolding digits ternary_raster
 overlapping_copy_in_a_clip = refl
 
-refused_drawings : capture_of encoder_frames whole_grammar (ended (codes "size 64 48")
+refused_drawings : capture_of encoder_frames (ended (codes "size 64 48")
     ++ ended (codes "copy 0 0 64 48 CC 0 1")
     ++ ended (codes "dst 0 0 4 4 CC")
     ++ ended (codes "line 0 0 9 0 FFFFFF")

@@ -5,7 +5,7 @@ use Rattle.std.specs.Prelude.{codes, Ok}
 use Rattle.rop3_core.specs.Rop3.{ternary_raster}
 use Rattle.session_rules.specs.Steps.{journal_of_steps, frame_numbers}
 use Rattle.order_means.specs.FrameMarks.{pictures_at_marks}
-use Rattle.script_rules.specs.Script.{whole_grammar, Opening, opening_of}
+use Rattle.script_rules.specs.Script.{Opening, opening_of}
 use Rattle.script_rules.specs.Script.Opening.{NoSize, Unended, Opened}
 use Rattle.script_rules.specs.Capture.{ended, viewer_bytes}
 use Rattle.script_rules.specs.CaptureText.{capture_of}
@@ -19,7 +19,7 @@ ShowsOpening v capture (Opened s) = pictures_at_marks (confirmed_in s.head s.ask
 
 -- the marks of a viewer's bytes in a script's capture show the journal
 abbrev Shows : ℕ → List ℕ → Type 0
-Shows v script = ShowsOpening v (capture_of encoder_frames whole_grammar script) (opening_of whole_grammar script)
+Shows v script = ShowsOpening v (capture_of encoder_frames script) (opening_of script)
 
 one_fill_shows_1 : Shows 1 (ended (codes "size 64 48")
     ++ ended (codes "take")

@@ -3,12 +3,11 @@ use Rattle.std.proofs.Common.{◌≡◌, ◌++◌, refl}
 use Rattle.std.specs.Fmt.{digits}
 use Rattle.std.specs.Prelude.{codes}
 use Rattle.rop3_core.specs.Rop3.{ternary_raster}
-use Rattle.script_rules.specs.Script.{first_grammar}
 use Rattle.script_rules.specs.Capture.{ended}
 use Rattle.script_rules.specs.CaptureText.{capture_of}
 use Rattle.script_rules.specs.Headline.{encoder_frames}
 
-largest_picture : capture_of encoder_frames first_grammar (ended (codes "size 2048 2048")
+largest_picture : capture_of encoder_frames (ended (codes "size 2048 2048")
     ++ ended (codes "take"))
     ≡ ended (codes "1 joined 2048 2048 plain")
     ++ ended (codes "1 0300002f02f08068000103eb702121001700ea03ea03010000011300020000000000000001000000090a0c000800080300002402f08068000103eb701616001700ea03ea030100000108000200000003000000")

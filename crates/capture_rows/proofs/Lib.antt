@@ -1,4 +1,4 @@
-pub mod FirstScripts
+pub mod Fills
 pub mod Frames
 pub mod Rooms
 pub mod Caches

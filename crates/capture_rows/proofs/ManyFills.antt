@@ -3,12 +3,11 @@ use Rattle.std.proofs.Common.{◌≡◌, ◌++◌, refl}
 use Rattle.std.specs.Fmt.{digits}
 use Rattle.std.specs.Prelude.{codes}
 use Rattle.rop3_core.specs.Rop3.{ternary_raster}
-use Rattle.script_rules.specs.Script.{first_grammar}
 use Rattle.script_rules.specs.Capture.{ended}
 use Rattle.script_rules.specs.CaptureText.{capture_of}
 use Rattle.script_rules.specs.Headline.{encoder_frames}
 
-two_hundred_and_fifty_six_fills : capture_of encoder_frames first_grammar (ended (codes "size 64 48")
+two_hundred_and_fifty_six_fills : capture_of encoder_frames (ended (codes "size 64 48")
     ++ ended (codes "take")
     ++ ended (codes "fill 0 0 1 1 000001")
     ++ ended (codes "fill 0 0 1 1 000001")

@@ -3,12 +3,11 @@ use Rattle.std.proofs.Common.{◌≡◌, ◌++◌, refl}
 use Rattle.std.specs.Fmt.{digits}
 use Rattle.std.specs.Prelude.{codes}
 use Rattle.rop3_core.specs.Rop3.{ternary_raster}
-use Rattle.script_rules.specs.Script.{whole_grammar}
 use Rattle.script_rules.specs.Capture.{ended}
 use Rattle.script_rules.specs.CaptureText.{capture_of}
 use Rattle.script_rules.specs.Headline.{encoder_frames}
 
-control_is_handed_on : capture_of encoder_frames whole_grammar (ended (codes "size 64 48")
+control_is_handed_on : capture_of encoder_frames (ended (codes "size 64 48")
     ++ ended (codes "invite ann owner")
     ++ ended (codes "invite bob view")
     ++ ended (codes "invite cy control")
@@ -27,7 +26,7 @@ control_is_handed_on : capture_of encoder_frames whole_grammar (ended (codes "si
 unfolding digits ternary_raster
 control_is_handed_on = refl
 
-popup_and_a_holder_who_leaves : capture_of encoder_frames whole_grammar (ended (codes "size 64 48")
+popup_and_a_holder_who_leaves : capture_of encoder_frames (ended (codes "size 64 48")
     ++ ended (codes "invite ann owner")
     ++ ended (codes "invite bob view")
     ++ ended (codes "invite cy control")
@@ -52,7 +51,7 @@ popup_and_a_holder_who_leaves : capture_of encoder_frames whole_grammar (ended (
 unfolding digits ternary_raster
 popup_and_a_holder_who_leaves = refl
 
-suppress_allow_refresh : capture_of encoder_frames whole_grammar (ended (codes "size 64 64")
+suppress_allow_refresh : capture_of encoder_frames (ended (codes "size 64 64")
     ++ ended (codes "invite ann owner")
     ++ ended (codes "join ann full")
     ++ ended (codes "fill 0 0 64 64 FF0000")
@@ -83,7 +82,7 @@ suppress_allow_refresh : capture_of encoder_frames whole_grammar (ended (codes "
 unfolding digits ternary_raster
 suppress_allow_refresh = refl
 
-room_is_full : capture_of encoder_frames whole_grammar (ended (codes "size 64 48")
+room_is_full : capture_of encoder_frames (ended (codes "size 64 48")
     ++ ended (codes "invite ann owner")
     ++ ended (codes "join ann plain")
     ++ ended (codes "join ann plain")

@@ -1,4 +1,4 @@
-ghost use Rattle.std.specs.Prelude.{◌≡◌, ◌==◌, ◌≤◌, ◌+◌, [], length, take, position, IfOk, if◌then◌else◌};
+ghost use Rattle.std.specs.Prelude.{◌≡◌, ◌==◌, ◌≤◌, ◌+◌, [], length, take, position, None, IfOk, if◌then◌else◌};
 ghost use Rattle.std.specs.Io.KnownBytes.{Keeps};
 ghost use Rattle.edge_io.specs.Source.{ReadCause};
 ghost use Rattle.line_read.specs.Reading.{new_reading, ahead};
@@ -86,6 +86,8 @@ impl LineReader {
     pub fn next_line<S: Source>(&mut self, input: &mut S) -> Found
         ensures found { Finds result self.old self.new (ahead self.old (S.left input.old)) (ahead self.new (S.left input.new)) }
         ensures cause { FindCause result (S.faults input.old) (S.faults input.new) }
+        // Of the bytes that a source gave before it failed no whole line is left.
+        ensures part { result ≡ Found.Failed → position (λ b. b == 10) self.new.held ≡ None }
     {
         self.forget_text();
         loop {

@@ -8,10 +8,10 @@ use Rattle.std.specs.declared.result.Result.TheVariants.{Ok, Err}
 use Rattle.edge_io.specs.Sink.{WritesFront}
 use Rattle.line_text.specs.Words.{is_same_word}
 use Rattle.host_words.specs.Words.{RequestOf, request_of}
-use Rattle.solo_script.specs.Steps.{WritesCause, IsWriteFault}
-use Rattle.solo_script.specs.declared.fault.ScriptFault.{ScriptFault}
-use Rattle.solo_script.specs.declared.fault.ScriptFault.TheVariants.{Line, ReadFault, WriteFault, OutOfMemory}
-use Rattle.rdp_host.specs.Run.{RunsScript, ReadsCause}
+use Rattle.script_run.specs.Run.{RunsScript, ReadsCause, WritesCause}
+use Rattle.script_run.specs.Steps.{IsWriteFault}
+use Rattle.script_run.specs.declared.fault.ScriptFault.{ScriptFault}
+use Rattle.script_run.specs.declared.fault.ScriptFault.TheVariants.{Line, ReadFault, WriteFault, OutOfMemory}
 
 -- whether a request is the mode script, which has no argument
 abbrev pub is_script_request : Option RequestOf → Bool
@@ -55,7 +55,7 @@ outside left told reads writes = record { left = left; told = told; reads = read
 
 -- a script was run: 0 is its end, 3 the first line that breaks a rule, with the capture written that each viewer reads whole, and in
 -- which each mark shows the picture after exactly the journal entries that the frame's take found; 4, 5 and 6 are faults of the
--- source and of the sink, whose counts rose, and want of memory
+-- source and of the sink, whose counts rose, and want of memory, behind the capture of the lines that were done
 pub record RunsMode (status : ℕ) (before now : Outside) : Type 0 where
   pub answer : Result (Unit {0}) ScriptFault
   pub status_is : status ≡ script_status answer

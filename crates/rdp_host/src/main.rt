@@ -1,15 +1,11 @@
 //! The session host: `rdp_host script` reads a script and writes the capture of what each viewer is sent.
 #![tactic(auto)]
 
-mod lines;
-mod opening;
-mod script;
 mod top;
 mod words;
 
 use edge_io::{FileIn, FileOut, PlanGate};
-pub use script::run_script;
-pub use solo_script::ScriptFault;
+pub use script_run::{ScriptFault, run_script};
 use std::process::ExitCode;
 use top::OUT_OF_MEMORY;
 pub use top::top;

@@ -1,11 +1,10 @@
 ghost use Rattle.std.specs.Prelude.{◌≡◌, [], false, Some, map, string_bytes, IsTrue};
 ghost use Rattle.rdp_host.specs.Top.{asks_for_script, is_script_request, script_status, outside, RunsMode, WritesUsage};
 
-use crate::script::run_script;
 use edge_io::{Gate, Sink, Source};
 use host_words::{OutOfMemory, Request};
 use line_text::is_same_word;
-use solo_script::{ScriptFault, put};
+use script_run::{ScriptFault, put, run_script};
 use std::alloc::Global;
 use std::sync::Wait;
 use std::thread::Threads;
@@ -48,8 +47,9 @@ pub fn top<R: Threads + Wait + Sync, S: Source, K: Sink, G: Gate>(
 ) -> u8
     requires unused { G.given gate.old ≡ [] }
     requires open { G.ended gate.old ≡ false }
-    // The capture's own clause: whatever the script, each viewer's bytes in what is written are never refused, and each mark shows the
-    // picture after exactly the journal entries that the frame's take found.
+    // The capture's own clause: whatever the script, and however its joins, inputs, drawings, refreshes, takes and departures stand among
+    // each other, each viewer's bytes in what is written are never refused, and each mark shows the picture after exactly the journal
+    // entries that the frame's take found; each change was made by the holder of control.
     ensures script { IsTrue (asks_for_script (map string_bytes words.now)) → RunsMode result
         (outside (S.left input.old) (K.told output.old) (S.faults input.old) (K.faults output.old))
         (outside (S.left input.new) (K.told output.new) (S.faults input.new) (K.faults output.new)) }

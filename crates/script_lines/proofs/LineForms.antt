@@ -8,8 +8,7 @@ use Rattle.std.specs.Option.{option_and_then}
 use Rattle.line_text.specs.Words.{is_same_word, words_of}
 use Rattle.line_text.specs.Numbers.{number_up_to}
 use Rattle.draw_ops.specs.Fits.{first_some}
-use Rattle.script_rules.specs.Forms.{step_forms}
-use Rattle.script_rules.specs.Script.{LineForm, whole_grammar, line_form, invite_form, join_form, step_form, addressed_form, viewer_of_word, viewer_limit, role_named, is_word, are_words}
+use Rattle.script_rules.specs.Script.{LineForm, line_form, invite_form, join_form, step_form, addressed_form, viewer_of_word, viewer_limit, role_named, is_word, are_words}
 use Rattle.script_rules.specs.Script.LineForm.{InviteForm, JoinForm}
 use Rattle.script_lines.specs.Lines.{begins_with_at}
 
@@ -67,30 +66,30 @@ other_viewer (b ∷ bs) e = ap (λ t. if t then number_up_to viewer_limit bs els
 
 -- ---- the form of a line by its first word
 
-pub invite_line : (word : List ℕ) (words : List (List ℕ)) → is_same_word word (codes "invite") ≡ true → line_form whole_grammar (word ∷ words) ≡ invite_form (word ∷ words)
-invite_line word words e = subst (λ w. line_form whole_grammar (w ∷ words) ≡ invite_form (w ∷ words)) (sym (same_word word (codes "invite") e))
+pub invite_line : (word : List ℕ) (words : List (List ℕ)) → is_same_word word (codes "invite") ≡ true → line_form (word ∷ words) ≡ invite_form (word ∷ words)
+invite_line word words e = subst (λ w. line_form (w ∷ words) ≡ invite_form (w ∷ words)) (sym (same_word word (codes "invite") e))
     (ap (λ j. first_some (None ∷ invite_form (codes "invite" ∷ words) ∷ j ∷ None ∷ [])) (other_join (codes "invite") words refl) ∙ only_second (invite_form (codes "invite" ∷ words)))
 
-pub join_line : (word : List ℕ) (words : List (List ℕ)) → is_same_word word (codes "join") ≡ true → line_form whole_grammar (word ∷ words) ≡ join_form (codes "join" ∷ words)
-join_line word words e = subst (λ w. line_form whole_grammar (w ∷ words) ≡ join_form (codes "join" ∷ words)) (sym (same_word word (codes "join") e))
+pub join_line : (word : List ℕ) (words : List (List ℕ)) → is_same_word word (codes "join") ≡ true → line_form (word ∷ words) ≡ join_form (codes "join" ∷ words)
+join_line word words e = subst (λ w. line_form (w ∷ words) ≡ join_form (codes "join" ∷ words)) (sym (same_word word (codes "join") e))
     (ap (λ i. first_some (None ∷ i ∷ join_form (codes "join" ∷ words) ∷ None ∷ [])) (other_invite (codes "join") words refl) ∙ only_third (join_form (codes "join" ∷ words)))
 
-pub addressed_line : (word : List ℕ) (words : List (List ℕ)) → begins_with_at word ≡ true → line_form whole_grammar (word ∷ words) ≡ addressed_form step_forms (word ∷ words)
+pub addressed_line : (word : List ℕ) (words : List (List ℕ)) → begins_with_at word ≡ true → line_form (word ∷ words) ≡ addressed_form (word ∷ words)
 addressed_line [] words e = absurd (cc e)
 addressed_line (b ∷ bs) words e =
     let at : b ≡ 64 = grind (arith, nat_tests, e) in
-    subst (λ a. line_form whole_grammar ((a ∷ bs) ∷ words) ≡ addressed_form step_forms ((a ∷ bs) ∷ words)) (sym at)
-    (ap (λ i. first_some (None ∷ i ∷ join_form ((64 ∷ bs) ∷ words) ∷ addressed_form step_forms ((64 ∷ bs) ∷ words) ∷ [])) (other_invite (64 ∷ bs) words refl)
-    ∙ ap (λ j. first_some (None ∷ None ∷ j ∷ addressed_form step_forms ((64 ∷ bs) ∷ words) ∷ [])) (other_join (64 ∷ bs) words refl)
-    ∙ only_last (addressed_form step_forms ((64 ∷ bs) ∷ words)))
+    subst (λ a. line_form ((a ∷ bs) ∷ words) ≡ addressed_form ((a ∷ bs) ∷ words)) (sym at)
+    (ap (λ i. first_some (None ∷ i ∷ join_form ((64 ∷ bs) ∷ words) ∷ addressed_form ((64 ∷ bs) ∷ words) ∷ [])) (other_invite (64 ∷ bs) words refl)
+    ∙ ap (λ j. first_some (None ∷ None ∷ j ∷ addressed_form ((64 ∷ bs) ∷ words) ∷ [])) (other_join (64 ∷ bs) words refl)
+    ∙ only_last (addressed_form ((64 ∷ bs) ∷ words)))
 
 pub step_line_is : (word : List ℕ) (words : List (List ℕ)) → is_same_word word (codes "invite") ≡ false → is_same_word word (codes "join") ≡ false → begins_with_at word ≡ false
-    → line_form whole_grammar (word ∷ words) ≡ step_form step_forms 1 (word ∷ words)
+    → line_form (word ∷ words) ≡ step_form 1 (word ∷ words)
 step_line_is word words ei ej ea =
-    ap (λ i. first_some (step_form step_forms 1 (word ∷ words) ∷ i ∷ join_form (word ∷ words) ∷ addressed_form step_forms (word ∷ words) ∷ [])) (other_invite word words ei)
-    ∙ ap (λ j. first_some (step_form step_forms 1 (word ∷ words) ∷ None ∷ j ∷ addressed_form step_forms (word ∷ words) ∷ [])) (other_join word words ej)
-    ∙ ap (λ v. first_some (step_form step_forms 1 (word ∷ words) ∷ None ∷ None ∷ option_and_then (λ n. step_form step_forms n words) v ∷ [])) (other_viewer word ea)
-    ∙ only_first (step_form step_forms 1 (word ∷ words))
+    ap (λ i. first_some (step_form 1 (word ∷ words) ∷ i ∷ join_form (word ∷ words) ∷ addressed_form (word ∷ words) ∷ [])) (other_invite word words ei)
+    ∙ ap (λ j. first_some (step_form 1 (word ∷ words) ∷ None ∷ j ∷ addressed_form (word ∷ words) ∷ [])) (other_join word words ej)
+    ∙ ap (λ v. first_some (step_form 1 (word ∷ words) ∷ None ∷ None ∷ option_and_then (λ n. step_form n words) v ∷ [])) (other_viewer word ea)
+    ∙ only_first (step_form 1 (word ∷ words))
 
 -- ---- joins
 

@@ -176,7 +176,7 @@ abbrev pub step_line : ℕ → ViewerStep → LineForm
 step_line v s = StepForm v (step_of v s)
 
 -- the step of a viewer that words ask for
-pub step_form_is : (v : ℕ) (words : List (List ℕ)) → step_form step_forms v words ≡ option_map (step_line v) (step_in_words words)
+pub step_form_is : (v : ℕ) (words : List (List ℕ)) → step_form v words ≡ option_map (step_line v) (step_in_words words)
 step_form_is v [] = refl
 step_form_is v (word ∷ words) = ap (option_map (StepForm v)) (step_in_is v word words) ∙ by (step_in_words (word ∷ words))
   where

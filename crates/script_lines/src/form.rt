@@ -2,8 +2,7 @@
 ghost use Rattle.std.specs.Prelude.{◌≡◌, ◌∷◌, IfOk, IfSome, codes};
 ghost use Rattle.std.specs.Option.{option_map, option_copied};
 ghost use Rattle.line_text.specs.Words.{words_of, parts_left};
-ghost use Rattle.script_rules.specs.Script.{whole_grammar, line_form, invite_form, join_form, step_form, addressed_form, role_named, viewer_of_word};
-ghost use Rattle.script_rules.specs.Forms.{step_forms};
+ghost use Rattle.script_rules.specs.Script.{line_form, invite_form, join_form, step_form, addressed_form, role_named, viewer_of_word};
 ghost use Rattle.script_rules.specs.Script.LineForm.{InviteForm};
 ghost use Rattle.script_lines.specs.Lines.{form_of, begins_with_at, IsFormInRange};
 
@@ -51,7 +50,7 @@ pub enum LineForm<'a> {
 
 /// The form of a line, where it has one. It wants memory only where it is a step's that has glyphs, pixels or rows.
 pub fn line_form(alloc: Global, text: &[u8]) -> Result<Option<LineForm<'_>>, OutOfMemory>
-    ensures form { IfOk result (λ form. option_map form_of form ≡ line_form whole_grammar (words_of text.now)) }
+    ensures form { IfOk result (λ form. option_map form_of form ≡ line_form (words_of text.now)) }
     ensures range { IfOk result (λ form. IfSome form IsFormInRange) }
 {
     let (first, rest) = first_word(text);
@@ -129,7 +128,7 @@ fn addressed_form<'a>(
     first: &[u8],
     rest: Option<&[u8]>,
 ) -> Result<Option<LineForm<'a>>, OutOfMemory>
-    ensures form { IfOk result (λ form. option_map form_of form ≡ addressed_form step_forms (first.now ∷ parts_left 32 (option_copied rest.entry))) }
+    ensures form { IfOk result (λ form. option_map form_of form ≡ addressed_form (first.now ∷ parts_left 32 (option_copied rest.entry))) }
     ensures range { IfOk result (λ form. IfSome form IsFormInRange) }
 {
     match (viewer_of_word(first), rest) {
@@ -154,7 +153,7 @@ fn step_form<'a>(
     viewer: u32,
     text: &[u8],
 ) -> Result<Option<LineForm<'a>>, OutOfMemory>
-    ensures form { IfOk result (λ form. option_map form_of form ≡ step_form step_forms viewer (words_of text.now)) }
+    ensures form { IfOk result (λ form. option_map form_of form ≡ step_form viewer (words_of text.now)) }
     ensures range { IfOk result (λ form. IfSome form IsFormInRange) }
 {
     match read_step(alloc, &mut Parts::words(text))? {

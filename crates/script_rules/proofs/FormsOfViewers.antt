@@ -15,9 +15,9 @@ use Rattle.script_rules.specs.Fields.{Field, Values, values_of, rect_fields, rec
 use Rattle.script_rules.specs.Fields.{copy_by, blit_by, blit3_by, line_by, save_by, restore_by, image_by, brush_by, glyph_by}
 use Rattle.script_rules.specs.Fields.Field.{Coordinate, Count, Small, Digits}
 use Rattle.script_rules.specs.Forms.{Form, draw_step, drawing_by, load_by, text_fields, text_step, alone, is_up, key_step, unicode_limit, char_step, mouse_by}
-use Rattle.script_rules.specs.Forms.{mouse_step, refresh_step, fill_fields, raster_fields, step_forms, first_forms, step_in}
-use Rattle.script_rules.specs.Script.{Grammar, LineForm, role_named, invite_form, join_form, is_word, are_words, step_form, viewer_of_word, addressed_form}
-use Rattle.script_rules.specs.Script.{forms_of_line, line_form}
+use Rattle.script_rules.specs.Forms.{mouse_step, refresh_step, fill_fields, raster_fields, step_forms, step_in}
+use Rattle.script_rules.specs.Script.{LineForm, role_named, invite_form, join_form, is_word, are_words, step_form, viewer_of_word, addressed_form}
+use Rattle.script_rules.specs.Script.{line_form}
 use Rattle.script_rules.specs.Script.LineForm.{InviteForm, JoinForm, StepForm}
 
 -- a step of a viewer, and no join
@@ -117,10 +117,7 @@ abbrev pub AreOfTheirViewers : List Form → Type 0
 AreOfTheirViewers [] = ⊤
 AreOfTheirViewers (f ∷ forms) = ((v : ℕ) (words : List (List ℕ)) → IsOf v (f.reads v words)) × AreOfTheirViewers forms
 
-pub first_forms_are : AreOfTheirViewers first_forms
-first_forms_are = (λ v words. alone_is TakeStep v words refl, (drawing_is without_clip fill_fields fill_by, tt))
-
-pub step_forms_are : AreOfTheirViewers step_forms
+step_forms_are : AreOfTheirViewers step_forms
 step_forms_are = (
   λ v words. alone_is LeaveStep v words refl,
   (
@@ -202,9 +199,9 @@ IsFormOfItsViewer (StepForm v step) = IsStepOf v step
 abbrev IsGood : Option LineForm → Type 0
 IsGood o = IfSome o IsFormOfItsViewer
 
-step_form_is : (forms : List Form) (v : ℕ) (words : List (List ℕ)) → AreOfTheirViewers forms → IsGood (step_form forms v words)
-step_form_is forms v [] are = tt
-step_form_is forms v (word ∷ words) are = by (step_in forms v word words) (step_in_is forms v word words are)
+step_form_is : (v : ℕ) (words : List (List ℕ)) → IsGood (step_form v words)
+step_form_is v [] = tt
+step_form_is v (word ∷ words) = by (step_in step_forms v word words) (step_in_is step_forms v word words step_forms_are)
   where
     by : (o : Option Step) → IsOf v o → IsGood (option_map (StepForm v) o)
     by None h = tt
@@ -231,10 +228,9 @@ join_form_is (word ∷ name ∷ preset ∷ words) = by (is_same_word word (codes
     by true = tt
     by false = tt
 
-addressed_form_is : (forms : List Form) (words : List (List ℕ)) → AreOfTheirViewers forms → IsGood (addressed_form forms words)
-addressed_form_is forms [] are = tt
-addressed_form_is forms (word ∷ words) are =
-    some_of IsFormOfItsViewer (λ v. step_form forms v words) (viewer_of_word word) (λ v. step_form_is forms v words are)
+addressed_form_is : (words : List (List ℕ)) → IsGood (addressed_form words)
+addressed_form_is [] = tt
+addressed_form_is (word ∷ words) = some_of IsFormOfItsViewer (λ v. step_form v words) (viewer_of_word word) (λ v. step_form_is v words)
 
 abbrev AreGood : List (Option LineForm) → Type 0
 AreGood [] = ⊤
@@ -246,11 +242,6 @@ first_is (None ∷ os) h = first_is os h.1
 first_is (Some f ∷ os) h = h.0
 
 -- what a line asks for by its form is of its viewer
-pub line_form_is : (g : Grammar) (words : List (List ℕ)) → AreOfTheirViewers g.forms → IsGood (line_form g words)
-line_form_is g words are = by g.several_viewers
-  where
-    by : (t : Bool)
-        → IsGood (first_some (step_form g.forms 1 words ∷ (if t then invite_form words ∷ join_form words ∷ addressed_form g.forms words ∷ [] else [])))
-    by true = first_is (step_form g.forms 1 words ∷ invite_form words ∷ join_form words ∷ addressed_form g.forms words ∷ [])
-        (step_form_is g.forms 1 words are, (invite_form_is words, (join_form_is words, (addressed_form_is g.forms words are, tt))))
-    by false = first_is (step_form g.forms 1 words ∷ []) (step_form_is g.forms 1 words are, tt)
+pub line_form_is : (words : List (List ℕ)) → IsGood (line_form words)
+line_form_is words = first_is (step_form 1 words ∷ invite_form words ∷ join_form words ∷ addressed_form words ∷ [])
+    (step_form_is 1 words, (invite_form_is words, (join_form_is words, (addressed_form_is words, tt))))

@@ -1,17 +1,15 @@
 -- What is written in a capture is read back: its lines, its words, and the bytes of its hexadecimal lines.
-use Rattle.std.proofs.Common.{◌≡◌, ℕ, zero, suc, ◌+◌, ◌*◌, ◌/◌, ◌%◌, ◌<◌, ◌≤◌, List, [], ◌∷◌, ◌++◌, length, take, drop, refl, ap, sym, ◌∙◌, arith, Some, None, Bool, true, false, append_assoc}
-use Rattle.std.specs.Prelude.{Option, ◌==◌, ◌&&◌, ◌||◌, nat_lt, nat_le, if◌then◌else◌, All, codes, decimal}
-use Rattle.std.specs.Char.{digit_char, digit_value, is_digit, is_ascii_digit}
-use Rattle.std.specs.Option.{option_map}
+use Rattle.std.proofs.Common.{◌≡◌, ℕ, ◌+◌, ◌*◌, ◌/◌, ◌%◌, ◌<◌, List, [], ◌∷◌, ◌++◌, length, refl, ap, ◌∙◌, arith, Some, true, false, append_assoc}
+use Rattle.std.specs.Prelude.{◌==◌, nat_lt, All}
+use Rattle.std.specs.Char.{digit_char, is_digit}
 use Rattle.std.proofs.lemmas.Bool.Decides.{nat_tests}
 use Rattle.std.proofs.lemmas.Str.{digit_value-digit_char}
 use Rattle.std.proofs.lemmas.List.Splits.{slice_split_at, slice_split_none, length-slice_split}
 use Rattle.std.proofs.lemmas.List.Elements.{All-nil, All-cons, All-head, All-tail}
 use Rattle.std.specs.List.{slice_split}
-use Rattle.line_text.specs.Lines.{Line, line_feed, lines_of, lines_of_parts, last_line}
+use Rattle.line_text.specs.Lines.{line_feed, lines_of, lines_of_parts}
 use Rattle.line_text.specs.Words.{words_of}
-use Rattle.line_text.specs.Numbers.{digits_behind}
-use Rattle.line_text.specs.Hexadecimal.{hexadecimal_of, hexadecimals, hexadecimals_of, hexadecimal_text, with_first}
+use Rattle.line_text.specs.Hexadecimal.{hexadecimal_of, hexadecimals, hexadecimal_text, with_first}
 use Rattle.script_rules.specs.Script.{all_bytes}
 use Rattle.script_rules.specs.Capture.{ended, is_lower_digit, bytes_word}
 

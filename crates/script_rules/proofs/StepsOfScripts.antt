@@ -1,5 +1,5 @@
 -- What a script's lines ask for keeps the premises of the headline over lists of steps.
-use Rattle.std.proofs.Common.{◌≡◌, ℕ, ◌+◌, Bool, true, false, List, [], ◌∷◌, length, refl, sym, subst, ap, ◌∙◌, Some, None}
+use Rattle.std.proofs.Common.{◌≡◌, ℕ, ◌+◌, Bool, true, false, List, [], ◌∷◌, length, refl, sym, subst, ◌∙◌, Some, None}
 use Rattle.std.specs.Prelude.{Option, IfSome, IsTrue, ⊤, not, ◌-◌, ◌==◌, ◌&&◌, ◌||◌, nat_le, codes, if◌then◌else◌}
 use Rattle.std.specs.Bool.{then_some}
 use Rattle.std.specs.Char.{is_ascii_digit}
@@ -15,20 +15,20 @@ use Rattle.line_text.specs.Lines.{Line, line_bytes, lines_of}
 use Rattle.line_text.specs.Words.{words_of, parts_at, is_same_word}
 use Rattle.line_text.specs.Numbers.{number_of}
 use Rattle.frame_rules.specs.Describes.{HasAllCaches}
-use Rattle.session_rules.specs.Journal.{Head, Row, is_present}
+use Rattle.session_rules.specs.Journal.{Row, is_present}
 use Rattle.session_rules.specs.Steps.{Step, Play, play_at_first, outcome}
 use Rattle.session_rules.specs.Steps.Step.{JoinStep, LeaveStep, InputStep, DrawStep, RefreshStep, SuppressStep, TakeStep}
 use Rattle.caps_sets.specs.Presets.{Preset, presets, preset_named, size_by, with_cache, overridden, overridden_word, overridden_by, confirmed_by}
-use Rattle.script_rules.specs.Script.{Grammar, whole_grammar, first_grammar, Asked, Script, ScriptReading, LineForm, LineOutcome, Opening, without_preset, broken_if, first_presets}
-use Rattle.script_rules.specs.Script.{unless_broken, join_outcome, form_outcome, line_outcome, line_form, is_name, is_invited, row_limit, finds_too_many}
-use Rattle.script_rules.specs.Script.{order_rule, name_rule, presence_rule, pending_rule, text_rule, breaks_text_rule, refused_at, with_asked, with_row}
+use Rattle.script_rules.specs.Script.{Asked, Script, ScriptReading, LineForm, LineOutcome, Opening, without_preset, broken_if}
+use Rattle.script_rules.specs.Script.{unless_broken, join_outcome, form_outcome, line_outcome, line_form, is_name, is_invited, row_limit}
+use Rattle.script_rules.specs.Script.{order_rule, name_rule, presence_rule, text_rule, breaks_text_rule, with_asked, with_row}
 use Rattle.script_rules.specs.Script.{after_step, proceeding, script_from, size_with, size_of_words, opened_reading, begins_with_invite, solo_rows, solo_join}
 use Rattle.script_rules.specs.Script.{invited_script, solo_script, script_after, opening_by, opening_of_lines, opening_of}
 use Rattle.script_rules.specs.Script.LineForm.{InviteForm, JoinForm, StepForm}
 use Rattle.script_rules.specs.Script.LineOutcome.{Breaks, Invites, Asks}
 use Rattle.script_rules.specs.Script.Opening.{NoSize, Unended, Opened}
 use Rattle.script_rules.specs.Headline.{is_by_present_viewer, AreByPresentFrom, ConfirmAllCaches, HasSessionSize, AreByPresentViewers, IfOpened}
-use Rattle.script_rules.proofs.FormsOfViewers.{IsStepOf, AreOfTheirViewers, IsFormOfItsViewer, line_form_is, first_forms_are, step_forms_are, some_of, mapped}
+use Rattle.script_rules.proofs.FormsOfViewers.{IsStepOf, IsFormOfItsViewer, line_form_is, some_of}
 
 -- ---- what is confirmed
 
@@ -38,9 +38,6 @@ has_plain = record { bitmaps = refl; glyphs = refl }
 abbrev HaveAllCaches : List Preset → Type 0
 HaveAllCaches [] = ⊤
 HaveAllCaches (p ∷ ps) = HasAllCaches p.confirmed × HaveAllCaches ps
-
-first_presets_have : HaveAllCaches first_presets
-first_presets_have = (has_plain, tt)
 
 presets_have : HaveAllCaches presets
 presets_have = (
@@ -121,9 +118,9 @@ joins : (r : ScriptReading) (name : List ℕ) (words : List (List ℕ)) (o : Opt
 joins r name words None h = tt
 joins r name words (Some c) h = (refl, h)
 
-form_keeps : (g : Grammar) (r : ScriptReading) (o : Option LineForm) → HaveAllCaches g.presets → IfSome o IsFormOfItsViewer → Keeps r (form_outcome g r o)
-form_keeps g r None have is = tt
-form_keeps g r (Some (InviteForm name role)) have is =
+form_keeps : (r : ScriptReading) (o : Option LineForm) → IfSome o IsFormOfItsViewer → Keeps r (form_outcome r o)
+form_keeps r None is = tt
+form_keeps r (Some (InviteForm name role)) is =
     by r.begun refl (not (is_name name) || (is_invited name r.head.rows || nat_le row_limit (length r.head.rows)))
   where
     by : (b : Bool) → r.begun ≡ b → (n : Bool)
@@ -131,25 +128,23 @@ form_keeps g r (Some (InviteForm name role)) have is =
     by true e n = tt
     by false e true = tt
     by false e false = e
-form_keeps g r (Some (JoinForm name words)) have is = by (not (is_name name))
+form_keeps r (Some (JoinForm name words)) is = by (not (is_name name))
   where
-    by : (n : Bool) → Keeps r (unless_broken (broken_if n name_rule) (join_outcome name words (confirmed_by g.presets words)))
+    by : (n : Bool) → Keeps r (unless_broken (broken_if n name_rule) (join_outcome name words (confirmed_by presets words)))
     by true = tt
-    by false = joins r name words (confirmed_by g.presets words) (confirmed_has g.presets words have)
-form_keeps g r (Some (StepForm v step)) have is = by (is_present v r.play.reached.viewers) refl (finds_too_many g r step)
+    by false = joins r name words (confirmed_by presets words) (confirmed_has presets words presets_have)
+form_keeps r (Some (StepForm v step)) is = by (is_present v r.play.reached.viewers) refl
   where
-    by : (p : Bool) → is_present v r.play.reached.viewers ≡ p → (m : Bool)
-        → Keeps r (unless_broken (first_some (broken_if (not p) presence_rule ∷ broken_if m pending_rule ∷ [])) (Asks (without_preset step)))
-    by false e m = tt
-    by true e true = tt
-    by true e false = (present_is r.play v step is e, has_plain)
+    by : (p : Bool) → is_present v r.play.reached.viewers ≡ p → Keeps r (unless_broken (broken_if (not p) presence_rule) (Asks (without_preset step)))
+    by false e = tt
+    by true e = (present_is r.play v step is e, has_plain)
 
-line_keeps : (g : Grammar) (at : ℕ) (r : ScriptReading) (line : Line) → HaveAllCaches g.presets → AreOfTheirViewers g.forms → Keeps r (line_outcome g at r line)
-line_keeps g at r line have are = by (breaks_text_rule at line)
+line_keeps : (at : ℕ) (r : ScriptReading) (line : Line) → Keeps r (line_outcome at r line)
+line_keeps at r line = by (breaks_text_rule at line)
   where
-    by : (b : Bool) → Keeps r (unless_broken (broken_if b text_rule) (form_outcome g r (line_form g (words_of line.text))))
+    by : (b : Bool) → Keeps r (unless_broken (broken_if b text_rule) (form_outcome r (line_form (words_of line.text))))
     by true = tt
-    by false = form_keeps g r (line_form g (words_of line.text)) have (line_form_is g (words_of line.text) are)
+    by false = form_keeps r (line_form (words_of line.text)) (line_form_is (words_of line.text))
 
 -- ---- the lines of a script
 
@@ -177,12 +172,11 @@ outcome_keeps_premises r k (Invites row) others keeps rest =
     record { head = λ begun. absurd (cc (sym keeps ∙ begun)); size = next.size; present = next.present; caches = next.caches }
 outcome_keeps_premises r k (Asks a) others keeps rest = asks_on r a (others (after_step r a.step)) keeps.0 keeps.1 (rest (after_step r a.step))
 
-lines_keep_premises : (g : Grammar) (k at : ℕ) (r : ScriptReading) (lines : List Line) → HaveAllCaches g.presets → AreOfTheirViewers g.forms
-    → KeepsPremises r (script_from g k at r lines)
-lines_keep_premises g k at r [] have are = record { head = λ begun. refl; size = refl; present = tt; caches = tt }
-lines_keep_premises g k at r (line ∷ lines) have are =
-    outcome_keeps_premises r k (line_outcome g at r line) (λ next. script_from g (k + 1) (at + length (line_bytes line)) next lines) (line_keeps g at r line have are)
-    (λ next. lines_keep_premises g (k + 1) (at + length (line_bytes line)) next lines have are)
+lines_keep_premises : (k at : ℕ) (r : ScriptReading) (lines : List Line) → KeepsPremises r (script_from k at r lines)
+lines_keep_premises k at r [] = record { head = λ begun. refl; size = refl; present = tt; caches = tt }
+lines_keep_premises k at r (line ∷ lines) =
+    outcome_keeps_premises r k (line_outcome at r line) (λ next. script_from (k + 1) (at + length (line_bytes line)) next lines) (line_keeps at r line)
+    (λ next. lines_keep_premises (k + 1) (at + length (line_bytes line)) next lines)
 
 -- ---- whole scripts
 
@@ -199,24 +193,22 @@ from_first size rows s is goes = record {
   caches = goes.caches;
 }
 
-after_has : (g : Grammar) (at : ℕ) (size : Size) (lines : List Line) → IsTrue (is_session_size size.w size.h) → HaveAllCaches g.presets
-    → AreOfTheirViewers g.forms → HasPremises (script_after g at size lines)
-after_has g at size lines is have are = by (begins_with_invite at lines)
+after_has : (at : ℕ) (size : Size) (lines : List Line) → IsTrue (is_session_size size.w size.h) → HasPremises (script_after at size lines)
+after_has at size lines is = by (begins_with_invite at lines)
   where
-    by : (b : Bool) → HasPremises (if b then invited_script g at size lines else solo_script g at size lines)
-    by true = from_first size [] (invited_script g at size lines) is (lines_keep_premises g 2 at (opened_reading size []) lines have are)
-    by false = from_first size solo_rows (solo_script g at size lines) is
-        (asks_on (opened_reading size solo_rows) solo_join (script_from g 2 at (after_step (opened_reading size solo_rows) solo_join.step) lines) refl has_plain
-        (lines_keep_premises g 2 at (after_step (opened_reading size solo_rows) solo_join.step) lines have are))
+    by : (b : Bool) → HasPremises (if b then invited_script at size lines else solo_script at size lines)
+    by true = from_first size [] (invited_script at size lines) is (lines_keep_premises 2 at (opened_reading size []) lines)
+    by false = from_first size solo_rows (solo_script at size lines) is
+        (asks_on (opened_reading size solo_rows) solo_join (script_from 2 at (after_step (opened_reading size solo_rows) solo_join.step) lines) refl has_plain
+        (lines_keep_premises 2 at (after_step (opened_reading size solo_rows) solo_join.step) lines))
 
-opened_has : (g : Grammar) (line : Line) (o : Option Size) (lines : List Line) → IfSome o (λ size. IsTrue (is_session_size size.w size.h))
-    → HaveAllCaches g.presets → AreOfTheirViewers g.forms
-    → IfOpened (opening_by g line o lines) HasPremises
-opened_has g line None lines is have are = tt
-opened_has g line (Some size) lines is have are = by line.ended
+opened_has : (line : Line) (o : Option Size) (lines : List Line) → IfSome o (λ size. IsTrue (is_session_size size.w size.h))
+    → IfOpened (opening_by line o lines) HasPremises
+opened_has line None lines is = tt
+opened_has line (Some size) lines is = by line.ended
   where
-    by : (b : Bool) → IfOpened (if b then Opened (script_after g (length (line_bytes line)) size lines) else Unended) HasPremises
-    by true = after_has g (length (line_bytes line)) size lines is have are
+    by : (b : Bool) → IfOpened (if b then Opened (script_after (length (line_bytes line)) size lines) else Unended) HasPremises
+    by true = after_has (length (line_bytes line)) size lines is
     by false = tt
 
 size_is : (w h : ℕ) → IfSome (size_with w h) (λ size. IsTrue (is_session_size size.w size.h))
@@ -240,15 +232,12 @@ words_have_size (word ∷ w ∷ h ∷ []) = by (is_same_word word (codes "size")
     by false = tt
 words_have_size (word ∷ w ∷ h ∷ more ∷ words) = tt
 
-opening_has : (g : Grammar) (lines : List Line) → HaveAllCaches g.presets → AreOfTheirViewers g.forms → IfOpened (opening_of_lines g lines) HasPremises
-opening_has g [] have are = tt
-opening_has g (line ∷ lines) have are = opened_has g line (size_of_words (words_of line.text)) lines (words_have_size (words_of line.text)) have are
+opening_has : (lines : List Line) → IfOpened (opening_of_lines lines) HasPremises
+opening_has [] = tt
+opening_has (line ∷ lines) = opened_has line (size_of_words (words_of line.text)) lines (words_have_size (words_of line.text))
 
-pub whole_scripts_have : (bytes : List ℕ) → IfOpened (opening_of whole_grammar bytes) HasPremises
-whole_scripts_have bytes = opening_has whole_grammar (lines_of bytes) presets_have step_forms_are
-
-pub first_scripts_have : (bytes : List ℕ) → IfOpened (opening_of first_grammar bytes) HasPremises
-first_scripts_have bytes = opening_has first_grammar (lines_of bytes) first_presets_have first_forms_are
+pub scripts_have : (bytes : List ℕ) → IfOpened (opening_of bytes) HasPremises
+scripts_have bytes = opening_has (lines_of bytes)
 
 -- a part of what an opened script has
 pub part : (o : Opening) (fact other : Script → Type 0) → ((s : Script) → fact s → other s) → IfOpened o fact → IfOpened o other

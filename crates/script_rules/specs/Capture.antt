@@ -133,7 +133,7 @@ viewer_line v (word ∷ next ∷ words) = if is_same_word word (codes "joined") 
 
 -- the greatest rule of a script's line that a capture may name
 abbrev pub greatest_rule : ℕ
-greatest_rule = 8
+greatest_rule = 7
 
 -- the greatest number of a script's line
 abbrev pub greatest_line : ℕ

@@ -7,7 +7,7 @@ use Rattle.session_rules.specs.declared.entry.Entry.{Entry}
 use Rattle.session_rules.specs.Journal.{Head}
 use Rattle.session_rules.specs.Steps.{Answer, TakeOf, Play, PerViewer, replaced_for, play_at_first, Outcome, outcome}
 use Rattle.session_rules.specs.Steps.Answer.{Joined, Left, Accepted, Refused, Nothing, Frame}
-use Rattle.script_rules.specs.Script.{Grammar, Asked, Script, Opening, opening_of, size_rule, text_rule}
+use Rattle.script_rules.specs.Script.{Asked, Script, Opening, opening_of, size_rule, text_rule}
 use Rattle.script_rules.specs.Script.Opening.{NoSize, Unended, Opened}
 use Rattle.script_rules.specs.Capture.{answer_line, viewer_of, broken_line, last_line}
 
@@ -102,5 +102,5 @@ capture_of_opening frames Unended = broken_line 1 text_rule
 capture_of_opening frames (Opened s) = capture_of_script frames s
 
 -- the capture of a script's bytes
-abbrev pub capture_of : {E : Type 0} → FrameText E → Grammar → List ℕ → List ℕ
-capture_of frames g bytes = capture_of_opening frames (opening_of g bytes)
+abbrev pub capture_of : {E : Type 0} → FrameText E → List ℕ → List ℕ
+capture_of frames bytes = capture_of_opening frames (opening_of bytes)

@@ -111,13 +111,6 @@ step_forms =
     ∷ form (codes "glyph") (load_by (Small ∷ Small ∷ Coordinate ∷ Coordinate ∷ Count ∷ Count ∷ []) glyph_by)
     ∷ []
 
--- the forms that the program reads today
-abbrev pub first_forms : List Form
-first_forms =
-    form (codes "take") (alone TakeStep)
-    ∷ form (codes "fill") (drawing_by without_clip fill_fields fill_by)
-    ∷ []
-
 -- the step of the form with this first word
 abbrev pub step_in : List Form → ℕ → List ℕ → List (List ℕ) → Option Step
 step_in [] v word words = None

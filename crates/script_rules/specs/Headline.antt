@@ -12,7 +12,7 @@ use Rattle.session_rules.specs.Journal.{Head, picture_after_entries, is_present,
 use Rattle.session_rules.specs.Steps.{Step, Play, play_at_first, outcome, journal_of_steps, frame_numbers}
 use Rattle.session_rules.specs.Steps.Step.{JoinStep, LeaveStep, InputStep, DrawStep, RefreshStep, SuppressStep, TakeStep}
 use Rattle.order_means.specs.FrameMarks.{pictures_at_marks, EndsBetween}
-use Rattle.script_rules.specs.Script.{Grammar, Asked, Script, Opening, opening_of, steps_of_script}
+use Rattle.script_rules.specs.Script.{Asked, Script, Opening, opening_of}
 use Rattle.script_rules.specs.Script.Opening.{NoSize, Unended, Opened}
 use Rattle.script_rules.specs.Capture.{viewer_bytes}
 use Rattle.frame_rules.specs.Describes.{HasAllCaches}
@@ -96,8 +96,8 @@ EveryViewerOfOpening Unended capture = ⊤
 EveryViewerOfOpening (Opened s) capture = EveryViewerOfScript s capture
 
 -- for a script's bytes and its capture
-abbrev pub EveryViewerOfCapture : Grammar → List ℕ → List ℕ → Type 0
-EveryViewerOfCapture g bytes capture = EveryViewerOfOpening (opening_of g bytes) capture
+abbrev pub EveryViewerOfCapture : List ℕ → List ℕ → Type 0
+EveryViewerOfCapture bytes capture = EveryViewerOfOpening (opening_of bytes) capture
 
 -- what is said of a script, where one was opened
 abbrev pub IfOpened : Opening → (Script → Type 0) → Type 0

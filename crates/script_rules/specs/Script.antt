@@ -1,5 +1,5 @@
 -- Scripts: the rows, the steps and the presets of the lines before the first that breaks a rule, and that line with its least rule.
-use Rattle.std.specs.Prelude.{ℕ, ◌+◌, ◌-◌, ◌==◌, nat_lt, nat_le, Bool, true, false, ◌&&◌, ◌||◌, not, List, [], ◌∷◌, ◌++◌, map, length, if◌then◌else◌, codes}
+use Rattle.std.specs.Prelude.{ℕ, ◌+◌, ◌==◌, nat_lt, nat_le, Bool, true, false, ◌&&◌, ◌||◌, not, List, [], ◌∷◌, ◌++◌, map, length, if◌then◌else◌, codes}
 use Rattle.std.specs.declared.option.Option.{Option}
 use Rattle.std.specs.declared.option.Option.TheVariants.{Some, None}
 use Rattle.std.specs.Option.{option_map, option_and_then}
@@ -16,32 +16,11 @@ use Rattle.line_text.specs.Numbers.{number_of, number_up_to}
 use Rattle.session_rules.specs.declared.entry.Role.{Role}
 use Rattle.session_rules.specs.declared.entry.Role.TheVariants.{Owner, Control, View}
 use Rattle.session_rules.specs.Journal.{Head, Row, is_present}
-use Rattle.session_rules.specs.Steps.{Step, Answer, Play, play_at_first, outcome, answer_of_step, row_role}
-use Rattle.session_rules.specs.Steps.Answer.{Joined, Left, Accepted, Refused, Nothing, Frame}
-use Rattle.session_rules.specs.Steps.Step.{JoinStep, LeaveStep, InputStep, DrawStep, RefreshStep, SuppressStep, TakeStep}
+use Rattle.session_rules.specs.Steps.{Step, Play, play_at_first, outcome, row_role}
+use Rattle.session_rules.specs.Steps.Step.{JoinStep}
 use Rattle.draw_ops.specs.Fits.{first_some}
-use Rattle.script_rules.specs.Forms.{Form, step_forms, first_forms, step_in}
-use Rattle.caps_sets.specs.Presets.{Preset, preset, presets, confirmed_by}
-
--- which scripts a program reads: the forms of steps, the presets, whether `invite`, `join` and `@V ` are read, and the most
--- drawings that a take may find, where there is a bound
-pub record Grammar : Type 0 where
-  pub forms : List Form
-  pub presets : List Preset
-  pub several_viewers : Bool
-  pub most_pending : Option ℕ
-
--- every form
-abbrev pub whole_grammar : Grammar
-whole_grammar = record { forms = step_forms; presets = presets; several_viewers = true; most_pending = None }
-
--- the presets that the program reads today
-abbrev pub first_presets : List Preset
-first_presets = preset (codes "plain") plain ∷ []
-
--- what the program reads today: solo scripts with fills and takes
-abbrev pub first_grammar : Grammar
-first_grammar = record { forms = first_forms; presets = first_presets; several_viewers = false; most_pending = Some 256 }
+use Rattle.script_rules.specs.Forms.{step_forms, step_in}
+use Rattle.caps_sets.specs.Presets.{presets, confirmed_by}
 
 -- ---- lines by form
 
@@ -73,9 +52,9 @@ join_form (word ∷ name ∷ preset ∷ words) =
     if is_same_word word (codes "join") && are_words (name ∷ preset ∷ words) then Some (JoinForm name (preset ∷ words)) else None
 join_form words = None
 
-abbrev pub step_form : List Form → ℕ → List (List ℕ) → Option LineForm
-step_form forms v [] = None
-step_form forms v (word ∷ words) = option_map (StepForm v) (step_in forms v word words)
+abbrev pub step_form : ℕ → List (List ℕ) → Option LineForm
+step_form v [] = None
+step_form v (word ∷ words) = option_map (StepForm v) (step_in step_forms v word words)
 
 -- the greatest number of a viewer
 abbrev pub viewer_limit : ℕ
@@ -86,17 +65,13 @@ abbrev pub viewer_of_word : List ℕ → Option ℕ
 viewer_of_word [] = None
 viewer_of_word (b ∷ bs) = if b == 64 then number_up_to viewer_limit bs else None
 
-abbrev pub addressed_form : List Form → List (List ℕ) → Option LineForm
-addressed_form forms [] = None
-addressed_form forms (word ∷ words) = option_and_then (λ v. step_form forms v words) (viewer_of_word word)
+abbrev pub addressed_form : List (List ℕ) → Option LineForm
+addressed_form [] = None
+addressed_form (word ∷ words) = option_and_then (λ v. step_form v words) (viewer_of_word word)
 
--- the form of a line in a script of several viewers, and in a solo script: at most one of these fits, since their first words differ
-abbrev pub forms_of_line : Grammar → List (List ℕ) → List (Option LineForm)
-forms_of_line g words = step_form g.forms 1 words
-    ∷ (if g.several_viewers then invite_form words ∷ join_form words ∷ addressed_form g.forms words ∷ [] else [])
-
-abbrev pub line_form : Grammar → List (List ℕ) → Option LineForm
-line_form g words = first_some (forms_of_line g words)
+-- the form of a line: at most one of these fits, since their first words differ
+abbrev pub line_form : List (List ℕ) → Option LineForm
+line_form words = first_some (step_form 1 words ∷ invite_form words ∷ join_form words ∷ addressed_form words ∷ [])
 
 -- ---- names
 
@@ -129,13 +104,11 @@ pub record Asked : Type 0 where
 abbrev pub without_preset : Step → Asked
 without_preset step = record { step = step; preset = []; confirmed = plain }
 
--- how far a script has been read: its size and rows, whether a step has stood, the session after the steps, and how many
--- drawings each viewer's last take had found
+-- how far a script has been read: its size and rows, whether a step has stood, and the session after the steps
 pub record ScriptReading : Type 0 where
   pub head : Head
   pub begun : Bool
   pub play : Play
-  pub found : ℕ → ℕ
 
 -- what a line does: it breaks a rule, adds a row, or asks for a step
 pub data LineOutcome : Type 0 where
@@ -173,10 +146,6 @@ preset_rule = 6
 abbrev pub presence_rule : ℕ
 presence_rule = 7
 
--- 8: a take that finds more drawings than one may. This rule goes away once tiles are sent
-abbrev pub pending_rule : ℕ
-pending_rule = 8
-
 abbrev pub broken_if : Bool → ℕ → Option ℕ
 broken_if test rule = then_some test rule
 
@@ -187,32 +156,17 @@ unless_broken (Some rule) outcome = Breaks rule
 abbrev pub is_invited : List ℕ → List Row → Bool
 is_invited name rows = is_some (row_role name rows)
 
-abbrev pub exceeds : Option ℕ → ℕ → Bool
-exceeds None n = false
-exceeds (Some most) n = nat_lt most n
-
--- whether a step is a take that finds too many drawings
-abbrev pub finds_too_many : Grammar → ScriptReading → Step → Bool
-finds_too_many g r (TakeStep v) = exceeds g.most_pending (r.play.reached.state.surface.count - r.found v)
-finds_too_many g r (JoinStep name) = false
-finds_too_many g r (LeaveStep v) = false
-finds_too_many g r (InputStep v event) = false
-finds_too_many g r (DrawStep v d) = false
-finds_too_many g r (RefreshStep v rect) = false
-finds_too_many g r (SuppressStep v stop) = false
-
 abbrev pub join_outcome : List ℕ → List (List ℕ) → Option Confirmed → LineOutcome
 join_outcome name words None = Breaks preset_rule
 join_outcome name words (Some c) = Asks (record { step = JoinStep name; preset = words; confirmed = c })
 
-abbrev pub form_outcome : Grammar → ScriptReading → Option LineForm → LineOutcome
-form_outcome g r None = Breaks form_rule
-form_outcome g r (Some (InviteForm name role)) = unless_broken (first_some (broken_if r.begun order_rule
+abbrev pub form_outcome : ScriptReading → Option LineForm → LineOutcome
+form_outcome r None = Breaks form_rule
+form_outcome r (Some (InviteForm name role)) = unless_broken (first_some (broken_if r.begun order_rule
     ∷ broken_if (not (is_name name) || (is_invited name r.head.rows || nat_le row_limit (length r.head.rows))) name_rule ∷ []))
     (Invites (record { name = name; role = role }))
-form_outcome g r (Some (JoinForm name words)) = unless_broken (broken_if (not (is_name name)) name_rule) (join_outcome name words (confirmed_by g.presets words))
-form_outcome g r (Some (StepForm v step)) = unless_broken (first_some (broken_if (not (is_present v r.play.reached.viewers)) presence_rule
-    ∷ broken_if (finds_too_many g r step) pending_rule ∷ [])) (Asks (without_preset step))
+form_outcome r (Some (JoinForm name words)) = unless_broken (broken_if (not (is_name name)) name_rule) (join_outcome name words (confirmed_by presets words))
+form_outcome r (Some (StepForm v step)) = unless_broken (broken_if (not (is_present v r.play.reached.viewers)) presence_rule) (Asks (without_preset step))
 
 abbrev pub is_ascii : ℕ → Bool
 is_ascii b = nat_lt b 128
@@ -221,8 +175,8 @@ is_ascii b = nat_lt b 128
 abbrev pub breaks_text_rule : ℕ → Line → Bool
 breaks_text_rule at line = is_past_limits at line || not (line.ended && all_bytes is_ascii line.text)
 
-abbrev pub line_outcome : Grammar → ℕ → ScriptReading → Line → LineOutcome
-line_outcome g at r line = unless_broken (broken_if (breaks_text_rule at line) text_rule) (form_outcome g r (line_form g (words_of line.text)))
+abbrev pub line_outcome : ℕ → ScriptReading → Line → LineOutcome
+line_outcome at r line = unless_broken (broken_if (breaks_text_rule at line) text_rule) (form_outcome r (line_form (words_of line.text)))
 
 -- ---- the lines after the first
 
@@ -249,26 +203,8 @@ with_asked a s = record s { asked = a ∷ s.asked }
 abbrev pub with_row : ScriptReading → Row → ScriptReading
 with_row r row = record r { head = record r.head { rows = r.head.rows ++ row ∷ [] } }
 
-abbrev pub replaced : ℕ → ℕ → (ℕ → ℕ) → ℕ → ℕ
-replaced v n f u = if u == v then n else f u
-
--- the drawings that each viewer's last take has found, after a step of a viewer that is answered: a take without a frame finds none
-abbrev pub found_after : ScriptReading → Step → Answer → ℕ → ℕ
-found_after r (TakeStep v) (Frame take) = replaced v r.play.reached.state.surface.count r.found
-found_after r (TakeStep v) Nothing = r.found
-found_after r (TakeStep v) (Joined u) = r.found
-found_after r (TakeStep v) Left = r.found
-found_after r (TakeStep v) Accepted = r.found
-found_after r (TakeStep v) (Refused refusal) = r.found
-found_after r (JoinStep name) answer = r.found
-found_after r (LeaveStep v) answer = r.found
-found_after r (InputStep v event) answer = r.found
-found_after r (DrawStep v d) answer = r.found
-found_after r (RefreshStep v rect) answer = r.found
-found_after r (SuppressStep v stop) answer = r.found
-
 abbrev pub after_step : ScriptReading → Step → ScriptReading
-after_step r step = record { head = r.head; begun = true; play = (outcome r.head r.play step).play; found = found_after r step (answer_of_step r.head r.play step) }
+after_step r step = record { head = r.head; begun = true; play = (outcome r.head r.play step).play }
 
 -- what a line's outcome makes of the reading, where it goes on
 abbrev pub reading_after : ScriptReading → LineOutcome → Option ScriptReading
@@ -282,9 +218,9 @@ proceeding r k (Invites row) others = others (with_row r row)
 proceeding r k (Asks a) others = with_asked a (others (after_step r a.step))
 
 -- the lines from the k-th on, which begins at a place of the script
-abbrev pub script_from : Grammar → ℕ → ℕ → ScriptReading → List Line → Script
-script_from g k at r [] = ended_at r
-script_from g k at r (line ∷ lines) = proceeding r k (line_outcome g at r line) (λ next. script_from g (k + 1) (at + length (line_bytes line)) next lines)
+abbrev pub script_from : ℕ → ℕ → ScriptReading → List Line → Script
+script_from k at r [] = ended_at r
+script_from k at r (line ∷ lines) = proceeding r k (line_outcome at r line) (λ next. script_from (k + 1) (at + length (line_bytes line)) next lines)
 
 -- ---- the first line
 
@@ -302,7 +238,7 @@ begins_with_invite at [] = false
 begins_with_invite at (line ∷ lines) = not (is_past_limits at line) && is_some (invite_form (words_of line.text))
 
 abbrev pub opened_reading : Size → List Row → ScriptReading
-opened_reading size rows = record { head = record { size = size; rows = rows }; begun = false; play = play_at_first size; found = λ v. 0 }
+opened_reading size rows = record { head = record { size = size; rows = rows }; begun = false; play = play_at_first size }
 
 -- the one viewer of a solo script
 abbrev pub solo_name : List ℕ
@@ -315,15 +251,15 @@ abbrev pub solo_join : Asked
 solo_join = record { step = JoinStep solo_name; preset = codes "plain" ∷ []; confirmed = plain }
 
 -- a script of several viewers
-abbrev pub invited_script : Grammar → ℕ → Size → List Line → Script
-invited_script g at size lines = script_from g 2 at (opened_reading size []) lines
+abbrev pub invited_script : ℕ → Size → List Line → Script
+invited_script at size lines = script_from 2 at (opened_reading size []) lines
 
 -- a solo script stands for the same with one row and its join after the first line
-abbrev pub solo_script : Grammar → ℕ → Size → List Line → Script
-solo_script g at size lines = with_asked solo_join (script_from g 2 at (after_step (opened_reading size solo_rows) solo_join.step) lines)
+abbrev pub solo_script : ℕ → Size → List Line → Script
+solo_script at size lines = with_asked solo_join (script_from 2 at (after_step (opened_reading size solo_rows) solo_join.step) lines)
 
-abbrev pub script_after : Grammar → ℕ → Size → List Line → Script
-script_after g at size lines = if begins_with_invite at lines then invited_script g at size lines else solo_script g at size lines
+abbrev pub script_after : ℕ → Size → List Line → Script
+script_after at size lines = if begins_with_invite at lines then invited_script at size lines else solo_script at size lines
 
 -- the first line: no size breaks rule 1; a size that isn't ended by a line feed breaks rule 2
 pub data Opening : Type 0 where
@@ -331,17 +267,17 @@ pub data Opening : Type 0 where
   Unended : Opening
   Opened : Script → Opening
 
-abbrev pub opening_by : Grammar → Line → Option Size → List Line → Opening
-opening_by g line None lines = NoSize
-opening_by g line (Some size) lines = if line.ended then Opened (script_after g (length (line_bytes line)) size lines) else Unended
+abbrev pub opening_by : Line → Option Size → List Line → Opening
+opening_by line None lines = NoSize
+opening_by line (Some size) lines = if line.ended then Opened (script_after (length (line_bytes line)) size lines) else Unended
 
-abbrev pub opening_of_lines : Grammar → List Line → Opening
-opening_of_lines g [] = NoSize
-opening_of_lines g (line ∷ lines) = opening_by g line (size_of_words (words_of line.text)) lines
+abbrev pub opening_of_lines : List Line → Opening
+opening_of_lines [] = NoSize
+opening_of_lines (line ∷ lines) = opening_by line (size_of_words (words_of line.text)) lines
 
 -- what a script's bytes ask for
-abbrev pub opening_of : Grammar → List ℕ → Opening
-opening_of g bytes = opening_of_lines g (lines_of bytes)
+abbrev pub opening_of : List ℕ → Opening
+opening_of bytes = opening_of_lines (lines_of bytes)
 
 -- the steps of a script
 abbrev pub steps_of_script : Script → List Step

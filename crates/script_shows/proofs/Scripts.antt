@@ -1,15 +1,15 @@
 -- Every viewer of every script is sent the journal, so captures, their fronts and captures that were cut show it.
 use Rattle.std.proofs.Common.{◌≡◌, ℕ, List, [], ◌∷◌, ◌++◌, subst}
-use Rattle.script_rules.specs.Script.{Asked, Script, Opening, whole_grammar, first_grammar, opening_of}
+use Rattle.script_rules.specs.Script.{Asked, Script, Opening, opening_of}
 use Rattle.script_rules.specs.Script.Opening.{NoSize, Unended, Opened}
 use Rattle.script_rules.specs.CaptureText.{capture_of}
 use Rattle.script_rules.specs.Headline.{encoder_frames, IfOpened, ConfirmAllCaches, EveryViewerOfCapture}
-use Rattle.script_rules.proofs.StepsOfScripts.{HasPremises, whole_scripts_have, first_scripts_have}
+use Rattle.script_rules.proofs.StepsOfScripts.{HasPremises, scripts_have}
 use Rattle.capture_laws.specs.Sent.{EveryViewerIsSentTheJournal}
 use Rattle.capture_laws.specs.Fronts.{IsSentWhatIsWritten, EveryViewerOfOpeningFront}
-use Rattle.capture_laws.proofs.Scripts.{whole_captures_show, first_captures_show}
-use Rattle.capture_laws.proofs.CaptureFronts.{whole_fronts_show, first_fronts_show}
-use Rattle.capture_laws.proofs.CutCaptures.{whole_cut_shows, first_cut_shows}
+use Rattle.capture_laws.proofs.Scripts.{captures_show}
+use Rattle.capture_laws.proofs.CaptureFronts.{fronts_show}
+use Rattle.capture_laws.proofs.CutCaptures.{cut_shows}
 use Rattle.host_shows.proofs.Interleaved.{every_viewer_sees}
 use Rattle.script_shows.specs.Cuts.{IsCutCaptureOf}
 use Rattle.script_shows.proofs.SendsBytes.{steps_send_bytes}
@@ -22,29 +22,18 @@ is_sent NoSize has = tt
 is_sent Unended has = tt
 is_sent (Opened s) has = script_is_sent s has
 
-whole_is_sent : (bytes : List ℕ) → IfOpened (opening_of whole_grammar bytes) EveryViewerIsSentTheJournal
-whole_is_sent bytes = is_sent (opening_of whole_grammar bytes) (whole_scripts_have bytes)
-
-first_is_sent : (bytes : List ℕ) → IfOpened (opening_of first_grammar bytes) EveryViewerIsSentTheJournal
-first_is_sent bytes = is_sent (opening_of first_grammar bytes) (first_scripts_have bytes)
+journal_is_sent : (bytes : List ℕ) → IfOpened (opening_of bytes) EveryViewerIsSentTheJournal
+journal_is_sent bytes = is_sent (opening_of bytes) (scripts_have bytes)
 
 -- ---- captures
 
-pub whole_sees : (bytes : List ℕ) → EveryViewerOfCapture whole_grammar bytes (capture_of encoder_frames whole_grammar bytes)
-whole_sees bytes = whole_captures_show bytes (whole_is_sent bytes)
-
-pub first_sees : (bytes : List ℕ) → EveryViewerOfCapture first_grammar bytes (capture_of encoder_frames first_grammar bytes)
-first_sees bytes = first_captures_show bytes (first_is_sent bytes)
+pub capture_sees : (bytes : List ℕ) → EveryViewerOfCapture bytes (capture_of encoder_frames bytes)
+capture_sees bytes = captures_show bytes (journal_is_sent bytes)
 
 -- ---- fronts
 
-pub whole_front_sees : (bytes front rest : List ℕ) → capture_of encoder_frames whole_grammar bytes ≡ front ++ rest
-    → EveryViewerOfOpeningFront (opening_of whole_grammar bytes) front
-whole_front_sees bytes front rest e = whole_fronts_show bytes front rest (whole_is_sent bytes) e
-
-pub first_front_sees : (bytes front rest : List ℕ) → capture_of encoder_frames first_grammar bytes ≡ front ++ rest
-    → EveryViewerOfOpeningFront (opening_of first_grammar bytes) front
-first_front_sees bytes front rest e = first_fronts_show bytes front rest (first_is_sent bytes) e
+pub capture_front_sees : (bytes front rest : List ℕ) → capture_of encoder_frames bytes ≡ front ++ rest → EveryViewerOfOpeningFront (opening_of bytes) front
+capture_front_sees bytes front rest e = fronts_show bytes front rest (journal_is_sent bytes) e
 
 -- ---- captures that were cut
 
@@ -72,10 +61,5 @@ is_cut_sent NoSize front has cut = tt
 is_cut_sent Unended front has cut = tt
 is_cut_sent (Opened s) front has cut = cut_is_sent s front has cut
 
-pub whole_cut_sees : (bytes front : List ℕ) → IfOpened (opening_of whole_grammar bytes) (λ s. IsCutCaptureOf s front)
-    → EveryViewerOfOpeningFront (opening_of whole_grammar bytes) front
-whole_cut_sees bytes front cut = whole_cut_shows bytes front (is_cut_sent (opening_of whole_grammar bytes) front (whole_scripts_have bytes) cut)
-
-pub first_cut_sees : (bytes front : List ℕ) → IfOpened (opening_of first_grammar bytes) (λ s. IsCutCaptureOf s front)
-    → EveryViewerOfOpeningFront (opening_of first_grammar bytes) front
-first_cut_sees bytes front cut = first_cut_shows bytes front (is_cut_sent (opening_of first_grammar bytes) front (first_scripts_have bytes) cut)
+pub cut_sees : (bytes front : List ℕ) → IfOpened (opening_of bytes) (λ s. IsCutCaptureOf s front) → EveryViewerOfOpeningFront (opening_of bytes) front
+cut_sees bytes front cut = cut_shows bytes front (is_cut_sent (opening_of bytes) front (scripts_have bytes) cut)

@@ -9,7 +9,7 @@ ghost use Rattle.session_rules.specs.Steps.{TakeOf};
 ghost use Rattle.frame_rules.specs.FrameOrders.{orders_before_tiles};
 ghost use Rattle.frame_rules.specs.Encoder.{Encoder, encoder_frame};
 ghost use Rattle.frame_rules.specs.Describes.{HasAllCaches};
-ghost use Rattle.script_rules.specs.Script.{Asked, whole_grammar, first_grammar, opening_of};
+ghost use Rattle.script_rules.specs.Script.{Asked, opening_of};
 ghost use Rattle.script_rules.specs.CaptureText.{capture_of};
 ghost use Rattle.script_rules.specs.Headline.{encoder_frames, IfOpened, HasSessionSize, ConfirmAllCaches, EveryViewerOfCapture};
 ghost use Rattle.capture_laws.specs.Sent.{run_of, SendsBytes};
@@ -29,23 +29,18 @@ pub fn frames_hold_bytes()
 /// The headline over scripts: whatever bytes a script is, every viewer sees the journal in what the script's capture says that it was sent;
 /// the journal is legal, and each change in it was made by the holder of control.
 pub fn every_viewer_of_every_script_sees_the_journal()
-    ensures whole { (bytes : List ℕ) → EveryViewerOfCapture whole_grammar bytes (capture_of encoder_frames whole_grammar bytes) }
-    ensures first { (bytes : List ℕ) → EveryViewerOfCapture first_grammar bytes (capture_of encoder_frames first_grammar bytes) }
+    ensures { (bytes : List ℕ) → EveryViewerOfCapture bytes (capture_of encoder_frames bytes) }
 {}
 
 /// Each front of a script's capture, wherever it ends, shows each viewer its first takes.
 pub fn every_front_of_every_capture_shows_the_journal()
-    ensures whole { (bytes front rest : List ℕ) → capture_of encoder_frames whole_grammar bytes ≡ front ++ rest
-        → EveryViewerOfOpeningFront (opening_of whole_grammar bytes) front }
-    ensures first { (bytes front rest : List ℕ) → capture_of encoder_frames first_grammar bytes ≡ front ++ rest
-        → EveryViewerOfOpeningFront (opening_of first_grammar bytes) front }
+    ensures { (bytes front rest : List ℕ) → capture_of encoder_frames bytes ≡ front ++ rest
+        → EveryViewerOfOpeningFront (opening_of bytes) front }
 {}
 
 /// A capture that was cut after any of a script's steps, in a line or between lines, with a line of a refusal or without one, shows each viewer its first
 /// takes.
 pub fn every_capture_that_was_cut_shows_the_journal()
-    ensures whole { (bytes front : List ℕ) → IfOpened (opening_of whole_grammar bytes) (λ s. IsCutCaptureOf s front)
-        → EveryViewerOfOpeningFront (opening_of whole_grammar bytes) front }
-    ensures first { (bytes front : List ℕ) → IfOpened (opening_of first_grammar bytes) (λ s. IsCutCaptureOf s front)
-        → EveryViewerOfOpeningFront (opening_of first_grammar bytes) front }
+    ensures { (bytes front : List ℕ) → IfOpened (opening_of bytes) (λ s. IsCutCaptureOf s front)
+        → EveryViewerOfOpeningFront (opening_of bytes) front }
 {}

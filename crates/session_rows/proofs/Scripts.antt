@@ -2,7 +2,6 @@
 use Rattle.std.proofs.Common.{◌≡◌, ℕ, zero, suc, List, [], ◌++◌, refl}
 use Rattle.std.specs.Fmt.{digits}
 use Rattle.std.specs.Prelude.{codes}
-use Rattle.script_rules.specs.Script.{whole_grammar, first_grammar}
 use Rattle.script_rules.specs.Capture.{ended}
 use Rattle.script_rules.specs.CaptureText.{FrameText, capture_of}
 
@@ -12,7 +11,7 @@ no_bytes = record { first = tt; bytes = λ size c j e take. []; after = λ size 
 
 -- a script's capture without the bytes of its frames
 abbrev answers_of : List ℕ → List ℕ
-answers_of script = capture_of no_bytes whole_grammar script
+answers_of script = capture_of no_bytes script
 
 control_is_handed_on : answers_of (ended (codes "size 64 48")
     ++ ended (codes "invite ann owner")
@@ -255,31 +254,13 @@ join_with_a_space_at_its_end : answers_of (ended (codes "size 64 48")
 unfolding digits
 join_with_a_space_at_its_end = refl
 
--- ---- the first program's scripts: at most 256 drawings to a take
+-- ---- no number of drawings to a take is too large
 
 abbrev repeated : ℕ → List ℕ → List ℕ
 repeated zero text = []
 repeated (suc n) text = text ++ repeated n text
 
-abbrev fills : ℕ → List ℕ
-fills n = repeated n (ended (codes "fill 0 0 1 1 000001"))
-
-abbrev take : List ℕ
-take = ended (codes "take")
-
-abbrev of_first_program : List ℕ → List ℕ
-of_first_program lines = capture_of no_bytes first_grammar (ended (codes "size 4 1") ++ lines)
-
-two_hundred_and_fifty_six_fills_are_taken : of_first_program (fills 256 ++ take) ≡ ended (codes "1 joined 4 1 plain") ++ ended (codes "1 ")
+a_take_may_find_more_drawings_than_are_sent_one_by_one : answers_of (ended (codes "size 4 4") ++ repeated 257 (ended (codes "fill 0 0 1 1 000001")) ++ ended (codes "take"))
+    ≡ ended (codes "1 joined 4 4 plain") ++ ended (codes "1 ")
 unfolding digits
-two_hundred_and_fifty_six_fills_are_taken = refl
-
-one_fill_more_breaks_rule_8 : of_first_program (fills 257 ++ take) ≡ ended (codes "1 joined 4 1 plain") ++ ended (codes "line 259 rule 8")
-unfolding digits
-one_fill_more_breaks_rule_8 = refl
-
--- a refused fill isn't found, and a take finds the fills since the one before it
-a_take_finds_the_accepted_fills_since_the_last : of_first_program (fills 200 ++ take ++ fills 256 ++ ended (codes "fill 0 0 0 1 000001") ++ take)
-    ≡ ended (codes "1 joined 4 1 plain") ++ ended (codes "1 ") ++ ended (codes "1 refused bad-drawing 1") ++ ended (codes "1 ")
-unfolding digits
-a_take_finds_the_accepted_fills_since_the_last = refl
+a_take_may_find_more_drawings_than_are_sent_one_by_one = refl

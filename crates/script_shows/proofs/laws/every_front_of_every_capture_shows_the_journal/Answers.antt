@@ -1,5 +1,5 @@
-use Rattle.script_shows.proofs.Scripts.{whole_front_sees, first_front_sees}
+use Rattle.script_shows.proofs.Scripts.{capture_front_sees}
 use Rattle.script_shows.proofs.laws.every_front_of_every_capture_shows_the_journal.Goals as goal
 
 pub returns : goal.returns
-returns c = record { whole = whole_front_sees; first = first_front_sees }
+returns c = capture_front_sees

@@ -1,5 +1,0 @@
-mod Continued
-mod NextLine
-mod SecondLine
-mod FirstLine
-mod Whole

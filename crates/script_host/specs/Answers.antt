@@ -1,0 +1,37 @@
+-- What steps are answered, as the text of their lines and as answers.
+use Rattle.std.specs.Prelude.{ℕ, List, [], codes, Option, Some, None, ⊤}
+use Rattle.px_core.specs.declared.surface.Size.{Size}
+use Rattle.line_text.specs.Hexadecimal.{hexadecimal_text}
+use Rattle.session_rules.specs.Steps.{Answer}
+use Rattle.session_rules.specs.Steps.Answer.{Joined, Left, Accepted, Refused, Nothing}
+use Rattle.script_rules.specs.Capture.{of_viewer, joined_line, refusal_line}
+use Rattle.script_lines.specs.Answers.{refusal_of}
+use Rattle.script_host.specs.declared.answer.StepAnswer.{StepAnswer}
+use Rattle.script_host.specs.declared.answer.StepAnswer.TheVariants as says
+
+-- the line of an answer to a step of a viewer, 0 for a join, whose preset words these are; an accepted step has none
+abbrev pub answer_text : Size → ℕ → List (List ℕ) → StepAnswer → List ℕ
+answer_text size v preset (says.Joined u) = joined_line size u preset
+answer_text size v preset says.Left = of_viewer v (codes "left")
+answer_text size v preset says.Accepted = []
+answer_text size v preset (says.Refused cause) = refusal_line v (refusal_of cause)
+answer_text size v preset says.Nothing = of_viewer v (codes "nothing")
+answer_text size v preset (says.Frame bytes) = of_viewer v (hexadecimal_text bytes.items)
+
+-- an answer that is no frame, as a session's
+abbrev pub answer_of : StepAnswer → Option Answer
+answer_of (says.Joined u) = Some (Joined u)
+answer_of says.Left = Some Left
+answer_of says.Accepted = Some Accepted
+answer_of (says.Refused cause) = Some (Refused (refusal_of cause))
+answer_of says.Nothing = Some Nothing
+answer_of (says.Frame bytes) = None
+
+-- the step is accepted or refused
+abbrev pub IsVerdict : StepAnswer → Type 0
+IsVerdict (says.Joined u) = ⊥
+IsVerdict says.Left = ⊥
+IsVerdict says.Accepted = ⊤
+IsVerdict (says.Refused cause) = ⊤
+IsVerdict says.Nothing = ⊥
+IsVerdict (says.Frame bytes) = ⊥

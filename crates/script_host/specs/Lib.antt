@@ -1,0 +1,4 @@
+pub mod Answers
+pub mod Hosts
+pub mod Runs
+pub mod Sent

@@ -1,0 +1,11 @@
+//! A script's run in its course: the session, what is kept of each viewer, and the answer of one step after the other (profile).
+#![tactic(auto)]
+
+mod answer;
+mod host;
+mod running;
+mod seats;
+
+pub use answer::StepAnswer;
+pub use host::ScriptHost;
+pub use out_of_memory::OutOfMemory;

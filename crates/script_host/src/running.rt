@@ -1,0 +1,219 @@
+//! A session with the senders of its viewers.
+
+ghost use Rattle.std.specs.Prelude.{◌≡◌, ◌≤◌, ◌<◌, ℕ, List, [], codes, length, IsTrue, IfOk, OnOk, true};
+ghost use Rattle.px_core.specs.Rectangle.{is_session_size, IsPlaced};
+ghost use Rattle.draw_ops.specs.Ranges.{HasColors};
+ghost use Rattle.session_rules.specs.Steps.Step.{JoinStep, LeaveStep, TakeStep, RefreshStep, SuppressStep, InputStep, DrawStep};
+ghost use Rattle.session_core.specs.Heads.{rows_of};
+ghost use Rattle.session_core.specs.SessionModel.{new_session, is_here, asked_by, AreInvited};
+ghost use Rattle.frame_rules.specs.Encoder.{Encoder};
+ghost use Rattle.frame_plan.specs.Plans.{is_work, asked_if};
+ghost use Rattle.viewer_sender.specs.Senders.{IsIdle, desk_of};
+ghost use Rattle.script_rules.specs.Script.{without_preset};
+ghost use Rattle.script_rules.specs.Capture.{of_viewer};
+ghost use Rattle.script_rules.specs.CaptureText.{Run};
+ghost use Rattle.script_lines.specs.Keywords.{step_of};
+ghost use Rattle.script_lines.specs.Lines.{IsStepInRange};
+ghost use Rattle.script_host.specs.Answers.{answer_text};
+ghost use Rattle.script_host.specs.Runs.{IsRunOf, IsInCourse, Advances};
+ghost use Rattle.script_host.specs.Sent.{HasSent};
+
+use crate::answer::{draw_answer, input_answer, join_refusal};
+use crate::seats::{Seat, place_here};
+use crate::{OutOfMemory, StepAnswer};
+use caps_sets::Confirmed;
+use draw_ops::Drawing;
+use info_lic::Name;
+use input_events::Event;
+use px_core::{Rect, Size};
+use script_lines::ViewerStep;
+use session_core::{Invite, Session};
+use std::alloc::Global;
+use std::marker::Model;
+use viewer_sender::{SendFault, Sender, Taken};
+
+/// A session with the senders of its viewers.
+#[derive(Drop)]
+pub struct Running {
+    alloc: Global,
+    session: Session,
+    seats: Vec<Seat>,
+}
+
+impl Model for Running {
+    ghost use Rattle.std.specs.Prelude.{true};
+    ghost use Rattle.script_host.specs.Hosts.{HostModel};
+
+    ghost Value = { HostModel };
+
+    ghost view = { λ r. record { begun = true; session = r.session; seats = r.seats.items } };
+}
+
+impl Running {
+    /// A new session, with nobody present.
+    pub fn new(alloc: Global, size: Size, rows: &[Invite]) -> Result<Running, OutOfMemory>
+        requires size { IsTrue (is_session_size size.w size.h) }
+        requires rows { AreInvited (rows_of rows.now) }
+        ensures { IfOk result (λ running. running ≡ record { begun = true; session = new_session (record { size = size; rows = rows_of rows.now }); seats = [] }) }
+    {
+        let session = Session::new(alloc, size, rows)?;
+        Ok(Running {
+            alloc,
+            session,
+            seats: Vec::new(alloc),
+        })
+    }
+
+    /// Whether a viewer is present.
+    pub fn present(&self, viewer: u32) -> bool
+        ensures { result ≡ is_here self.now.session viewer }
+    {
+        self.session.present(viewer)
+    }
+
+    /// A viewer joins, where it is let in, and gets a sender.
+    pub fn join(&mut self, name: &Name, confirmed: Confirmed) -> Result<StepAnswer, OutOfMemory>
+        ensures begun { self.new.begun ≡ true }
+        ensures head { self.new.session.head ≡ self.old.session.head }
+        ensures done { IfOk result (λ answer. (run : Run Encoder) (preset : List (List ℕ)) → IsRunOf self.old run
+            → Advances self.old.session.head run (record { step = JoinStep name.now; preset = preset; confirmed = confirmed })
+            (answer_text self.old.session.head.size 0 preset answer) self.new) }
+    {
+        match self.session.join(name) {
+            Ok(viewer) => {
+                let sender = Sender::new(self.alloc, viewer, confirmed)?;
+                self.seats.push(Seat { viewer, sender })?;
+                Ok(StepAnswer::Joined { viewer })
+            }
+            Err(fault) => {
+                let answer = join_refusal(fault)?;
+                Ok(answer)
+            }
+        }
+    }
+
+    /// A step of a viewer that is present.
+    pub fn step(&mut self, viewer: u32, step: ViewerStep) -> Result<StepAnswer, OutOfMemory>
+        requires present { IsTrue (is_here self.old.session viewer) }
+        requires range { IsStepInRange step }
+        requires course { IsInCourse self.old }
+        ensures begun { self.new.begun ≡ true }
+        ensures head { self.new.session.head ≡ self.old.session.head }
+        ensures done { IfOk result (λ answer. (run : Run Encoder) (preset : List (List ℕ)) → IsRunOf self.old run
+            → Advances self.old.session.head run (without_preset (step_of viewer step)) (answer_text self.old.session.head.size viewer preset answer) self.new) }
+    {
+        match step {
+            ViewerStep::Leave => self.leave(viewer),
+            ViewerStep::Take => self.take(viewer),
+            ViewerStep::Suppress { stop } => self.suppress(viewer, stop),
+            ViewerStep::Refresh { rect } => self.refresh(viewer, rect),
+            ViewerStep::Input { event } => self.input(viewer, event),
+            ViewerStep::Draw { drawing } => self.draw(viewer, drawing),
+        }
+    }
+
+    /// A viewer leaves, and its sender goes.
+    fn leave(&mut self, viewer: u32) -> Result<StepAnswer, OutOfMemory>
+        requires present { IsTrue (is_here self.old.session viewer) }
+        requires course { IsInCourse self.old }
+        ensures begun { self.new.begun ≡ true }
+        ensures head { self.new.session.head ≡ self.old.session.head }
+        ensures done { IfOk result (λ answer. (run : Run Encoder) (preset : List (List ℕ)) → IsRunOf self.old run
+            → Advances self.old.session.head run (without_preset (LeaveStep viewer)) (answer_text self.old.session.head.size viewer preset answer) self.new) }
+    {
+        self.session.is_legal();
+        let i = place_here(&self.seats, viewer);
+        self.session.leave(viewer);
+        self.seats.remove(i);
+        Ok(StepAnswer::Left)
+    }
+
+    /// A viewer takes the frame that is due to it.
+    fn take(&mut self, viewer: u32) -> Result<StepAnswer, OutOfMemory>
+        requires present { IsTrue (is_here self.old.session viewer) }
+        requires course { IsInCourse self.old }
+        ensures begun { self.new.begun ≡ true }
+        ensures head { self.new.session.head ≡ self.old.session.head }
+        ensures done { IfOk result (λ answer. (run : Run Encoder) (preset : List (List ℕ)) → IsRunOf self.old run
+            → Advances self.old.session.head run (without_preset (TakeStep viewer)) (answer_text self.old.session.head.size viewer preset answer) self.new) }
+    {
+        let i = place_here(&self.seats, viewer);
+        let answer = send_next(self.alloc, &mut self.seats[i].sender, &mut self.session)?;
+        Ok(answer)
+    }
+
+    /// A viewer wants no more output, or wants it again.
+    fn suppress(&mut self, viewer: u32, stop: bool) -> Result<StepAnswer, OutOfMemory>
+        requires { IsTrue (is_here self.old.session viewer) }
+        ensures begun { self.new.begun ≡ true }
+        ensures head { self.new.session.head ≡ self.old.session.head }
+        ensures done { IfOk result (λ answer. (run : Run Encoder) (preset : List (List ℕ)) → IsRunOf self.old run
+            → Advances self.old.session.head run (without_preset (SuppressStep viewer stop)) (answer_text self.old.session.head.size viewer preset answer) self.new) }
+    {
+        self.session.suppress(viewer, stop);
+        Ok(StepAnswer::Accepted)
+    }
+
+    /// A viewer asks for the tiles of a rectangle.
+    fn refresh(&mut self, viewer: u32, rect: Rect) -> Result<StepAnswer, OutOfMemory>
+        requires present { IsTrue (is_here self.old.session viewer) }
+        requires placed { IsPlaced rect }
+        ensures begun { self.new.begun ≡ true }
+        ensures head { self.new.session.head ≡ self.old.session.head }
+        ensures done { IfOk result (λ answer. (run : Run Encoder) (preset : List (List ℕ)) → IsRunOf self.old run
+            → Advances self.old.session.head run (without_preset (RefreshStep viewer rect)) (answer_text self.old.session.head.size viewer preset answer) self.new) }
+    {
+        self.session.refresh(viewer, rect);
+        Ok(StepAnswer::Accepted)
+    }
+
+    /// An input event of a viewer.
+    fn input(&mut self, viewer: u32, event: Event) -> Result<StepAnswer, OutOfMemory>
+        requires { IsTrue (is_here self.old.session viewer) }
+        ensures begun { self.new.begun ≡ true }
+        ensures head { self.new.session.head ≡ self.old.session.head }
+        ensures done { IfOk result (λ answer. (run : Run Encoder) (preset : List (List ℕ)) → IsRunOf self.old run
+            → Advances self.old.session.head run (without_preset (InputStep viewer event)) (answer_text self.old.session.head.size viewer preset answer) self.new) }
+    {
+        let answer = input_answer(self.session.input(viewer, event))?;
+        Ok(answer)
+    }
+
+    /// A drawing of a viewer.
+    fn draw(&mut self, viewer: u32, drawing: Drawing) -> Result<StepAnswer, OutOfMemory>
+        requires present { IsTrue (is_here self.old.session viewer) }
+        requires colors { HasColors drawing }
+        ensures begun { self.new.begun ≡ true }
+        ensures head { self.new.session.head ≡ self.old.session.head }
+        ensures done { IfOk result (λ answer. (run : Run Encoder) (preset : List (List ℕ)) → IsRunOf self.old run
+            → Advances self.old.session.head run (without_preset (DrawStep viewer drawing)) (answer_text self.old.session.head.size viewer preset answer) self.new) }
+    {
+        let answer = draw_answer(self.session.draw(viewer, drawing))?;
+        Ok(answer)
+    }
+}
+
+/// Takes the frame that is due to a sender's viewer and makes its bytes; where a frame isn't finished, no other is to be asked for.
+fn send_next(
+    alloc: Global,
+    sender: &mut Sender,
+    session: &mut Session,
+) -> Result<StepAnswer, OutOfMemory>
+    requires present { IsTrue (is_here session.old sender.old.v) }
+    requires seen { sender.old.number ≤ length session.old.journal }
+    requires idle { IsIdle sender.old }
+    ensures head { session.new.head ≡ session.old.head }
+    ensures journal { session.new.journal ≡ session.old.journal }
+    ensures suppressed { session.new.suppressed ≡ session.old.suppressed }
+    ensures asked { OnOk result (asked_by session.new ≡ asked_if (is_work session.old (desk_of sender.old)) sender.old.v (asked_by session.old)) }
+    ensures sent { IfOk result (λ answer. HasSent (is_work session.old (desk_of sender.old)) session.old sender.old sender.new answer) }
+{
+    match sender.take(alloc, session)? {
+        Taken::Nothing => Ok(StepAnswer::Nothing),
+        Taken::Frame(take) => match sender.encode(alloc, take) {
+            Ok(bytes) => Ok(StepAnswer::Frame { bytes }),
+            Err(SendFault::OutOfMemory) => Err(OutOfMemory),
+            Err(SendFault::Spent) => unreachable!(),
+        },
+    }
+}

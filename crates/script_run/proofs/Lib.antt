@@ -1,0 +1,12 @@
+pub mod Senses
+pub mod Taken
+pub mod Continued
+pub mod FirstLine
+pub mod Outcomes
+pub mod NextLine
+pub mod Founds
+pub mod Invited
+pub mod SecondLine
+pub mod SoloJoins
+pub mod Progressed
+pub mod Whole

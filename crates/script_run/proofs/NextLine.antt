@@ -1,0 +1,283 @@
+-- The next line was found, and what it asks for was done.
+use Rattle.std.proofs.Common.{◌≡◌, ℕ, ◌+◌, ◌<◌, ◌≤◌, List, [], ◌∷◌, ◌++◌, length, refl, ap, sym, ◌∙◌, subst, Some, None, Bool, true, false, append_assoc, append-nil, position}
+use Rattle.std.specs.Prelude.{Option, Result, Ok, Err, ◌==◌}
+use Rattle.std.specs.Io.KnownBytes.{Appends, Keeps, IsAtEnd}
+use Rattle.std.proofs.KnownBytes.{Appends-nil, Appends-trans}
+use Rattle.line_text.specs.Lines.{Line, line_bytes, lines_of, is_past_limits, script_limit}
+use Rattle.line_read.specs.Reading.{LineReading, ahead, HandsOut}
+use Rattle.line_read.specs.Finding.{Finds, FindsNone, FindsLine, FindCause}
+use Rattle.line_read.specs.declared.reader.Found.{Found}
+use Rattle.line_read.specs.declared.reader.Found.TheVariants as found
+use Rattle.edge_io.specs.Faults.{Rose}
+use Rattle.edge_io.specs.Sink.{WritesFront}
+use Rattle.frame_rules.specs.Encoder.{Encoder}
+use Rattle.script_rules.specs.Script.{ScriptReading, LineOutcome, line_outcome, script_from, LineRefusal}
+use Rattle.script_rules.specs.Script.LineOutcome.{Breaks, Invites, Asks}
+use Rattle.script_rules.specs.Capture.{broken_line}
+use Rattle.script_rules.specs.CaptureText.{Run}
+use Rattle.capture_laws.specs.Fronts.{IsFront}
+use Rattle.script_host.specs.Hosts.{HostModel}
+use Rattle.script_run.specs.declared.fault.ScriptFault.{ScriptFault}
+use Rattle.script_run.specs.declared.fault.ScriptFault.TheVariants as fault
+use Rattle.script_run.specs.Run.{Tells, EndsWhereTold, refusal_at, ReadsCause}
+use Rattle.script_run.specs.Outcomes.{outcome_within, found_outcome, outcome_text, reading_by, run_by_outcome, BreaksNone}
+use Rattle.script_run.specs.Standing.{Stands}
+use Rattle.script_run.specs.Steps.{DoesLine, WritesFrontOfLine, DoesFound, IsWriteFault}
+use Rattle.script_run.specs.Reading.{CaptureByLines, Follows, of_lines, text_from, Moment, ahead_of, WroteSomeLines, AllLinesGive, WroteAllLines}
+use Rattle.script_run.specs.Reading.{with_next, WroteDoneLines, StopsInALine, StopsReading}
+use Rattle.script_run.specs.Progress.{DidLinesTo, NextLineDone}
+use Rattle.script_run.proofs.Senses.{line_follows, line_breaks, lines_front, front_behind, front_of_front, front_is, whole_is_front}
+use Rattle.script_run.proofs.Taken.{line_taken, none_taken}
+use Rattle.script_run.proofs.Outcomes.{StartAs, outcome_is, done_is_ended, is_longer, is_inside, found_starts, starts_alone, first_does}
+
+-- ---- what lines give that begin as what was found
+
+-- lines that begin so give this text, and then what the lines from here on give
+pub record Leads (whole : CaptureByLines) (f : Found) (at : ℕ) (text : List ℕ) (before : List ℕ) (rest : CaptureByLines) : Type 0 where
+  pub writes : (lines : List Line) → StartAs f at text lines → whole.writes lines ≡ before ++ rest.writes lines
+  pub so_far : (line : Line) (lines : List Line) → StartAs f at text (line ∷ lines) → whole.so_far (line ∷ lines) ≡ before ++ rest.so_far (line ∷ lines)
+  pub refuses : (lines : List Line) → StartAs f at text lines → whole.refuses lines ≡ rest.refuses lines
+  pub none_yet : whole.so_far [] ≡ []
+
+pub leads_on : (f : Found) (k at : ℕ) (text : List ℕ) (r : ScriptReading) (run : Run Encoder) → Leads (of_lines k at r run) f at text [] (of_lines k at r run)
+leads_on f k at text r run = record {
+  writes = λ lines s. refl;
+  so_far = λ line lines s. refl;
+  refuses = λ lines s. refl;
+  none_yet = refl;
+}
+
+-- ---- a line was done
+
+line_leads : (whole : CaptureByLines) (text before : List ℕ) (k at next_at : ℕ) (r : ScriptReading) (run : Run Encoder) (o : LineOutcome)
+    → Leads whole (found.Line true) at text before (of_lines k at r run) → line_outcome at r (record { text = text; ended = true }) ≡ o → BreaksNone o
+    → next_at ≡ at + length (line_bytes (record { text = text; ended = true }))
+    → Follows whole (record { text = text; ended = true } ∷ []) (before ++ outcome_text k r.head run o)
+    (of_lines (k + 1) next_at (reading_by r o) (run_by_outcome r.head run o))
+line_leads whole text before k at next_at r run o leads is none place =
+    let line : Line = record { text = text; ended = true } in
+    let rest = of_lines (k + 1) next_at (reading_by r o) (run_by_outcome r.head run o) in
+    let f = line_follows line k at next_at r run o is none place in
+    let t = outcome_text k r.head run o in
+    record {
+      writes = λ more. leads.writes (line ∷ more) refl ∙ ap (λ u. before ++ u) (f.writes more) ∙ sym (append_assoc before t (rest.writes more));
+      so_far = λ more. leads.so_far line more refl ∙ ap (λ u. before ++ u) (f.so_far more) ∙ sym (append_assoc before t (rest.so_far more));
+      refuses = λ more. leads.refuses (line ∷ more) refl ∙ f.refuses more;
+    }
+
+one_done : (whole : CaptureByLines) (before : List ℕ) (k : ℕ) (r : ScriptReading) (run : Run Encoder) (o : LineOutcome) (ended : Bool) (m n : Moment) (mid : Option (List ℕ))
+    → ended ≡ true → FindsLine m.reading n.reading (ahead_of m) (ahead_of n) (record { text = n.reading.text; ended = ended })
+    → Leads whole (found.Line ended) m.reading.at n.reading.text before (of_lines k m.reading.at r run) → outcome_within r n.reading.text ended ≡ o → BreaksNone o
+    → Appends m.told mid before → Appends mid n.told (outcome_text k r.head run o)
+    → (m.reading.at < n.reading.at) × (n.reading.at ≤ script_limit)
+    × WroteSomeLines whole (of_lines (k + 1) n.reading.at (reading_by r o) (run_by_outcome r.head run o)) m n
+one_done whole before k r run o false m n mid e finds leads is none w v = absurd (cc e)
+one_done whole before k r run o true m n mid e finds leads is none w v = (
+  is_longer m.reading.at n.reading.at n.reading.text finds.at,
+  is_inside m.reading.at n.reading.at (record { text = n.reading.text; ended = true }) finds.at finds.within,
+  record {
+    lines = record { text = n.reading.text; ended = true } ∷ [];
+    text = before ++ outcome_text k r.head run o;
+    takes = line_taken (ahead_of m) (ahead_of n) n.reading.text finds.takes.consumes finds.takes.hands_out;
+    follows = line_leads whole n.reading.text before k m.reading.at n.reading.at r run o leads
+        (outcome_is m.reading.at r n.reading.text true finds.within ∙ is) none finds.at;
+    written = Appends-trans m.told mid n.told before (outcome_text k r.head run o) w v;
+  },
+)
+
+some_is : (a b : LineOutcome) → Some a ≡ Some b → a ≡ b
+some_is a b e = cc e
+
+past_is_none : (o : LineOutcome) → Some (Breaks 2) ≡ Some o → BreaksNone o → ⊥
+past_is_none (Breaks rule) e none = none
+past_is_none (Invites row) e none = cc e
+past_is_none (Asks a) e none = cc e
+
+line_done : (f : Found) (whole : CaptureByLines) (before : List ℕ) (k : ℕ) (r : ScriptReading) (run : Run Encoder) (host : HostModel) (m n : Moment) (mid : Option (List ℕ))
+    → Finds f m.reading n.reading (ahead_of m) (ahead_of n) → Leads whole f m.reading.at n.reading.text before (of_lines k m.reading.at r run)
+    → Appends m.told mid before → DoesLine (found_outcome f r n.reading.text) k r run host mid n.told → NextLineDone (Ok true) whole k host m n
+line_done (found.Line ended) whole before k r run host m n mid finds leads w d =
+    let is = some_is (outcome_within r n.reading.text ended) d.outcome d.is in
+    let done = one_done whole before k r run d.outcome ended m n mid (done_is_ended r n.reading.text ended d.outcome is d.breaks_none) finds leads is d.breaks_none w
+    d.written in
+    (done.0, done.1, record { r = reading_by r d.outcome; run = run_by_outcome r.head run d.outcome; stands = d.stands; wrote = done.2 })
+line_done found.PastLimits whole before k r run host m n mid finds leads w d = absurd (past_is_none d.outcome d.is d.breaks_none)
+line_done found.End whole before k r run host m n mid finds leads w d = absurd (cc d.is)
+line_done found.Failed whole before k r run host m n mid finds leads w d = absurd (cc d.is)
+
+-- ---- no line is left
+
+end_gives : (ahead : Option (List ℕ)) (f : Found) (whole : CaptureByLines) (before text : List ℕ) (k at : ℕ) (r : ScriptReading) (run : Run Encoder) → f ≡ found.End
+    → Leads whole f at text before (of_lines k at r run) → IsAtEnd ahead → AllLinesGive ahead whole before None
+end_gives None f whole before text k at r run is leads end = tt
+end_gives (Some bytes) f whole before text k at r run is leads end =
+    let starts : StartAs f at text [] = subst (λ x. StartAs x at text []) (sym is) tt in
+    (ap (λ b. whole.writes (lines_of b)) end ∙ leads.writes [] starts ∙ append-nil before, ap (λ b. whole.refuses (lines_of b)) end ∙ leads.refuses [] starts)
+
+ends_told : (before now : Option (List ℕ)) → Keeps before now → IsAtEnd before → EndsWhereTold before now
+ends_told None now keeps end = tt
+ends_told (Some bytes) None keeps end = absurd keeps
+ends_told (Some bytes) (Some left) keeps end = keeps ∙ end
+
+end_done : (f : Found) (whole : CaptureByLines) (before : List ℕ) (k : ℕ) (r : ScriptReading) (run : Run Encoder) (m n : Moment) (mid : Option (List ℕ))
+    → Finds f m.reading n.reading (ahead_of m) (ahead_of n) → Leads whole f m.reading.at n.reading.text before (of_lines k m.reading.at r run)
+    → Appends m.told mid before → f ≡ found.End → n.told ≡ mid → EndsWhereTold (ahead_of m) (ahead_of n) × WroteAllLines whole None m n
+end_done f whole before k r run m n mid finds leads w is same =
+    let ends = subst (λ x. Finds x m.reading n.reading (ahead_of m) (ahead_of n)) is finds in (
+      ends_told (ahead_of m) (ahead_of n) ends.0.keeps ends.1,
+      record {
+        text = before;
+        written = subst (λ t. Appends m.told t before) (sym same) w;
+        gives = end_gives (ahead_of m) f whole before n.reading.text k m.reading.at r run is leads ends.1;
+      },
+    )
+
+-- ---- a line that breaks a rule
+
+abbrev pub IsWithin : Found → ℕ → List ℕ → Type 0
+IsWithin f at text = (ended : Bool) → f ≡ found.Line ended → is_past_limits at (record { text = text; ended = ended }) ≡ false
+
+pub within_is : (f : Found) (m n : Moment) → Finds f m.reading n.reading (ahead_of m) (ahead_of n) → IsWithin f m.reading.at n.reading.text
+within_is f m n finds = λ ended is. of_line ended (subst (λ x. Finds x m.reading n.reading (ahead_of m) (ahead_of n)) is finds)
+  where
+    of_line : (ended : Bool) → FindsLine m.reading n.reading (ahead_of m) (ahead_of n) (record { text = n.reading.text; ended = ended })
+        → is_past_limits m.reading.at (record { text = n.reading.text; ended = ended }) ≡ false
+    of_line ended line = line.within
+
+breaks_first : (lines : List Line) (f : Found) (whole : CaptureByLines) (before text : List ℕ) (k rule : ℕ) (old : LineReading) (r : ScriptReading) (run : Run Encoder)
+    → Leads whole f old.at text before (of_lines k old.at r run) → IsWithin f old.at text → found_outcome f r text ≡ Some (Breaks rule) → StartAs f old.at text lines
+    → (whole.writes lines ≡ before ++ broken_line k rule) × (whole.refuses lines ≡ refusal_at k rule)
+breaks_first [] (found.Line ended) whole before text k rule old r run leads within is s = absurd s
+breaks_first [] found.PastLimits whole before text k rule old r run leads within is s = absurd s
+breaks_first [] found.End whole before text k rule old r run leads within is s = absurd (cc is)
+breaks_first [] found.Failed whole before text k rule old r run leads within is s = absurd s
+breaks_first (line ∷ lines) f whole before text k rule old r run leads within is s =
+    let broken = line_breaks line lines k old.at rule r run (first_does f old text r line lines (Breaks rule) within s is) in
+    (leads.writes (line ∷ lines) s ∙ ap (λ t. before ++ t) broken.0, leads.refuses (line ∷ lines) s ∙ broken.1)
+
+breaks_told : (ahead : Option (List ℕ)) (f : Found) (whole : CaptureByLines) (before text : List ℕ) (k rule : ℕ) (old : LineReading) (r : ScriptReading) (run : Run Encoder)
+    → Leads whole f old.at text before (of_lines k old.at r run) → IsWithin f old.at text → found_outcome f r text ≡ Some (Breaks rule)
+    → Tells ahead (λ bytes. StartAs f old.at text (lines_of bytes)) → AllLinesGive ahead whole (before ++ broken_line k rule) (refusal_at k rule)
+breaks_told None f whole before text k rule old r run leads within is s = tt
+breaks_told (Some bytes) f whole before text k rule old r run leads within is s = breaks_first (lines_of bytes) f whole before text k rule old r run leads within is s
+
+not_failed : (f : Found) (r : ScriptReading) (text : List ℕ) (o : LineOutcome) → found_outcome f r text ≡ Some o → f ≡ found.Failed → ⊥
+not_failed (found.Line ended) r text o is e = cc e
+not_failed found.PastLimits r text o is e = cc e
+not_failed found.End r text o is e = cc e
+not_failed found.Failed r text o is e = cc is
+
+line_refused : (f : Found) (whole : CaptureByLines) (before : List ℕ) (k line rule : ℕ) (r : ScriptReading) (run : Run Encoder) (m n : Moment) (mid : Option (List ℕ))
+    → Finds f m.reading n.reading (ahead_of m) (ahead_of n) → Leads whole f m.reading.at n.reading.text before (of_lines k m.reading.at r run)
+    → Appends m.told mid before → line ≡ k → found_outcome f r n.reading.text ≡ Some (Breaks rule) → Appends mid n.told (broken_line k rule)
+    → WroteAllLines whole (refusal_at line rule) m n
+line_refused f whole before k line rule r run m n mid finds leads w same is v = record {
+  text = before ++ broken_line k rule;
+  written = Appends-trans m.told mid n.told before (broken_line k rule) w v;
+  gives = subst (λ l. AllLinesGive (ahead_of m) whole (before ++ broken_line k rule) (refusal_at l rule)) (sym same)
+      (breaks_told (ahead_of m) f whole before n.reading.text k rule m.reading r run leads (within_is f m n finds) is
+      (found_starts f m.reading n.reading (ahead_of m) (ahead_of n) finds (not_failed f r n.reading.text (Breaks rule) is)));
+}
+
+-- ---- a line that wasn't written whole
+
+-- what a line writes is a front of what its script writes with it
+alone_front : (line : Line) (k at : ℕ) (r : ScriptReading) (run : Run Encoder) (o : LineOutcome) → line_outcome at r line ≡ o
+    → IsFront (outcome_text k r.head run o) (text_from run (script_from k at r (line ∷ [])))
+alone_front line k at r run (Breaks rule) is = front_is (broken_line k rule) (broken_line k rule) _ (sym (line_breaks line [] k at rule r run is).0)
+    (whole_is_front (broken_line k rule))
+alone_front line k at r run (Invites row) is = of_follows line k at r run (Invites row) is tt
+  where
+    of_follows : (line : Line) (k at : ℕ) (r : ScriptReading) (run : Run Encoder) (o : LineOutcome) → line_outcome at r line ≡ o → BreaksNone o
+        → IsFront (outcome_text k r.head run o) (text_from run (script_from k at r (line ∷ [])))
+    of_follows line k at r run o is none = record { rest = _; joined = (line_follows line k at (at + length (line_bytes line)) r run o is none refl).writes [] }
+alone_front line k at r run (Asks a) is = record { rest = _; joined = (line_follows line k at (at + length (line_bytes line)) r run (Asks a) is tt refl).writes [] }
+
+front_of_line : (lines : List Line) (f : Found) (whole : CaptureByLines) (before text front : List ℕ) (k : ℕ) (old : LineReading) (r : ScriptReading) (run : Run Encoder)
+    (o : LineOutcome) → Leads whole f old.at text before (of_lines k old.at r run) → IsWithin f old.at text → found_outcome f r text ≡ Some o
+    → StartAs f old.at text lines → IsFront front (outcome_text k r.head run o) → IsFront (before ++ front) (with_next whole [] lines)
+front_of_line [] (found.Line ended) whole before text front k old r run o leads within is s g = absurd s
+front_of_line [] found.PastLimits whole before text front k old r run o leads within is s g = absurd s
+front_of_line [] found.End whole before text front k old r run o leads within is s g = absurd (cc is)
+front_of_line [] found.Failed whole before text front k old r run o leads within is s g = absurd s
+front_of_line (line ∷ lines) f whole before text front k old r run o leads within is s g =
+    let rest = text_from run (script_from k old.at r (line ∷ [])) in
+    front_is (before ++ front) (before ++ rest) (whole.so_far (line ∷ [])) (sym (leads.so_far line [] (starts_alone f old.at text line lines s)))
+    (front_behind before front rest
+    (front_of_front front (outcome_text k r.head run o) rest g (alone_front line k old.at r run o (first_does f old text r line lines o within s is))))
+
+-- nothing was done of the lines ahead, and a front of what the first one writes was written
+pub stopped_at : (ahead : Option (List ℕ)) (f : Found) (whole : CaptureByLines) (front text : List ℕ) (at : ℕ) (told telling : Option (List ℕ)) → whole.so_far [] ≡ []
+    → Tells ahead (λ bytes. StartAs f at text (lines_of bytes)) → ((lines : List Line) → StartAs f at text lines → IsFront front (with_next whole [] lines))
+    → Appends told telling front → Tells ahead (λ bytes. WroteDoneLines whole (lines_of bytes) told telling)
+stopped_at None f whole front text at told telling none s g w = tt
+stopped_at (Some bytes) f whole front text at told telling none s g w = record {
+  done = [];
+  rest = lines_of bytes;
+  front = front;
+  are_first = refl;
+  written = subst (λ t. Appends told telling (t ++ front)) (sym none) w;
+  is_front = subst (λ t. IsFront (t ++ front) (with_next whole [] (lines_of bytes))) (sym none) (g (lines_of bytes) s);
+}
+
+front_stops : (f : Found) (whole : CaptureByLines) (before : List ℕ) (k : ℕ) (r : ScriptReading) (run : Run Encoder) (m n : Moment) (mid : Option (List ℕ))
+    → Finds f m.reading n.reading (ahead_of m) (ahead_of n) → Leads whole f m.reading.at n.reading.text before (of_lines k m.reading.at r run)
+    → Appends m.told mid before → WritesFrontOfLine (found_outcome f r n.reading.text) k r run mid n.told → StopsInALine whole m n
+front_stops f whole before k r run m n mid finds leads w d =
+    let front = d.front.front in
+    stopped_at (ahead_of m) f whole (before ++ front) n.reading.text m.reading.at m.told n.told leads.none_yet
+    (found_starts f m.reading n.reading (ahead_of m) (ahead_of n) finds (not_failed f r n.reading.text d.outcome d.is))
+    (λ lines s. front_of_line lines f whole before n.reading.text front k m.reading r run d.outcome leads (within_is f m n finds) d.is s
+    (record { rest = d.front.rest; joined = d.front.whole }))
+    (Appends-trans m.told mid n.told before front w d.front.written)
+
+-- ---- a read that failed
+
+pub read_stops : (f : Found) (whole : CaptureByLines) (m n : Moment) → Finds f m.reading n.reading (ahead_of m) (ahead_of n) → whole.so_far [] ≡ [] → f ≡ found.Failed
+    → n.told ≡ m.told → (f ≡ found.Failed → position (λ b. b == 10) n.reading.held ≡ None) → StopsReading whole m n
+read_stops f whole m n finds none is same part =
+    let kept = subst (λ x. Finds x m.reading n.reading (ahead_of m) (ahead_of n)) is finds in
+    record {
+      lines = [];
+      takes = none_taken (ahead_of m) (ahead_of n) kept.keeps;
+      written = subst (Appends m.told n.told) (sym none) (subst (λ t. Appends m.told t []) (sym same) (Appends-nil m.told));
+      part = part is;
+    }
+
+-- what was done where the k-th line was found
+pub next_done : (result : Result Bool ScriptFault) (f : Found) (whole : CaptureByLines) (before : List ℕ) (k : ℕ) (r : ScriptReading) (run : Run Encoder) (host : HostModel)
+    (m n : Moment) (mid : Option (List ℕ)) → Finds f m.reading n.reading (ahead_of m) (ahead_of n) → (f ≡ found.Failed → ⊥)
+    → Leads whole f m.reading.at n.reading.text before (of_lines k m.reading.at r run) → Appends m.told mid before
+    → DoesFound result f k r run host n.reading.text mid n.told → NextLineDone result whole k host m n
+next_done (Ok true) f whole before k r run host m n mid finds read leads w d = line_done f whole before k r run host m n mid finds leads w d
+next_done (Ok false) f whole before k r run host m n mid finds read leads w d = end_done f whole before k r run m n mid finds leads w d.0 d.1
+next_done (Err (fault.Line line rule)) f whole before k r run host m n mid finds read leads w d =
+    (d.0, line_refused f whole before k line rule r run m n mid finds leads w d.0 d.1 d.2)
+next_done (Err fault.ReadFault) f whole before k r run host m n mid finds read leads w d = absurd (read d.0)
+next_done (Err fault.WriteFault) f whole before k r run host m n mid finds read leads w d = front_stops f whole before k r run m n mid finds leads w d
+next_done (Err fault.OutOfMemory) f whole before k r run host m n mid finds read leads w d = front_stops f whole before k r run m n mid finds leads w d
+
+-- ---- faults of the source
+
+cause_is_same : (f : Found) (reads read : ℕ) → (f ≡ found.Failed → ⊥) → FindCause f reads read → read ≡ reads
+cause_is_same (found.Line ended) reads read other cause = cause
+cause_is_same found.PastLimits reads read other cause = cause
+cause_is_same found.End reads read other cause = cause
+cause_is_same found.Failed reads read other cause = absurd (other refl)
+
+-- what was found was read
+pub found_reads : (result : Result Bool ScriptFault) (f : Found) (reads read : ℕ) → FindCause f reads read → (f ≡ found.Failed → ⊥)
+    → (result ≡ Err fault.ReadFault → f ≡ found.Failed) → ReadsCause result reads read
+found_reads (Ok x) f reads read cause other only = cause_is_same f reads read other cause
+found_reads (Err (fault.Line line rule)) f reads read cause other only = cause_is_same f reads read other cause
+found_reads (Err fault.ReadFault) f reads read cause other only = absurd (other (only refl))
+found_reads (Err fault.WriteFault) f reads read cause other only = cause_is_same f reads read other cause
+found_reads (Err fault.OutOfMemory) f reads read cause other only = cause_is_same f reads read other cause
+
+-- a write failed behind it
+pub written_reads : (answer : ScriptFault) (f : Found) (reads read : ℕ) → (f ≡ found.Failed → ⊥) → IsWriteFault answer → FindCause f reads read
+    → ReadsCause {T = Bool} (Err answer) reads read
+written_reads (fault.Line line rule) f reads read other w cause = absurd w
+written_reads fault.ReadFault f reads read other w cause = absurd w
+written_reads fault.WriteFault f reads read other w cause = cause_is_same f reads read other cause
+written_reads fault.OutOfMemory f reads read other w cause = cause_is_same f reads read other cause

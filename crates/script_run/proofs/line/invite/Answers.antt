@@ -1,0 +1,9 @@
+use Rattle.std.proofs.Common.{◌∙◌, sym, subst, arith, ◌<◌, length}
+use Rattle.script_run.proofs.Invited.{invited}
+use Rattle.script_run.proofs.line.invite.Goals as goal
+
+pub returns : goal.returns
+returns c = λ r run out stands. invited r run c.args.host.now c.invite.new.self c.args.name.now c.args.role out stands
+    (sym c.has_begun.ensures.begun ∙ c.if-has_begun.false) (sym c.is_name.ensures ∙ c.if-not-is_name.false) (sym c.is_invited.ensures ∙ c.if-is_invited.false)
+    (omega (arith, c.row_count.ensures, c.if-row_count-ge-ROW_LIMIT.false))
+    (record { begun = c.in_ok-invite.ensures.begun; head = c.in_ok-invite.ensures.head; run = c.in_ok-invite.ensures.run })

@@ -1,0 +1,37 @@
+ghost use Rattle.script_run.specs.Run.{RunsScript, ReadsCause, WritesCause};
+
+use crate::fault::ScriptFault;
+use crate::found::refuse;
+use crate::lines::do_lines;
+use crate::opening::{FirstLine, first_line};
+use edge_io::{Sink, Source};
+use line_read::LineReader;
+use std::alloc::Global;
+
+/// The number of the line that gives the size.
+const FIRST: u32 = 1;
+
+/// Reads a script, a line at a time, and writes its capture, a line for each step that was done.
+///
+/// `Line` names the first line that breaks a rule and the least rule that it breaks; the capture's last line says it too. A `ReadFault`
+/// leaves the capture of the whole lines before it; a `WriteFault`, or want of memory, that of the lines done and a front of one more line's.
+pub fn run_script<S: Source, K: Sink>(
+    alloc: Global,
+    input: &mut S,
+    output: &mut K,
+) -> Result<(), ScriptFault>
+    // What is written is the script's capture: in it each viewer's bytes are never refused, and at each mark they show the picture
+    // after exactly the journal entries that the frame's take found. A line is refused exactly where it is the first that breaks a rule.
+    // After a fault, or want of memory, the capture of the lines that were done stands there, and then a front of one more line's; after
+    // a failed read exactly that of the whole lines that the input had handed out. Each viewer's marks are then the first ones.
+    ensures capture { RunsScript result (S.left input.old) (S.left input.new) (K.told output.old) (K.told output.new) }
+    ensures read { ReadsCause result (S.faults input.old) (S.faults input.new) }
+    ensures write { WritesCause result (K.faults output.old) (K.faults output.new) }
+{
+    let mut reader = LineReader::new(alloc)?;
+    match first_line(&mut reader, input) {
+        FirstLine::Sized(size) => do_lines(alloc, &mut reader, input, output, size),
+        FirstLine::Breaks(rule) => Err(refuse(alloc, output, FIRST, rule)),
+        FirstLine::Failed => Err(ScriptFault::ReadFault),
+    }
+}
