@@ -9,3 +9,6 @@ mod seats;
 pub use answer::StepAnswer;
 pub use host::ScriptHost;
 pub use out_of_memory::OutOfMemory;
+
+#[cfg(test)]
+mod tests;
