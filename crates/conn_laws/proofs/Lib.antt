@@ -1,3 +1,3 @@
-mod Quiet
-mod Order
-mod Near
+pub mod Quiet
+pub mod Order
+pub mod Near

@@ -1,0 +1,90 @@
+-- A client joins.
+use Rattle.std.proofs.Common.{◌≡◌, ℕ, ◌+◌, ◌≤◌, List, [], ◌∷◌, ◌++◌, length, refl, ap, sym, ◌∙◌, subst, arith}
+use Rattle.std.specs.Prelude.{Bool, true, false, IsTrue, Option, Some, None, is_some, option_to_list, if◌then◌else◌}
+use Rattle.px_core.specs.declared.surface.Size.{Size}
+use Rattle.px_core.specs.Tiles.{no_tiles}
+use Rattle.line_text.specs.Words.{is_same_word}
+use Rattle.caps_sets.specs.declared.confirmed.Confirmed.{Confirmed}
+use Rattle.session_rules.specs.declared.entry.Role.{Role}
+use Rattle.session_rules.specs.declared.entry.Role.TheVariants.{Owner}
+use Rattle.session_rules.specs.declared.entry.Entry.{Entry}
+use Rattle.session_rules.specs.declared.entry.Entry.TheVariants.{Join}
+use Rattle.session_rules.specs.Journal.{Head, Reached, reached_at_first, is_present}
+use Rattle.session_rules.specs.Steps.{Answer, Outcome, Play, play_at_first, join_effect, outcome_of}
+use Rattle.session_rules.specs.Steps.Step.{JoinStep}
+use Rattle.session_rules.specs.Steps.Answer.{Joined}
+use Rattle.session_laws.specs.Entering.{entry_of_step, answer_at}
+use Rattle.session_core.specs.SessionModel.{SessionModel, new_session, reached_by, asked_by, is_suppressed}
+use Rattle.frame_rules.specs.Encoder.{first_encoder}
+use Rattle.viewer_sender.specs.Senders.{SenderModel, StandsFor}
+use Rattle.script_rules.specs.CaptureText.{run_at_first, run_by}
+use Rattle.script_rules.specs.Headline.{encoder_frames}
+use Rattle.answer_run.specs.Asking.{owners_head, client, asks_to_join}
+use Rattle.answer_run.specs.Seats.{IsSeated, IsRunOf, Joins}
+use Rattle.answer_run.proofs.Seated.{seat_of, reached_grown}
+
+-- the role of the owner's name, and what comes of a join by it
+abbrev role_if : Bool → Option Role
+role_if b = if b then Some Owner else None
+
+abbrev joins_by : Size → List ℕ → Bool → Outcome
+joins_by size owner b = outcome_of (owners_head size owner) (play_at_first size) (join_effect (play_at_first size) (role_if b))
+
+is_owner : (size : Size) (owner : List ℕ) (v : ℕ) (b : Bool) → Joined v ≡ (joins_by size owner b).answer → (b ≡ true) × (v ≡ client)
+is_owner size owner v true e = (refl, cc e)
+is_owner size owner v false e = absurd (cc e)
+
+-- what is known of the session before and after, and of the sender
+pub record JoinFacts (size : Size) (owner name : List ℕ) (c : Confirmed) (v : ℕ) (old new : SessionModel) (s : SenderModel) : Type 0 where
+  pub head : new.head ≡ old.head
+  pub answer : Joined v ≡ answer_at old.head (reached_by old) (JoinStep name)
+  pub journal : new.journal ≡ old.journal ++ option_to_list (entry_of_step old.head (reached_by old) (JoinStep name))
+  pub asked : asked_by new v ≡ no_tiles
+  pub suppressed : is_suppressed new v ≡ false
+  pub viewer : s.v ≡ v
+  pub confirmed : s.confirmed ≡ c
+  pub number : s.number ≡ 0
+  pub held : s.held ≡ []
+  pub taken : s.taken ≡ 0
+  pub encoded : s.encoded ≡ 0
+  pub sound : s.spent ≡ false
+  pub stands : StandsFor s first_encoder
+
+module _ (size : Size) (owner name : List ℕ) (c : Confirmed) (v : ℕ) (new : SessionModel) (s : SenderModel) where
+  abbrev IsRunBy : Bool → Type 0
+  IsRunBy b = IsRunOf (owners_head size owner) (seat_of new s)
+      (run_by encoder_frames size (run_at_first encoder_frames size) (asks_to_join name c) (joins_by size owner b))
+
+  -- a new session
+  seated_first : JoinFacts size owner name c v (new_session (owners_head size owner)) new s → Joins (owners_head size owner) name c (Some (seat_of new s))
+  seated_first f =
+      let head = owners_head size owner in
+      let old = new_session head in
+      let is = is_owner size owner v (is_same_word name owner) f.answer in
+      let journal : new.journal ≡ [] ++ (Join client Owner ∷ []) = f.journal ∙ ap (λ b. option_to_list (joins_by size owner b).entry) is.0 in
+      let grown = reached_grown old new (Join client Owner ∷ []) f.head journal in
+      let number = f.number in
+      let asked : asked_by new client ≡ no_tiles = ap (asked_by new) (sym is.1) ∙ f.asked in
+      let suppressed : is_suppressed new client ≡ false = ap (is_suppressed new) (sym is.1) ∙ f.suppressed in
+      let run : IsRunBy true = record {
+        of_head = f.head;
+        journal = sym journal;
+        reached = sym grown;
+        asked = sym asked;
+        suppressed = sym suppressed;
+        confirmed = f.confirmed;
+        taken = sym f.number;
+        follows = (f.stands, f.held);
+      } in (
+        ap (λ b. is_some (role_if b)) is.0,
+        record {
+          here = ap (λ (r : Reached). is_present client r.viewers) grown;
+          number = f.viewer ∙ is.1;
+          seen = omega (arith, number);
+          idle = record { all = f.encoded ∙ sym f.taken; sound = f.sound };
+        },
+        subst IsRunBy (sym is.0) run,
+      )
+
+  pub joined : (old : SessionModel) → old ≡ new_session (owners_head size owner) → JoinFacts size owner name c v old new s → Joins (owners_head size owner) name c (Some (seat_of new s))
+  joined old e f = seated_first (subst (λ o. JoinFacts size owner name c v o new s) e f)

@@ -1,0 +1,9 @@
+pub mod Seated
+pub mod Framed
+pub mod Joined
+pub mod Streams
+pub mod Present
+pub mod Fronts
+pub mod Visiting
+pub mod Pieces
+pub mod Served

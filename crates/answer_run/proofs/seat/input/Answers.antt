@@ -1,0 +1,25 @@
+use Rattle.std.proofs.Common.{◌≡◌, ◌++◌}
+use Rattle.std.specs.Prelude.{option_to_list}
+use Rattle.session_rules.specs.Steps.Step.{InputStep}
+use Rattle.session_laws.specs.Entering.{entry_of_step}
+use Rattle.session_core.specs.SessionModel.{reached_by}
+use Rattle.answer_run.specs.Asking.{client}
+use Rattle.answer_run.specs.Seats.{IsSettled}
+use Rattle.answer_run.proofs.Seated.{settled_journal, input_seated, input_done}
+use Rattle.answer_run.proofs.seat.input.Goals as goal
+
+pub returns-clause-seated : goal.returns-clause-seated
+returns-clause-seated c =
+    let old = c.args.seat.now.session in
+    let settled : IsSettled c.input.result = c.in_ok-settle.ensures in
+    input_seated old c.input.new.self c.args.seat.now.sender c.args.event c.input.ensures.head
+    (settled_journal c.input.result (entry_of_step old.head (reached_by old) (InputStep client c.args.event)) old.journal c.input.new.self.journal settled c.input.ensures.journal)
+    c.requires
+
+pub returns-clause-done : goal.returns-clause-done
+returns-clause-done c =
+    let old = c.args.seat.now.session in
+    let settled : IsSettled c.input.result = c.in_ok-settle.ensures in
+    input_done old c.input.new.self c.args.seat.now.sender c.args.event c.input.ensures.head
+    (settled_journal c.input.result (entry_of_step old.head (reached_by old) (InputStep client c.args.event)) old.journal c.input.new.self.journal settled c.input.ensures.journal)
+    c.input.ensures.asked c.input.ensures.suppressed

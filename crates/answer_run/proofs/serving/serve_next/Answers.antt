@@ -1,0 +1,10 @@
+use Rattle.std.proofs.Common.{take}
+use Rattle.answer_run.specs.Asking.{owners_head}
+use Rattle.answer_run.proofs.Served.{next_served}
+use Rattle.answer_run.proofs.serving.serve_next.Goals as goal
+
+pub returns-in-Bytes-clause-done : goal.returns-in-Bytes-clause-done
+returns-in-Bytes-clause-done g c =
+    next_served c.serve_piece.result (owners_head c.args.size c.args.owner.now) c.args.serving.now c.serve_piece.new.serving (take c.in-Bytes.n c.read.new.buf)
+    (g.S.Source.left c.args.input.now) (g.S.Source.left c.read.new.self) (g.K.Sink.told c.args.output.now) (g.K.Sink.told c.serve_piece.new.output)
+    c.in-Bytes.ensures.bytes c.serve_piece.ensures.done

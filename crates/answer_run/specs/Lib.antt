@@ -1,0 +1,5 @@
+pub mod Asking
+pub mod Service
+pub mod Seats
+pub mod Visits
+pub mod Serves
