@@ -2,6 +2,7 @@ pub mod Fills
 pub mod Frames
 pub mod Rooms
 pub mod Caches
+pub mod CautiousScripts
 pub mod ManyFills
 pub mod Largest
 pub mod Headlines
