@@ -70,11 +70,11 @@ turns() {
 
 # A script of the greatest size, to the byte: fills with a take every 200 lines, and takes of five and of eight bytes at its end.
 greatest_script() {
-    awk -v greatest="$greatest" 'BEGIN {
+    awk -v left="$greatest" 'BEGIN {
         line = "size 1024 768"
-        for (i = 2; left = greatest - bytes, left > 200; i++) {
+        for (i = 2; left > 200; i++) {
             print line
-            bytes += length(line) + 1
+            left -= length(line) + 1
             line = i % 200 == 0 ? "take" : sprintf("fill %d %d %d %d %06X", (i * 37) % 1000, (i * 53) % 700, 1 + i % 60, 1 + i % 50, (i * 7919) % 16777216)
         }
         for (; left % 5 != 0; left -= 8) print "@1 take"
