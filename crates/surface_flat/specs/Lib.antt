@@ -8,3 +8,4 @@ pub mod Parts
 pub mod Pens
 pub mod Texts
 pub mod Textures
+pub mod Operands

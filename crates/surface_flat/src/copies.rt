@@ -1,9 +1,10 @@
 //! Copies within the picture, row by row.
 ghost use Rattle.std.specs.Prelude.{◌≡◌, ℕ, ◌+◌, ◌<◌, ◌≤◌, length};
+ghost use Rattle.surface_flat.specs.Operands.{IsBlank};
 ghost use Rattle.surface_flat.specs.Parts.{in_part, part_at, IsCanvas, IsInside, IsRepainted};
 ghost use Rattle.surface_flat.specs.Textures.{copied_color, IsSourceInside};
 
-use crate::mix::set_pattern;
+use crate::mix::ready_pattern;
 use crate::part::Part;
 use px_core::Size;
 use rop3_core::rop_row;
@@ -35,6 +36,7 @@ pub(crate) fn copy_part(
     requires source { length source.old ≡ part.w }
     ensures { IsRepainted size (in_part part) (copied_color size pixels.old part copy) pixels.old pixels.new }
 {
+    ready_pattern(pattern, None);
     if copy.y < part.y {
         copy_upwards(pixels, size, part, copy, pattern, source)
     } else {
@@ -48,14 +50,15 @@ fn copy_downwards(
     size: Size,
     part: Part,
     copy: PictureCopy,
-    pattern: &mut [u32],
+    pattern: &[u32],
     source: &mut [u32],
 )
     requires canvas { IsCanvas size pixels.old }
     requires inside { IsInside size part }
     requires from { IsSourceInside size part copy }
     requires not_above { part.y ≤ copy.y }
-    requires pattern { length pattern.old ≡ part.w }
+    requires pattern { length pattern.now ≡ part.w }
+    requires blank { IsBlank pattern.now }
     requires source { length source.old ≡ part.w }
     ensures { IsRepainted size (in_part part) (copied_color size pixels.old part copy) pixels.old pixels.new }
 {
@@ -70,14 +73,15 @@ fn copy_upwards(
     size: Size,
     part: Part,
     copy: PictureCopy,
-    pattern: &mut [u32],
+    pattern: &[u32],
     source: &mut [u32],
 )
     requires canvas { IsCanvas size pixels.old }
     requires inside { IsInside size part }
     requires from { IsSourceInside size part copy }
     requires above { copy.y ≤ part.y }
-    requires pattern { length pattern.old ≡ part.w }
+    requires pattern { length pattern.now ≡ part.w }
+    requires blank { IsBlank pattern.now }
     requires source { length source.old ≡ part.w }
     ensures { IsRepainted size (in_part part) (copied_color size pixels.old part copy) pixels.old pixels.new }
 {
@@ -101,7 +105,7 @@ fn copy_row(
     part: Part,
     copy: PictureCopy,
     y: usize,
-    pattern: &mut [u32],
+    pattern: &[u32],
     source: &mut [u32],
 )
     requires canvas { IsCanvas size pixels.old }
@@ -109,13 +113,13 @@ fn copy_row(
     requires from { IsSourceInside size part copy }
     requires above { part.y ≤ y }
     requires below { y < part.y + part.h }
-    requires pattern { length pattern.old ≡ part.w }
+    requires pattern { length pattern.now ≡ part.w }
+    requires blank { IsBlank pattern.now }
     requires source { length source.old ≡ part.w }
     ensures { IsRepainted size (in_part (part_at part.x y part.w 1)) (copied_color size pixels.old part copy) pixels.old pixels.new }
 {
     let width = size.w as usize;
     let from = width * (copy.y + (y - part.y)) + copy.x;
-    set_pattern(pattern, None, part.x, y);
     source.copy_from_slice(&pixels[from..from + part.w]);
     let at = width * y + part.x;
     rop_row(copy.rop, pattern, source, &mut pixels[at..at + part.w]);

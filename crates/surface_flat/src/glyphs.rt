@@ -1,10 +1,12 @@
 //! Glyphs, bit by bit within what is seen of their cells.
 ghost use Rattle.std.specs.Prelude.{◌≡◌, ℕ, ◌+◌, ◌*◌, ◌/◌, ◌<◌, ◌≤◌, None, pos, ◌≤ℤ◌, negsuc, length, get_or, if◌then◌else◌};
+ghost use Rattle.std.specs.Bool.{OnTrue};
 ghost use Rattle.px_core.specs.Picture.{both, painted};
 ghost use Rattle.px_core.specs.Rectangle.{in_clip, IsPlaced};
 ghost use Rattle.rop3_core.specs.Palette.{session_colors};
 ghost use Rattle.draw_ops.specs.Fits.{clip_rule, glyph_rule};
 ghost use Rattle.draw_ops.specs.Formulas.{glyph_area, glyph_cell, solid};
+ghost use Rattle.surface_flat.specs.Operands.{IsBlank};
 ghost use Rattle.surface_flat.specs.Parts.{in_part, IsCanvas, IsInside, IsRepainted};
 ghost use Rattle.surface_flat.specs.Bits.{is_row_bit, ink_color, HasBits, IsPenNear};
 
@@ -54,6 +56,9 @@ fn draw_bit_row(row: &mut [u32], bytes: &[u8], column: usize, color: u32)
     requires few { length bytes.now ≤ 65536 }
     ensures { (k : ℕ) → k < length row.old → get_or row.new k 0 ≡ (if is_row_bit bytes.now (column + k) then color else get_or row.old k 0) }
 {
+    if is_blank(bytes) {
+        return;
+    }
     for k in 0..row.len() {
         let at = column + k;
         let byte = bytes[at / BYTE_BITS];
@@ -61,6 +66,18 @@ fn draw_bit_row(row: &mut [u32], bytes: &[u8], column: usize, color: u32)
             row[k] = color;
         }
     }
+}
+
+/// Whether no bit of some bytes is one.
+fn is_blank(bytes: &[u8]) -> bool
+    ensures { OnTrue result (IsBlank bytes.now) }
+{
+    for byte in bytes {
+        if *byte != 0 {
+            return false;
+        }
+    }
+    true
 }
 
 /// The cell of a glyph that a pen at (x, y) draws.

@@ -1,5 +1,5 @@
 use Rattle.std.proofs.Common.{◌≡◌, ℕ, ◌+◌, ◌*◌, ◌%◌, ◌<◌, get_or}
-use Rattle.surface_flat.proofs.mix.repeat_brush.Given as goal
+use Rattle.surface_flat.proofs.mix.begin_brush.Given as goal
 
 -- the places so far have the brush's colours
 abbrev pub invariant-loop-k : goal.invariant-loop-k
