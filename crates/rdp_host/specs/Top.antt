@@ -1,5 +1,5 @@
 -- What the program does, by its words.
-use Rattle.std.specs.Prelude.{◌≡◌, ℕ, List, [], ◌∷◌, ◌++◌, Bool, false, ◌&&◌, ◌==◌, length, codes, OnOk, OnErr, IfErr}
+use Rattle.std.specs.Prelude.{◌≡◌, ℕ, List, [], ◌∷◌, ◌++◌, Bool, false, ◌&&◌, ◌||◌, ◌==◌, is_some, if◌then◌else◌, length, codes, OnOk, OnErr, IfErr}
 use Rattle.std.specs.Io.KnownBytes.{Appends}
 use Rattle.std.specs.declared.option.Option.{Option}
 use Rattle.std.specs.declared.option.Option.TheVariants.{Some, None}
@@ -8,6 +8,9 @@ use Rattle.std.specs.declared.result.Result.TheVariants.{Ok, Err}
 use Rattle.edge_io.specs.Sink.{WritesFront}
 use Rattle.line_text.specs.Words.{is_same_word}
 use Rattle.host_words.specs.Words.{RequestOf, request_of}
+use Rattle.rdp_host.specs.declared.answering.Client.{Client}
+use Rattle.rdp_host.specs.Answering.{client_of}
+use Rattle.rdp_host.specs.Outside.{Outside}
 use Rattle.script_run.specs.Run.{RunsScript, ReadsCause, WritesCause}
 use Rattle.script_run.specs.Steps.{IsWriteFault}
 use Rattle.script_run.specs.declared.fault.ScriptFault.{ScriptFault}
@@ -21,6 +24,19 @@ is_script_request (Some request) = is_same_word request.mode (codes "script") &&
 -- the words ask for the mode script
 abbrev pub asks_for_script : List (List ℕ) → Bool
 asks_for_script words = is_script_request (request_of words)
+
+-- whom a request of another mode asks to serve
+abbrev pub client_of_request : Option RequestOf → Option Client
+client_of_request None = None
+client_of_request (Some request) = if is_script_request (Some request) then None else client_of request
+
+-- whom the words ask to serve, by the mode answer
+abbrev pub client_asked : List (List ℕ) → Option Client
+client_asked words = client_of_request (request_of words)
+
+-- the words ask for a mode
+abbrev pub asks_for_mode : List (List ℕ) → Bool
+asks_for_mode words = asks_for_script words || is_some (client_asked words)
 
 -- what is printed where the words ask for no mode
 abbrev pub usage : List ℕ
@@ -41,17 +57,6 @@ usage_status (Err (Line k rule)) = 3
 usage_status (Err ReadFault) = 4
 usage_status (Err WriteFault) = 5
 usage_status (Err OutOfMemory) = 6
-
--- what stands outside of the program at a moment: what the input has left and what was written, where they tell it, and how many faults
--- each of them met
-pub record Outside : Type 0 where
-  pub left : Option (List ℕ)
-  pub told : Option (List ℕ)
-  pub reads : ℕ
-  pub writes : ℕ
-
-abbrev pub outside : (left told : Option (List ℕ)) (reads writes : ℕ) → Outside
-outside left told reads writes = record { left = left; told = told; reads = reads; writes = writes }
 
 -- a script was run: 0 is its end, 3 the first line that breaks a rule, with the capture written that each viewer reads whole, and in
 -- which each mark shows the picture after exactly the journal entries that the frame's take found; 4, 5 and 6 are faults of the

@@ -1,10 +1,13 @@
-//! The session host: `rdp_host script` reads a script and writes the capture of what each viewer is sent.
+//! The session host: `rdp_host script` reads a script and writes the capture of what each viewer is sent, and `rdp_host answer W H OWNER`
+//! serves one client.
 #![tactic(auto)]
 
+mod answering;
 mod top;
 mod words;
 
 use edge_io::{FileIn, FileOut, PlanGate};
+pub use answer_run::{AnswerFault, run_answer};
 pub use script_run::{ScriptFault, run_script};
 use std::process::ExitCode;
 use top::OUT_OF_MEMORY;

@@ -146,3 +146,32 @@ fn a_word_that_is_not_text_leaves_no_words(rt: HostRuntime) -> Result<(), Fail> 
     }
     Ok(())
 }
+
+#[test]
+fn a_client_is_answered_by_its_stream(rt: HostRuntime) -> Result<(), Fail> {
+    let alloc = rt.alloc();
+    let mut words = words(alloc, "answer")?;
+    for word in ["64", "48", "ann"] {
+        words.push(String::from_str(alloc, word)?)?;
+    }
+    // the stream, what is written, and the status: an ultimatum, or nothing
+    let streams: [(&[u8], &[u8], u8); 4] = [
+        (&[3, 0, 0, 19, 14], &[], 35),
+        (&[4], &[3, 0, 0, 9, 2, 0xF0, 0x80, 0x20, 0x80], 21),
+        (&[3, 0, 0, 6], &[3, 0, 0, 9, 2, 0xF0, 0x80, 0x20, 0x80], 22),
+        (
+            &[3, 0, 0, 11, 6, 0xD0, 0, 0, 0, 0, 0],
+            &[3, 0, 0, 9, 2, 0xF0, 0x80, 0x20, 0x80],
+            23,
+        ),
+    ];
+    for (bytes, wanted, status) in streams {
+        let mut input = Bytes::new(bytes.to_vec(alloc)?, Vec::new(alloc));
+        let mut output = Keep::new(alloc);
+        let mut gate = PlanGate::new(alloc, Vec::new(alloc), Vec::new(alloc))?;
+        let answer = top(&rt, alloc, &words, &mut input, &mut output, &mut gate);
+        assert_eq!(rt; answer, status);
+        assert_eq!(rt; output.bytes(), wanted);
+    }
+    Ok(())
+}

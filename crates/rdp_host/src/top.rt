@@ -1,6 +1,11 @@
-ghost use Rattle.std.specs.Prelude.{◌≡◌, [], false, Some, map, string_bytes, IsTrue};
-ghost use Rattle.rdp_host.specs.Top.{asks_for_script, is_script_request, script_status, outside, RunsMode, WritesUsage};
+ghost use Rattle.std.specs.Prelude.{◌≡◌, [], false, Some, None, map, string_bytes, IsTrue, IfSome};
+ghost use Rattle.rdp_host.specs.declared.answering.Client.{Client};
+ghost use Rattle.rdp_host.specs.Outside.{outside};
+ghost use Rattle.rdp_host.specs.Answering.{IsServable, RunsService};
+ghost use Rattle.rdp_host.specs.Top.{asks_for_script, asks_for_mode, client_asked, is_script_request, script_status, RunsMode, WritesUsage};
 
+use crate::answering::{Client, answer_status, client_of};
+use answer_run::run_answer;
 use edge_io::{Gate, Sink, Source};
 use host_words::{OutOfMemory, Request};
 use line_text::is_same_word;
@@ -16,7 +21,7 @@ const SCRIPT: &str = "script";
 const USAGE: &[u8] = b"usage: rdp_host MODE ARGS\n";
 
 /// The exit status of a script that was done up to its end.
-const DONE: u8 = 0;
+pub(crate) const DONE: u8 = 0;
 
 /// The exit status where the words ask for no mode.
 const BAD_WORDS: u8 = 2;
@@ -25,10 +30,10 @@ const BAD_WORDS: u8 = 2;
 const BAD_LINE: u8 = 3;
 
 /// The exit status where the input couldn't be read.
-const READ_FAULT: u8 = 4;
+pub(crate) const READ_FAULT: u8 = 4;
 
 /// The exit status where the output couldn't be written.
-const WRITE_FAULT: u8 = 5;
+pub(crate) const WRITE_FAULT: u8 = 5;
 
 /// The exit status where no memory was left.
 pub(crate) const OUT_OF_MEMORY: u8 = 6;
@@ -36,7 +41,8 @@ pub(crate) const OUT_OF_MEMORY: u8 = 6;
 /// The whole program, over any input, output and gate; the answer is its exit status. The words begin with the program's name.
 ///
 /// The words are read by `clap` as one simple command with a mode and its arguments. `script` reads a script from the input and writes
-/// its capture to the output. Other words write the usage line. The gate isn't touched.
+/// its capture to the output. `answer W H OWNER` serves one client, whose bytes come from the input, and whose answer goes to the output.
+/// Other words write the usage line. The gate isn't touched.
 pub fn top<R: Threads + Wait + Sync, S: Source, K: Sink, G: Gate>(
     _rt: &R,
     alloc: Global,
@@ -53,15 +59,44 @@ pub fn top<R: Threads + Wait + Sync, S: Source, K: Sink, G: Gate>(
     ensures script { IsTrue (asks_for_script (map string_bytes words.now)) → RunsMode result
         (outside (S.left input.old) (K.told output.old) (S.faults input.old) (K.faults output.old))
         (outside (S.left input.new) (K.told output.new) (S.faults input.new) (K.faults output.new)) }
-    ensures usage { asks_for_script (map string_bytes words.now) ≡ false
+    // The answer's own clause: whatever the client's stream, what is written is its answer to the byte, in which its frames are never
+    // refused, and each mark shows the picture after exactly the journal entries that the frame's take found.
+    ensures answer { (client : Client) → client_asked (map string_bytes words.now) ≡ Some client → RunsService result client
+        (outside (S.left input.old) (K.told output.old) (S.faults input.old) (K.faults output.old))
+        (outside (S.left input.new) (K.told output.new) (S.faults input.new) (K.faults output.new)) }
+    ensures usage { asks_for_mode (map string_bytes words.now) ≡ false
         → WritesUsage result (K.told output.old) (K.told output.new) (K.faults output.old) (K.faults output.new) }
-    ensures input { asks_for_script (map string_bytes words.now) ≡ false → input.new ≡ input.old }
+    ensures input { asks_for_mode (map string_bytes words.now) ≡ false → input.new ≡ input.old }
     ensures gate { gate.new ≡ gate.old }
 {
     match Request::read(alloc, words) {
         Ok(Some(request)) if is_script(&request) => status(run_script(alloc, input, output)),
-        Ok(_) => refuse_words(output),
+        Ok(Some(request)) => serve(alloc, client_of(&request), input, output),
+        Ok(None) => refuse_words(output),
         Err(OutOfMemory) => OUT_OF_MEMORY,
+    }
+}
+
+/// Serves a client, where there is one; else the words ask for no mode.
+fn serve<S: Source, K: Sink>(
+    alloc: Global,
+    client: Option<Client>,
+    input: &mut S,
+    output: &mut K,
+) -> u8
+    requires { IfSome client IsServable }
+    ensures answer { IfSome client (λ client. RunsService result client
+        (outside (S.left input.old) (K.told output.old) (S.faults input.old) (K.faults output.old))
+        (outside (S.left input.new) (K.told output.new) (S.faults input.new) (K.faults output.new))) }
+    ensures usage { client ≡ None → WritesUsage result (K.told output.old) (K.told output.new) (K.faults output.old) (K.faults output.new) }
+    ensures input { client ≡ None → input.new ≡ input.old }
+{
+    match client {
+        Some(client) => {
+            let answer = run_answer(alloc, client.size, &client.owner, input, output);
+            answer_status(answer)
+        }
+        None => refuse_words(output),
     }
 }
 
