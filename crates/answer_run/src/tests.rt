@@ -86,17 +86,28 @@ const REFUSED: [u8; 9] = [3, 0, 0, 9, 2, 0xF0, 0x80, 0x20, 0x80];
 
 const ASKED_FOR: [u8; 9] = [3, 0, 0, 9, 2, 0xF0, 0x80, 0x21, 0x80];
 
-/// Serves the owner `ann` with these bytes in pieces of one size, and says how that ends and whether just these texts were written.
+/// Shutdown Request, and the client's own ultimatum with bytes behind it.
+const SHUTDOWN: [u8; 32] = [
+    3, 0, 0, 32, 2, 240, 128, 100, 0, 6, 3, 235, 112, 18, 18, 0, 23, 0, 239, 3, 234, 3, 1, 0, 0, 1,
+    4, 0, 36, 0, 0, 0,
+];
+
+const BYE: [u8; 12] = [3, 0, 0, 9, 2, 0xF0, 0x80, 0x21, 0x80, 4, 4, 4];
+
+/// Serves an owner with these bytes in pieces of one size, and says how that ends and whether just these texts were written.
 fn serve(
     alloc: Global,
-    bytes: &[u8],
+    owner: &Name,
+    bytes: [&[u8]; 2],
     piece: usize,
     texts: [&[u8]; 3],
 ) -> Result<(Result<(), AnswerFault>, bool), Fail> {
-    let pieces = vec![in alloc; piece; bytes.len()]?;
-    let mut input = PlanSource::new(bytes.to_vec(alloc)?, pieces, Vec::new(alloc));
+    let mut stream = bytes[0].to_vec(alloc)?;
+    stream.extend_from_slice(bytes[1])?;
+    let pieces = vec![in alloc; piece; stream.len()]?;
+    let mut input = PlanSource::new(stream, pieces, Vec::new(alloc));
     let mut output = PlanSink::new(alloc, Vec::new(alloc));
-    let answer = run_answer(alloc, SIZE, &Name::new(b"ann"), &mut input, &mut output);
+    let answer = run_answer(alloc, SIZE, owner, &mut input, &mut output);
     let mut wanted = Vec::new(alloc);
     for text in texts {
         wanted.extend_from_slice(text)?;
@@ -104,10 +115,17 @@ fn serve(
     Ok((answer, output.bytes() == wanted.as_slice()))
 }
 
+/// The answer of a stream that is refused.
+fn refused(k: u8, at: u64) -> Result<(), AnswerFault> {
+    Err(AnswerFault::Refused { k, at })
+}
+
 #[test]
 fn the_sample_client_is_shown_the_picture(rt: HostRuntime) -> Result<(), Fail> {
+    let ann = Name::new(b"ann");
     for piece in [1, 7, 904] {
-        let (answer, same) = serve(rt.alloc(), &SAMPLE, piece, [&REPLIES, &BLACK, &[]])?;
+        let texts: [&[u8]; 3] = [&REPLIES, &BLACK, &[]];
+        let (answer, same) = serve(rt.alloc(), &ann, [&SAMPLE, &[]], piece, texts)?;
         assert_eq!(rt; answer, Ok(()));
         assert!(rt; same);
     }
@@ -116,30 +134,70 @@ fn the_sample_client_is_shown_the_picture(rt: HostRuntime) -> Result<(), Fail> {
 
 #[test]
 fn services_end_as_their_streams_do(rt: HostRuntime) -> Result<(), Fail> {
-    let refused = |k, at| Err(AnswerFault::Refused { k, at });
+    let ann = Name::new(b"ann");
+    let truncated = Err(AnswerFault::Truncated);
     let mut deep = SAMPLE;
     deep[295] = 8;
     deep[297] = 8;
     // the stream, how it ends, and what is written
-    let streams: [(&[u8], Result<(), AnswerFault>, [&[u8]; 3]); 5] = [
+    let streams: [([&[u8]; 2], Result<(), AnswerFault>, [&[u8]; 3]); 8] = [
         (
-            &SAMPLE[..903],
-            Err(AnswerFault::Truncated),
+            [&SAMPLE[..903], &[]],
+            truncated,
             [&REPLIES[..666], &[], &[]],
         ),
+        ([&SAMPLE, &BYE[..5]], truncated, [&REPLIES, &BLACK, &[]]),
+        ([&SAMPLE, &BYE], Ok(()), [&REPLIES, &BLACK, &[]]),
+        ([&SAMPLE, &SHUTDOWN], Ok(()), [&REPLIES, &BLACK, &ASKED_FOR]),
         (
-            &[3, 0, 0, 19, 14],
-            Err(AnswerFault::Truncated),
-            [&[], &[], &[]],
+            [&SAMPLE, &[4]],
+            refused(1, 904),
+            [&REPLIES, &BLACK, &REFUSED],
         ),
-        (&[4], refused(1, 0), [&[], &[], &REFUSED]),
-        (&[3, 0, 0, 6], refused(2, 2), [&[], &[], &REFUSED]),
-        (&deep, refused(8, 155), [&REPLIES[..19], &[], &REFUSED]),
+        ([&[4], &[]], refused(1, 0), [&[], &[], &REFUSED]),
+        ([&[3, 0, 0, 6], &[]], refused(2, 2), [&[], &[], &REFUSED]),
+        (
+            [&deep, &[]],
+            refused(8, 155),
+            [&REPLIES[..19], &[], &REFUSED],
+        ),
     ];
     for (bytes, wanted, texts) in streams {
-        let (answer, same) = serve(rt.alloc(), bytes, 64, texts)?;
+        let (answer, same) = serve(rt.alloc(), &ann, bytes, 64, texts)?;
         assert_eq!(rt; answer, wanted);
         assert!(rt; same);
+    }
+    let texts: [&[u8]; 3] = [&REPLIES, &[], &REFUSED];
+    let bob = Name::new(b"bob");
+    let (answer, same) = serve(rt.alloc(), &bob, [&SAMPLE, &[4]], 64, texts)?;
+    assert_eq!(rt; answer, Err(AnswerFault::NotInvited));
+    assert!(rt; same);
+    Ok(())
+}
+
+#[test]
+fn each_read_and_each_write_may_fail(rt: HostRuntime) -> Result<(), Fail> {
+    // four reads, the last of which finds the end, and the writes of their replies and of a frame
+    for n in 1..=6 {
+        for reads in [true, false] {
+            let mut fails = Vec::new(rt.alloc());
+            fails.push(n)?;
+            let mut others = Vec::new(rt.alloc());
+            if !reads {
+                std::mem::swap(&mut fails, &mut others);
+            }
+            let pieces = vec![in rt.alloc(); 400; 9]?;
+            let mut input = PlanSource::new(SAMPLE.to_vec(rt.alloc())?, pieces, fails);
+            let mut output = PlanSink::new(rt.alloc(), others);
+            let owner = Name::new(b"ann");
+            let answer = run_answer(rt.alloc(), SIZE, &owner, &mut input, &mut output);
+            let wanted = match (reads, n) {
+                (true, 1..=4) => Err(AnswerFault::ReadFault),
+                (false, 1..=4) => Err(AnswerFault::WriteFault),
+                _ => Ok(()),
+            };
+            assert_eq!(rt; answer, wanted);
+        }
     }
     Ok(())
 }
