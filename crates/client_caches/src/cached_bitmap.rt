@@ -76,12 +76,6 @@ pub(crate) fn image_of(
     requires { is_cached_bitmap b.now ≡ true }
     ensures { Gives (λ image. image) result (kept_image b.now.packed b.now.w b.now.h bytes.now) }
 {
-    let pixels = upright_pixels(
-        alloc,
-        b.packed,
-        usize::from(b.w),
-        usize::from(b.h),
-        bytes,
-    )?;
+    let pixels = upright_pixels(alloc, b.packed, usize::from(b.w), usize::from(b.h), bytes)?;
     Ok(KeptImage::new(u16::from(b.w), u16::from(b.h), pixels))
 }

@@ -1,15 +1,17 @@
 //! The caches of a client.
 
-ghost use Rattle.std.specs.Prelude.{◌≡◌, ◌<◌, map, length, IfOk, OnErr, option_copied};
+ghost use Rattle.std.specs.Prelude.{◌≡◌, ◌<◌, [], map, length, IfOk, IsTrue, OnErr, option_copied};
+ghost use Rattle.px_core.specs.Picture.{item};
+ghost use Rattle.px_core.specs.Rectangle.{is_inside};
 ghost use Rattle.draw_ops.specs.Slots.{lookup};
 ghost use Rattle.order_means.specs.ClientState.{ClientState, empty_cache, cached, with_cached, image_used, glyph_used, brush_used, client_after_bitmap, client_after_glyph};
 ghost use Rattle.client_caches.specs.Answers.{Gives};
 ghost use Rattle.client_caches.specs.Caches.{first_caches, with_caches, Stores};
 ghost use Rattle.client_caches.specs.Stored.{bitmap_order, glyph_order, client_after_upright_brush};
 
+use crate::cached_bitmap::{CachedBitmap, image_of, is_cached_bitmap};
 use crate::glyph_cache::GlyphCache;
 use crate::image_cache::ImageCache;
-use crate::cached_bitmap::{CachedBitmap, image_of, is_cached_bitmap};
 use crate::sizes::{brush_entries, holds, size_of, used};
 use crate::slots::{no_slots, set_slot};
 use crate::{KeptImage, ObeyFault};
@@ -156,7 +158,8 @@ impl ClientCaches {
         index: u16,
         source: Rect,
     ) -> Result<&KeptImage, ObeyFault>
-        ensures { (c : ClientState) → Gives (λ image. image.now) result (image_used confirmed.now (with_caches c self.now) cache index source) }
+        ensures used { (c : ClientState) → Gives (λ image. image.now) result (image_used confirmed.now (with_caches c self.now) cache index source) }
+        ensures inside { IfOk result (λ image. IsTrue (is_inside (record { w = image.now.w; h = image.now.h }) source)) }
     {
         if BITMAP_CACHES <= cache {
             return Err(ObeyFault::Broken);
@@ -185,11 +188,12 @@ impl ClientCaches {
         used(FIRST_GLYPH_CACHE + cache, size.entries, index, held)
     }
 
-    /// The glyph at an index of a cache.
-    pub fn glyph(&self, cache: u8, index: u16) -> Option<&Glyph>
-        ensures { option_copied result ≡ cached cache index self.now.glyphs }
+    /// What a glyph cache holds, by index.
+    pub fn glyph_slots(&self, cache: u8) -> &[Option<Glyph>]
+        requires { cache < 10 }
+        ensures { result.now ≡ item self.now.glyphs cache [] }
     {
-        glyph_in(&self.glyphs, usize::from(cache), usize::from(index))
+        self.glyphs[usize::from(cache)].slots()
     }
 
     /// The brush that an order uses.
@@ -276,4 +280,3 @@ fn glyph_caches(alloc: Global, sizes: &[CacheSize]) -> Result<Vec<GlyphCache>, O
     }
     Ok(caches)
 }
-

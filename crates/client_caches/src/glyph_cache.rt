@@ -44,4 +44,11 @@ impl GlyphCache {
     {
         self.slots.get(index)?.as_ref()
     }
+
+    /// What each index holds.
+    pub(crate) fn slots(&self) -> &[Option<Glyph>]
+        ensures { result.now ≡ self.now }
+    {
+        self.slots.as_slice()
+    }
 }

@@ -11,15 +11,9 @@ pub enum ObeyFault {
     /// It breaks a rule.
     Broken,
     /// It names an index, or has a cell, past the confirmed size of a cache.
-    Oversized {
-        cache: u8,
-        index: u16,
-    },
+    Oversized { cache: u8, index: u16 },
     /// It uses an index of a cache that holds nothing.
-    Empty {
-        cache: u8,
-        index: u16,
-    },
+    Empty { cache: u8, index: u16 },
     /// No memory was left.
     OutOfMemory,
 }

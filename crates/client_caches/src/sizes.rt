@@ -43,7 +43,7 @@ pub fn brush_entries(confirmed: bool) -> u16
 
 /// What an entry holds that an order uses.
 pub fn used<T>(cache: u8, entries: u16, index: u16, held: Option<&T>) -> Result<&T, ObeyFault>
-    ensures { Gives (λ x. x.now) result (used cache entries index (option_copied held)) }
+    ensures { Gives (λ x. x.now) result (used cache entries index (option_copied held.entry)) }
 {
     if entries <= index {
         return Err(ObeyFault::Oversized { cache, index });

@@ -1,6 +1,6 @@
 //! Pixels as they go over the wire: rows from the bottom up, three bytes a pixel or packed.
 
-ghost use Rattle.std.specs.Prelude.{◌≡◌, ◌≤◌, ◌*◌, false, true, length, IfOk};
+ghost use Rattle.std.specs.Prelude.{◌≡◌, ◌≤◌, ◌*◌, ℕ, false, true, length, IfOk};
 ghost use Rattle.order_means.specs.ClientState.{wire_pixels};
 ghost use Rattle.client_caches.specs.Answers.{Gives};
 ghost use Rattle.client_caches.specs.Caches.{upright_pixels};
