@@ -1,8 +1,8 @@
 -- An order's fields, kept in registers, stand there with values that their type can hold.
-use Rattle.std.proofs.Common.{◌≡◌, ℕ, ℤ, Bool, true, false, List, [], ◌∷◌, refl, ap, ◌∙◌, sym, subst, Some, None, arith}
-use Rattle.std.specs.Prelude.{Option, ◌==◌}
+use Rattle.std.proofs.Common.{◌≡◌, ◌≤◌, ℕ, ℤ, length, Bool, true, false, List, [], ◌∷◌, refl, ap, ◌∙◌, sym, subst, Some, None, arith}
+use Rattle.std.specs.Prelude.{Option, IfSome, ◌==◌}
 use Rattle.std.proofs.lemmas.Bool.Decides.{nat_tests}
-use Rattle.order_fields.specs.OrderTable.{Row, row_in, row_of, table, chosen_row, FieldList, Values, FitRow, FitKinds, AreLasts, AreRegisters, Registers, registers_after, lasts_after, chosen_fields, values_in, last_values, chosen_values}
+use Rattle.order_fields.specs.OrderTable.{Row, row_in, row_of, table, chosen_row, FieldList, Values, FitRow, FitKinds, BytesFit, AreLasts, AreRegisters, Registers, registers_after, lasts_after, chosen_fields, values_in, last_values, chosen_values}
 use Rattle.order_fields.specs.NamedDrawing.{drawing_of, drawing_of_values, drawing_in_row}
 
 -- the values of an order are those of its type, and fit the type's row
@@ -50,3 +50,16 @@ pub kind_draws : (old now : Registers) (o : FieldList) (kind code : ℕ) (r : Ro
 kind_draws old now o kind code r values are after is that row e =
     ap (λ (zs : List ℤ). drawing_of_values r.name zs o.values.bytes) (values_are old now o kind code r values are after is that row e)
     ∙ ap (λ (found : Option Row). drawing_in_row found o.values) (sym (ap row_of (sym is ∙ that) ∙ row))
+
+short_by : (counted : Bool) (bytes : List ℕ) → BytesFit counted bytes → length bytes ≤ 255
+short_by true bytes h = omega (arith, h)
+short_by false bytes h = let e : length bytes ≡ 0 = ap (λ (bs : List ℕ). length bs) h in omega (arith, e)
+
+some_or_none : {A : Type 0} (x : Option A) (P : Type 0) → P → IfSome x (λ _. P)
+some_or_none None P p = tt
+some_or_none (Some x) P p = p
+
+-- its counted bytes are few, whatever is said of it
+pub kind_short : {A : Type 0} (x : Option A) (old now : Registers) (o : FieldList) (kind code : ℕ) (r : Row) → AreRegisters now → now ≡ registers_after old o None → kind ≡ o.code → kind ≡ code → row_of code ≡ Some r
+    → IfSome x (λ _. length o.values.bytes ≤ 255)
+kind_short x old now o kind code r are after is that row = some_or_none x (length o.values.bytes ≤ 255) (short_by r.counted o.values.bytes (kept old now o kind code r are after is that row).0.bytes)

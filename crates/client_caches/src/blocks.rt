@@ -1,6 +1,6 @@
 //! The saved blocks of a client ([MS-RDPEGDI] 2.2.2.2.1.1.2.12).
 
-ghost use Rattle.std.specs.Prelude.{◌≡◌, ◌∷◌, [], ◌+◌, ◌*◌, nat_le, length, OnOk, option_copied};
+ghost use Rattle.std.specs.Prelude.{◌≡◌, ◌∷◌, [], ◌+◌, ◌*◌, nat_le, length, IfSome, OnOk, option_copied};
 ghost use Rattle.order_means.specs.ClientState.{positions, are_apart, apart_from, block_at};
 ghost use Rattle.client_caches.specs.Blocks.{is_that, capped};
 
@@ -120,7 +120,8 @@ impl ClientBlocks {
 
     /// The block of just this position and these sides.
     pub fn at(&self, position: u32, w: u32, h: u32) -> Option<&KeptBlock>
-        ensures { option_copied result ≡ block_at position w h self.now }
+        ensures block { option_copied result ≡ block_at position w h self.now }
+        ensures sides { IfSome result (λ block. (block.now.w ≡ w) × (block.now.h ≡ h)) }
     {
         for block in &self.blocks {
             if block.is_that(position, w, h) {

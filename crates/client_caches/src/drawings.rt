@@ -1,6 +1,6 @@
 //! The drawing that a primary order's fields say ([MS-RDPEGDI] 2.2.2.2.1.1.2).
 
-ghost use Rattle.std.specs.Prelude.{◌≡◌, ℕ, List, true};
+ghost use Rattle.std.specs.Prelude.{◌≡◌, ◌≤◌, ℕ, List, IfSome, length};
 ghost use Rattle.order_fields.specs.OrderTable.{FitKinds, dst_blt, pat_blt, scr_blt, opaque_rect, save_bitmap, mem_blt, mem3_blt, glyph_index};
 ghost use Rattle.order_fields.specs.OrderTable.OrderName.{DstBlt, PatBlt, ScrBlt, OpaqueRect, SaveBitmap, MemBlt, Mem3Blt, GlyphIndex};
 ghost use Rattle.order_fields.specs.NamedDrawing.{drawing_of, drawing_of_values};
@@ -38,7 +38,8 @@ const RESTORE: u8 = 1;
 ///
 /// `spare` is overwritten.
 pub fn drawing_of(fields: &Fields, spare: &mut Regs) -> Option<Named>
-    ensures { optional_drawing fields.now.values.bytes result ≡ drawing_of fields.now }
+    ensures drawing { optional_drawing fields.now.values.bytes result ≡ drawing_of fields.now }
+    ensures short { IfSome result (λ _. length fields.now.values.bytes ≤ 255) }
 {
     let kind = fields.kind();
     spare.keep(fields, None);

@@ -1,0 +1,3 @@
+pub mod ToldMeaning
+pub mod Restored
+pub mod Drawn
