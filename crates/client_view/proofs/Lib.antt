@@ -1,3 +1,4 @@
 pub mod ToldMeaning
 pub mod Restored
 pub mod Drawn
+pub mod Obeyed
