@@ -2,10 +2,10 @@
 use Rattle.std.specs.Prelude.{◌≡◌, ℕ, ◌*◌, IsTrue, List, length, replicate, Option, Some, None}
 use Rattle.px_core.specs.declared.surface.Size.{Size}
 use Rattle.px_core.specs.declared.rectangle.Rect.{Rect}
-use Rattle.px_core.specs.Picture.{pixel_count, rows_of, Area, painted}
+use Rattle.px_core.specs.Picture.{pixel_count, rows_of, Area, both, painted}
 use Rattle.px_core.specs.Rectangle.{is_inside, in_clip}
 use Rattle.rop3_core.specs.Palette.{client_colors}
-use Rattle.draw_ops.specs.Formulas.{Operand, absent, brushed, imaged, Painting, picture_after}
+use Rattle.draw_ops.specs.Formulas.{Operand, solid, absent, brushed, imaged, Painting, picture_after}
 use Rattle.order_means.specs.ClientState.{source_rect}
 use Rattle.client_picture.specs.declared.source.Source.{Source}
 
@@ -25,6 +25,10 @@ first_pictures size = record { size = size; picture = unknown_picture size; mark
 -- the pictures after a painting within a clip
 abbrev pub painted_within : Option Rect → Painting (Option ℕ) → Pictures → Pictures
 painted_within clip p s = record s { picture = picture_after s.size (in_clip clip) p s.picture }
+
+-- the pictures after an area within a clip was drawn in one colour
+abbrev pub drawn_within : Option Rect → Area → ℕ → Pictures → Pictures
+drawn_within clip area color s = record s { picture = painted s.size (both (in_clip clip) area) (solid client_colors color) s.picture }
 
 -- the pictures after a mark
 abbrev pub marked_now : Pictures → Pictures
