@@ -37,7 +37,7 @@ no_pattern confirmed size clip r code entry c f e = ap (with_brush size clip r c
 pub source_same : (r : Rect) (image : ImageOf) (sx sy : ℤ) (s : Source) → IsSourceOf image sx sy s → ◌≡◌ {A = Operand (Option ℕ)} (imaged client_colors (image_rows image) r sx sy) (source_operand r (Some s))
 source_same r image sx sy s is =
     let rows : image_rows image ≡ source_rows s =
-        ap (λ (n : ℕ). rows_of n image.h image.pixels) (sym is.w) ∙ ap₂ (λ (n : ℕ) (xs : List ℕ). rows_of s.w n xs) (sym is.h) (sym is.pixels) in
+    ap (λ (n : ℕ). rows_of n image.h image.pixels) (sym is.w) ∙ ap₂ (λ (n : ℕ) (xs : List ℕ). rows_of s.w n xs) (sym is.h) (sym is.pixels) in
     ap (λ (rs : List (List ℕ)). imaged client_colors rs r sx sy) rows ∙ ap₂ (λ (a b : ℤ). imaged client_colors (source_rows s) r a b) (sym is.sx_is) (sym is.sy_is)
 
 abbrev with_image : Size → Option Rect → Rect → ℕ → ℤ → ℤ → ClientState → Result ImageOf Fault → Result ClientState Fault

@@ -106,8 +106,7 @@ one_body confirmed size v u body b e =
 pub reads_more : (confirmed : Confirmed) (size : Size) (r : ClientReading) (b : ℕ) (m : Viewer) (old new : CutterOf) → StandFor r m old → Gives (by_byte r b) new → step_by new.state new.start ≡ More
     → Reads (Ok tt) (read_on confirmed size r (b ∷ [])) m new
 reads_more confirmed size r b m old new s g e =
-    let more = gives_more (by_byte r b) new e g in
-    (
+    let more = gives_more (by_byte r b) new e g in (
       reading r.view (by_byte r b).next,
       one_byte confirmed size r b ∙ no_body confirmed size r.view (by_byte r b) None more.0 more.1,
       record { view = s.view; cut = g.1; unrefused = more.1 },
@@ -122,12 +121,11 @@ reads_refusal confirmed size r b at new g e =
 
 body_by_result : (result : Result (Unit {0}) ClientFault) (confirmed : Confirmed) (size : Size) (r : ClientReading) (b : ℕ) (body : Body) (m : Viewer) (new : CutterOf) → (by_byte r b).bodies ≡ body ∷ [] → refusal_in (by_byte r b).next.stage ≡ None
     → Stands (by_byte r b).next new → Shows result (view_after_body confirmed size r.view body) m → Reads result (read_on confirmed size r (b ∷ [])) m new
-body_by_result (Ok done) confirmed size r b body m new bodies unrefused cut shown =
-    (
-      reading shown.0 (by_byte r b).next,
-      one_byte confirmed size r b ∙ one_body confirmed size r.view (by_byte r b) body bodies unrefused ∙ ap (λ (x : Result View Refusal). bind x (λ w. Ok (reading w (by_byte r b).next))) shown.1,
-      record { view = shown.2; cut = cut; unrefused = unrefused },
-    )
+body_by_result (Ok done) confirmed size r b body m new bodies unrefused cut shown = (
+  reading shown.0 (by_byte r b).next,
+  one_byte confirmed size r b ∙ one_body confirmed size r.view (by_byte r b) body bodies unrefused ∙ ap (λ (x : Result View Refusal). bind x (λ w. Ok (reading w (by_byte r b).next))) shown.1,
+  record { view = shown.2; cut = cut; unrefused = unrefused },
+)
 body_by_result (Err f) confirmed size r b body m new bodies unrefused cut shown =
     refuses_through f (view_after_body confirmed size r.view body) (read_on confirmed size r (b ∷ [])) (λ g e.
     one_byte confirmed size r b ∙ one_body confirmed size r.view (by_byte r b) body bodies unrefused ∙ ap (λ (x : Result View Refusal). bind x (λ w. Ok (reading w (by_byte r b).next))) e) shown
@@ -168,9 +166,8 @@ one_byte_refused f confirmed size whole b bs left m k l e r =
     l.same ∙ ap (read_on confirmed size l.here) e ∙ read_joined confirmed size l.here (b ∷ []) bs ∙ ap (λ (x : Result ClientReading Refusal). bind x (λ s. read_on confirmed size s bs)) h) r
 
 pub no_byte_left : (confirmed : Confirmed) (size : Size) (whole : Result ClientReading Refusal) (left : List ℕ) (m : Viewer) (k : CutterOf) → LeftBytes confirmed size whole left m k → left ≡ [] → Reads (Ok tt) whole m k
-no_byte_left confirmed size whole left m k l e =
-    (
-      l.here,
-      l.same ∙ ap (read_on confirmed size l.here) e ∙ ap (λ (o : Option ℕ). unless_refused_at o (reading l.here.view l.here.cut)) l.stand.unrefused,
-      l.stand,
-    )
+no_byte_left confirmed size whole left m k l e = (
+  l.here,
+  l.same ∙ ap (read_on confirmed size l.here) e ∙ ap (λ (o : Option ℕ). unless_refused_at o (reading l.here.view l.here.cut)) l.stand.unrefused,
+  l.stand,
+)

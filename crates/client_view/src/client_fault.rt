@@ -4,7 +4,9 @@
 #[derive(Clone, Copy, Debug, PartialEq, Eq)]
 pub enum ClientFault {
     /// A field breaks its rule, or what an order or a rectangle says can't be done.
-    Refused { at: u64 },
+    Refused {
+        at: u64,
+    },
     /// An order names an entry of a cache that holds nothing or, where `oversized`, an index or a cell past the confirmed size. The caches are numbered 0 to 2 (bitmaps), 3 to 12 (glyphs) and 13 (brushes).
     Named {
         at: u64,

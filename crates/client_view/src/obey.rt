@@ -25,11 +25,7 @@ pub(crate) fn mark(viewer: &mut Viewer)
 }
 
 /// Obeys a primary order and counts it.
-fn obey_drawing(
-    viewer: &mut Viewer,
-    fields: &Fields,
-    bounds: Option<Rect>,
-) -> Result<(), ObeyFault>
+fn obey_drawing(viewer: &mut Viewer, fields: &Fields, bounds: Option<Rect>) -> Result<(), ObeyFault>
     ensures obeyed { (v : View) → StandsFor v viewer.old → Obeys result (view_after_told viewer.old.confirmed viewer.old.pictures.size v (Drawn fields.now bounds)) viewer.new }
     ensures same { SameViewer viewer.old viewer.new }
 {
@@ -50,12 +46,7 @@ fn obey_drawing(
 }
 
 /// Obeys what is told of an order; its ranges are those of the body.
-fn obey(
-    viewer: &mut Viewer,
-    alloc: Global,
-    body: &[u8],
-    read: &Read,
-) -> Result<(), ObeyFault>
+fn obey(viewer: &mut Viewer, alloc: Global, body: &[u8], read: &Read) -> Result<(), ObeyFault>
     ensures obeyed { (v : View) → StandsFor v viewer.old → Obeys result (view_after_told viewer.old.confirmed viewer.old.pictures.size v (told_read body.now read.now)) viewer.new }
     ensures same { SameViewer viewer.old viewer.new }
 {

@@ -24,7 +24,8 @@ pub(crate) fn save(
 ) -> Result<(), ObeyFault>
     ensures { (confirmed : Confirmed) (bounds : Option Rect) (caches : CachesOf) → Draws result (λ c. client_after_clipped confirmed pictures.now.size bounds c (SaveBlock position rect)) caches blocks.old blocks.new pictures.now pictures.now }
 {
-    if !is_inside(pictures.size(), rect) || !ends_before(position, rect.w, rect.h, BLOCK_POSITIONS)
+    if !is_inside(pictures.size(), rect)
+        || !ends_before(position, rect.w, rect.h, BLOCK_POSITIONS)
     {
         return Err(ObeyFault::Broken);
     }

@@ -54,12 +54,7 @@ fn is_packed(flags: u16) -> Option<bool>
 }
 
 /// Writes a rectangle's bitmap, whose bytes are those of the body, and counts it.
-fn obey_tile(
-    viewer: &mut Viewer,
-    alloc: Global,
-    body: &[u8],
-    t: &Tile,
-) -> Result<(), ObeyFault>
+fn obey_tile(viewer: &mut Viewer, alloc: Global, body: &[u8], t: &Tile) -> Result<(), ObeyFault>
     ensures obeyed { (v : View) → StandsFor v viewer.old → Obeys result (view_after_tile viewer.old.pictures.size v (told_tile body.now t.now)) viewer.new }
     ensures same { SameViewer viewer.old viewer.new }
 {

@@ -24,7 +24,7 @@ returns-in_err-image-clause-drawn c = λ blocks registers.
     let m : to_z w32 (of_z w32 c.args.sy) ≡ c.args.sy = search rules in
     let place : c.source_rect.result ≡ source_rect c.args.rect c.args.sx c.args.sy = rw (n, m) at c.source_rect.ensures in
     rw (p.1, p.2) (refused_by c.in_err-image.field-0.0 (image_used c.args.confirmed.now s c.args.cache c.args.index c.source_rect.result) (client_after_clipped c.args.confirmed.now c.args.pictures.now.size c.args.bounds s (Mem c.args.cache c.args.index c.args.rect c.args.rop c.args.sx c.args.sy))
-        (λ g e. no_image c.args.confirmed.now c.args.pictures.now.size c.args.bounds c.args.cache c.args.index c.args.rect c.args.rop c.args.sx c.args.sy s g (ap (λ (r : Rect). image_used c.args.confirmed.now s c.args.cache c.args.index r) (sym place) ∙ e)) (c.in_err-image.ensures.used s))
+    (λ g e. no_image c.args.confirmed.now c.args.pictures.now.size c.args.bounds c.args.cache c.args.index c.args.rect c.args.rop c.args.sx c.args.sy s g (ap (λ (r : Rect). image_used c.args.confirmed.now s c.args.cache c.args.index r) (sym place) ∙ e)) (c.in_err-image.ensures.used s))
 
 pub returns-clause-drawn : goal.returns-clause-drawn
 returns-clause-drawn c = λ blocks registers.

@@ -20,7 +20,7 @@ returns-in_err-brush-clause-drawn c = λ blocks registers.
     let s : ClientState = client_of registers c.args.caches.now blocks c.args.pictures.now in
     let p = err_from_is_err_and c.from_residual.result c.from_residual.ensures.1 in
     rw (p.1, p.2) (refused_by c.in_err-brush.field-0.0 (brush_used c.args.confirmed.now s c.args.entry) (client_after_clipped c.args.confirmed.now c.args.pictures.now.size c.args.bounds s (Pat c.args.rect c.args.rop c.args.entry))
-        (λ g e. no_pattern c.args.confirmed.now c.args.pictures.now.size c.args.bounds c.args.rect c.args.rop c.args.entry s g e) (c.in_err-brush.ensures s))
+    (λ g e. no_pattern c.args.confirmed.now c.args.pictures.now.size c.args.bounds c.args.rect c.args.rop c.args.entry s g e) (c.in_err-brush.ensures s))
 
 pub returns-clause-drawn : goal.returns-clause-drawn
 returns-clause-drawn c = λ blocks registers.

@@ -22,7 +22,7 @@ returns-in_err-check_run-clause-drawn c = λ blocks registers.
     let p = err_from_is_err_and c.from_residual.result c.from_residual.ensures.1 in
     let few : nat_lt c.args.cache 10 ≡ true = grind (arith, nat_tests) in
     rw (p.1, p.2) (refused_by c.in_err-check_run.field-0.0 (run_used (glyph_used c.args.confirmed.now s c.args.cache) (pairs_of c.args.run.now)) (client_after_clipped c.args.confirmed.now c.args.pictures.now.size c.args.bounds s (Glyphs c.args.cache c.args.x c.args.y c.args.color c.args.run.now))
-        (λ g e. no_run c.args.confirmed.now c.args.pictures.now.size c.args.bounds c.args.cache c.args.x c.args.y c.args.color c.args.run.now s g few e) (c.in_err-check_run.ensures s))
+    (λ g e. no_run c.args.confirmed.now c.args.pictures.now.size c.args.bounds c.args.cache c.args.x c.args.y c.args.color c.args.run.now s g few e) (c.in_err-check_run.ensures s))
 
 pub returns-clause-drawn : goal.returns-clause-drawn
 returns-clause-drawn c = λ blocks registers.

@@ -14,5 +14,5 @@ pub returns-in-Some-clause-drawn : goal.returns-in-Some-clause-drawn
 returns-in-Some-clause-drawn c = λ confirmed caches registers.
     let inside : is_inside c.args.pictures.now.size c.args.rect ≡ true = grind arith in
     restored confirmed c.args.pictures.now.size c.args.bounds c.args.position c.args.rect (client_of registers caches c.args.blocks.now c.args.pictures.now) c.in-Some.block.now c.pixels.result.now
-        inside (sym c.in-Some.ensures.block) c.in-Some.ensures.sides.0 c.in-Some.ensures.sides.1 c.pixels.ensures.value
+    inside (sym c.in-Some.ensures.block) c.in-Some.ensures.sides.0 c.in-Some.ensures.sides.1 c.pixels.ensures.value
     ∙ ap (λ (p : Pictures). Ok (client_of registers caches c.args.blocks.now p)) (sym c.restore.ensures)

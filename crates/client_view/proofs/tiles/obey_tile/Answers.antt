@@ -17,8 +17,7 @@ returns-clause-obeyed c = λ v s.
     let test : is_tile m.pictures.size (bare_tile c.args.t.now) ≡ true = grind arith in
     let flags : is_packed_tile c.args.t.now.flags ≡ Some c.in-Some.packed = grind arith in
     let read : upright_pixels c.in-Some.packed c.args.t.now.w c.args.t.now.h (part_of c.args.body.now c.args.t.now.at) ≡ Ok pixels = rw (c.from-w.ensures, c.from-h.ensures, c.part.ensures) at c.in_ok-pixels.ensures.value in
-    let new : c.write.new.self ≡ painted_within None (showing t pixels) m.pictures = rw (c.tile_rect-rect.ensures, c.deref.ensures.value) at c.write.ensures in
-    (
+    let new : c.write.new.self ≡ painted_within None (showing t pixels) m.pictures = rw (c.tile_rect-rect.ensures, c.deref.ensures.value) at c.write.ensures in (
       view_tiled m.pictures.size v t pixels,
       tile_shown m.pictures.size v t c.in-Some.packed pixels test flags read,
       tile_stands v m t pixels c.write.new.self c.saturating_add-viewer.result s new (one_more v.tiles m.tiles c.saturating_add-viewer.result s.tiles c.saturating_add-viewer.ensures),

@@ -24,5 +24,5 @@ returns-in-Ok-clause-shown c = λ v place s at.
     let here : v.client.registers ≡ m.regs = ap (λ (x : ClientState). x.registers) s.client in
     let shown = stream_shown m.confirmed m.pictures.size place c.args.body.now v stream regs ts read.0 read.2 told in
     let moved = ap (λ (x : Registers). view_after_stream m.confirmed m.pictures.size (body_at place c.args.body.now) v (orders_in (drop c.args.from c.args.body.now) c.args.count x)) here
-        ∙ ap (λ (bs : List ℕ). view_after_stream m.confirmed m.pictures.size (body_at place c.args.body.now) v (orders_in bs c.args.count m.regs)) (sym c.behind-orders.ensures.value) in
+    ∙ ap (λ (bs : List ℕ). view_after_stream m.confirmed m.pictures.size (body_at place c.args.body.now) v (orders_in bs c.args.count m.regs)) (sym c.behind-orders.ensures.value) in
     subst (λ (x : Result View Refusal). Shows c.meant.result x c.obey_all.new.viewer) (sym (moved ∙ shown)) (c.meant.ensures place meaning c.obey_all.new.viewer at obeyed)

@@ -10,8 +10,7 @@ use Rattle.client_view.proofs.update.obey_update.Goals as goal
 pub returns-then-not-viewer-clause-shown : goal.returns-then-not-viewer-clause-shown
 returns-then-not-viewer-clause-shown c = λ v place s at.
     let m = c.args.viewer.now in
-    let test : not m.confirmed.marker ≡ true = grind arith in
-    (
+    let test : not m.confirmed.marker ≡ true = grind arith in (
       marked_if true v,
       ap (view_after_read m.confirmed m.pictures.size (body_at place c.args.body.now) v) (rw c.in-Ok-Synchronize.field-0-is at c.in-Ok-Synchronize.ensures) ∙ ap (λ b. Ok (marked_if b v)) test,
       marked_stands v m c.mark.new.viewer s c.mark.ensures,
@@ -19,8 +18,7 @@ returns-then-not-viewer-clause-shown c = λ v place s at.
 
 pub returns-in-Err-BadUpdate-clause-shown : goal.returns-in-Err-BadUpdate-clause-shown
 returns-in-Err-BadUpdate-clause-shown c = λ v place s at.
-    let m = c.args.viewer.now in
-    (
+    let m = c.args.viewer.now in (
       place + (0 + c.in-Err-BadUpdate.offset),
       bad_update m.confirmed m.pictures.size v place c.args.body.now (update_at c.args.body.now) c.in-Err-BadUpdate.offset (rw c.in-Err-BadUpdate.field-0-is at c.in-Err-BadUpdate.ensures),
       c.behind_place.ensures place at ∙ ap (λ (n : ℕ). capped (place + (0 + n))) c.in-Err-BadUpdate.offset-is,
