@@ -1,0 +1,6 @@
+pub mod Stores
+pub mod KindsKept
+pub mod RunsUsed
+pub mod Zeros
+pub mod FieldsFit
+pub mod Apart

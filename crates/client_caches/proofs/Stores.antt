@@ -1,0 +1,74 @@
+-- What a client keeps of cache orders, test by test.
+use Rattle.std.proofs.Common.{◌≡◌, ℕ, zero, suc, ◌*◌, Bool, true, false, List, [], ◌∷◌, get_or, refl, ap, ◌∙◌, sym}
+use Rattle.std.specs.Prelude.{Result, Ok, Err}
+use Rattle.byte_fields.specs.Field.{bind}
+use Rattle.host_bytes.specs.WirePixels.{turned_over}
+use Rattle.draw_ops.specs.Content.{ImageOf}
+use Rattle.caps_sets.specs.declared.cache_size.CacheSize.{CacheSize}
+use Rattle.caps_sets.specs.declared.confirmed.Confirmed.{Confirmed}
+use Rattle.caps_sets.specs.Confirmed.{sized, cache_size}
+use Rattle.order_means.specs.ClientState.{ClientState, Fault, needs, holds, with_cached, wire_pixels, client_after_bitmap}
+use Rattle.order_means.specs.ClientState.Fault.{Broken as broken_fault, Oversized as oversized_fault, Empty as empty_fault}
+use Rattle.client_caches.specs.declared.obey_fault.ObeyFault.{ObeyFault}
+use Rattle.client_caches.specs.declared.obey_fault.ObeyFault.TheVariants.{Broken, Oversized, Empty, OutOfMemory}
+use Rattle.client_caches.specs.declared.cached_bitmap.CachedBitmap.{CachedBitmap}
+use Rattle.client_caches.specs.Answers.{Refuses}
+use Rattle.client_caches.specs.Caches.{kept_image}
+use Rattle.client_caches.specs.Stored.{bitmap_order, is_cached_bitmap}
+
+pub size_by_place : (sizes : List CacheSize) (cache : ℕ) → cache_size sizes cache ≡ get_or sizes cache (sized 0 0)
+size_by_place [] cache = refl
+size_by_place (s ∷ ss) zero = refl
+size_by_place (s ∷ ss) (suc cache) = size_by_place ss cache
+
+-- a refusal of one part is a refusal of the whole
+pub refused_by : {A B : Type 0} (f : ObeyFault) (part : Result A Fault) (whole : Result B Fault) → ((g : Fault) → part ≡ Err g → whole ≡ Err g) → Refuses f part → Refuses f whole
+refused_by Broken part whole through r = through broken_fault r
+refused_by (Oversized cache index) part whole through r = through (oversized_fault cache index) r
+refused_by (Empty cache index) part whole through r = through (empty_fault cache index) r
+refused_by OutOfMemory part whole through r = tt
+
+-- ---- bitmaps
+
+abbrev image_from : ℕ → ℕ → List ℕ → ImageOf
+image_from w h pixels = record { w = w; h = h; pixels = pixels }
+
+kept_by : (r : Result (List ℕ) Fault) (w h : ℕ) (more : ImageOf → Result ClientState Fault) →
+    bind r (λ pixels. more (image_from w h (turned_over w h pixels))) ≡ bind (bind (bind r (λ p. Ok (turned_over w h p))) (λ p. Ok (image_from w h p))) more
+kept_by (Ok p) w h more = refl
+kept_by (Err f) w h more = refl
+
+-- an image is kept where its cache has the entry and its cell
+abbrev after_image : Confirmed → ClientState → CachedBitmap → ImageOf → Result ClientState Fault
+after_image confirmed c b image = needs (holds (cache_size confirmed.bitmaps b.cache) b.index (3 * (b.w * b.h))) (oversized_fault b.cache b.index) (Ok (record c { images = with_cached b.cache b.index image c.images }))
+
+bitmap_parts : (confirmed : Confirmed) (c : ClientState) (b : CachedBitmap) (bytes : List ℕ) →
+    client_after_bitmap confirmed c (bitmap_order b bytes) ≡ needs (is_cached_bitmap b) broken_fault (bind (kept_image b.packed b.w b.h bytes) (after_image confirmed c b))
+bitmap_parts confirmed c b bytes = ap (needs (is_cached_bitmap b) broken_fault) (kept_by (wire_pixels b.packed b.w b.h bytes) b.w b.h (after_image confirmed c b))
+
+taken : (confirmed : Confirmed) (c : ClientState) (b : CachedBitmap) (bytes : List ℕ) → is_cached_bitmap b ≡ true →
+    client_after_bitmap confirmed c (bitmap_order b bytes) ≡ bind (kept_image b.packed b.w b.h bytes) (after_image confirmed c b)
+taken confirmed c b bytes t = bitmap_parts confirmed c b bytes ∙ ap (λ test. needs test broken_fault (bind (kept_image b.packed b.w b.h bytes) (after_image confirmed c b))) t
+
+pub not_taken : (confirmed : Confirmed) (c : ClientState) (b : CachedBitmap) (bytes : List ℕ) → is_cached_bitmap b ≡ false → client_after_bitmap confirmed c (bitmap_order b bytes) ≡ Err broken_fault
+not_taken confirmed c b bytes t = bitmap_parts confirmed c b bytes ∙ ap (λ test. needs test broken_fault (bind (kept_image b.packed b.w b.h bytes) (after_image confirmed c b))) t
+
+pub no_image : (f : ObeyFault) (confirmed : Confirmed) (c : ClientState) (b : CachedBitmap) (bytes : List ℕ) → is_cached_bitmap b ≡ true → Refuses f (kept_image b.packed b.w b.h bytes) →
+    Refuses f (client_after_bitmap confirmed c (bitmap_order b bytes))
+no_image f confirmed c b bytes t r =
+    refused_by f (kept_image b.packed b.w b.h bytes) (client_after_bitmap confirmed c (bitmap_order b bytes)) (λ g e. taken confirmed c b bytes t ∙ ap (λ k. bind k (after_image confirmed c b)) e) r
+
+image_kept : (confirmed : Confirmed) (c : ClientState) (b : CachedBitmap) (bytes : List ℕ) (image : ImageOf) (test : Bool) → is_cached_bitmap b ≡ true → kept_image b.packed b.w b.h bytes ≡ Ok image
+    → holds (cache_size confirmed.bitmaps b.cache) b.index (3 * (b.w * b.h)) ≡ test
+    → client_after_bitmap confirmed c (bitmap_order b bytes) ≡ needs test (oversized_fault b.cache b.index) (Ok (record c { images = with_cached b.cache b.index image c.images }))
+image_kept confirmed c b bytes image test t e h =
+    taken confirmed c b bytes t ∙ ap (λ k. bind k (after_image confirmed c b)) e
+    ∙ ap (λ s. needs s (oversized_fault b.cache b.index) (Ok (record c { images = with_cached b.cache b.index image c.images }))) h
+
+pub too_large : (confirmed : Confirmed) (c : ClientState) (b : CachedBitmap) (bytes : List ℕ) (image : ImageOf) → is_cached_bitmap b ≡ true → kept_image b.packed b.w b.h bytes ≡ Ok image
+    → holds (cache_size confirmed.bitmaps b.cache) b.index (3 * (b.w * b.h)) ≡ false → client_after_bitmap confirmed c (bitmap_order b bytes) ≡ Err (oversized_fault b.cache b.index)
+too_large confirmed c b bytes image t e h = image_kept confirmed c b bytes image false t e h
+
+pub is_kept : (confirmed : Confirmed) (c : ClientState) (b : CachedBitmap) (bytes : List ℕ) (image : ImageOf) → is_cached_bitmap b ≡ true → kept_image b.packed b.w b.h bytes ≡ Ok image
+    → holds (cache_size confirmed.bitmaps b.cache) b.index (3 * (b.w * b.h)) ≡ true → client_after_bitmap confirmed c (bitmap_order b bytes) ≡ Ok (record c { images = with_cached b.cache b.index image c.images })
+is_kept confirmed c b bytes image t e h = image_kept confirmed c b bytes image true t e h

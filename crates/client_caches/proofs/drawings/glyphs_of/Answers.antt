@@ -1,0 +1,20 @@
+use Rattle.std.proofs.Common.{rules, ◌≡◌, ℕ, ℤ, List, true, lit<, lit≤, ap, ap₂, sym, ◌∙◌, to_z, of_z, w32, arith}
+use Rattle.std.specs.Prelude.{◌&&◌}
+use Rattle.px_core.specs.Rectangle.{has_pixel}
+use Rattle.order_fields.specs.OrderTable.{glyph_index}
+use Rattle.order_fields.specs.NamedDrawing.{value, number, rect_at, is_cached_brush, is_cached_run}
+use Rattle.client_caches.specs.Named.{FitsAt, FitBox, IsNumberAt}
+use Rattle.client_caches.proofs.FieldsFit.{kind_at, below_more, shown}
+use Rattle.client_caches.proofs.drawings.glyphs_of.Goals as goal
+
+pub returns : goal.returns
+returns c = λ run.
+    let vs = c.args.values.now in
+    let cache : c.byte.result ≡ number vs 0 = c.byte.ensures (kind_at 0 glyph_index.kinds vs c.requires (lit< tt)) in
+    let color : c.number.result ≡ number vs 4 = c.number.ensures (below_more 16777216 4294967296 (value vs 4) (lit≤ tt) (kind_at 4 glyph_index.kinds vs c.requires (lit< tt))) in
+    let x : c.coordinate.result ≡ value vs 19 = c.coordinate.ensures (kind_at 19 glyph_index.kinds vs c.requires (lit< tt)) in
+    let y : c.coordinate-2.result ≡ value vs 20 = c.coordinate-2.ensures (kind_at 20 glyph_index.kinds vs c.requires (lit< tt)) in
+    let m : to_z w32 (of_z w32 c.coordinate.result) ≡ c.coordinate.result = search rules in
+    let n : to_z w32 (of_z w32 c.coordinate-2.result) ≡ c.coordinate-2.result = search rules in
+    let is : is_cached_run vs ≡ true = grind arith in
+    shown _ _ _ is cc

@@ -1,0 +1,25 @@
+use Rattle.std.proofs.Common.{rules, ◌≡◌, ℕ, ℤ, List, true, lit<, ap, ap₂, sym, ◌∙◌, to_z, of_z, w32, arith}
+use Rattle.std.specs.Prelude.{◌&&◌}
+use Rattle.px_core.specs.Rectangle.{has_pixel}
+use Rattle.order_fields.specs.OrderTable.{mem3_blt}
+use Rattle.order_fields.specs.NamedDrawing.{value, number, rect_at, is_cached_brush, is_cached_run}
+use Rattle.client_caches.specs.Named.{FitsAt, FitBox, IsNumberAt}
+use Rattle.client_caches.proofs.FieldsFit.{kind_at, below_more, shown}
+use Rattle.client_caches.proofs.drawings.mem3_of.Goals as goal
+
+pub returns : goal.returns
+returns c = λ run.
+    let vs = c.args.values.now in
+    let corner : FitBox vs 1 = record { first = kind_at 1 mem3_blt.kinds vs c.requires (lit< tt); second = kind_at 2 mem3_blt.kinds vs c.requires (lit< tt); third = kind_at 3 mem3_blt.kinds vs c.requires (lit< tt); fourth = kind_at 4 mem3_blt.kinds vs c.requires (lit< tt) } in
+    let cache : c.short.result ≡ number vs 0 = c.short.ensures (kind_at 0 mem3_blt.kinds vs c.requires (lit< tt)) in
+    let index : c.short-2.result ≡ number vs 15 = c.short-2.ensures (kind_at 15 mem3_blt.kinds vs c.requires (lit< tt)) in
+    let code : c.byte.result ≡ number vs 5 = c.byte.ensures (kind_at 5 mem3_blt.kinds vs c.requires (lit< tt)) in
+    let entry : c.byte-2.result ≡ number vs 13 = c.byte-2.ensures (kind_at 13 mem3_blt.kinds vs c.requires (lit< tt)) in
+    let sx : c.coordinate.result ≡ value vs 6 = c.coordinate.ensures (kind_at 6 mem3_blt.kinds vs c.requires (lit< tt)) in
+    let sy : c.coordinate-2.result ≡ value vs 7 = c.coordinate-2.ensures (kind_at 7 mem3_blt.kinds vs c.requires (lit< tt)) in
+    let m : to_z w32 (of_z w32 c.coordinate.result) ≡ c.coordinate.result = search rules in
+    let n : to_z w32 (of_z w32 c.coordinate-2.result) ≡ c.coordinate-2.result = search rules in
+    let r : c.rect_at-rect.result ≡ rect_at vs 1 = c.rect_at-rect.ensures corner in
+    let has : has_pixel c.rect_at-rect.result ≡ true = grind arith in
+    let brush : is_cached_brush vs 10 ≡ true = grind arith in
+    shown _ _ _ (ap₂ (λ a b. a && b) (ap has_pixel (sym r) ∙ has) brush) cc

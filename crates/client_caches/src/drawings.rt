@@ -1,0 +1,188 @@
+//! The drawing that a primary order's fields say ([MS-RDPEGDI] 2.2.2.2.1.1.2).
+
+ghost use Rattle.std.specs.Prelude.{◌≡◌, ◌≤◌, ℕ, List, IfSome, length};
+ghost use Rattle.order_fields.specs.OrderTable.{FitKinds, dst_blt, pat_blt, scr_blt, opaque_rect, save_bitmap, mem_blt, mem3_blt, glyph_index};
+ghost use Rattle.order_fields.specs.OrderTable.OrderName.{DstBlt, PatBlt, ScrBlt, OpaqueRect, SaveBitmap, MemBlt, Mem3Blt, GlyphIndex};
+ghost use Rattle.order_fields.specs.NamedDrawing.{drawing_of, drawing_of_values};
+ghost use Rattle.client_caches.specs.Named.{optional_drawing};
+
+use crate::Named;
+use crate::values::{
+    byte, closed_rect_at, coordinate, is_cached_brush, is_cached_run, number, rect_at, short,
+};
+use order_fields::{Fields, Regs};
+use px_core::has_pixel;
+
+const DST_BLT: u8 = 0x00;
+
+const PAT_BLT: u8 = 0x01;
+
+const SCR_BLT: u8 = 0x02;
+
+const OPAQUE_RECT: u8 = 0x0A;
+
+const SAVE_BITMAP: u8 = 0x0B;
+
+const MEM_BLT: u8 = 0x0D;
+
+const MEM3_BLT: u8 = 0x0E;
+
+const GLYPH_INDEX: u8 = 0x1B;
+
+/// The operations of SaveBitmap.
+const SAVE: u8 = 0;
+
+const RESTORE: u8 = 1;
+
+/// The drawing that a primary order says; there is none where a side is below 1, or a brush, an operation or a run is none that is read.
+///
+/// `spare` is overwritten.
+pub fn drawing_of(fields: &Fields, spare: &mut Regs) -> Option<Named>
+    ensures drawing { optional_drawing fields.now.values.bytes result ≡ drawing_of fields.now }
+    ensures short { IfSome result (λ _. length fields.now.values.bytes ≤ 255) }
+{
+    let kind = fields.kind();
+    spare.keep(fields, None);
+    let values = spare.last_values(kind);
+    match kind {
+        DST_BLT => dst_of(values),
+        PAT_BLT => pat_of(values),
+        SCR_BLT => scr_of(values),
+        OPAQUE_RECT => opaque_of(values),
+        SAVE_BITMAP => save_of(values),
+        MEM_BLT => mem_of(values),
+        MEM3_BLT => mem3_of(values),
+        GLYPH_INDEX => glyphs_of(values),
+        _ => None,
+    }
+}
+
+fn dst_of(values: &[i64]) -> Option<Named>
+    requires { FitKinds dst_blt.kinds values.now }
+    ensures { (run : List ℕ) → optional_drawing run result ≡ drawing_of_values DstBlt values.now run }
+{
+    let rect = rect_at(values, 0);
+    if !has_pixel(rect) {
+        return None;
+    }
+    Some(Named::Dst {
+        rect,
+        rop: byte(values, 4),
+    })
+}
+
+fn pat_of(values: &[i64]) -> Option<Named>
+    requires { FitKinds pat_blt.kinds values.now }
+    ensures { (run : List ℕ) → optional_drawing run result ≡ drawing_of_values PatBlt values.now run }
+{
+    let rect = rect_at(values, 0);
+    if !has_pixel(rect) || !is_cached_brush(values, 7) {
+        return None;
+    }
+    Some(Named::Pat {
+        rect,
+        rop: byte(values, 4),
+        entry: byte(values, 10),
+    })
+}
+
+fn scr_of(values: &[i64]) -> Option<Named>
+    requires { FitKinds scr_blt.kinds values.now }
+    ensures { (run : List ℕ) → optional_drawing run result ≡ drawing_of_values ScrBlt values.now run }
+{
+    let rect = rect_at(values, 0);
+    if !has_pixel(rect) {
+        return None;
+    }
+    Some(Named::Scr {
+        rect,
+        rop: byte(values, 4),
+        sx: coordinate(values, 5),
+        sy: coordinate(values, 6),
+    })
+}
+
+fn opaque_of(values: &[i64]) -> Option<Named>
+    requires { FitKinds opaque_rect.kinds values.now }
+    ensures { (run : List ℕ) → optional_drawing run result ≡ drawing_of_values OpaqueRect values.now run }
+{
+    let rect = rect_at(values, 0);
+    if !has_pixel(rect) {
+        return None;
+    }
+    let red = u32::from(byte(values, 4));
+    let green = u32::from(byte(values, 5));
+    let blue = u32::from(byte(values, 6));
+    Some(Named::Opaque {
+        rect,
+        color: 65_536 * red + (256 * green + blue),
+    })
+}
+
+fn save_of(values: &[i64]) -> Option<Named>
+    requires { FitKinds save_bitmap.kinds values.now }
+    ensures { (run : List ℕ) → optional_drawing run result ≡ drawing_of_values SaveBitmap values.now run }
+{
+    let rect = closed_rect_at(values, 1);
+    if !has_pixel(rect) {
+        return None;
+    }
+    let position = number(values, 0);
+    match byte(values, 5) {
+        SAVE => Some(Named::Save { position, rect }),
+        RESTORE => Some(Named::Restore { position, rect }),
+        _ => None,
+    }
+}
+
+fn mem_of(values: &[i64]) -> Option<Named>
+    requires { FitKinds mem_blt.kinds values.now }
+    ensures { (run : List ℕ) → optional_drawing run result ≡ drawing_of_values MemBlt values.now run }
+{
+    let rect = rect_at(values, 1);
+    if !has_pixel(rect) {
+        return None;
+    }
+    Some(Named::Mem {
+        cache: short(values, 0),
+        index: short(values, 8),
+        rect,
+        rop: byte(values, 5),
+        sx: coordinate(values, 6),
+        sy: coordinate(values, 7),
+    })
+}
+
+fn mem3_of(values: &[i64]) -> Option<Named>
+    requires { FitKinds mem3_blt.kinds values.now }
+    ensures { (run : List ℕ) → optional_drawing run result ≡ drawing_of_values Mem3Blt values.now run }
+{
+    let rect = rect_at(values, 1);
+    if !has_pixel(rect) || !is_cached_brush(values, 10) {
+        return None;
+    }
+    Some(Named::Mem3 {
+        cache: short(values, 0),
+        index: short(values, 15),
+        rect,
+        rop: byte(values, 5),
+        sx: coordinate(values, 6),
+        sy: coordinate(values, 7),
+        entry: byte(values, 13),
+    })
+}
+
+fn glyphs_of(values: &[i64]) -> Option<Named>
+    requires { FitKinds glyph_index.kinds values.now }
+    ensures { (run : List ℕ) → optional_drawing run result ≡ drawing_of_values GlyphIndex values.now run }
+{
+    if !is_cached_run(values) {
+        return None;
+    }
+    Some(Named::Glyphs {
+        cache: byte(values, 0),
+        x: coordinate(values, 19),
+        y: coordinate(values, 20),
+        color: number(values, 4),
+    })
+}

@@ -1,0 +1,51 @@
+-- Rows that are copied at a mark.
+use Rattle.std.proofs.Common.{◌≡◌, ℕ, ◌+◌, ◌*◌, ◌≤◌, ◌<◌, List, length, get_or, Bool, true, false, refl, sym, subst, ◌∙◌, arith, inl, inr}
+use Rattle.std.specs.Prelude.{Option, None, ◌&&◌, nat_le, nat_lt, if◌then◌else◌, slice_set}
+use Rattle.std.proofs.lemmas.Bool.{cases_lt}
+use Rattle.std.proofs.lemmas.Bool.Decides.{nat_tests}
+use Rattle.std.proofs.lemmas.List.{get_or-set_other}
+use Rattle.px_core.specs.declared.surface.Size.{Size}
+use Rattle.px_core.specs.Picture.{pixel_at}
+use Rattle.client_picture.specs.Parts.{in_part, part_at, IsRepainted}
+use Rattle.client_picture.specs.Touched.{AreTouched, AreCopied}
+use Rattle.client_picture.proofs.Repaint.{under_true, under_false}
+
+module _ (size : Size) (picture first : List (Option ℕ)) (flags : List Bool) (n : ℕ) (touched : List Bool) (marked : List (Option ℕ)) (before : AreCopied size picture first flags n touched marked) where
+  -- one more row was copied
+  pub row_copied : (new : List (Option ℕ)) → IsRepainted size (in_part (part_at 0 n size.w 1)) (λ u v. pixel_at size picture None u v) marked new
+      → AreCopied size picture first flags (n + 1) (slice_set touched n false) new
+  row_copied new row = record {
+    done = λ x y left above lt. elim (cases_lt y n) [
+      | inl less ↦ same x y left above (not_row x y (λ ge. absurd (omega (arith, less, ge)))) ∙ before.done x y left above less
+      | inr ge ↦ row.pixel x y left above ∙ sym (under_true (in_part (part_at 0 n size.w 1) x y) (pixel_at size picture None x y) (pixel_at size marked None x y) (grind (arith, nat_tests, left, lt, ge)))
+    ];
+    rest = λ x y left above le. same x y left above (not_row x y (λ ge. omega (arith, le))) ∙ before.rest x y left above (omega (arith, le));
+    unread = λ y le. get_or-set_other touched n y false false (λ e. absurd (omega (arith, le, e))) ∙ before.unread y (omega (arith, le));
+  }
+    where
+      same : (x y : ℕ) → x < size.w → y < size.h → in_part (part_at 0 n size.w 1) x y ≡ false → pixel_at size new None x y ≡ pixel_at size marked None x y
+      same x y left above none = row.pixel x y left above ∙ sym (under_false (in_part (part_at 0 n size.w 1) x y) (pixel_at size picture None x y) (pixel_at size marked None x y) none)
+
+      and_no : (b c : Bool) → c ≡ false → (b && c) ≡ false
+      and_no true c h = h
+      and_no false c h = refl
+
+      not_row : (x y : ℕ) → (n ≤ y → n + 1 ≤ y) → in_part (part_at 0 n size.w 1) x y ≡ false
+      not_row x y none = and_no (nat_le 0 x && nat_lt x (0 + size.w)) (nat_le n y && nat_lt y (n + 1)) (elim (cases_lt y n) [
+        | inl less ↦ grind (arith, nat_tests, less)
+        | inr ge ↦ let more = none ge in grind (arith, nat_tests, more)
+      ])
+
+  -- a row that wasn't touched is the same
+  pub row_kept : AreTouched size flags picture first → get_or touched n false ≡ false → AreCopied size picture first flags (n + 1) touched marked
+  row_kept kept flag = record {
+    done = λ x y left above lt. elim (cases_lt y n) [
+      | inl less ↦ before.done x y left above less
+      | inr ge ↦ before.rest x y left above ge ∙ sym (kept.same x y left above (flag_at y (omega (arith, lt, ge))))
+    ];
+    rest = λ x y left above le. before.rest x y left above (omega (arith, le));
+    unread = λ y le. before.unread y (omega (arith, le));
+  }
+    where
+      flag_at : (y : ℕ) → y ≡ n → get_or flags y false ≡ false
+      flag_at y e = sym (before.unread y (omega (arith, e))) ∙ subst (λ (k : ℕ). get_or touched k false ≡ false) (sym e) flag

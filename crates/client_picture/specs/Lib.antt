@@ -1,0 +1,5 @@
+pub mod Pictures
+pub mod Parts
+pub mod Sources
+pub mod Bits
+pub mod Touched

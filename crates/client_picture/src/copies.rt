@@ -1,0 +1,120 @@
+//! Copies within the picture, row by row.
+ghost use Rattle.std.specs.Prelude.{◌≡◌, ℕ, ◌+◌, ◌<◌, ◌≤◌, Some, None, length, get_or};
+ghost use Rattle.rop3_core.specs.Palette.{maybe_raster};
+ghost use Rattle.client_picture.specs.Parts.{in_part, part_at, IsCanvas, IsInside, IsRepainted};
+ghost use Rattle.client_picture.specs.Sources.{copied_color, IsSourceInside};
+
+use crate::corner::Corner;
+use crate::part::Part;
+use crate::pixel::mixed;
+use px_core::Size;
+
+/// Makes each pixel of a part what the operation of a code makes of it, with the picture itself as its source, from a corner on. The row is for the
+/// source of one row.
+///
+/// Where the source lies above the part, the lowest row goes first, so that no row is read after it was painted.
+pub(crate) fn copy_part(
+    pixels: &mut [Option<u32>],
+    size: Size,
+    part: Part,
+    rop: u8,
+    from: Corner,
+    source: &mut [Option<u32>],
+)
+    requires canvas { IsCanvas size pixels.old }
+    requires inside { IsInside size part }
+    requires from { IsSourceInside size part from }
+    requires source { length source.old ≡ part.w }
+    ensures { IsRepainted size (in_part part) (copied_color size pixels.old part rop from) pixels.old pixels.new }
+{
+    if from.y < part.y {
+        copy_upwards(pixels, size, part, rop, from, source)
+    } else {
+        copy_downwards(pixels, size, part, rop, from, source)
+    }
+}
+
+/// Copies the rows of a part from the highest one on.
+fn copy_downwards(
+    pixels: &mut [Option<u32>],
+    size: Size,
+    part: Part,
+    rop: u8,
+    from: Corner,
+    source: &mut [Option<u32>],
+)
+    requires canvas { IsCanvas size pixels.old }
+    requires inside { IsInside size part }
+    requires from { IsSourceInside size part from }
+    requires not_above { part.y ≤ from.y }
+    requires source { length source.old ≡ part.w }
+    ensures { IsRepainted size (in_part part) (copied_color size pixels.old part rop from) pixels.old pixels.new }
+{
+    for k in 0..part.h {
+        copy_row(pixels, size, part, rop, from, part.y + k, source);
+    }
+}
+
+/// Copies the rows of a part from the lowest one on.
+fn copy_upwards(
+    pixels: &mut [Option<u32>],
+    size: Size,
+    part: Part,
+    rop: u8,
+    from: Corner,
+    source: &mut [Option<u32>],
+)
+    requires canvas { IsCanvas size pixels.old }
+    requires inside { IsInside size part }
+    requires from { IsSourceInside size part from }
+    requires above { from.y ≤ part.y }
+    requires source { length source.old ≡ part.w }
+    ensures { IsRepainted size (in_part part) (copied_color size pixels.old part rop from) pixels.old pixels.new }
+{
+    for k in 0..part.h {
+        copy_row(
+            pixels,
+            size,
+            part,
+            rop,
+            from,
+            part.y + (part.h - 1 - k),
+            source,
+        );
+    }
+}
+
+/// Copies row y of a part.
+fn copy_row(
+    pixels: &mut [Option<u32>],
+    size: Size,
+    part: Part,
+    rop: u8,
+    from: Corner,
+    y: usize,
+    source: &mut [Option<u32>],
+)
+    requires canvas { IsCanvas size pixels.old }
+    requires inside { IsInside size part }
+    requires from { IsSourceInside size part from }
+    requires above { part.y ≤ y }
+    requires below { y < part.y + part.h }
+    requires source { length source.old ≡ part.w }
+    ensures { IsRepainted size (in_part (part_at part.x y part.w 1)) (copied_color size pixels.old part rop from) pixels.old pixels.new }
+{
+    let width = size.w as usize;
+    let start = width * (from.y + (y - part.y)) + from.x;
+    source.copy_from_slice(&pixels[start..start + part.w]);
+    let at = width * y + part.x;
+    mix_source(&mut pixels[at..at + part.w], source, rop);
+}
+
+/// Makes each pixel of a row what the operation of a code makes of it and of the source at its place.
+fn mix_source(row: &mut [Option<u32>], source: &[Option<u32>], rop: u8)
+    requires { length source.now ≡ length row.old }
+    ensures { (k : ℕ) → k < length row.old → get_or row.new k None ≡ maybe_raster rop (Some 0) (get_or source.now k None) (get_or row.old k None) }
+{
+    for k in 0..row.len() {
+        row[k] = mixed(rop, 0, source[k], row[k]);
+    }
+}

@@ -1,0 +1,21 @@
+//! A client's picture, whose pixels may be unknown, and what drawing orders make of it ([MS-RDPEGDI] 2.2.2.2.1.1.2).
+//!
+//! The picture at the last mark is kept beside it. Each call is given what an order names; whether it may be obeyed is tested before.
+#![tactic(auto)]
+
+mod copies;
+mod corner;
+mod frame;
+mod glyphs;
+mod mix;
+mod part;
+mod picture;
+mod pixel;
+mod rects;
+mod rows;
+mod source;
+mod touched;
+
+pub use out_of_memory::OutOfMemory;
+pub use picture::ClientPicture;
+pub use source::Source;

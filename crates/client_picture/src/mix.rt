@@ -1,0 +1,90 @@
+//! Raster operations by rows.
+ghost use Rattle.std.specs.Prelude.{◌≡◌, ℕ, ◌+◌, ◌<◌, ◌≤◌, Some, None, pos, length, get_or, IfSome, option_copied};
+ghost use Rattle.rop3_core.specs.Palette.{maybe_raster};
+ghost use Rattle.client_picture.specs.Parts.{in_part, IsCanvas, IsInside, IsRepainted};
+ghost use Rattle.client_picture.specs.Pictures.{brush_operand};
+ghost use Rattle.client_picture.specs.Sources.{source_color, mixed_color, CoversPart};
+
+use crate::corner::Corner;
+use crate::part::Part;
+use crate::pixel::over_source;
+use draw_ops::Brush;
+use px_core::Size;
+
+/// The columns, and the rows, of a brush.
+const BRUSH_SIDE: usize = 8;
+
+/// The colours of an image, row by row from the top, and which of them belongs to the upper left pixel of a part.
+#[derive(Clone, Copy)]
+pub(crate) struct Texture<'a> {
+    pub(crate) pixels: &'a [u32],
+    pub(crate) w: usize,
+    pub(crate) from: Corner,
+}
+
+/// A raster operation by its code, with a brush as its pattern and an image as its source; one that is missing counts as 0.
+#[derive(Clone, Copy)]
+pub(crate) struct Mix<'a> {
+    pub(crate) rop: u8,
+    pub(crate) brush: Option<&'a Brush>,
+    pub(crate) texture: Option<Texture<'a>>,
+}
+
+/// Makes each pixel of a part what a raster operation makes of it.
+pub(crate) fn mix_part(pixels: &mut [Option<u32>], size: Size, part: Part, mix: Mix)
+    requires canvas { IsCanvas size pixels.old }
+    requires inside { IsInside size part }
+    requires texture { IfSome mix.texture (CoversPart part) }
+    ensures { IsRepainted size (in_part part) (mixed_color size pixels.old part mix.entry) pixels.old pixels.new }
+{
+    let width = size.w as usize;
+    for y in part.y..part.y + part.h {
+        let at = width * y + part.x;
+        mix_row(&mut pixels[at..at + part.w], part, y, mix);
+    }
+}
+
+/// Makes each pixel of row y of a part what a raster operation makes of it.
+fn mix_row(row: &mut [Option<u32>], part: Part, y: usize, mix: Mix)
+    requires wide { length row.old ≡ part.w }
+    requires columns { part.x + part.w ≤ 65535 }
+    requires above { part.y ≤ y }
+    requires below { y < part.y + part.h }
+    requires texture { IfSome mix.texture (CoversPart part) }
+    ensures { (k : ℕ) → k < length row.old → get_or row.new k None ≡ maybe_raster mix.entry.rop (brush_operand (option_copied mix.entry.brush) (pos (part.x + k)) (pos y)) (Some (source_color part mix.entry.texture (part.x + k) y)) (get_or row.old k None) }
+{
+    for k in 0..row.len() {
+        let x = part.x + k;
+        let pattern = brush_color(mix.brush, x, y);
+        let source = texture_color(mix.texture, part, x, y);
+        row[k] = over_source(mix.rop, pattern, source, row[k]);
+    }
+}
+
+/// The colour of a brush at a pixel: 0 where it is missing.
+fn brush_color(brush: Option<&Brush>, x: usize, y: usize) -> u32
+    ensures { Some result ≡ brush_operand (option_copied brush.entry) (pos x) (pos y) }
+{
+    match brush {
+        None => 0,
+        Some(brush) => brush.pixels()[BRUSH_SIDE * (y % BRUSH_SIDE) + x % BRUSH_SIDE],
+    }
+}
+
+/// The colour of an image for a pixel of a part: 0 where it is missing.
+fn texture_color(texture: Option<Texture>, part: Part, x: usize, y: usize) -> u32
+    requires texture { IfSome texture (CoversPart part) }
+    requires left { part.x ≤ x }
+    requires right { x < part.x + part.w }
+    requires above { part.y ≤ y }
+    requires below { y < part.y + part.h }
+    ensures { result ≡ source_color part texture.entry x y }
+{
+    match texture {
+        None => 0,
+        Some(texture) => {
+            let from = texture.from;
+            texture.pixels[texture.w * (from.y + (y - part.y)) + (from.x + (x - part.x))]
+        }
+    }
+}

@@ -1,0 +1,178 @@
+//! What becomes of rectangles of a picture, within bounds.
+ghost use Rattle.std.specs.Prelude.{◌≡◌, ℕ, ◌*◌, ◌≤◌, Some, None, pos, IfSome, IsTrue, length, option_copied};
+ghost use Rattle.px_core.specs.Picture.{rows_of};
+ghost use Rattle.px_core.specs.Rectangle.{is_inside, in_clip, cut_out};
+ghost use Rattle.rop3_core.specs.Palette.{client_colors};
+ghost use Rattle.draw_ops.specs.Formulas.{solid, replaced, shifted, imaged, over_rect, picture_after};
+ghost use Rattle.order_means.specs.ClientState.{mixing, no_operand, source_rect};
+ghost use Rattle.client_picture.specs.Parts.{in_part, IsCanvas, IsOnSmall, IsWithinRect};
+ghost use Rattle.client_picture.specs.Pictures.{brush_operand, source_operand, source_rows, HasSource};
+ghost use Rattle.client_picture.specs.Sources.{source_color, texture_color, CoversPart};
+
+use crate::copies::copy_part;
+use crate::corner::{corner_of, first_corner};
+use crate::mix::{Mix, Texture, mix_part};
+use crate::part::{Part, part_of};
+use crate::rows::{fill_part, paste_part, write_part};
+use crate::source::Source;
+use draw_ops::Brush;
+use px_core::{Rect, Size};
+
+/// Gives a rectangle one colour.
+pub(crate) fn fill_rect(
+    pixels: &mut [Option<u32>],
+    size: Size,
+    rect: Rect,
+    bounds: Option<Rect>,
+    color: u32,
+)
+    requires canvas { IsCanvas size pixels.old }
+    ensures { pixels.new ≡ picture_after size (in_clip bounds) (over_rect rect (solid client_colors color)) pixels.old }
+{
+    match part_of(size, rect, bounds) {
+        None => {}
+        Some(part) => fill_part(pixels, size, part, color),
+    }
+}
+
+/// The raster operation of a code on a rectangle, with a brush as its pattern and an image as its source.
+pub(crate) fn mix_rect(
+    pixels: &mut [Option<u32>],
+    size: Size,
+    rect: Rect,
+    bounds: Option<Rect>,
+    rop: u8,
+    brush: Option<&Brush>,
+    source: Option<Source<'_>>,
+)
+    requires canvas { IsCanvas size pixels.old }
+    requires source { IfSome source (HasSource rect) }
+    ensures { pixels.new ≡ picture_after size (in_clip bounds) (mixing rect rop (brush_operand (option_copied brush.entry)) (source_operand rect source.entry)) pixels.old }
+{
+    match part_of(size, rect, bounds) {
+        None => {}
+        Some(part) => {
+            let mix = Mix {
+                rop,
+                brush,
+                texture: source_texture(source, rect, part),
+            };
+            mix_part(pixels, size, part, mix)
+        }
+    }
+}
+
+/// The colours that a part takes from a source that may be missing.
+fn source_texture(source: Option<Source<'_>>, rect: Rect, part: Part) -> Option<Texture<'_>>
+    requires source { IfSome source (HasSource rect) }
+    requires within { IsWithinRect rect part }
+    requires small { IsOnSmall part }
+    ensures covers { IfSome result (CoversPart part) }
+    ensures colors { (x y : ℕ) → IsTrue (in_part part x y) → Some (source_color part result x y) ≡ source_operand rect source.entry (pos x) (pos y) }
+{
+    match source {
+        None => None,
+        Some(source) => Some(texture_of(source, rect, part)),
+    }
+}
+
+/// The colours that a part takes from a source.
+fn texture_of(source: Source<'_>, rect: Rect, part: Part) -> Texture<'_>
+    requires source { HasSource rect source }
+    requires within { IsWithinRect rect part }
+    requires small { IsOnSmall part }
+    ensures covers { CoversPart part result }
+    ensures colors { (x y : ℕ) → IsTrue (in_part part x y) → texture_color part result x y ≡ shifted (source_rows source.entry) 0 rect source.entry.sx source.entry.sy (pos x) (pos y) }
+{
+    Texture {
+        pixels: source.pixels,
+        w: usize::from(source.w),
+        from: corner_of(rect, source.sx, source.sy, part),
+    }
+}
+
+/// Writes an image into a rectangle.
+pub(crate) fn write_rect(
+    pixels: &mut [Option<u32>],
+    size: Size,
+    rect: Rect,
+    bounds: Option<Rect>,
+    source: Source<'_>,
+)
+    requires canvas { IsCanvas size pixels.old }
+    requires source { HasSource rect source }
+    ensures { pixels.new ≡ picture_after size (in_clip bounds) (over_rect rect (replaced (imaged client_colors (source_rows source.entry) rect source.entry.sx source.entry.sy))) pixels.old }
+{
+    match part_of(size, rect, bounds) {
+        None => {}
+        Some(part) => write_part(pixels, size, part, texture_of(source, rect, part)),
+    }
+}
+
+/// The raster operation of a code on a rectangle, with the picture itself, from (sx, sy) on, as its source. The row is for the source of one row.
+pub(crate) fn copy_rect(
+    pixels: &mut [Option<u32>],
+    size: Size,
+    rect: Rect,
+    bounds: Option<Rect>,
+    rop: u8,
+    sx: i32,
+    sy: i32,
+    row: &mut [Option<u32>],
+)
+    requires canvas { IsCanvas size pixels.old }
+    requires inside { IsTrue (is_inside size (source_rect rect sx sy)) }
+    requires row { length row.old ≡ size.w }
+    ensures { pixels.new ≡ picture_after size (in_clip bounds) (mixing rect rop no_operand (shifted (rows_of size.w size.h pixels.old) None rect sx sy)) pixels.old }
+{
+    match part_of(size, rect, bounds) {
+        None => {}
+        Some(part) => {
+            let from = corner_of(rect, sx, sy, part);
+            copy_part(pixels, size, part, rop, from, &mut row[..part.w])
+        }
+    }
+}
+
+/// Puts saved pixels back into a rectangle of their sides.
+pub(crate) fn restore_rect(
+    pixels: &mut [Option<u32>],
+    size: Size,
+    rect: Rect,
+    bounds: Option<Rect>,
+    saved: &[Option<u32>],
+)
+    requires canvas { IsCanvas size pixels.old }
+    requires inside { IsTrue (is_inside size rect) }
+    requires whole { length saved.now ≡ rect.w * rect.h }
+    ensures { pixels.new ≡ picture_after size (in_clip bounds) (over_rect rect (replaced (shifted (rows_of rect.w rect.h saved.now) None rect (pos 0) (pos 0)))) pixels.old }
+{
+    match part_of(size, rect, bounds) {
+        None => {}
+        Some(part) => {
+            let from = corner_of(rect, 0, 0, part);
+            paste_part(pixels, size, part, saved, rect.w as usize, from)
+        }
+    }
+}
+
+/// Copies the pixels of a rectangle that lies on the picture, row by row from the top.
+pub(crate) fn cut_rect(pixels: &[Option<u32>], size: Size, rect: Rect, out: &mut [Option<u32>])
+    requires canvas { IsCanvas size pixels.now }
+    requires inside { IsTrue (is_inside size rect) }
+    requires room { length out.old ≡ rect.w * rect.h }
+    ensures { out.new ≡ cut_out size pixels.now None rect }
+{
+    let whole = Part {
+        x: 0,
+        y: 0,
+        w: rect.w as usize,
+        h: rect.h as usize,
+    };
+    let block = Size {
+        w: rect.w,
+        h: rect.h,
+    };
+    let from = first_corner(rect);
+    paste_part(out, block, whole, pixels, size.w as usize, from)
+}

@@ -1,0 +1,81 @@
+//! Stretches of rows, filled and copied.
+ghost use Rattle.std.specs.Prelude.{◌≡◌, ◌*◌, ◌<◌, ◌≤◌, ℕ, Some, None, length, get_or};
+ghost use Rattle.client_picture.specs.Parts.{in_part, IsCanvas, IsInside, IsRepainted};
+ghost use Rattle.client_picture.specs.Sources.{pixel_from, texture_color, Covers, CoversPart};
+
+use crate::corner::Corner;
+use crate::mix::Texture;
+use crate::part::Part;
+use px_core::Size;
+
+/// Gives every pixel of a part one colour.
+pub(crate) fn fill_part(pixels: &mut [Option<u32>], size: Size, part: Part, color: u32)
+    requires canvas { IsCanvas size pixels.old }
+    requires inside { IsInside size part }
+    ensures { IsRepainted size (in_part part) (λ x y. Some color) pixels.old pixels.new }
+{
+    let width = size.w as usize;
+    for y in part.y..part.y + part.h {
+        let at = width * y + part.x;
+        fill_row(&mut pixels[at..at + part.w], color);
+    }
+}
+
+/// Gives every pixel of a row one colour.
+fn fill_row(row: &mut [Option<u32>], color: u32)
+    ensures { (k : ℕ) → k < length row.old → get_or row.new k None ≡ Some color }
+{
+    for k in 0..row.len() {
+        row[k] = Some(color);
+    }
+}
+
+/// Gives every pixel of a part the colour that an image has for it.
+pub(crate) fn write_part(pixels: &mut [Option<u32>], size: Size, part: Part, texture: Texture)
+    requires canvas { IsCanvas size pixels.old }
+    requires inside { IsInside size part }
+    requires texture { CoversPart part texture }
+    ensures { IsRepainted size (in_part part) (λ x y. Some (texture_color part texture.entry x y)) pixels.old pixels.new }
+{
+    let width = size.w as usize;
+    for y in part.y..part.y + part.h {
+        let at = width * y + part.x;
+        let from = texture.w * (texture.from.y + (y - part.y)) + texture.from.x;
+        write_row(
+            &mut pixels[at..at + part.w],
+            &texture.pixels[from..from + part.w],
+        );
+    }
+}
+
+/// Gives every pixel of a row its colour.
+fn write_row(row: &mut [Option<u32>], colors: &[u32])
+    requires { length colors.now ≡ length row.old }
+    ensures { (k : ℕ) → k < length row.old → get_or row.new k None ≡ Some (get_or colors.now k 0) }
+{
+    for k in 0..row.len() {
+        row[k] = Some(colors[k]);
+    }
+}
+
+/// Gives every pixel of a part what a source of so many columns has for it, known or not.
+pub(crate) fn paste_part(
+    pixels: &mut [Option<u32>],
+    size: Size,
+    part: Part,
+    source: &[Option<u32>],
+    w: usize,
+    from: Corner,
+)
+    requires canvas { IsCanvas size pixels.old }
+    requires inside { IsInside size part }
+    requires source { Covers part w (length source.now) from }
+    ensures { IsRepainted size (in_part part) (pixel_from source.now w from part) pixels.old pixels.new }
+{
+    let width = size.w as usize;
+    for y in part.y..part.y + part.h {
+        let at = width * y + part.x;
+        let start = w * (from.y + (y - part.y)) + from.x;
+        pixels[at..at + part.w].copy_from_slice(&source[start..start + part.w]);
+    }
+}

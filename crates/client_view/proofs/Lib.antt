@@ -1,0 +1,7 @@
+pub mod ToldMeaning
+pub mod Restored
+pub mod Drawn
+pub mod Obeyed
+pub mod TilesObeyed
+pub mod Updated
+pub mod Streams

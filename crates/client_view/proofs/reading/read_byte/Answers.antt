@@ -1,0 +1,24 @@
+use Rattle.std.proofs.Common.{◌≡◌, ◌∙◌, sym}
+use Rattle.order_means.specs.Updates.{updates_by}
+use Rattle.host_updates.specs.declared.step.Step.TheVariants.{Update}
+use Rattle.host_updates.specs.Cutters.{Gives, step_by}
+use Rattle.client_view.proofs.Streams.{gives_body, reads_more, reads_body, reads_refusal}
+use Rattle.client_view.proofs.reading.read_byte.Goals as goal
+
+pub returns-in-More-clause-read : goal.returns-in-More-clause-read
+returns-in-More-clause-read c = λ r s.
+    reads_more c.args.viewer.now.confirmed c.args.viewer.now.pictures.size r c.args.byte c.args.viewer.now c.args.cutter.now c.push.new.self s (c.push.ensures.cut r.cut s.cut) (sym c.push.ensures.step ∙ c.in-More.is)
+
+pub returns-in-Update-clause-read : goal.returns-in-Update-clause-read
+returns-in-Update-clause-read c = λ r s.
+    let m = c.args.viewer.now in
+    let k = c.push.new.self in
+    let g : Gives (updates_by r.cut.place r.cut.stage c.args.byte) k = c.push.ensures.cut r.cut s.cut in
+    let e : step_by k.state k.start ≡ Update c.in-Update.at = sym c.push.ensures.step ∙ c.in-Update.is in
+    let given = gives_body (updates_by r.cut.place r.cut.stage c.args.byte) k c.in-Update.at e g in
+    let shown = rw c.body.ensures at (c.obey_update.ensures.shown r.view given.place s.view given.at_is) in
+    reads_body c.obey_update.result m.confirmed m.pictures.size r c.args.byte c.in-Update.at c.obey_update.new.viewer k g e shown
+
+pub returns-in-Refused-clause-read : goal.returns-in-Refused-clause-read
+returns-in-Refused-clause-read c = λ r s.
+    reads_refusal c.args.viewer.now.confirmed c.args.viewer.now.pictures.size r c.args.byte c.in-Refused.at c.push.new.self (c.push.ensures.cut r.cut s.cut) (sym c.push.ensures.step ∙ c.in-Refused.is)

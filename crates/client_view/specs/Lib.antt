@@ -1,0 +1,5 @@
+pub mod Told
+pub mod Views
+pub mod Refusals
+pub mod Tiles
+pub mod Clients

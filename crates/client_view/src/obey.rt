@@ -1,0 +1,114 @@
+//! Orders, obeyed one by one.
+
+ghost use Rattle.std.specs.Prelude.{◌≡◌};
+ghost use Rattle.order_means.specs.FrameMarks.{View};
+ghost use Rattle.order_read.specs.Told.{told_read, told_reads};
+ghost use Rattle.order_read.specs.Told.Told.{Drawn};
+ghost use Rattle.client_view.specs.Told.{view_after_told, view_after_all_told};
+ghost use Rattle.client_view.specs.Views.{StandsFor, SameViewer, Obeys, IsMarked};
+
+use crate::draw::draw;
+use crate::parts::part;
+use crate::viewer::Viewer;
+use client_caches::{CachedBitmap, ObeyFault, drawing_of};
+use order_fields::Fields;
+use order_read::Read;
+use px_core::Rect;
+use std::alloc::Global;
+
+/// Keeps the picture at a mark.
+pub(crate) fn mark(viewer: &mut Viewer)
+    ensures { IsMarked viewer.old viewer.new }
+{
+    viewer.pictures.mark();
+    viewer.marks = viewer.marks.saturating_add(1);
+}
+
+/// Obeys a primary order and counts it.
+fn obey_drawing(viewer: &mut Viewer, fields: &Fields, bounds: Option<Rect>) -> Result<(), ObeyFault>
+    ensures obeyed { (v : View) → StandsFor v viewer.old → Obeys result (view_after_told viewer.old.confirmed viewer.old.pictures.size v (Drawn fields.now bounds)) viewer.new }
+    ensures same { SameViewer viewer.old viewer.new }
+{
+    let Some(named) = drawing_of(fields, &mut viewer.spare) else {
+        return Err(ObeyFault::Broken);
+    };
+    draw(
+        &viewer.confirmed,
+        &viewer.caches,
+        &mut viewer.blocks,
+        &mut viewer.pictures,
+        bounds,
+        named,
+        fields.bytes(),
+    )?;
+    viewer.orders = viewer.orders.saturating_add(1);
+    Ok(())
+}
+
+/// Obeys what is told of an order; its ranges are those of the body.
+fn obey(viewer: &mut Viewer, alloc: Global, body: &[u8], read: &Read) -> Result<(), ObeyFault>
+    ensures obeyed { (v : View) → StandsFor v viewer.old → Obeys result (view_after_told viewer.old.confirmed viewer.old.pictures.size v (told_read body.now read.now)) viewer.new }
+    ensures same { SameViewer viewer.old viewer.new }
+{
+    match read {
+        Read::Primary { fields, bounds } => obey_drawing(viewer, fields, *bounds),
+        Read::Bitmap {
+            cache,
+            index,
+            w,
+            h,
+            depth,
+            flags,
+            packed,
+            at,
+        } => {
+            let bitmap = CachedBitmap {
+                cache: *cache,
+                index: *index,
+                w: *w,
+                h: *h,
+                depth: *depth,
+                flags: *flags,
+                packed: *packed,
+            };
+            let confirmed = viewer.confirmed;
+            viewer
+                .caches
+                .store_bitmap(alloc, &confirmed, &bitmap, part(body, *at))
+        }
+        Read::Glyph {
+            cache,
+            index,
+            glyph,
+        } => {
+            let confirmed = viewer.confirmed;
+            viewer.caches.store_glyph(&confirmed, *cache, *index, glyph)
+        }
+        Read::Brush { entry, brush } => {
+            let confirmed = viewer.confirmed;
+            viewer.caches.store_brush(&confirmed, *entry, brush)
+        }
+        Read::Marker { end } => {
+            if viewer.confirmed.marker && *end {
+                mark(viewer);
+            }
+            Ok(())
+        }
+    }
+}
+
+/// Obeys what is told of orders, one by one.
+pub(crate) fn obey_all(
+    viewer: &mut Viewer,
+    alloc: Global,
+    body: &[u8],
+    reads: &[Read],
+) -> Result<(), ObeyFault>
+    ensures obeyed { (v : View) → StandsFor v viewer.old → Obeys result (view_after_all_told viewer.old.confirmed viewer.old.pictures.size v (told_reads body.now reads.now)) viewer.new }
+    ensures same { SameViewer viewer.old viewer.new }
+{
+    for read in reads {
+        obey(viewer, alloc, body, read)?;
+    }
+    Ok(())
+}

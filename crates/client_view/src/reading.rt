@@ -1,0 +1,45 @@
+//! A host's bytes, one by one.
+
+ghost use Rattle.std.specs.Prelude.{[], ◌∷◌};
+ghost use Rattle.order_means.specs.FrameMarks.{ClientReading, read_on};
+ghost use Rattle.client_view.specs.Views.{SameViewer};
+ghost use Rattle.client_view.specs.Clients.{StandFor, Reads};
+
+use crate::ClientFault;
+use crate::update::obey_update;
+use crate::viewer::Viewer;
+use host_updates::{Cutter, Step};
+use std::alloc::Global;
+
+/// Reads the next byte, and obeys the update whose packet it ends.
+fn read_byte(
+    viewer: &mut Viewer,
+    cutter: &mut Cutter,
+    alloc: Global,
+    byte: u8,
+) -> Result<(), ClientFault>
+    ensures read { (r : ClientReading) → StandFor r viewer.old cutter.old → Reads result (read_on viewer.old.confirmed viewer.old.pictures.size r (byte ∷ [])) viewer.new cutter.new }
+    ensures same { SameViewer viewer.old viewer.new }
+{
+    match cutter.push(byte) {
+        Step::More => Ok(()),
+        Step::Update { at } => obey_update(viewer, alloc, at, cutter.body()),
+        Step::Refused { at } => Err(ClientFault::Refused { at }),
+    }
+}
+
+/// Reads the next bytes.
+pub(crate) fn read_bytes(
+    viewer: &mut Viewer,
+    cutter: &mut Cutter,
+    alloc: Global,
+    bytes: &[u8],
+) -> Result<(), ClientFault>
+    ensures read { (r : ClientReading) → StandFor r viewer.old cutter.old → Reads result (read_on viewer.old.confirmed viewer.old.pictures.size r bytes.now) viewer.new cutter.new }
+    ensures same { SameViewer viewer.old viewer.new }
+{
+    for byte in bytes {
+        read_byte(viewer, cutter, alloc, *byte)?;
+    }
+    Ok(())
+}
