@@ -1,9 +1,9 @@
 -- The pixels within the bounds of an order, as a rectangle's.
-use Rattle.std.proofs.Common.{◌≡◌, ℕ, ◌+◌, ◌/◌, ◌%◌, Bool, true, false, refl, ap, sym, ◌∙◌, arith}
-use Rattle.std.specs.Prelude.{◌&&◌, ℤ, pos, ◌+ℤ◌, ◌-ℤ◌, int_le, int_lt, List, [], ◌∷◌, Option, Some, None}
+use Rattle.std.proofs.Common.{◌≡◌, ℕ, ◌+◌, ◌/◌, ◌%◌, refl, ap, ◌∙◌, arith}
+use Rattle.std.specs.Prelude.{◌&&◌, ℤ, pos, int_le, List, [], ◌∷◌}
 use Rattle.std.proofs.lemmas.Int.{ints}
 use Rattle.px_core.specs.declared.surface.Size.{Size}
-use Rattle.px_core.specs.Picture.{Area, both, Formula, where_chosen, painted_from}
+use Rattle.px_core.specs.Picture.{Area, Formula, where_chosen, painted_from}
 use Rattle.px_core.specs.Rectangle.{boxed, within, in_rect}
 use Rattle.order_fields.specs.OrderTable.{Edges}
 use Rattle.order_fields.specs.NamedDrawing.{side_between}

@@ -1,12 +1,12 @@
 -- Pixels that are cut out of a picture are a picture of their own.
 use Rattle.std.proofs.Common.{◌≡◌, ℕ, zero, suc, ◌+◌, ◌*◌, ◌/◌, ◌%◌, ◌-◌, ◌<◌, List, length, get_or, ap, sym, ◌∙◌, mod-lt, mul_comm, arith}
-use Rattle.std.specs.Prelude.{Option, None, pos, ◌+ℤ◌, ◌≤ℤ◌, ℤ}
+use Rattle.std.specs.Prelude.{Option, None, pos, ◌+ℤ◌}
 use Rattle.std.proofs.lemmas.Int.{ints}
 use Rattle.std.proofs.lemmas.Nat.{div_below}
 use Rattle.std.proofs.lemmas.Bool.Decides.{nat_tests}
 use Rattle.px_core.specs.declared.surface.Size.{Size}
 use Rattle.px_core.specs.declared.rectangle.Rect.{Rect}
-use Rattle.px_core.specs.Picture.{item, pixel_at, rows_of, pixel_in}
+use Rattle.px_core.specs.Picture.{item, rows_of, pixel_in}
 use Rattle.px_core.specs.Rectangle.{cut_out, pixel_of}
 use Rattle.px_core.proofs.Pictures.{item-get_or, same_items, length-listed, item-listed, pixel-rows_of}
 use Rattle.client_picture.specs.declared.corner.Corner.{Corner}

@@ -1,12 +1,12 @@
 -- Rows that were touched.
 use Rattle.std.proofs.Common.{◌≡◌, ℕ, ◌+◌, ◌≤◌, ◌<◌, List, length, get_or, Bool, true, false, refl, sym, ◌∙◌, arith, inl, inr}
-use Rattle.std.specs.Prelude.{Option, Some, None, ◌&&◌, nat_le, nat_lt, pos, slice_set}
+use Rattle.std.specs.Prelude.{Option, ◌&&◌, nat_le, nat_lt, pos, slice_set}
 use Rattle.std.proofs.lemmas.Bool.{cases_lt}
 use Rattle.std.proofs.lemmas.Bool.Decides.{nat_tests}
 use Rattle.std.proofs.lemmas.List.{get_or-set_other}
 use Rattle.std.proofs.lemmas.Grind.{get_or-set_at}
 use Rattle.px_core.specs.declared.surface.Size.{Size}
-use Rattle.px_core.specs.Picture.{Area, both}
+use Rattle.px_core.specs.Picture.{Area}
 use Rattle.client_picture.specs.declared.part.Part.{Part}
 use Rattle.client_picture.specs.Parts.{in_part, in_optional_part}
 use Rattle.client_picture.specs.Touched.{AddsRows, AddsPart}

@@ -1,19 +1,19 @@
 -- Pixels of a source that stand as far from its start as those of a part from a rectangle's corner.
-use Rattle.std.proofs.Common.{◌≡◌, ℕ, ◌+◌, ◌-◌, ◌*◌, ◌≤◌, ◌<◌, List, length, get_or, Bool, true, refl, ap, sym, ◌∙◌, arith}
-use Rattle.std.specs.Prelude.{◌&&◌, nat_le, nat_lt, ℤ, pos, ◌+ℤ◌, ◌-ℤ◌, ◌≤ℤ◌, int_le, Option, Some, None}
+use Rattle.std.proofs.Common.{◌≡◌, ℕ, ◌+◌, ◌-◌, ◌*◌, ◌≤◌, ◌<◌, List, true, ap, ◌∙◌, arith}
+use Rattle.std.specs.Prelude.{◌&&◌, ℤ, pos, ◌+ℤ◌, ◌-ℤ◌, ◌≤ℤ◌, int_le}
 use Rattle.std.proofs.lemmas.Int.{ints}
 use Rattle.std.proofs.lemmas.Bool.{and_parts}
 use Rattle.std.proofs.lemmas.Bool.Decides.{nat_tests}
 use Rattle.px_core.specs.declared.surface.Size.{Size}
 use Rattle.px_core.specs.declared.rectangle.Rect.{Rect}
-use Rattle.px_core.specs.Picture.{item, pixel_at, pixel_in, rows_of}
+use Rattle.px_core.specs.Picture.{item, pixel_in, rows_of}
 use Rattle.px_core.specs.Rectangle.{boxed, is_inside}
-use Rattle.px_core.proofs.Pictures.{item-get_or, pixel-rows_of}
+use Rattle.px_core.proofs.Pictures.{pixel-rows_of}
 use Rattle.draw_ops.specs.Formulas.{shifted}
 use Rattle.client_picture.specs.declared.corner.Corner.{Corner}
 use Rattle.client_picture.specs.declared.part.Part.{Part}
-use Rattle.client_picture.specs.Parts.{in_part, IsOnSmall, IsWithinRect}
-use Rattle.client_picture.specs.Sources.{place_in, IsCorner, Covers, IsSourceInside}
+use Rattle.client_picture.specs.Parts.{in_part, IsWithinRect}
+use Rattle.client_picture.specs.Sources.{IsCorner, Covers, IsSourceInside}
 
 -- what a rectangle inside a picture keeps
 pub record IsOn (w h : ℕ) (r : Rect) : Type 0 where

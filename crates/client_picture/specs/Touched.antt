@@ -1,5 +1,5 @@
 -- The rows that were painted since the last mark.
-use Rattle.std.specs.Prelude.{◌≡◌, ℕ, ◌<◌, ◌≤◌, Bool, true, false, pos, List, length, get_or, Option, None}
+use Rattle.std.specs.Prelude.{◌≡◌, ℕ, ◌<◌, ◌≤◌, Bool, false, pos, List, length, get_or, Option, None}
 use Rattle.px_core.specs.declared.surface.Size.{Size}
 use Rattle.px_core.specs.Picture.{Area, pixel_count, pixel_at}
 use Rattle.client_picture.specs.declared.part.Part.{Part}

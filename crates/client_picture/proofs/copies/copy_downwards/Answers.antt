@@ -1,7 +1,5 @@
 use Rattle.std.proofs.Common.{◌+◌, ◌-◌, refl, arith}
-use Rattle.std.specs.Prelude.{Some}
 use Rattle.std.proofs.lemmas.Bool.Decides.{nat_tests}
-use Rattle.px_core.specs.Picture.{pixel_at}
 use Rattle.client_picture.specs.Sources.{copied_color}
 use Rattle.client_picture.proofs.Repaint.{same_copy, untouched, row_below_more, all_rows}
 use Rattle.client_picture.proofs.copies.copy_downwards.Goals as goal

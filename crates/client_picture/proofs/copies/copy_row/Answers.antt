@@ -4,7 +4,7 @@ use borrow.Rule.Slice.PartMut.{mid_of}
 use Rattle.px_core.specs.Picture.{pixel_at}
 use Rattle.rop3_core.specs.Palette.{maybe_raster}
 use Rattle.client_picture.specs.Sources.{copied_color}
-use Rattle.client_picture.proofs.Repaint.{same_mix, stretch_fits, length_mid, stretch_pixel, row_stretch}
+use Rattle.client_picture.proofs.Repaint.{stretch_fits, length_mid, stretch_pixel, row_stretch}
 use Rattle.client_picture.proofs.copies.copy_row.Goals as goal
 
 pub returns : goal.returns

@@ -1,4 +1,4 @@
-use Rattle.std.proofs.Common.{◌≡◌, ℕ, get_or, ap, ◌∙◌, arith}
+use Rattle.std.proofs.Common.{ℕ, get_or, ap, ◌∙◌, arith}
 use Rattle.std.specs.Prelude.{Option, Some, None}
 use Rattle.rop3_core.specs.Palette.{maybe_raster}
 use Rattle.client_picture.proofs.Places.{set_next, set_later}

@@ -1,4 +1,4 @@
-use Rattle.std.proofs.Common.{◌≡◌, ◌+ℤ◌, ◌∙◌, subst, arith}
+use Rattle.std.proofs.Common.{◌+ℤ◌, ◌∙◌, subst, arith}
 use Rattle.std.proofs.lemmas.Int.{ints}
 use Rattle.px_core.specs.declared.rectangle.Rect.{Rect}
 use Rattle.px_core.specs.Picture.{both}

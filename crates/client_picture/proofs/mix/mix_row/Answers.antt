@@ -1,5 +1,5 @@
-use Rattle.std.proofs.Common.{◌≡◌, ℕ, ◌+◌, get_or, pos, ap, ◌∙◌, arith, refl}
-use Rattle.std.specs.Prelude.{Option, Some, None, option_copied}
+use Rattle.std.proofs.Common.{◌+◌, get_or, pos, ap, ◌∙◌, arith}
+use Rattle.std.specs.Prelude.{Some, None, option_copied}
 use Rattle.rop3_core.specs.Palette.{maybe_raster}
 use Rattle.client_picture.specs.Pictures.{brush_operand}
 use Rattle.client_picture.specs.Sources.{source_color}

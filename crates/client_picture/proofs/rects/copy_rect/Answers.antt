@@ -1,5 +1,5 @@
-use Rattle.std.proofs.Common.{◌≡◌, ℕ, ◌+◌, ◌-◌, ap, sym, refl, arith, rules, w32, to_z, of_z}
-use Rattle.std.specs.Prelude.{Option, Some, None, pos}
+use Rattle.std.proofs.Common.{◌≡◌, ℕ, ap, sym, refl, w32, to_z, of_z}
+use Rattle.std.specs.Prelude.{Option, Some, None}
 use Rattle.std.proofs.lemmas.Int.{to_z-of_z}
 use Rattle.px_core.specs.Picture.{pixel_at, rows_of}
 use Rattle.px_core.specs.Rectangle.{boxed, in_clip}

@@ -1,4 +1,4 @@
-use Rattle.std.proofs.Common.{◌≡◌, ℕ, ap, ◌∙◌}
+use Rattle.std.proofs.Common.{ℕ, ap}
 use Rattle.std.specs.Prelude.{pos, Option, None, option_copied}
 use Rattle.px_core.specs.Picture.{pixel_at}
 use Rattle.px_core.specs.Rectangle.{in_clip}

@@ -1,5 +1,5 @@
-use Rattle.std.proofs.Common.{◌≡◌, ℕ, ◌+◌, ◌-◌, ◌*◌, ap, sym, ◌∙◌, refl, arith}
-use Rattle.std.specs.Prelude.{Option, None, pos}
+use Rattle.std.proofs.Common.{ℕ, sym, ◌∙◌, arith}
+use Rattle.std.specs.Prelude.{None, pos}
 use Rattle.std.proofs.lemmas.Int.{ints}
 use Rattle.px_core.specs.Picture.{rows_of}
 use Rattle.px_core.specs.Rectangle.{boxed, in_clip}

@@ -1,4 +1,4 @@
-use Rattle.std.proofs.Common.{◌≡◌, ap, sym, ◌∙◌}
+use Rattle.std.proofs.Common.{ap, sym, ◌∙◌}
 use Rattle.std.specs.Prelude.{pos, Some}
 use Rattle.client_picture.specs.Pictures.{source_operand}
 use Rattle.client_picture.proofs.rects.source_texture.Goals as goal

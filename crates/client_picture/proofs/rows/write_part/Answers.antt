@@ -1,6 +1,5 @@
-use Rattle.std.proofs.Common.{◌≡◌, ◌+◌, ◌*◌, ◌-◌, ◌<◌, length, get_or, refl, ◌∙◌, ap, arith}
+use Rattle.std.proofs.Common.{◌≡◌, ◌+◌, ◌*◌, ◌-◌, ◌<◌, get_or, refl, ◌∙◌, ap, arith}
 use Rattle.std.specs.Prelude.{Some}
-use Rattle.std.proofs.lemmas.List.{places}
 use Rattle.client_picture.specs.Sources.{texture_color}
 use Rattle.client_picture.proofs.Repaint.{stretch_fits, length_mid, color_item, no_rows, all_rows, next_row_down}
 use Rattle.client_picture.proofs.rows.write_part.Goals as goal

@@ -1,4 +1,4 @@
-use Rattle.std.proofs.Common.{◌≡◌, ◌+◌, ◌*◌, ◌-◌, ◌<◌, List, ℕ, get_or, refl, ap, ◌∙◌, arith}
+use Rattle.std.proofs.Common.{◌≡◌, ◌+◌, ◌*◌, ◌-◌, List, ℕ, get_or, ap, ◌∙◌, arith}
 use Rattle.std.specs.Prelude.{Option, None}
 use Rattle.px_core.specs.Picture.{pixel_at}
 use Rattle.client_picture.proofs.Repaint.{stretch_fits, length_mid, stretch_pixel, row_stretch}

@@ -1,4 +1,4 @@
-use Rattle.std.proofs.Common.{◌≡◌, ◌+◌, ◌<◌, ℕ, List, Bool, true, false, sym, subst, ◌∙◌, arith}
+use Rattle.std.proofs.Common.{◌+◌, ℕ, List, Bool, false, sym, subst, ◌∙◌, arith}
 use Rattle.std.specs.Prelude.{Option, None, slice_set}
 use Rattle.px_core.proofs.Pictures.{same_pixels}
 use Rattle.client_picture.specs.Touched.{AreCopied}

@@ -1,4 +1,4 @@
-use Rattle.std.proofs.Common.{◌≡◌, ◌+◌, arith}
+use Rattle.std.proofs.Common.{arith}
 use Rattle.client_picture.proofs.Flags.{row_touched, no_pixel}
 use Rattle.client_picture.proofs.touched.touch_rows.Goals as goal
 

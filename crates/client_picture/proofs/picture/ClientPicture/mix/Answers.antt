@@ -1,10 +1,9 @@
-use Rattle.std.proofs.Common.{◌≡◌, ◌∙◌, pos}
-use Rattle.std.specs.Prelude.{None, option_copied}
-use Rattle.px_core.specs.Picture.{everywhere, rows_of}
+use Rattle.std.proofs.Common.{◌∙◌}
+use Rattle.std.specs.Prelude.{option_copied}
+use Rattle.px_core.specs.Picture.{everywhere}
 use Rattle.px_core.specs.Rectangle.{in_clip}
 use Rattle.rop3_core.specs.Palette.{client_colors}
-use Rattle.draw_ops.specs.Formulas.{solid, rastered, replaced, shifted, imaged}
-use Rattle.order_means.specs.ClientState.{no_operand}
+use Rattle.draw_ops.specs.Formulas.{rastered}
 use Rattle.client_picture.specs.Pictures.{brush_operand, source_operand}
 use Rattle.client_picture.proofs.Kept.{kept_after}
 use Rattle.client_picture.proofs.picture.ClientPicture.mix.Goals as goal

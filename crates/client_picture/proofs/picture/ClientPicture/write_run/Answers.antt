@@ -1,4 +1,4 @@
-use Rattle.std.proofs.Common.{◌≡◌, ℕ, ◌+◌, ◌*◌, ◌<◌, List, ◌∷◌, get_or, drop, length, ap, sym, ◌∙◌, subst, arith, w32, w64, to_z, of_z, pos, ◌+ℤ◌, ℤ}
+use Rattle.std.proofs.Common.{◌≡◌, ℕ, ◌+◌, ◌*◌, List, ◌∷◌, get_or, drop, ap, sym, ◌∙◌, subst, arith, w32, w64, to_z, of_z, pos, ◌+ℤ◌, ℤ}
 use Rattle.std.specs.Prelude.{Option}
 use Rattle.std.proofs.lemmas.Int.{ints, to_z-of_z}
 use Rattle.draw_ops.specs.Content.{GlyphOf}
