@@ -17,6 +17,9 @@ use script_lines::is_name;
 /// The word of the mode that serves one client.
 const ANSWER: &str = "answer";
 
+/// How many arguments it has: columns, rows and the owner's name.
+const ARGS: usize = 3;
+
 /// The most columns, and the most rows, of a session's picture (profile).
 const MOST_SIDE: u64 = 2_048;
 
@@ -44,7 +47,11 @@ pub(crate) fn client_of(request: &Request<'_>) -> Option<Client>
     if !is_same_word(request.mode().as_bytes(), ANSWER.as_bytes()) {
         return None;
     }
-    match request.args() {
+    let args = request.args();
+    if args.len() != ARGS {
+        return None;
+    }
+    match args {
         [w, h, owner] => client_of_words(w.as_bytes(), h.as_bytes(), owner.as_bytes()),
         _ => None,
     }

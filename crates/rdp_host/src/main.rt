@@ -6,8 +6,8 @@ mod answering;
 mod top;
 mod words;
 
-use edge_io::{FileIn, FileOut, PlanGate};
 pub use answer_run::{AnswerFault, run_answer};
+use edge_io::{FileIn, FileOut, PlanGate};
 pub use script_run::{ScriptFault, run_script};
 use std::process::ExitCode;
 use top::OUT_OF_MEMORY;
