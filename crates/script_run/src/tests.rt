@@ -1,4 +1,4 @@
-//! Worked scripts, and scripts that meet faults. The captures stand as they were worked out by hand from the standard's tables.
+//! Worked scripts with their captures, which were made apart from this program, and scripts that meet faults.
 
 use crate::{ScriptFault, run_script};
 use edge_io::{Bytes, Keep, PlanSink, PlanSource};
@@ -199,7 +199,7 @@ const DRAWINGS: [(&[u8], &[&[u8]], Result<(), ScriptFault>); 9] = [
 ];
 
 /// Scripts of several viewers, of suppressed output, and of a viewer that takes frame markers.
-const VIEWERS: [(&[u8], &[&[u8]], Result<(), ScriptFault>); 5] = [
+const VIEWERS: [(&[u8], &[&[u8]], Result<(), ScriptFault>); 6] = [
     // Control is handed on.
     (
         b"size 64 48\ninvite ann owner\ninvite bob view\ninvite cy control\njoin ann full\njoin bob full\njoin cy full\n@2 mouse 9000 20 20\nkey 58 down\n@3 mouse 9000 20 20\n@2 take\n",
@@ -278,6 +278,17 @@ const VIEWERS: [(&[u8], &[&[u8]], Result<(), ScriptFault>); 5] = [
         &[
             b"1 joined 64 48 marked\n",
             b"1 0300003202f08068000103eb702424001700ea03ea030100000116000200000000000000020000003600000000190a0c40300300002d02f08068000103eb701f1f001700ea03ea030100000111000200000000000000010000003601000000\n",
+        ],
+        Ok(()),
+    ),
+    // A viewer that is sent plainer orders: a copy and a fill as far as they draw, and nothing of what doesn't.
+    (
+        b"size 64 48\ninvite ann owner\njoin ann full cautious\ntake\ncopy -2 -1 10 10 CC 3 4 clip 0 0 6 6\nfill 60 40 10 10 FF0000\ndst 0 0 9 9 AA\nfill 70 0 5 5 00FF00\ntake\n",
+        &[
+            b"1 joined 64 48 full cautious\n",
+            FIRST,
+            b"1 0300003802f08068000103eb702a2a001700ea03ea03010000011c0002000000000000000200000019027c0606cc0505190a1f3c28c4d8ff",
+            MARK,
         ],
         Ok(()),
     ),
