@@ -1,12 +1,12 @@
 -- What is done where a line was found.
-use Rattle.std.proofs.Common.{◌≡◌, ℕ, List, [], ◌∷◌, ◌++◌, refl, ap, sym, ◌∙◌, subst, Some, None, Bool}
+use Rattle.std.proofs.Common.{◌≡◌, ℕ, List, [], ◌++◌, refl, ap, sym, ◌∙◌, subst, Some, None, Bool}
 use Rattle.std.specs.Prelude.{Option, Err}
 use Rattle.std.specs.Io.KnownBytes.{Appends}
 use Rattle.line_read.specs.declared.reader.Found.{Found}
 use Rattle.line_read.specs.declared.reader.Found.TheVariants as found
 use Rattle.edge_io.specs.Sink.{WritesFront}
 use Rattle.frame_rules.specs.Encoder.{Encoder}
-use Rattle.script_rules.specs.Script.{ScriptReading, LineOutcome, text_rule}
+use Rattle.script_rules.specs.Script.{ScriptReading, LineOutcome}
 use Rattle.script_rules.specs.Script.LineOutcome.{Breaks, Invites, Asks}
 use Rattle.script_rules.specs.Capture.{broken_line}
 use Rattle.script_rules.specs.CaptureText.{Run, line_in_run}
@@ -17,7 +17,7 @@ use Rattle.script_lines.specs.declared.rule.LineRule.TheVariants as rule
 use Rattle.script_host.specs.Hosts.{HostModel}
 use Rattle.script_run.specs.declared.fault.ScriptFault.{ScriptFault}
 use Rattle.script_run.specs.declared.fault.ScriptFault.TheVariants as fault
-use Rattle.script_run.specs.Outcomes.{outcome_within, found_outcome, outcome_text}
+use Rattle.script_run.specs.Outcomes.{outcome_within, found_outcome}
 use Rattle.script_run.specs.Steps.{LineAnswered, DoesLine, DoesFound, WritesFrontOfLine, IsWriteFault, Refuses}
 
 -- ---- a line that breaks no rule was done

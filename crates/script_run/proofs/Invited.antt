@@ -1,12 +1,12 @@
 -- A row was added.
-use Rattle.std.proofs.Common.{◌≡◌, ℕ, ◌<◌, List, [], ◌∷◌, ◌++◌, length, refl, ap, sym, ◌∙◌, subst, Some, None, Bool, true, false, arith}
+use Rattle.std.proofs.Common.{◌≡◌, ℕ, ◌<◌, List, [], ◌∷◌, length, refl, ap, sym, ◌∙◌, subst, Some, None, Bool, true, false, arith}
 use Rattle.std.specs.Prelude.{◌||◌, not, nat_le}
 use Rattle.std.proofs.lemmas.Bool.Decides.{nat_tests}
 use Rattle.draw_ops.specs.Fits.{first_some}
 use Rattle.frame_rules.specs.Encoder.{Encoder}
 use Rattle.session_rules.specs.declared.entry.Role.{Role}
 use Rattle.session_rules.specs.Journal.{Row}
-use Rattle.script_rules.specs.Script.{ScriptReading, LineOutcome, form_outcome, unless_broken, broken_if, is_name, is_invited, row_limit, order_rule, name_rule}
+use Rattle.script_rules.specs.Script.{ScriptReading, form_outcome, unless_broken, broken_if, is_name, is_invited, row_limit, order_rule, name_rule}
 use Rattle.script_rules.specs.Script.LineForm.{InviteForm}
 use Rattle.script_rules.specs.Script.LineOutcome.{Invites}
 use Rattle.script_rules.specs.CaptureText.{Run}

@@ -4,14 +4,12 @@ use Rattle.std.specs.Prelude.{Option, Result, Ok, Err, ◌==◌}
 use Rattle.std.specs.Io.KnownBytes.{Appends, Keeps, IsAtEnd}
 use Rattle.std.proofs.KnownBytes.{Appends-nil, Appends-trans}
 use Rattle.line_text.specs.Lines.{Line, line_bytes, lines_of, is_past_limits, script_limit}
-use Rattle.line_read.specs.Reading.{LineReading, ahead, HandsOut}
-use Rattle.line_read.specs.Finding.{Finds, FindsNone, FindsLine, FindCause}
+use Rattle.line_read.specs.Reading.{LineReading}
+use Rattle.line_read.specs.Finding.{Finds, FindsLine, FindCause}
 use Rattle.line_read.specs.declared.reader.Found.{Found}
 use Rattle.line_read.specs.declared.reader.Found.TheVariants as found
-use Rattle.edge_io.specs.Faults.{Rose}
-use Rattle.edge_io.specs.Sink.{WritesFront}
 use Rattle.frame_rules.specs.Encoder.{Encoder}
-use Rattle.script_rules.specs.Script.{ScriptReading, LineOutcome, line_outcome, script_from, LineRefusal}
+use Rattle.script_rules.specs.Script.{ScriptReading, LineOutcome, line_outcome, script_from}
 use Rattle.script_rules.specs.Script.LineOutcome.{Breaks, Invites, Asks}
 use Rattle.script_rules.specs.Capture.{broken_line}
 use Rattle.script_rules.specs.CaptureText.{Run}
@@ -21,12 +19,11 @@ use Rattle.script_run.specs.declared.fault.ScriptFault.{ScriptFault}
 use Rattle.script_run.specs.declared.fault.ScriptFault.TheVariants as fault
 use Rattle.script_run.specs.Run.{Tells, EndsWhereTold, refusal_at, ReadsCause}
 use Rattle.script_run.specs.Outcomes.{outcome_within, found_outcome, outcome_text, reading_by, run_by_outcome, BreaksNone}
-use Rattle.script_run.specs.Standing.{Stands}
 use Rattle.script_run.specs.Steps.{DoesLine, WritesFrontOfLine, DoesFound, IsWriteFault}
 use Rattle.script_run.specs.Reading.{CaptureByLines, Follows, of_lines, text_from, Moment, ahead_of, WroteSomeLines, AllLinesGive, WroteAllLines}
 use Rattle.script_run.specs.Reading.{with_next, WroteDoneLines, StopsInALine, StopsReading}
-use Rattle.script_run.specs.Progress.{DidLinesTo, NextLineDone}
-use Rattle.script_run.proofs.Senses.{line_follows, line_breaks, lines_front, front_behind, front_of_front, front_is, whole_is_front}
+use Rattle.script_run.specs.Progress.{NextLineDone}
+use Rattle.script_run.proofs.Senses.{line_follows, line_breaks, front_behind, front_of_front, front_is, whole_is_front}
 use Rattle.script_run.proofs.Taken.{line_taken, none_taken}
 use Rattle.script_run.proofs.Outcomes.{StartAs, outcome_is, done_is_ended, is_longer, is_inside, found_starts, starts_alone, first_does}
 

@@ -1,17 +1,14 @@
 -- How far lines were done, and then one more line.
-use Rattle.std.proofs.Common.{◌≡◌, ℕ, suc, ◌+◌, ◌-◌, ◌^◌, ◌<◌, refl, subst, Bool, true, false, arith}
+use Rattle.std.proofs.Common.{◌≡◌, ℕ, suc, ◌+◌, ◌-◌, ◌^◌, ◌<◌, Bool, true, false, arith}
 use Rattle.std.specs.Prelude.{Result, Ok, Err, if◌then◌else◌}
 use Rattle.line_text.specs.Lines.{script_limit}
-use Rattle.frame_rules.specs.Encoder.{Encoder}
-use Rattle.script_rules.specs.Script.{ScriptReading}
-use Rattle.script_rules.specs.CaptureText.{Run}
 use Rattle.script_host.specs.Hosts.{HostModel}
 use Rattle.script_host.specs.Runs.{IsInCourse}
 use Rattle.script_run.specs.declared.fault.ScriptFault.{ScriptFault}
 use Rattle.script_run.specs.declared.fault.ScriptFault.TheVariants as fault
-use Rattle.script_run.specs.Run.{EndsWhereTold, ReadsCause, WritesCause}
+use Rattle.script_run.specs.Run.{ReadsCause, WritesCause}
 use Rattle.script_run.specs.Reading.{CaptureByLines, of_lines, Moment, ahead_of, WroteSomeLines}
-use Rattle.script_run.specs.Progress.{DidLinesTo, NextLineDone, LinesDoneSoFar, AllLinesDone}
+use Rattle.script_run.specs.Progress.{NextLineDone, LinesDoneSoFar, AllLinesDone}
 use Rattle.script_run.proofs.Continued.{some_and_then_some, some_and_then_all, ends_later, stops_later, reading_later}
 
 -- a line was done behind those that were

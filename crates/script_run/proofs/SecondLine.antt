@@ -1,15 +1,15 @@
 -- The second line was found: an invite begins a script of several viewers, and before any other the one viewer joins.
-use Rattle.std.proofs.Common.{◌≡◌, ℕ, List, [], ◌∷◌, ◌++◌, refl, ap, sym, ◌∙◌, subst, Some, None, Bool, true, false, position}
-use Rattle.std.specs.Prelude.{Option, Result, Ok, Err, ◌==◌, ◌&&◌, not, is_some}
+use Rattle.std.proofs.Common.{◌≡◌, ℕ, List, [], ◌∷◌, refl, ap, ◌∙◌, Bool, true, false}
+use Rattle.std.specs.Prelude.{Option, Result, Err, ◌&&◌, not, is_some}
 use Rattle.std.specs.Io.KnownBytes.{Appends}
 use Rattle.px_core.specs.declared.surface.Size.{Size}
-use Rattle.line_text.specs.Lines.{Line, lines_of, is_past_limits}
+use Rattle.line_text.specs.Lines.{Line, is_past_limits}
 use Rattle.line_text.specs.Words.{words_of}
 use Rattle.line_read.specs.Finding.{Finds}
 use Rattle.line_read.specs.declared.reader.Found.{Found}
 use Rattle.line_read.specs.declared.reader.Found.TheVariants as found
 use Rattle.edge_io.specs.Sink.{WritesFront}
-use Rattle.script_rules.specs.Script.{begins_with_invite, invite_form, opened_reading, script_from}
+use Rattle.script_rules.specs.Script.{begins_with_invite, invite_form, opened_reading}
 use Rattle.capture_laws.specs.Fronts.{IsFront}
 use Rattle.script_host.specs.Hosts.{HostModel}
 use Rattle.script_run.specs.declared.fault.ScriptFault.{ScriptFault}
@@ -17,7 +17,7 @@ use Rattle.script_run.specs.declared.fault.ScriptFault.TheVariants as fault
 use Rattle.script_run.specs.Outcomes.{is_invite_found}
 use Rattle.script_run.specs.Solo.{first_run, solo_reading, solo_run, joined}
 use Rattle.script_run.specs.Steps.{DoesFound, IsWriteFault}
-use Rattle.script_run.specs.Reading.{of_lines, of_rest, text_from, Moment, ahead_of, with_next}
+use Rattle.script_run.specs.Reading.{of_lines, of_rest, Moment, ahead_of, with_next}
 use Rattle.script_run.specs.Progress.{NextLineDone}
 use Rattle.script_run.proofs.Senses.{invited_writes, solo_writes, front_of_front}
 use Rattle.script_run.proofs.Outcomes.{StartAs, found_starts, starts_alone}

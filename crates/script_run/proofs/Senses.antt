@@ -9,22 +9,22 @@ use Rattle.session_rules.specs.Journal.{Head, is_present}
 use Rattle.frame_rules.specs.Encoder.{Encoder}
 use Rattle.caps_sets.specs.declared.confirmed.Confirmed.{Confirmed}
 use Rattle.caps_sets.specs.Presets.{presets, confirmed_by}
-use Rattle.script_rules.specs.Script.{ScriptReading, Script, Asked, Opening, LineForm, LineOutcome, LineRefusal, line_form, form_outcome, line_outcome, join_outcome, unless_broken}
+use Rattle.script_rules.specs.Script.{ScriptReading, Script, Asked, LineForm, LineOutcome, line_form, form_outcome, line_outcome, join_outcome, unless_broken}
 use Rattle.script_rules.specs.Script.{broken_if, is_name, is_invited, row_limit, order_rule, name_rule, presence_rule, text_rule, breaks_text_rule, without_preset}
-use Rattle.script_rules.specs.Script.{with_row, after_step, with_asked, proceeding, script_from, opening_by, opening_of_lines, script_after, begins_with_invite}
-use Rattle.script_rules.specs.Script.{opened_reading, solo_rows, solo_join, solo_script, invited_script, size_of_words}
+use Rattle.script_rules.specs.Script.{with_row, after_step, with_asked, proceeding, script_from, opening_by, script_after, begins_with_invite}
+use Rattle.script_rules.specs.Script.{opened_reading, solo_join, solo_script, invited_script, size_of_words}
 use Rattle.script_rules.specs.Script.LineForm.{InviteForm, JoinForm, StepForm}
 use Rattle.script_rules.specs.Script.LineOutcome.{Breaks, Invites, Asks}
-use Rattle.script_rules.specs.Script.Opening.{NoSize, Unended, Opened}
+use Rattle.script_rules.specs.Script.Opening.{Unended, Opened}
 use Rattle.script_rules.specs.Capture.{broken_line, last_line}
 use Rattle.script_rules.specs.CaptureText.{Run, run_after, run_at_first, lines_from, line_in_run, capture_of_opening, capture_of_script}
 use Rattle.script_rules.specs.Headline.{encoder_frames}
 use Rattle.capture_laws.specs.Fronts.{IsFront}
 use Rattle.script_run.specs.Done.{capture_of_lines, text_of_opening, text_of_first, text_with_next}
 use Rattle.script_run.specs.Solo.{first_run, solo_head, solo_reading, solo_run, joined}
-use Rattle.script_run.specs.Run.{refusal_at, refusal_of}
+use Rattle.script_run.specs.Run.{refusal_at}
 use Rattle.script_run.specs.Outcomes.{outcome_text, reading_by, run_by_outcome, BreaksNone}
-use Rattle.script_run.specs.Reading.{CaptureByLines, Follows, of_script, of_rest, of_lines, text_from, text_after, so_far_after, with_next}
+use Rattle.script_run.specs.Reading.{CaptureByLines, Follows, of_lines, text_from, text_after, so_far_after, with_next}
 
 -- ---- fronts
 

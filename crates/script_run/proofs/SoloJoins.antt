@@ -1,6 +1,6 @@
 -- The one viewer of a script without invites joins.
-use Rattle.std.proofs.Common.{◌≡◌, ℕ, List, [], ◌++◌, Some, None, Bool, true, false, refl, sym, ◌∙◌}
-use Rattle.std.specs.Prelude.{Option, codes, not}
+use Rattle.std.proofs.Common.{◌≡◌, ℕ, List, [], ◌++◌, Some, None}
+use Rattle.std.specs.Prelude.{Option, codes}
 use Rattle.px_core.specs.declared.surface.Size.{Size}
 use Rattle.line_text.specs.Words.{words_of}
 use Rattle.frame_rules.specs.Encoder.{Encoder}

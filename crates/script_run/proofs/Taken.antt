@@ -1,6 +1,6 @@
 -- Lines that were taken from the front of bytes.
-use Rattle.std.proofs.Common.{◌≡◌, ℕ, List, [], ◌∷◌, ◌++◌, refl, ap, sym, ◌∙◌, subst, Some, None, Bool, true, false, append_assoc, append-nil, position, length, ◌<◌, arith}
-use Rattle.std.specs.Prelude.{Option, ◌==◌}
+use Rattle.std.proofs.Common.{◌≡◌, ℕ, List, [], ◌∷◌, ◌++◌, refl, ap, sym, ◌∙◌, subst, Some, None, Bool, true, false, append_assoc, append-nil, position, arith}
+use Rattle.std.specs.Prelude.{Option}
 use Rattle.std.specs.Io.KnownBytes.{Consumes, Keeps}
 use Rattle.line_text.specs.Lines.{Line, line_bytes, lines_of}
 use Rattle.line_read.specs.Reading.{HandsOut}

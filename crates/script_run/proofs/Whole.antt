@@ -1,13 +1,13 @@
 -- What a script's lines come to is its capture, and what it refuses.
 use Rattle.std.proofs.Common.{◌≡◌, ℕ, List, [], ◌∷◌, ◌++◌, refl, ap, sym, ◌∙◌, subst, Some, None, append_assoc, position}
 use Rattle.std.specs.Prelude.{Option, Result, Ok, Err, ◌==◌}
-use Rattle.std.specs.Io.KnownBytes.{Appends, Consumes, IsAtEnd, prepend_known}
+use Rattle.std.specs.Io.KnownBytes.{Appends, IsAtEnd, prepend_known}
 use Rattle.std.proofs.KnownBytes.{prepend_known-nil, Appends-nil}
 use Rattle.edge_io.specs.Sink.{WritesFront}
 use Rattle.px_core.specs.declared.surface.Size.{Size}
 use Rattle.line_text.specs.Lines.{Line, lines_of}
 use Rattle.line_read.specs.Reading.{LineReading, new_reading, ahead}
-use Rattle.script_rules.specs.Script.{LineRefusal, opening_of}
+use Rattle.script_rules.specs.Script.{LineRefusal}
 use Rattle.script_rules.specs.Capture.{broken_line}
 use Rattle.script_rules.specs.CaptureText.{capture_of}
 use Rattle.script_rules.specs.Headline.{encoder_frames, EveryViewerOfCapture}
@@ -19,11 +19,11 @@ use Rattle.script_run.specs.declared.fault.ScriptFault.{ScriptFault}
 use Rattle.script_run.specs.declared.fault.ScriptFault.TheVariants as fault
 use Rattle.script_run.specs.declared.opening.FirstLine.{FirstLine}
 use Rattle.script_run.specs.declared.opening.FirstLine.TheVariants as first
-use Rattle.script_run.specs.Done.{capture_of_lines, text_of_first, text_with_next, bytes_of_lines, ended_lines}
-use Rattle.script_run.specs.Run.{Tells, EndsWhereTold, refusal_at, refusal_of, WritesTheCapture, IsFrontOfCapture, WritesFirstLines, WritesHandedLines, RunsScript}
+use Rattle.script_run.specs.Done.{capture_of_lines, text_of_first, text_with_next, bytes_of_lines}
+use Rattle.script_run.specs.Run.{Tells, EndsWhereTold, refusal_at, WritesTheCapture, IsFrontOfCapture, WritesFirstLines, WritesHandedLines, RunsScript}
 use Rattle.script_run.specs.Steps.{Refuses}
-use Rattle.script_run.specs.Reading.{of_script, of_rest, Moment, moment, ahead_of, TakesLines, TakesLinesOf, AllLinesGive, WroteSomeLines, WroteAllLines, with_next}
-use Rattle.script_run.specs.Reading.{WroteDoneLines, StopsInALine, StopsReading, RefusesFirst, Opens}
+use Rattle.script_run.specs.Reading.{of_script, of_rest, Moment, moment, ahead_of, TakesLines, TakesLinesOf, AllLinesGive, with_next}
+use Rattle.script_run.specs.Reading.{WroteDoneLines, RefusesFirst, Opens}
 use Rattle.script_run.specs.Progress.{AllLinesDone}
 use Rattle.script_run.proofs.Senses.{front_of_front, nothing_is_front, next_front, script_front}
 use Rattle.script_run.proofs.Taken.{lines_are, whole_lines_are}

@@ -1,29 +1,25 @@
 -- How far the lines of a script were read and done, and what the rest of them gives of the capture.
-use Rattle.std.specs.Prelude.{◌≡◌, ℕ, ◌+◌, ◌<◌, ◌≤◌, List, [], ◌∷◌, ◌++◌, Bool, true, false, ◌==◌, position, ⊤, IsTrue}
+use Rattle.std.specs.Prelude.{◌≡◌, ℕ, List, [], ◌∷◌, ◌++◌, Bool, true, false, ◌==◌, position, ⊤, IsTrue}
 use Rattle.std.specs.Io.KnownBytes.{Appends}
 use Rattle.std.specs.declared.option.Option.{Option}
 use Rattle.std.specs.declared.option.Option.TheVariants.{Some, None}
-use Rattle.std.specs.declared.result.Result.{Result}
-use Rattle.std.specs.declared.result.Result.TheVariants.{Ok, Err}
 use Rattle.px_core.specs.declared.surface.Size.{Size}
 use Rattle.px_core.specs.Rectangle.{is_session_size}
-use Rattle.line_text.specs.Lines.{Line, lines_of, script_limit}
+use Rattle.line_text.specs.Lines.{Line, lines_of}
 use Rattle.line_read.specs.Reading.{LineReading, ahead}
 use Rattle.edge_io.specs.Faults.{Rose}
 use Rattle.frame_rules.specs.Encoder.{Encoder}
-use Rattle.script_rules.specs.Script.{ScriptReading, Script, LineRefusal, script_from, script_after, opening_of_lines, size_rule, text_rule}
+use Rattle.script_rules.specs.Script.{ScriptReading, Script, LineRefusal, script_from, script_after, opening_of_lines}
 use Rattle.script_rules.specs.Capture.{broken_line, last_line}
 use Rattle.script_rules.specs.CaptureText.{Run, lines_from, capture_of_script}
 use Rattle.script_rules.specs.Headline.{encoder_frames}
 use Rattle.capture_laws.specs.Fronts.{IsFront}
-use Rattle.script_run.specs.declared.fault.ScriptFault.{ScriptFault}
-use Rattle.script_run.specs.declared.fault.ScriptFault.TheVariants as fault
 use Rattle.script_run.specs.declared.opening.FirstLine.{FirstLine}
 use Rattle.script_run.specs.declared.opening.FirstLine.TheVariants as first
 use Rattle.script_lines.specs.Lines.{number_of_rule}
 use Rattle.script_lines.specs.declared.rule.LineRule.TheVariants as rule
 use Rattle.script_run.specs.Done.{capture_of_lines, text_of_first, bytes_of_lines, ended_lines}
-use Rattle.script_run.specs.Run.{Tells, EndsWhereTold, refusal_at, refusal_of}
+use Rattle.script_run.specs.Run.{Tells, refusal_at, refusal_of}
 
 -- ---- what lines give of a capture
 

@@ -14,7 +14,8 @@ const FIRST: u32 = 1;
 /// Reads a script, a line at a time, and writes its capture, a line for each step that was done.
 ///
 /// `Line` names the first line that breaks a rule and the least rule that it breaks; the capture's last line says it too. A `ReadFault`
-/// leaves the capture of the whole lines before it; a `WriteFault`, or want of memory, that of the lines done and a front of one more line's.
+/// leaves what the whole lines before it write, and a `WriteFault`, or want of memory, what the lines done write and a front of one more
+/// line's. From the second line on that is their capture; behind the first alone nothing is written, as it isn't known who joins.
 pub fn run_script<S: Source, K: Sink>(
     alloc: Global,
     input: &mut S,

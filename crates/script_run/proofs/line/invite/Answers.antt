@@ -1,4 +1,4 @@
-use Rattle.std.proofs.Common.{◌∙◌, sym, subst, arith, ◌<◌, length}
+use Rattle.std.proofs.Common.{◌∙◌, sym, arith}
 use Rattle.script_run.proofs.Invited.{invited}
 use Rattle.script_run.proofs.line.invite.Goals as goal
 

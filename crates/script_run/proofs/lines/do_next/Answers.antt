@@ -2,7 +2,7 @@ use Rattle.std.proofs.Common.{[], subst}
 use Rattle.std.proofs.KnownBytes.{Appends-nil}
 use Rattle.script_run.specs.Steps.{DoesFound}
 use Rattle.script_run.specs.Reading.{moment, of_lines}
-use Rattle.script_run.proofs.NextLine.{next_done, leads_on, found_reads, read_stops}
+use Rattle.script_run.proofs.NextLine.{next_done, leads_on, found_reads}
 use Rattle.script_run.proofs.lines.do_next.Goals as goal
 
 pub returns : goal.returns

@@ -1,6 +1,6 @@
-use Rattle.std.proofs.Common.{◌≡◌, [], true, false, sym, ◌∙◌, subst, Bool}
+use Rattle.std.proofs.Common.{◌≡◌, [], sym, ◌∙◌, subst, Bool}
 use Rattle.std.proofs.lemmas.Result.{err_from_is_err_and}
-use Rattle.std.specs.Prelude.{Err, not}
+use Rattle.std.specs.Prelude.{Err}
 use Rattle.std.specs.Io.KnownBytes.{Appends}
 use Rattle.script_rules.specs.Script.{opened_reading}
 use Rattle.script_run.specs.Outcomes.{is_invite_found}

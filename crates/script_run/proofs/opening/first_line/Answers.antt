@@ -1,6 +1,6 @@
-use Rattle.std.proofs.Common.{refl, inl, inr}
+use Rattle.std.proofs.Common.{refl}
 use Rattle.script_run.specs.Reading.{moment}
-use Rattle.script_run.proofs.FirstLine.{found_opens, none_opens, failed_opens}
+use Rattle.script_run.proofs.FirstLine.{found_opens, none_opens}
 use Rattle.script_run.proofs.opening.first_line.Goals as goal
 
 -- src/opening.rt:22:1
