@@ -1,5 +1,5 @@
 -- The blocks that share no position with a new one are those that a filter keeps.
-use Rattle.std.proofs.Common.{◌≡◌, List, [], ◌∷◌, Bool, true, false, refl, ap, ◌∙◌}
+use Rattle.std.proofs.Common.{◌≡◌, List, [], ◌∷◌, Bool, true, false, refl, ap}
 use Rattle.std.specs.List.{filter}
 use Rattle.order_means.specs.ClientState.{Block, are_apart, kept_block, apart_from}
 

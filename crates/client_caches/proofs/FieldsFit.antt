@@ -1,5 +1,5 @@
 -- The values of an order's fields, each by its kind.
-use Rattle.std.proofs.Common.{◌≡◌, ◌<◌, ◌≤◌, ◌+◌, ℕ, ℤ, List, length, get_or, ap, sym, ◌∙◌, subst, true, Bool, Some, arith}
+use Rattle.std.proofs.Common.{◌≡◌, ◌<◌, ◌≤◌, ℕ, ℤ, List, length, get_or, ap, sym, ◌∙◌, subst, true, Bool, Some, arith}
 use Rattle.std.specs.Prelude.{pos, negsuc}
 use Rattle.px_core.proofs.Pictures.{item-get_or}
 use Rattle.order_fields.specs.declared.kind.FieldKind.{FieldKind}

@@ -1,5 +1,5 @@
 -- Values that are 0, one by one.
-use Rattle.std.proofs.Common.{◌≡◌, ℕ, ℤ, suc, ◌+◌, ◌-◌, ◌<◌, List, ap, ap₂, ◌∙◌, true, Bool, arith}
+use Rattle.std.proofs.Common.{◌≡◌, ℕ, ℤ, suc, ◌+◌, ◌-◌, ◌<◌, List, ap, ◌∙◌, true, arith}
 use Rattle.std.specs.Prelude.{pos, ◌&&◌}
 use Rattle.std.specs.Ordering.{int_eq}
 use Rattle.order_fields.specs.NamedDrawing.{value, are_zero}

@@ -1,5 +1,5 @@
 -- What calls answer that obey an order.
-use Rattle.std.specs.Prelude.{◌≡◌, ℕ, Result, Ok, Err, ⊤}
+use Rattle.std.specs.Prelude.{◌≡◌, Result, Ok, Err, ⊤}
 use Rattle.order_means.specs.ClientState.{Fault}
 use Rattle.order_means.specs.ClientState.Fault.{Broken as broken_fault, Oversized as oversized_fault, Empty as empty_fault}
 use Rattle.client_caches.specs.declared.obey_fault.ObeyFault.{ObeyFault}

@@ -1,5 +1,5 @@
 -- The caches of a client.
-use Rattle.std.specs.Prelude.{◌≡◌, ℕ, Bool, List, map, length, Result, Ok, Err}
+use Rattle.std.specs.Prelude.{◌≡◌, ℕ, Bool, List, map, length, Result, Ok}
 use Rattle.draw_ops.specs.Content.{ImageOf, GlyphOf}
 use Rattle.draw_ops.specs.Slots.{Slots, empty_slots}
 use Rattle.byte_fields.specs.Field.{bind}

@@ -1,4 +1,4 @@
-use Rattle.std.proofs.Common.{◌≡◌, ◌∙◌, refl}
+use Rattle.std.proofs.Common.{◌∙◌, refl}
 use Rattle.order_fields.specs.OrderTable.{dst_blt, pat_blt, scr_blt, opaque_rect, save_bitmap, mem_blt, mem3_blt, glyph_index}
 use Rattle.client_caches.proofs.KindsKept.{kind_fits, kind_draws, kind_short}
 use Rattle.client_caches.proofs.drawings.drawing_of.Goals as goal

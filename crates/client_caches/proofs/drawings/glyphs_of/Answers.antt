@@ -1,9 +1,6 @@
-use Rattle.std.proofs.Common.{rules, ◌≡◌, ℕ, ℤ, List, true, lit<, lit≤, ap, ap₂, sym, ◌∙◌, to_z, of_z, w32, arith}
-use Rattle.std.specs.Prelude.{◌&&◌}
-use Rattle.px_core.specs.Rectangle.{has_pixel}
+use Rattle.std.proofs.Common.{rules, ◌≡◌, true, lit<, lit≤, to_z, of_z, w32, arith}
 use Rattle.order_fields.specs.OrderTable.{glyph_index}
-use Rattle.order_fields.specs.NamedDrawing.{value, number, rect_at, is_cached_brush, is_cached_run}
-use Rattle.client_caches.specs.Named.{FitsAt, FitBox, IsNumberAt}
+use Rattle.order_fields.specs.NamedDrawing.{value, number, is_cached_run}
 use Rattle.client_caches.proofs.FieldsFit.{kind_at, below_more, shown}
 use Rattle.client_caches.proofs.drawings.glyphs_of.Goals as goal
 

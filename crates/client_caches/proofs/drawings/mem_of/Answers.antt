@@ -1,10 +1,9 @@
-use Rattle.std.proofs.Common.{rules, ◌≡◌, ℕ, ℤ, List, true, lit<, ap, ap₂, sym, ◌∙◌, to_z, of_z, w32, arith}
-use Rattle.std.specs.Prelude.{◌&&◌}
+use Rattle.std.proofs.Common.{rules, ◌≡◌, true, lit<, ap, sym, ◌∙◌, to_z, of_z, w32, arith}
 use Rattle.px_core.specs.Rectangle.{has_pixel}
 use Rattle.order_fields.specs.OrderTable.{mem_blt}
-use Rattle.order_fields.specs.NamedDrawing.{value, number, rect_at, is_cached_brush, is_cached_run}
-use Rattle.client_caches.specs.Named.{FitsAt, FitBox, IsNumberAt}
-use Rattle.client_caches.proofs.FieldsFit.{kind_at, below_more, shown}
+use Rattle.order_fields.specs.NamedDrawing.{value, number, rect_at}
+use Rattle.client_caches.specs.Named.{FitBox}
+use Rattle.client_caches.proofs.FieldsFit.{kind_at, shown}
 use Rattle.client_caches.proofs.drawings.mem_of.Goals as goal
 
 pub returns : goal.returns

@@ -4,7 +4,7 @@ use Rattle.std.proofs.lemmas.List.{take_all, length-drop}
 use Rattle.std.proofs.lemmas.Result.{err_from_is_err_and}
 use Rattle.byte_fields.specs.Field.{bind}
 use Rattle.draw_ops.specs.Content.{GlyphOf}
-use Rattle.order_means.specs.ClientState.{ClientState, Fault, pairs_of, glyph_used}
+use Rattle.order_means.specs.ClientState.{Fault, pairs_of, glyph_used}
 use Rattle.client_caches.specs.Answers.{Gives}
 use Rattle.client_caches.specs.Caches.{with_caches}
 use Rattle.client_caches.specs.Runs.{run_used}

@@ -1,7 +1,7 @@
-use Rattle.std.proofs.Common.{◌≡◌, ℕ, ◌+◌, ◌-◌, ap, sym, ◌∙◌, true, arith}
-use Rattle.std.specs.Prelude.{pos, ◌&&◌, Bool}
+use Rattle.std.proofs.Common.{◌≡◌, ◌+◌, sym, ◌∙◌, true, arith}
+use Rattle.std.specs.Prelude.{pos}
 use Rattle.std.specs.Ordering.{int_eq}
-use Rattle.order_fields.specs.NamedDrawing.{value, are_zero}
+use Rattle.order_fields.specs.NamedDrawing.{value}
 use Rattle.client_caches.proofs.Zeros.{zero_first}
 use Rattle.client_caches.proofs.values.are_zero.Goals as goal
 
