@@ -1,6 +1,6 @@
 -- Views after orders, and the viewers that stand for them.
-use Rattle.std.proofs.Common.{◌≡◌, ◌≤◌, ◌<◌, ℕ, ◌+◌, ◌-◌, ◌^◌, min, Bool, true, false, List, [], ◌∷◌, ◌++◌, length, get_or, drop, refl, ap, ap₂, sym, subst, ◌∙◌, Some, None, arith}
-use Rattle.std.specs.Prelude.{Option, Result, Ok, Err, map, ◌&&◌}
+use Rattle.std.proofs.Common.{◌≡◌, ◌<◌, ℕ, ◌+◌, ◌-◌, ◌^◌, min, Bool, true, false, List, [], ◌∷◌, ◌++◌, length, get_or, drop, refl, ap, sym, subst, ◌∙◌, Some, arith}
+use Rattle.std.specs.Prelude.{Option, Result, Ok, Err}
 use Rattle.std.proofs.lemmas.List.{length-append}
 use Rattle.std.proofs.Math.Seq.{drop-cons}
 use Rattle.std.proofs.Common.{add-one}
@@ -24,7 +24,7 @@ use Rattle.client_caches.specs.Caches.{CachesOf, with_caches}
 use Rattle.client_caches.proofs.Stores.{refused_by}
 use Rattle.client_view.specs.declared.viewer.Viewer.{Viewer}
 use Rattle.client_view.specs.Told.{client_after_clipped, client_after_stored, counted_told, view_after_told, view_after_all_told}
-use Rattle.client_view.specs.Views.{capped, client_of, last_picture, StandsFor, SamePlace, SameViewer, IsMarked, Obeys}
+use Rattle.client_view.specs.Views.{capped, client_of, last_picture, StandsFor, SamePlace, IsMarked, Obeys}
 
 -- ---- counts
 

@@ -1,15 +1,15 @@
 -- What becomes of a picture that gets a saved block back.
-use Rattle.std.proofs.Common.{◌≡◌, ℕ, ◌*◌, Bool, true, List, length, ap, ap₂, sym, ◌∙◌, Some, None}
-use Rattle.std.specs.Prelude.{Option, Result, Ok, pos}
+use Rattle.std.proofs.Common.{◌≡◌, ℕ, Bool, true, List, ap, ap₂, sym, ◌∙◌, Some, None}
+use Rattle.std.specs.Prelude.{Option, Ok, pos}
 use Rattle.px_core.specs.declared.surface.Size.{Size}
 use Rattle.px_core.specs.declared.rectangle.Rect.{Rect}
 use Rattle.px_core.specs.Picture.{rows_of}
 use Rattle.px_core.specs.Rectangle.{is_inside}
 use Rattle.byte_fields.specs.Field.{bind}
-use Rattle.draw_ops.specs.Formulas.{replaced, shifted, Painting, over_rect}
+use Rattle.draw_ops.specs.Formulas.{replaced, shifted, over_rect}
 use Rattle.caps_sets.specs.declared.confirmed.Confirmed.{Confirmed}
 use Rattle.order_fields.specs.NamedDrawing.NamedDrawing.{RestoreBlock}
-use Rattle.order_means.specs.ClientState.{ClientState, Fault, Block, needs, found, block_at, restoring}
+use Rattle.order_means.specs.ClientState.{ClientState, Block, needs, found, block_at, restoring}
 use Rattle.order_means.specs.ClientState.Fault.{Broken}
 use Rattle.client_view.specs.Told.{clipped_painting, client_after_clipped}
 

@@ -1,23 +1,22 @@
 -- Readings of a host's bytes, byte by byte.
-use Rattle.std.proofs.Common.{◌≡◌, ◌<◌, ℕ, ◌+◌, List, [], ◌∷◌, ◌++◌, length, get_or, drop, refl, ap, sym, subst, ◌∙◌, Some, None, append-nil, add-one}
+use Rattle.std.proofs.Common.{◌≡◌, ◌<◌, ℕ, ◌+◌, List, [], ◌∷◌, length, get_or, drop, refl, ap, sym, ◌∙◌, Some, None, append-nil, add-one}
 use Rattle.std.specs.Prelude.{Option, Result, Ok, Err, true, false}
 use Rattle.std.proofs.Math.Seq.{drop-cons}
 use Rattle.px_core.specs.declared.surface.Size.{Size}
 use Rattle.byte_fields.specs.Field.{bind}
 use Rattle.caps_sets.specs.declared.confirmed.Confirmed.{Confirmed}
 use Rattle.order_means.specs.ClientState.Fault.{Broken, Oversized, Empty}
-use Rattle.order_means.specs.Updates.{Body, Stage, Cutting, cutting, Updates, updates, updates_by, refusal_in}
+use Rattle.order_means.specs.Updates.{Body, Cutting, Updates, updates, updates_by, refusal_in}
 use Rattle.order_means.specs.FrameMarks.{View, Refusal, ClientReading, reading, reading_after, read_on, view_after_body, view_after_bodies, unless_refused_at}
 use Rattle.order_means.proofs.Pieces.{read_joined}
 use Rattle.host_updates.specs.declared.state.State.{State}
 use Rattle.host_updates.specs.declared.state.State.TheVariants.{Open, Whole, Refused as RefusedAt}
-use Rattle.host_updates.specs.declared.step.Step.{Step}
 use Rattle.host_updates.specs.declared.step.Step.TheVariants.{More, Update, Refused as RefusedStep}
 use Rattle.host_updates.specs.Cutters.{CutterOf, Stands, StandsBy, Gives, AreBodies, stage_of, step_by, body_by}
 use Rattle.client_view.specs.declared.client_fault.ClientFault.{ClientFault}
 use Rattle.client_view.specs.declared.client_fault.ClientFault.TheVariants.{Refused, Named, OutOfMemory}
 use Rattle.client_view.specs.declared.viewer.Viewer.{Viewer}
-use Rattle.client_view.specs.Views.{capped, StandsFor}
+use Rattle.client_view.specs.Views.{capped}
 use Rattle.client_view.specs.Refusals.{RefusesAt, Shows, refusal, body_at}
 use Rattle.client_view.specs.Clients.{StandFor, Reads}
 

@@ -1,11 +1,10 @@
 -- What is made of orders is what is made of them as they are told.
-use Rattle.std.proofs.Common.{◌≡◌, ℕ, ℤ, Bool, List, [], ◌∷◌, refl, ap, sym, ◌∙◌, Some, None}
+use Rattle.std.proofs.Common.{◌≡◌, ℕ, List, [], ◌∷◌, refl, ap, sym, ◌∙◌, Some, None}
 use Rattle.std.specs.Prelude.{Option, Result, Ok, Err}
 use Rattle.px_core.specs.declared.surface.Size.{Size}
-use Rattle.px_core.specs.declared.rectangle.Rect.{Rect}
 use Rattle.px_core.specs.Picture.{rows_of}
 use Rattle.px_core.specs.Rectangle.{in_rect, is_inside}
-use Rattle.std.specs.Prelude.{nat_lt, nat_le, ◌+◌, ◌&&◌}
+use Rattle.std.specs.Prelude.{nat_lt}
 use Rattle.rop3_core.specs.Palette.{client_colors}
 use Rattle.byte_fields.specs.Field.{bind}
 use Rattle.draw_ops.specs.Content.{ImageOf}
@@ -18,9 +17,8 @@ use Rattle.order_fields.specs.OrderStream.{Order}
 use Rattle.order_fields.specs.OrderStream.Order.{Primary, Other}
 use Rattle.order_fields.specs.NamedDrawing.{NamedDrawing, drawing_of}
 use Rattle.order_fields.specs.NamedDrawing.NamedDrawing.{Dst, Pat, Scr, Opaque, SaveBlock, RestoreBlock, Mem, Mem3, Glyphs}
-use Rattle.order_read.specs.Told.{Told, bounds_rect, optional_rect, upright, told_order, told_orders}
-use Rattle.order_read.specs.Told.Told.{Drawn, Stored}
-use Rattle.order_means.specs.ClientState.{ClientState, Fault, Block, needs, found, cached, mixing, no_operand, brush_used, image_used, glyph_used, pairs_of, with_glyphs, writing, positions, block_at, restoring, source_rect, in_edges, after_painting, client_after_drawing, client_after_cached, client_after_order}
+use Rattle.order_read.specs.Told.{bounds_rect, optional_rect, upright, told_order, told_orders}
+use Rattle.order_means.specs.ClientState.{ClientState, Fault, Block, needs, found, cached, mixing, no_operand, brush_used, image_used, glyph_used, pairs_of, with_glyphs, writing, block_at, restoring, source_rect, in_edges, after_painting, client_after_drawing, client_after_cached, client_after_order}
 use Rattle.order_means.specs.ClientState.Fault.{Broken}
 use Rattle.order_means.specs.FrameMarks.{View, view_with, marked_if, is_mark, counted_order, view_after_order, view_after_orders}
 use Rattle.client_picture.proofs.Clips.{same_clip, bounds_are_a_rectangle}

@@ -1,6 +1,6 @@
 -- Views after updates.
 use Rattle.std.proofs.Common.{◌≡◌, ℕ, ◌+◌, ◌-◌, List, length, ap, sym, ◌∙◌, None, arith}
-use Rattle.std.specs.Prelude.{Option, Result, Ok, Err}
+use Rattle.std.specs.Prelude.{Ok, Err}
 use Rattle.px_core.specs.declared.surface.Size.{Size}
 use Rattle.byte_fields.specs.Field.{Read}
 use Rattle.caps_sets.specs.declared.confirmed.Confirmed.{Confirmed}
@@ -9,7 +9,7 @@ use Rattle.order_fields.specs.OrderStream.{Stream}
 use Rattle.order_read.specs.Told.{Told, told_orders}
 use Rattle.order_means.specs.ClientState.{ClientState}
 use Rattle.order_means.specs.ClientState.Fault.{Broken}
-use Rattle.order_means.specs.FrameMarks.{View, Refusal, Update, meant, obeyed, with_registers, view_after_stream, view_after_read}
+use Rattle.order_means.specs.FrameMarks.{View, Update, meant, obeyed, with_registers, view_after_stream, view_after_read}
 use Rattle.update_read.specs.Told.{IsRefusedAt}
 use Rattle.client_view.specs.declared.viewer.Viewer.{Viewer}
 use Rattle.client_view.specs.Told.{view_after_all_told}

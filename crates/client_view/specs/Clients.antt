@@ -1,5 +1,5 @@
 -- A client in code, and which readings of a host's bytes it stands for.
-use Rattle.std.specs.Prelude.{◌≡◌, ℕ, List, Option, Some, None, Result, Ok, Err}
+use Rattle.std.specs.Prelude.{◌≡◌, Option, Some, None, Result, Ok, Err}
 use Rattle.order_means.specs.Updates.{refusal_in}
 use Rattle.order_means.specs.FrameMarks.{ClientReading, Refusal}
 use Rattle.host_updates.specs.Cutters.{CutterOf, Stands}

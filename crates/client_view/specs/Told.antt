@@ -1,5 +1,5 @@
 -- What a client and its viewer make of orders as a reader tells them: bounds are rectangles, and a brush has its rows from the top.
-use Rattle.std.specs.Prelude.{ℕ, ◌+◌, nat_lt, nat_le, ◌&&◌, pos, List, [], ◌∷◌, Option, Some, None, Result, Ok, Err}
+use Rattle.std.specs.Prelude.{ℕ, ◌+◌, nat_lt, nat_le, ◌&&◌, List, [], ◌∷◌, Option, None, Result, Ok}
 use Rattle.px_core.specs.declared.surface.Size.{Size}
 use Rattle.px_core.specs.declared.rectangle.Rect.{Rect}
 use Rattle.px_core.specs.Picture.{rows_of}

@@ -1,19 +1,14 @@
-use Rattle.std.proofs.Common.{rules, ◌≡◌, ◌∙◌, ap, sym, true, List, [], ℕ, ℤ, to_z, of_z, w32, arith}
-use Rattle.std.specs.Prelude.{Result, Ok, nat_lt}
+use Rattle.std.proofs.Common.{rules, ◌≡◌, ◌∙◌, ap, sym, to_z, of_z, w32}
+use Rattle.std.specs.Prelude.{Ok}
 use Rattle.std.proofs.lemmas.Result.{err_from_is_err_and}
-use Rattle.std.proofs.lemmas.Bool.Decides.{nat_tests}
 use Rattle.px_core.specs.declared.rectangle.Rect.{Rect}
-use Rattle.order_fields.specs.OrderTable.{first_registers}
-use Rattle.order_fields.specs.NamedDrawing.NamedDrawing.{Pat, Mem, Mem3, Glyphs}
-use Rattle.draw_ops.specs.Content.{ImageOf, GlyphOf}
-use Rattle.draw_ops.specs.Slots.{Slots, lookup}
-use Rattle.order_means.specs.ClientState.{ClientState, brush_used, image_used, glyph_used, source_rect, pairs_of, writing}
-use Rattle.client_picture.specs.Pictures.{Pictures, painted_within}
+use Rattle.order_fields.specs.NamedDrawing.NamedDrawing.{Mem}
+use Rattle.order_means.specs.ClientState.{ClientState, image_used, source_rect}
+use Rattle.client_picture.specs.Pictures.{Pictures}
 use Rattle.client_caches.proofs.Stores.{refused_by}
-use Rattle.client_caches.specs.Runs.{run_used}
 use Rattle.client_view.specs.Told.{client_after_clipped}
 use Rattle.client_view.specs.Views.{client_of, IsSourceOf}
-use Rattle.client_view.proofs.Drawn.{patterned, no_pattern, imaged_by, no_image, mixed_by, no_mixed_image, no_mixed_brush, run_pairs, written, no_run}
+use Rattle.client_view.proofs.Drawn.{imaged_by, no_image}
 use Rattle.client_view.proofs.draw.draw_image.Goals as goal
 
 pub returns-in_err-image-clause-drawn : goal.returns-in_err-image-clause-drawn

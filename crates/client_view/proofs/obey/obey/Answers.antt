@@ -1,4 +1,4 @@
-use Rattle.std.proofs.Common.{◌≡◌, ◌∙◌, ap, sym, refl, List, ℕ, true, arith}
+use Rattle.std.proofs.Common.{◌≡◌, ap, refl, true, arith}
 use Rattle.std.specs.Prelude.{Ok, ◌&&◌}
 use Rattle.order_fields.specs.Secondary.{BitmapOrder}
 use Rattle.order_fields.specs.Secondary.Cached.{Bitmap}

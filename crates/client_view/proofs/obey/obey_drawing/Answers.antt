@@ -1,8 +1,8 @@
 use Rattle.std.proofs.Common.{◌≡◌, ◌∙◌, ap, sym, List, ℕ, Some}
-use Rattle.order_fields.specs.NamedDrawing.{NamedDrawing, drawing_of}
+use Rattle.order_fields.specs.NamedDrawing.{drawing_of}
 use Rattle.client_caches.specs.Named.{drawing}
 use Rattle.client_view.specs.Views.{client_of}
-use Rattle.client_view.proofs.Obeyed.{one_more, view_drawn, told_drawing, no_drawing, drawn_stands}
+use Rattle.client_view.proofs.Obeyed.{one_more, view_drawn, told_drawing, drawn_stands}
 use Rattle.client_view.proofs.obey.obey_drawing.Goals as goal
 
 pub returns-clause-obeyed : goal.returns-clause-obeyed

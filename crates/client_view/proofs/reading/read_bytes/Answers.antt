@@ -1,4 +1,4 @@
-use Rattle.std.proofs.Common.{◌≡◌, ◌∙◌, ◌+◌, get_or, drop, arith}
+use Rattle.std.proofs.Common.{◌∙◌, ◌+◌, get_or, drop}
 use Rattle.std.proofs.lemmas.Result.{err_from_is_err_and}
 use Rattle.client_view.proofs.Streams.{byte_left, one_byte_less, one_byte_refused}
 use Rattle.client_view.proofs.reading.read_bytes.Goals as goal
