@@ -1,6 +1,6 @@
 -- Rows that were touched.
 use Rattle.std.proofs.Common.{◌≡◌, ℕ, ◌+◌, ◌≤◌, ◌<◌, List, length, get_or, Bool, true, false, refl, sym, ◌∙◌, arith, inl, inr}
-use Rattle.std.specs.Prelude.{Option, ◌&&◌, nat_le, nat_lt, pos, slice_set}
+use Rattle.std.specs.Prelude.{Option, Some, None, IfSome, ◌&&◌, nat_le, nat_lt, pos, slice_set}
 use Rattle.std.proofs.lemmas.Bool.{cases_lt}
 use Rattle.std.proofs.lemmas.Bool.Decides.{nat_tests}
 use Rattle.std.proofs.lemmas.List.{get_or-set_other}
@@ -8,8 +8,9 @@ use Rattle.std.proofs.lemmas.Grind.{get_or-set_at}
 use Rattle.px_core.specs.declared.surface.Size.{Size}
 use Rattle.px_core.specs.Picture.{Area}
 use Rattle.client_picture.specs.declared.part.Part.{Part}
-use Rattle.client_picture.specs.Parts.{in_part, in_optional_part}
-use Rattle.client_picture.specs.Touched.{AddsRows, AddsPart}
+use Rattle.client_picture.specs.declared.touched.Columns.{Columns}
+use Rattle.client_picture.specs.Parts.{in_part, in_optional_part, IsInside}
+use Rattle.client_picture.specs.Touched.{in_columns, AddsRows, AddsPart, AddsColumns}
 
 -- one more row
 pub row_touched : (now old : List Bool) (from y : ℕ) → y < length now → ((k : ℕ) → get_or now k false ≡ false → (get_or old k false ≡ false) × (from ≤ k → k < y → ⊥))
@@ -43,3 +44,27 @@ adds_rows size area part old new added same = record {
   flags = added.flags;
   rows = λ y above h. let r = added.rows y h in (r.0, (λ x left. sym (same x y left above) ∙ r.1 x));
 }
+
+-- its columns likewise
+pub adds_columns : (size : Size) (area : Area) (part : Option Part) (old new : Columns) → IfSome part (IsInside size)
+    → ((w : ℕ) → old.end ≤ w → IfSome part (λ p. p.x + p.w ≤ w) → new.end ≤ w)
+    → ((x y : ℕ) → in_columns new x ≡ false → (in_columns old x ≡ false) × (in_optional_part part x y ≡ false))
+    → ((x y : ℕ) → x < size.w → y < size.h → in_optional_part part x y ≡ area (pos x) (pos y)) → AddsColumns size area old new
+adds_columns size area part old new inside within beside same = record {
+  within = λ h. within size.w h (columns part inside);
+  beside = λ x y left above h. let r = beside x y h in (r.0, sym (same x y left above) ∙ r.1);
+}
+  where
+    columns : (p : Option Part) → IfSome p (IsInside size) → IfSome p (λ q. q.x + q.w ≤ size.w)
+    columns None h = h
+    columns (Some q) h = h.columns
+
+-- outside of a wider stretch is outside of a narrower one
+pub outside : (a b c d x : ℕ) → c ≤ a → b ≤ d → (nat_le c x && nat_lt x d) ≡ false → (nat_le a x && nat_lt x b) ≡ false
+outside a b c d x low high h = elim (cases_lt x a) [
+  | inl less ↦ grind (arith, nat_tests, less)
+  | inr ge ↦ elim (cases_lt x b) [
+    | inl less ↦ let l : c ≤ x = omega (arith, low, ge) in let g : x < d = omega (arith, high, less) in absurd (grind (arith, nat_tests, h, l, g))
+    | inr more ↦ grind (arith, nat_tests, more)
+  ]
+]

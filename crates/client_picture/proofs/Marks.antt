@@ -1,5 +1,5 @@
 -- Rows that are copied at a mark.
-use Rattle.std.proofs.Common.{◌≡◌, ℕ, ◌+◌, ◌≤◌, ◌<◌, List, get_or, Bool, true, false, refl, sym, subst, ◌∙◌, arith, inl, inr}
+use Rattle.std.proofs.Common.{◌≡◌, ℕ, ◌+◌, ◌-◌, ◌≤◌, ◌<◌, List, get_or, Bool, true, false, refl, ap, sym, subst, ◌∙◌, arith, inl, inr}
 use Rattle.std.specs.Prelude.{Option, None, ◌&&◌, nat_le, nat_lt, slice_set}
 use Rattle.std.proofs.lemmas.Bool.{cases_lt}
 use Rattle.std.proofs.lemmas.Bool.Decides.{nat_tests}
@@ -11,30 +11,44 @@ use Rattle.client_picture.specs.Touched.{AreTouched, AreCopied}
 use Rattle.client_picture.proofs.Repaint.{under_true, under_false}
 
 module _ (size : Size) (picture first : List (Option ℕ)) (flags : List Bool) (n : ℕ) (touched : List Bool) (marked : List (Option ℕ)) (before : AreCopied size picture first flags n touched marked) where
-  -- one more row was copied
-  pub row_copied : (new : List (Option ℕ)) → IsRepainted size (in_part (part_at 0 n size.w 1)) (λ u v. pixel_at size picture None u v) marked new
+  -- some columns of one more row were copied, beside which both pictures were the same
+  pub row_copied : (from end : ℕ) (new : List (Option ℕ)) → from ≤ end → IsRepainted size (in_part (part_at from n (end - from) 1)) (λ u v. pixel_at size picture None u v) marked new
+      → ((x y : ℕ) → x < size.w → y < size.h → (nat_le from x && nat_lt x end) ≡ false → pixel_at size picture None x y ≡ pixel_at size first None x y)
       → AreCopied size picture first flags (n + 1) (slice_set touched n false) new
-  row_copied new row = record {
+  row_copied from end new ordered row beside = record {
     done = λ x y left above lt. elim (cases_lt y n) [
       | inl less ↦ same x y left above (not_row x y (λ ge. absurd (omega (arith, less, ge)))) ∙ before.done x y left above less
-      | inr ge ↦ row.pixel x y left above ∙ sym (under_true (in_part (part_at 0 n size.w 1) x y) (pixel_at size picture None x y) (pixel_at size marked None x y) (grind (arith, nat_tests, left, lt, ge)))
+      | inr ge ↦ here (nat_le from x && nat_lt x end) x y left above refl lt ge
     ];
     rest = λ x y left above le. same x y left above (not_row x y (λ ge. omega (arith, le))) ∙ before.rest x y left above (omega (arith, le));
     unread = λ y le. get_or-set_other touched n y false false (λ e. absurd (omega (arith, le, e))) ∙ before.unread y (omega (arith, le));
   }
     where
-      same : (x y : ℕ) → x < size.w → y < size.h → in_part (part_at 0 n size.w 1) x y ≡ false → pixel_at size new None x y ≡ pixel_at size marked None x y
-      same x y left above none = row.pixel x y left above ∙ sym (under_false (in_part (part_at 0 n size.w 1) x y) (pixel_at size picture None x y) (pixel_at size marked None x y) none)
+      same : (x y : ℕ) → x < size.w → y < size.h → in_part (part_at from n (end - from) 1) x y ≡ false → pixel_at size new None x y ≡ pixel_at size marked None x y
+      same x y left above none = row.pixel x y left above ∙ sym (under_false (in_part (part_at from n (end - from) 1) x y) (pixel_at size picture None x y) (pixel_at size marked None x y) none)
 
       and_no : (b c : Bool) → c ≡ false → (b && c) ≡ false
       and_no true c h = h
       and_no false c h = refl
 
-      not_row : (x y : ℕ) → (n ≤ y → n + 1 ≤ y) → in_part (part_at 0 n size.w 1) x y ≡ false
-      not_row x y none = and_no (nat_le 0 x && nat_lt x (0 + size.w)) (nat_le n y && nat_lt y (n + 1)) (elim (cases_lt y n) [
+      no_and : (b c : Bool) → b ≡ false → (b && c) ≡ false
+      no_and true c h = absurd (cc h)
+      no_and false c h = refl
+
+      not_row : (x y : ℕ) → (n ≤ y → n + 1 ≤ y) → in_part (part_at from n (end - from) 1) x y ≡ false
+      not_row x y none = and_no (nat_le from x && nat_lt x (from + (end - from))) (nat_le n y && nat_lt y (n + 1)) (elim (cases_lt y n) [
         | inl less ↦ grind (arith, nat_tests, less)
         | inr ge ↦ let more = none ge in grind (arith, nat_tests, more)
       ])
+
+      whole : from + (end - from) ≡ end
+      whole = omega (arith, ordered)
+
+      here : (b : Bool) (x y : ℕ) → x < size.w → y < size.h → (nat_le from x && nat_lt x end) ≡ b → y < n + 1 → n ≤ y → pixel_at size new None x y ≡ pixel_at size picture None x y
+      here true x y left above h lt ge = row.pixel x y left above ∙ sym (under_true (in_part (part_at from n (end - from) 1) x y) (pixel_at size picture None x y) (pixel_at size marked None x y) (grind (arith, nat_tests, h, lt, ge, whole)))
+      here false x y left above h lt ge =
+          same x y left above (no_and (nat_le from x && nat_lt x (from + (end - from))) (nat_le n y && nat_lt y (n + 1)) (ap (λ e. nat_le from x && nat_lt x e) whole ∙ h))
+          ∙ before.rest x y left above ge ∙ sym (beside x y left above h)
 
   -- a row that wasn't touched is the same
   pub row_kept : AreTouched size flags picture first → get_or touched n false ≡ false → AreCopied size picture first flags (n + 1) touched marked

@@ -1,8 +1,9 @@
 -- The rows that were painted since the last mark.
-use Rattle.std.specs.Prelude.{◌≡◌, ℕ, ◌<◌, ◌≤◌, Bool, false, pos, List, length, get_or, Option, None}
+use Rattle.std.specs.Prelude.{◌≡◌, ℕ, ◌<◌, ◌≤◌, nat_le, nat_lt, Bool, false, ◌&&◌, pos, List, length, get_or, Option, None}
 use Rattle.px_core.specs.declared.surface.Size.{Size}
 use Rattle.px_core.specs.Picture.{Area, pixel_count, pixel_at}
 use Rattle.client_picture.specs.declared.part.Part.{Part}
+use Rattle.client_picture.specs.declared.touched.Columns.{Columns}
 use Rattle.client_picture.specs.Parts.{in_optional_part, IsSmall}
 
 -- there is a flag for each row; where one isn't set, the row is the same in both pictures
@@ -10,12 +11,26 @@ pub record AreTouched (size : Size) (touched : List Bool) (picture marked : List
   pub flags : length touched ≡ size.h
   pub same : (x y : ℕ) → x < size.w → y < size.h → get_or touched y false ≡ false → pixel_at size picture None x y ≡ pixel_at size marked None x y
 
--- two pictures of one size, and the rows by which they may differ
-pub record AreKept (size : Size) (touched : List Bool) (picture marked : List (Option ℕ)) : Type 0 where
+abbrev pub in_columns : Columns → ℕ → Bool
+in_columns c x = nat_le c.from x && nat_lt x c.end
+
+-- beside some columns both pictures are the same
+abbrev pub AreSameBeside : Size → Columns → List (Option ℕ) → List (Option ℕ) → Type 0
+AreSameBeside size columns picture marked = (x y : ℕ) → x < size.w → y < size.h → in_columns columns x ≡ false → pixel_at size picture None x y ≡ pixel_at size marked None x y
+
+-- two pictures of one size, and the rows and columns by which they may differ
+pub record AreKept (size : Size) (touched : List Bool) (columns : Columns) (picture marked : List (Option ℕ)) : Type 0 where
   pub small : IsSmall size
   pub sized : length picture ≡ pixel_count size
   pub marked_sized : length marked ≡ pixel_count size
   pub rows : AreTouched size touched picture marked
+  pub within : columns.end ≤ size.w
+  pub beside : AreSameBeside size columns picture marked
+
+-- the columns of an area were added
+pub record AddsColumns (size : Size) (area : Area) (old new : Columns) : Type 0 where
+  pub within : old.end ≤ size.w → new.end ≤ size.w
+  pub beside : (x y : ℕ) → x < size.w → y < size.h → in_columns new x ≡ false → (in_columns old x ≡ false) × (area (pos x) (pos y) ≡ false)
 
 -- the rows of an area were added: where a flag isn't set, it wasn't before, and the row has no pixel of the area
 pub record AddsRows (size : Size) (area : Area) (old new : List Bool) : Type 0 where

@@ -6,11 +6,11 @@ ghost use Rattle.rop3_core.specs.Palette.{client_colors};
 ghost use Rattle.draw_ops.specs.Formulas.{glyph_area, glyph_cell, solid};
 ghost use Rattle.client_picture.specs.Parts.{in_part, IsCanvas, IsInside, IsRepainted};
 ghost use Rattle.client_picture.specs.Bits.{is_ink, ink_color, AreSmall, IsPenNear};
-ghost use Rattle.client_picture.specs.Touched.{AddsRows};
+ghost use Rattle.client_picture.specs.Touched.{AddsRows, AddsColumns};
 
 use crate::corner::{Corner, place};
 use crate::part::{Part, part_at};
-use crate::touched::touch_at;
+use crate::touched::{Columns, touch_at};
 use draw_ops::Glyph;
 use px_core::{Rect, Size};
 
@@ -104,9 +104,10 @@ pub(crate) fn draw_glyph(
     }
 }
 
-/// Remembers that the rows of a glyph's cell may have been painted, with the pen at (x, y).
+/// Remembers that the rows and columns of a glyph's cell may have been painted, with the pen at (x, y).
 pub(crate) fn touch_glyph(
     touched: &mut [bool],
+    columns: &mut Columns,
     size: Size,
     bounds: Option<Rect>,
     glyph: &Glyph,
@@ -115,12 +116,14 @@ pub(crate) fn touch_glyph(
 )
     requires flags { length touched.old ≡ size.h }
     requires pen { IsPenNear x y }
-    ensures { AddsRows size (both (in_clip bounds) (in_rect (glyph_cell glyph.now x y))) touched.old touched.new }
+    ensures rows { AddsRows size (both (in_clip bounds) (in_rect (glyph_cell glyph.now x y))) touched.old touched.new }
+    ensures columns { AddsColumns size (both (in_clip bounds) (in_rect (glyph_cell glyph.now x y))) columns.old columns.new }
 {
     let left = x + i64::from(glyph.x());
     let top = y + i64::from(glyph.y());
     touch_at(
         touched,
+        columns,
         size,
         left,
         top,

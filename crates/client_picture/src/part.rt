@@ -74,16 +74,17 @@ fn common(a: Frame, b: Frame) -> Option<Part>
 }
 
 /// The greater of two numbers.
-fn later(a: usize, b: usize) -> usize
+pub(crate) fn later(a: usize, b: usize) -> usize
     ensures first { a ≤ result }
     ensures second { b ≤ result }
     ensures numbers { (k : ℕ) → nat_le result k ≡ (nat_le a k && nat_le b k) }
+    ensures least { (k : ℕ) → a ≤ k → b ≤ k → result ≤ k }
 {
     if a < b { b } else { a }
 }
 
 /// The lesser of two numbers.
-fn earlier(a: usize, b: usize) -> usize
+pub(crate) fn earlier(a: usize, b: usize) -> usize
     ensures first { result ≤ a }
     ensures second { result ≤ b }
     ensures numbers { (k : ℕ) → nat_lt k result ≡ (nat_lt k a && nat_lt k b) }

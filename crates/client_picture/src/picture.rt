@@ -13,7 +13,7 @@ use crate::OutOfMemory;
 use crate::glyphs::{draw_glyph, touch_glyph};
 use crate::rects::{copy_rect, cut_rect, fill_rect, mix_rect, restore_rect, write_rect};
 use crate::source::Source;
-use crate::touched::{copy_touched, touch_rect};
+use crate::touched::{Columns, copy_touched, touch_rect};
 use draw_ops::{Brush, Glyph};
 use px_core::{Rect, Size};
 use std::alloc::Global;
@@ -21,6 +21,9 @@ use std::marker::Model;
 
 /// The longest side of a picture: a side has two bytes in the protocol.
 const LONGEST: u32 = 65_535;
+
+/// No column.
+const NO_COLUMNS: Columns = Columns { from: 0, end: 0 };
 
 /// A client's picture, each pixel a colour or unknown, and the picture that it had at its last mark.
 ///
@@ -34,6 +37,8 @@ pub struct ClientPicture {
     marked: Vec<Option<u32>>,
     /// Which rows may have been painted since the last mark.
     touched: Vec<bool>,
+    /// The columns that may have been painted since.
+    columns: Columns,
     /// One row for the source of a copy.
     row: Vec<Option<u32>>,
 }
@@ -47,7 +52,7 @@ impl Model for ClientPicture {
 
     ghost view = { λ s. record { size = s.size; picture = s.picture.items; marked = s.marked.items } };
 
-    ghost invariant = { λ s. AreKept s.size s.touched.items s.picture.items s.marked.items × (length s.row.items ≡ s.size.w) };
+    ghost invariant = { λ s. AreKept s.size s.touched.items s.columns s.picture.items s.marked.items × (length s.row.items ≡ s.size.w) };
 }
 
 impl ClientPicture {
@@ -69,6 +74,7 @@ impl ClientPicture {
             picture,
             marked,
             touched,
+            columns: NO_COLUMNS,
             row,
         })
     }
@@ -79,7 +85,8 @@ impl ClientPicture {
     {
         let pixels = self.picture.as_mut_slice();
         fill_rect(pixels, self.size, rect, bounds, color);
-        touch_rect(self.touched.as_mut_slice(), self.size, rect, bounds);
+        let touched = self.touched.as_mut_slice();
+        touch_rect(touched, &mut self.columns, self.size, rect, bounds);
     }
 
     /// A raster operation on a rectangle, with a brush as its pattern and an image as its source; one that is missing counts as 0.
@@ -96,7 +103,8 @@ impl ClientPicture {
     {
         let pixels = self.picture.as_mut_slice();
         mix_rect(pixels, self.size, rect, bounds, rop, brush, source);
-        touch_rect(self.touched.as_mut_slice(), self.size, rect, bounds);
+        let touched = self.touched.as_mut_slice();
+        touch_rect(touched, &mut self.columns, self.size, rect, bounds);
     }
 
     /// A raster operation on a rectangle, with the picture itself, from (sx, sy) on, as its source. It may overlap the rectangle.
@@ -114,7 +122,8 @@ impl ClientPicture {
             sy,
             self.row.as_mut_slice(),
         );
-        touch_rect(self.touched.as_mut_slice(), self.size, rect, bounds);
+        let touched = self.touched.as_mut_slice();
+        touch_rect(touched, &mut self.columns, self.size, rect, bounds);
     }
 
     /// Writes an image into a rectangle, from its upper left pixel on. The rectangle may be narrower and lower than the image.
@@ -133,7 +142,8 @@ impl ClientPicture {
         };
         let pixels = self.picture.as_mut_slice();
         write_rect(pixels, self.size, rect, bounds, source);
-        touch_rect(self.touched.as_mut_slice(), self.size, rect, bounds);
+        let touched = self.touched.as_mut_slice();
+        touch_rect(touched, &mut self.columns, self.size, rect, bounds);
     }
 
     /// Writes a run of glyphs in one colour, from a pen at (x, y). The run is pairs of a glyph's number and a delta, which moves the pen to
@@ -184,7 +194,8 @@ impl ClientPicture {
     {
         let pixels = self.picture.as_mut_slice();
         draw_glyph(pixels, self.size, bounds, glyph, x, y, color);
-        touch_glyph(self.touched.as_mut_slice(), self.size, bounds, glyph, x, y);
+        let touched = self.touched.as_mut_slice();
+        touch_glyph(touched, &mut self.columns, self.size, bounds, glyph, x, y);
     }
 
     /// The pixels of a rectangle inside the picture, to be saved.
@@ -209,19 +220,23 @@ impl ClientPicture {
         ensures { self.new ≡ painted_within bounds (over_rect rect (replaced (shifted (rows_of rect.w rect.h pixels.now) None rect (pos 0) (pos 0)))) self.old }
     {
         restore_rect(self.picture.as_mut_slice(), self.size, rect, bounds, pixels);
-        touch_rect(self.touched.as_mut_slice(), self.size, rect, bounds);
+        let touched = self.touched.as_mut_slice();
+        touch_rect(touched, &mut self.columns, self.size, rect, bounds);
     }
 
-    /// A mark: the picture at the last mark is the present one from now on. Only rows that were painted since the mark before are copied.
+    /// A mark: the picture at the last mark is the present one from now on. Only rows and columns that were
+    /// painted since the mark before are copied.
     pub fn mark(&mut self)
         ensures { self.new ≡ marked_now self.old }
     {
         copy_touched(
             self.touched.as_mut_slice(),
+            self.columns,
             self.size,
             self.picture.as_slice(),
             self.marked.as_mut_slice(),
         );
+        self.columns = NO_COLUMNS;
     }
 
     /// The colour of pixel (x, y), which lies on the picture; `None` where it is unknown.

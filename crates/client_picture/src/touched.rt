@@ -1,24 +1,41 @@
 //! The rows that were painted since the last mark.
-ghost use Rattle.std.specs.Prelude.{◌≡◌, ℕ, ◌+◌, ◌≤◌, ◌<◌, ◌≤ℤ◌, pos, negsuc, Some, None, true, length, get_or, IfSome};
+ghost use Rattle.std.specs.Prelude.{◌≡◌, ℕ, ◌+◌, ◌-◌, ◌≤◌, ◌<◌, ◌≤ℤ◌, pos, negsuc, Some, None, false, length, IfSome};
 ghost use Rattle.px_core.specs.Picture.{both, pixel_at};
 ghost use Rattle.px_core.specs.Rectangle.{boxed, in_rect, in_clip};
-ghost use Rattle.client_picture.specs.Touched.{AreTouched, AddsRows, AddsPart};
-ghost use Rattle.client_picture.specs.Parts.{in_part, part_at, IsCanvas, IsRepainted};
+ghost use Rattle.client_picture.specs.Touched.{in_columns, AreTouched, AreSameBeside, AddsRows, AddsPart, AddsColumns};
+ghost use Rattle.client_picture.specs.Parts.{in_part, in_optional_part, part_at, IsCanvas, IsRepainted};
 
-use crate::part::{Part, part_at, part_of};
+use crate::part::{Part, earlier, later, part_at, part_of};
 use px_core::{Rect, Size};
 
-/// Remembers that the rows of a rectangle may have been painted, within bounds.
-pub(crate) fn touch_rect(touched: &mut [bool], size: Size, rect: Rect, bounds: Option<Rect>)
+/// Some columns that follow each other: the first one, and the first one behind them. There are none where it isn't behind the first one.
+#[derive(Clone, Copy)]
+pub(crate) struct Columns {
+    pub(crate) from: usize,
+    pub(crate) end: usize,
+}
+
+/// Remembers that the rows and columns of a rectangle may have been painted, within bounds.
+pub(crate) fn touch_rect(
+    touched: &mut [bool],
+    columns: &mut Columns,
+    size: Size,
+    rect: Rect,
+    bounds: Option<Rect>,
+)
     requires { length touched.old ≡ size.h }
-    ensures { AddsRows size (both (in_clip bounds) (in_rect rect)) touched.old touched.new }
+    ensures rows { AddsRows size (both (in_clip bounds) (in_rect rect)) touched.old touched.new }
+    ensures columns { AddsColumns size (both (in_clip bounds) (in_rect rect)) columns.old columns.new }
 {
-    touch_part(touched, part_of(size, rect, bounds));
+    let part = part_of(size, rect, bounds);
+    touch_part(touched, part);
+    *columns = widened(*columns, part);
 }
 
 /// The same for a rectangle by its upper left pixel and its sides.
 pub(crate) fn touch_at(
     touched: &mut [bool],
+    columns: &mut Columns,
     size: Size,
     x: i64,
     y: i64,
@@ -31,9 +48,41 @@ pub(crate) fn touch_at(
     requires right { x ≤ℤ pos 8589934592 }
     requires top { negsuc 8589934591 ≤ℤ y }
     requires bottom { y ≤ℤ pos 8589934592 }
-    ensures { AddsRows size (both (in_clip bounds) (in_rect (boxed x y w h))) touched.old touched.new }
+    ensures rows { AddsRows size (both (in_clip bounds) (in_rect (boxed x y w h))) touched.old touched.new }
+    ensures columns { AddsColumns size (both (in_clip bounds) (in_rect (boxed x y w h))) columns.old columns.new }
 {
-    touch_part(touched, part_at(size, x, y, w, h, bounds));
+    let part = part_at(size, x, y, w, h, bounds);
+    touch_part(touched, part);
+    *columns = widened(*columns, part);
+}
+
+/// The columns from the first to the last of some columns and of a part, where there is one.
+fn widened(columns: Columns, part: Option<Part>) -> Columns
+    requires { IfSome part (λ part. part.x + part.w ≤ 4294967295) }
+    ensures within { (w : ℕ) → columns.end ≤ w → IfSome part (λ part. part.x + part.w ≤ w) → result.end ≤ w }
+    ensures columns { (x y : ℕ) → in_columns result x ≡ false → (in_columns columns x ≡ false) × (in_optional_part part x y ≡ false) }
+{
+    match part {
+        None => columns,
+        Some(part) => joined(columns, part),
+    }
+}
+
+/// The columns from the first to the last of some columns and of a part.
+fn joined(columns: Columns, part: Part) -> Columns
+    requires { part.x + part.w ≤ 4294967295 }
+    ensures within { (w : ℕ) → columns.end ≤ w → part.x + part.w ≤ w → result.end ≤ w }
+    ensures columns { (x y : ℕ) → in_columns result x ≡ false → (in_columns columns x ≡ false) × (in_part part x y ≡ false) }
+{
+    let end = part.x + part.w;
+    if columns.from < columns.end {
+        Columns {
+            from: earlier(columns.from, part.x),
+            end: later(columns.end, end),
+        }
+    } else {
+        Columns { from: part.x, end }
+    }
 }
 
 /// Remembers that the rows of a part may have been painted, where there is one.
@@ -57,9 +106,10 @@ fn touch_rows(touched: &mut [bool], part: Part)
     }
 }
 
-/// Copies the rows that were painted since the last mark, and forgets that they were.
+/// Copies the pixels that may have been painted since the last mark, by rows and columns, and forgets the rows.
 pub(crate) fn copy_touched(
     touched: &mut [bool],
+    columns: Columns,
     size: Size,
     picture: &[Option<u32>],
     marked: &mut [Option<u32>],
@@ -67,25 +117,37 @@ pub(crate) fn copy_touched(
     requires canvas { IsCanvas size picture.now }
     requires marked { IsCanvas size marked.old }
     requires touched { AreTouched size touched.old picture.now marked.old }
+    requires within { columns.end ≤ size.w }
+    requires beside { AreSameBeside size columns picture.now marked.old }
     ensures copied { marked.new ≡ picture.now }
     ensures touched { AreTouched size touched.new picture.now marked.new }
 {
+    let from = earlier(columns.from, columns.end);
     for y in 0..touched.len() {
         if touched[y] {
-            copy_row(size, y, picture, marked);
+            copy_row(size, y, from, columns.end, picture, marked);
             touched[y] = false;
         }
     }
 }
 
-/// Copies row y.
-fn copy_row(size: Size, y: usize, picture: &[Option<u32>], marked: &mut [Option<u32>])
+/// Copies some columns of row y.
+fn copy_row(
+    size: Size,
+    y: usize,
+    from: usize,
+    end: usize,
+    picture: &[Option<u32>],
+    marked: &mut [Option<u32>],
+)
     requires canvas { IsCanvas size picture.now }
     requires marked { IsCanvas size marked.old }
     requires row { y < size.h }
-    ensures { IsRepainted size (in_part (part_at 0 y size.w 1)) (λ u v. pixel_at size picture.now None u v) marked.old marked.new }
+    requires ordered { from ≤ end }
+    requires within { end ≤ size.w }
+    ensures { IsRepainted size (in_part (part_at from y (end - from) 1)) (λ u v. pixel_at size picture.now None u v) marked.old marked.new }
 {
-    let width = size.w as usize;
-    let at = width * y;
-    marked[at..at + width].copy_from_slice(&picture[at..at + width]);
+    let at = size.w as usize * y + from;
+    let count = end - from;
+    marked[at..at + count].copy_from_slice(&picture[at..at + count]);
 }

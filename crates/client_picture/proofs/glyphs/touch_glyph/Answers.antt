@@ -3,12 +3,18 @@ use Rattle.std.proofs.lemmas.Int.{ints}
 use Rattle.px_core.specs.declared.rectangle.Rect.{Rect}
 use Rattle.px_core.specs.Picture.{both}
 use Rattle.px_core.specs.Rectangle.{in_rect, in_clip}
-use Rattle.client_picture.specs.Touched.{AddsRows}
+use Rattle.client_picture.specs.Touched.{AddsRows, AddsColumns}
 use Rattle.client_picture.proofs.Frames.{same_rect}
 use Rattle.client_picture.proofs.glyphs.touch_glyph.Goals as goal
 
-pub returns : goal.returns
-returns c = let g = c.args.glyph.now in
+pub returns-clause-rows : goal.returns-clause-rows
+returns-clause-rows c = let g = c.args.glyph.now in
     subst (λ (r : Rect). AddsRows c.args.size (both (in_clip c.args.bounds) (in_rect r)) c.args.touched.now c.touch_at.new.touched)
     (same_rect _ _ _ _ (c.args.x +ℤ g.x) (c.args.y +ℤ g.y) g.cx g.cy (omega (arith, ints, c.x.ensures, c.from.ensures)) (omega (arith, ints, c.y.ensures, c.from-2.ensures)) (c.from-3.ensures ∙ c.cx.ensures) (c.from-4.ensures ∙ c.cy.ensures))
-    c.touch_at.ensures
+    c.touch_at.ensures.rows
+
+pub returns-clause-columns : goal.returns-clause-columns
+returns-clause-columns c = let g = c.args.glyph.now in
+    subst (λ (r : Rect). AddsColumns c.args.size (both (in_clip c.args.bounds) (in_rect r)) c.args.columns.now c.touch_at.new.columns)
+    (same_rect _ _ _ _ (c.args.x +ℤ g.x) (c.args.y +ℤ g.y) g.cx g.cy (omega (arith, ints, c.x.ensures, c.from.ensures)) (omega (arith, ints, c.y.ensures, c.from-2.ensures)) (c.from-3.ensures ∙ c.cx.ensures) (c.from-4.ensures ∙ c.cy.ensures))
+    c.touch_at.ensures.columns
