@@ -1,5 +1,5 @@
 -- Packed bytes that are shorter than three a pixel.
-use Rattle.std.proofs.Common.{rules, ◌≡◌, ℕ, ◌*◌, ◌<◌, List, length, ap, sym, ◌∙◌, refl, arith}
+use Rattle.std.proofs.Common.{rules, ◌≡◌, ℕ, ◌*◌, ◌<◌, List, length, ap, ◌∙◌, refl, arith}
 use Rattle.std.specs.Prelude.{Bool, true, false, nat_lt}
 use Rattle.std.proofs.lemmas.Bool.Decides.{nat_tests}
 use Rattle.byte_fields.specs.Pixels.{pixels_bytes}

@@ -16,6 +16,9 @@ use rle_enc::{Packed, pack};
 use std::alloc::Global;
 use std::marker::Model;
 
+/// The bytes of a pixel.
+const BYTES: usize = 3;
+
 /// The bytes of pixels, and whether they are packed.
 #[derive(Drop)]
 pub struct PixelBytes {
@@ -56,15 +59,50 @@ fn put_pixel(out: &mut Vec<u8>, color: u32) -> Result<(), OutOfMemory>
     Ok(())
 }
 
+/// Puts four pixels at the end.
+fn put_four(out: &mut Vec<u8>, a: u32, b: u32, c: u32, d: u32) -> Result<(), OutOfMemory>
+    ensures { OnOk result (out.new.items ≡ out.old.items ++ (pixel_bytes a ++ pixel_bytes b ++ pixel_bytes c ++ pixel_bytes d)) }
+{
+    let [a_blue, a_green, a_red, _] = a.to_le_bytes();
+    let [b_blue, b_green, b_red, _] = b.to_le_bytes();
+    let [c_blue, c_green, c_red, _] = c.to_le_bytes();
+    let [d_blue, d_green, d_red, _] = d.to_le_bytes();
+    out.extend_from_slice(&[
+        a_blue, a_green, a_red, b_blue, b_green, b_red, c_blue, c_green, c_red, d_blue, d_green,
+        d_red,
+    ])?;
+    Ok(())
+}
+
+/// Puts pixels at the end, one by one.
+fn put_each(out: &mut Vec<u8>, pixels: &[u32]) -> Result<(), OutOfMemory>
+    ensures { OnOk result (out.new.items ≡ out.old.items ++ pixels_bytes pixels.now) }
+{
+    for pixel in pixels {
+        put_pixel(out, *pixel)?;
+    }
+    Ok(())
+}
+
+/// Puts pixels at the end; four at once while there are so many.
+fn put_pixels(out: &mut Vec<u8>, pixels: &[u32]) -> Result<(), OutOfMemory>
+    ensures { OnOk result (out.new.items ≡ out.old.items ++ pixels_bytes pixels.now) }
+{
+    let mut rest = pixels;
+    while let [a, b, c, d, others @ ..] = rest {
+        put_four(out, *a, *b, *c, *d)?;
+        rest = others;
+    }
+    put_each(out, rest)
+}
+
 /// Three bytes for each pixel.
 pub fn raw_bytes(alloc: Global, pixels: &[u32]) -> Result<Vec<u8>, OutOfMemory>
     ensures value { IfOk result (λ bytes. bytes.items ≡ pixels_bytes pixels.now) }
     ensures number { IfOk result (λ bytes. length bytes.items ≡ 3 * length pixels.now) }
 {
-    let mut out = Vec::new(alloc);
-    for pixel in pixels {
-        put_pixel(&mut out, *pixel)?;
-    }
+    let mut out = Vec::with_capacity(alloc, pixels.len().saturating_mul(BYTES))?;
+    put_pixels(&mut out, pixels)?;
     Ok(out)
 }
 

@@ -58,7 +58,7 @@ pub fn turn_over(alloc: Global, pixels: &[u32], w: usize, h: usize) -> Result<Ve
     ensures number { IfOk result (λ rows. length rows.items ≡ w * h) }
     ensures colors { IsTrue (are_colors pixels.now) → IfOk result (λ rows. IsTrue (are_colors rows.items)) }
 {
-    let mut out = Vec::new(alloc);
+    let mut out = Vec::with_capacity(alloc, pixels.len())?;
     let mut above = pixels;
     for y in 0..h {
         let (rest, row) = above.split_at(above.len() - w);

@@ -1,4 +1,3 @@
-use Rattle.std.proofs.Common.{◌≡◌}
 use Rattle.wire_pixels.proofs.Shorter.{shorter_is_packed}
 use Rattle.wire_pixels.proofs.data.pixel_data.Goals as goal
 

@@ -1,11 +1,10 @@
-use Rattle.std.proofs.Common.{◌≡◌, ◌∙◌, ap, length, take, arith}
+use Rattle.std.proofs.Common.{◌≡◌, ◌∙◌, ap, length, arith}
 use Rattle.byte_fields.specs.Pixels.{pixels_bytes}
 use Rattle.byte_fields.proofs.Pixels.{length-pixels_bytes}
-use Rattle.std.proofs.Math.Seq.{take-length}
 use Rattle.std.proofs.lemmas.Grind.{common_steps}
 use Rattle.wire_pixels.proofs.data.raw_bytes.Goals as goal
 
 pub returns-clause-number : goal.returns-clause-number
 returns-clause-number c =
-    let value : c.loop-pixel.out.items ≡ pixels_bytes c.args.pixels.now = grind (arith, common_steps) in
+    let value : c.put_pixels.new.out.items ≡ pixels_bytes c.args.pixels.now = grind (arith, common_steps) in
     ap length value ∙ length-pixels_bytes c.args.pixels.now

@@ -1,4 +1,4 @@
-use Rattle.std.proofs.Common.{◌≡◌, ◌++◌, ◌∙◌, ap, length, arith}
+use Rattle.std.proofs.Common.{◌∙◌, ap, length}
 use Rattle.px_core.specs.Colors.{are_colors}
 use Rattle.wire_pixels.proofs.Turned.{split_is, pad_step, pad_done, padded_colors, length-padded_rows}
 use Rattle.wire_pixels.proofs.rows.pad_rows.Goals as goal

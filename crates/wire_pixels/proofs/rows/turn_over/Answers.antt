@@ -1,4 +1,4 @@
-use Rattle.std.proofs.Common.{◌≡◌, ◌++◌, ◌∙◌, ap, subst, length, arith}
+use Rattle.std.proofs.Common.{◌∙◌, ap, length, arith}
 use Rattle.px_core.specs.Colors.{are_colors}
 use Rattle.wire_pixels.proofs.Turned.{rows_left, split_is, turn_step, turn_done, length-turned_over, turned_over_colors}
 use Rattle.wire_pixels.proofs.rows.turn_over.Goals as goal

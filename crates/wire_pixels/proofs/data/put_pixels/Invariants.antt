@@ -1,0 +1,11 @@
+use Rattle.std.proofs.Common.{◌≡◌, ◌++◌, length}
+use Rattle.std.specs.Prelude.{flat_map}
+use Rattle.byte_fields.specs.Pixels.{pixel_bytes}
+use Rattle.wire_pixels.proofs.data.put_pixels.Given as goal
+
+-- what is written, before the pixels that are left, is what was there before them all
+abbrev pub invariant-loop-rest : goal.invariant-loop-rest
+invariant-loop-rest l = l.out.items ++ flat_map pixel_bytes l.rest ≡ l.fn.out.items ++ flat_map pixel_bytes l.pixels
+
+abbrev pub decreases-loop-rest : goal.decreases-loop-rest
+decreases-loop-rest l = length l.rest

@@ -1,6 +1,0 @@
-use Rattle.std.proofs.Common.{◌≡◌, take, flat_map}
-use Rattle.byte_fields.specs.Pixels.{pixel_bytes}
-use Rattle.wire_pixels.proofs.data.raw_bytes.Given as goal
-
-abbrev pub invariant-loop-pixel : goal.invariant-loop-pixel
-invariant-loop-pixel l = l.out.items ≡ flat_map pixel_bytes (take l.pixel-index l.pixels)
