@@ -98,12 +98,14 @@ const BYE: [u8; 12] = [3, 0, 0, 9, 2, 0xF0, 0x80, 0x21, 0x80, 4, 4, 4];
 fn serve(
     alloc: Global,
     owner: &Name,
-    bytes: [&[u8]; 2],
+    bytes: [&[u8]; 3],
     piece: usize,
     texts: [&[u8]; 3],
 ) -> Result<(Result<(), AnswerFault>, bool), Fail> {
-    let mut stream = bytes[0].to_vec(alloc)?;
-    stream.extend_from_slice(bytes[1])?;
+    let mut stream = Vec::new(alloc);
+    for part in bytes {
+        stream.extend_from_slice(part)?;
+    }
     let pieces = vec![in alloc; piece; stream.len()]?;
     let mut input = PlanSource::new(stream, pieces, Vec::new(alloc));
     let mut output = PlanSink::new(alloc, Vec::new(alloc));
@@ -125,7 +127,7 @@ fn the_sample_client_is_shown_the_picture(rt: HostRuntime) -> Result<(), Fail> {
     let ann = Name::new(b"ann");
     for piece in [1, 7, 904] {
         let texts: [&[u8]; 3] = [&REPLIES, &BLACK, &[]];
-        let (answer, same) = serve(rt.alloc(), &ann, [&SAMPLE, &[]], piece, texts)?;
+        let (answer, same) = serve(rt.alloc(), &ann, [&SAMPLE, &[], &[]], piece, texts)?;
         assert_eq!(rt; answer, Ok(()));
         assert!(rt; same);
     }
@@ -136,28 +138,34 @@ fn the_sample_client_is_shown_the_picture(rt: HostRuntime) -> Result<(), Fail> {
 fn services_end_as_their_streams_do(rt: HostRuntime) -> Result<(), Fail> {
     let ann = Name::new(b"ann");
     let truncated = Err(AnswerFault::Truncated);
-    let mut deep = SAMPLE;
-    deep[295] = 8;
-    deep[297] = 8;
-    // the stream, how it ends, and what is written
-    let streams: [([&[u8]; 2], Result<(), AnswerFault>, [&[u8]; 3]); 8] = [
+    let black: [&[u8]; 3] = [&REPLIES, &BLACK, &[]];
+    // the stream, how it ends, and what is written; the last asks for 32 bits alone
+    let streams: [([&[u8]; 3], Result<(), AnswerFault>, [&[u8]; 3]); 8] = [
         (
-            [&SAMPLE[..903], &[]],
+            [&SAMPLE[..903], &[], &[]],
             truncated,
             [&REPLIES[..666], &[], &[]],
         ),
-        ([&SAMPLE, &BYE[..5]], truncated, [&REPLIES, &BLACK, &[]]),
-        ([&SAMPLE, &BYE], Ok(()), [&REPLIES, &BLACK, &[]]),
-        ([&SAMPLE, &SHUTDOWN], Ok(()), [&REPLIES, &BLACK, &ASKED_FOR]),
+        ([&SAMPLE, &BYE[..5], &[]], truncated, black),
+        ([&SAMPLE, &BYE, &[]], Ok(()), black),
         (
-            [&SAMPLE, &[4]],
+            [&SAMPLE, &SHUTDOWN, &[]],
+            Ok(()),
+            [&REPLIES, &BLACK, &ASKED_FOR],
+        ),
+        (
+            [&SAMPLE, &[4], &[]],
             refused(1, 904),
             [&REPLIES, &BLACK, &REFUSED],
         ),
-        ([&[4], &[]], refused(1, 0), [&[], &[], &REFUSED]),
-        ([&[3, 0, 0, 6], &[]], refused(2, 2), [&[], &[], &REFUSED]),
+        ([&[4], &[], &[]], refused(1, 0), [&[], &[], &REFUSED]),
         (
-            [&deep, &[]],
+            [&[3, 0, 0, 6], &[], &[]],
+            refused(2, 2),
+            [&[], &[], &REFUSED],
+        ),
+        (
+            [&SAMPLE[..295], &[8, 0, 8], &SAMPLE[298..]],
             refused(8, 155),
             [&REPLIES[..19], &[], &REFUSED],
         ),
@@ -167,9 +175,14 @@ fn services_end_as_their_streams_do(rt: HostRuntime) -> Result<(), Fail> {
         assert_eq!(rt; answer, wanted);
         assert!(rt; same);
     }
-    let texts: [&[u8]; 3] = [&REPLIES, &[], &REFUSED];
+    Ok(())
+}
+
+#[test]
+fn a_stranger_is_not_let_in(rt: HostRuntime) -> Result<(), Fail> {
     let bob = Name::new(b"bob");
-    let (answer, same) = serve(rt.alloc(), &bob, [&SAMPLE, &[4]], 64, texts)?;
+    let texts: [&[u8]; 3] = [&REPLIES, &[], &REFUSED];
+    let (answer, same) = serve(rt.alloc(), &bob, [&SAMPLE, &[4], &[]], 64, texts)?;
     assert_eq!(rt; answer, Err(AnswerFault::NotInvited));
     assert!(rt; same);
     Ok(())
