@@ -28,9 +28,9 @@ empty_memory=$(memory "$work/empty")
 double_memory=$(memory "$work/double")
 awk -v lines="$lines" -v single="$single" -v double="$double" -v read="$(wc -c < "$work/double")" -v written="$(wc -c < "$work/capture")" \
     -v fills="$fills" -v empty="$empty_memory" -v full="$double_memory" 'BEGIN {
-    printf "%d lines: %.3f s; %d lines: %.3f s\n", lines, single / 1e6, 2 * lines, double / 1e6
-    printf "lines a second: %.0f\n", 2 * lines * 1e6 / double
-    printf "bytes a second: %.0f read, %.0f written\n", read * 1e6 / double, written * 1e6 / double
+    printf "%d lines: %.2f s of processor time; %d lines: %.2f s\n", lines, single / 1000, 2 * lines, double / 1000
+    printf "lines a second: %.0f\n", 2 * lines * 1000 / double
+    printf "bytes a second: %.0f read, %.0f written\n", read * 1000 / double, written * 1000 / double
     printf "ratio of the times: %.2f\n", double / single
     printf "most memory: %d bytes, %.1f for each of %d fills over that of a script without any\n", full, (full - empty) / fills, fills
 }'

@@ -7,7 +7,7 @@
 # usage: bench/several_viewers.sh [N [M]]      (N lines to time and M to count; 2N and M are below the bound of 1,048,576 entries)
 bench=several_viewers
 . "$(dirname "$0")/timing.sh"
-lines=${1:-100000}
+lines=${1:-200000}
 counted=${2:-1000000}
 greatest=268435456
 
@@ -88,7 +88,7 @@ time_kind() {
     "$2" $((2 * lines)) $3 > "$work/double"
     time_both "$work/single" "$work/double"
     awk -v kind="$1" -v lines="$lines" -v single="$single" -v double="$double" -v written="$(wc -c < "$work/capture")" 'BEGIN {
-        printf "%s: %d lines: %.3f s; %d lines: %.3f s, %d bytes written; ratio %.2f\n", kind, lines, single / 1e6, 2 * lines, double / 1e6, written, double / single
+        printf "%s: %d lines: %.2f s of processor time; %d lines: %.2f s, %d bytes written; ratio %.2f\n", kind, lines, single / 1000, 2 * lines, double / 1000, written, double / single
     }'
 }
 
@@ -116,4 +116,4 @@ count_kind "a line, a take every 200" fills "$counted" 200 "$counted"
 count_kind "a fill and its take" fills "$counted" 2 $((counted / 2))
 greatest_script > "$work/greatest"
 [ "$(wc -c < "$work/greatest")" -eq "$greatest" ]
-/usr/bin/time -f "a script of $greatest bytes: %e s, %M KiB" "$program" script < "$work/greatest" > "$work/capture"
+/usr/bin/time -f "a script of $greatest bytes: %U s of processor time and %S s in the system, %M KiB" "$program" script < "$work/greatest" > "$work/capture"
