@@ -30,20 +30,21 @@ pub(crate) fn cut_tiles(
     let size = surface.size();
     let mut all = Vec::new(alloc);
     for tile in 0..tile_numbers(size) {
-        let on = tile_on(size, tile);
-        if is_taken(on, tile, dirty, asked) {
-            let pixels = surface.pixels_of(on)?;
+        if is_taken(size, tile, dirty, asked) {
+            let pixels = surface.pixels_of(tile_on(size, tile))?;
             all.push(TakenTile::new(tile, pixels))?;
         }
     }
     Ok(all)
 }
 
-/// Whether a tile goes, of which this part lies on the picture: where there is one, and it is dirty or asked for.
-fn is_taken(on: Rect, tile: u32, dirty: &TileSet, asked: &TileSet) -> bool
-    ensures { result ≡ (has_pixel on && either_tiles (tiles dirty.now) (tiles asked.now) tile) }
+/// Whether a tile goes: where it is dirty or asked for, and a part of it lies on the picture. Few are, so that is looked at first.
+fn is_taken(size: Size, tile: u32, dirty: &TileSet, asked: &TileSet) -> bool
+    requires size { IsTrue (is_session_size size.w size.h) }
+    requires tile { tile < 1024 }
+    ensures { result ≡ (has_pixel (tile_on size tile) && either_tiles (tiles dirty.now) (tiles asked.now) tile) }
 {
-    has_pixel(on) && (dirty.has(tile) || asked.has(tile))
+    (dirty.has(tile) || asked.has(tile)) && has_pixel(tile_on(size, tile))
 }
 
 /// The first number above those of a picture's tiles.
