@@ -51,7 +51,7 @@ impl Client {
     }
 
     /// Reads the next bytes of the stream, and refuses it where it is to be refused, then and from then on. After want of memory the client
-    /// is spent, and answers it again. After an `Err` the marks and the counts stay.
+    /// is spent, and answers it again. After an `Err` nothing changes any more.
     pub fn feed(&mut self, bytes: &[u8]) -> Result<(), ClientFault>
         ensures read { (r : ClientReading) → IsReading r self.old → Feeds result (read_on self.old.viewer.confirmed self.old.viewer.pictures.size r bytes.now) self.new }
         ensures same { SameViewer self.old.viewer self.new.viewer }
