@@ -1,3 +1,5 @@
+ghost use Rattle.std.specs.Prelude.{◌≢◌, []};
+
 use crate::{AnswerFault, run_answer};
 use edge_io::{PlanSink, PlanSource};
 use info_lic::Name;
@@ -101,7 +103,9 @@ fn serve(
     bytes: [&[u8]; 3],
     piece: usize,
     texts: [&[u8]; 3],
-) -> Result<(Result<(), AnswerFault>, bool), Fail> {
+) -> Result<(Result<(), AnswerFault>, bool), Fail>
+    requires { owner.now ≢ [] }
+{
     let mut stream = Vec::new(alloc);
     for part in bytes {
         stream.extend_from_slice(part)?;
