@@ -1,6 +1,4 @@
 //! A viewer of a session, whose takes are encoded one after the other.
-ghost use Rattle.std.specs.Prelude.{◌≡◌, ◌≤◌};
-
 use crate::fault::Fault;
 use crate::scene::HOLDER;
 use caps_sets::Confirmed;
