@@ -1,0 +1,4 @@
+pub mod Shown
+pub mod Stages
+pub mod Steps
+pub mod Answers

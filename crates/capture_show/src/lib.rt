@@ -1,0 +1,17 @@
+//! What a viewer is shown, read from a capture (profile): a picture in portable pixel format, or why there is none.
+#![tactic(auto)]
+
+mod read;
+mod show;
+mod show_fault;
+mod stage;
+mod text;
+mod writing;
+
+pub use out_of_memory::OutOfMemory;
+pub use show::show_capture;
+pub use show_fault::ShowFault;
+pub use writing::put;
+
+#[cfg(test)]
+mod tests;

@@ -1,0 +1,34 @@
+//! A capture, read to its end for one of its viewers.
+ghost use Rattle.std.specs.Prelude.{IfErr};
+ghost use Rattle.capture_show.specs.Answers.{ReadsCapture, ReadCause, IsReadFault};
+
+use crate::ShowFault;
+use crate::stage::{Stage, advance};
+use capture_read::{CaptureReader, Told};
+use edge_io::Source;
+use std::alloc::Global;
+use std::sync::Wait;
+
+/// Reads a capture to its end for one of its viewers.
+pub(crate) fn read_capture<R: Wait, S: Source>(
+    rt: &R,
+    alloc: Global,
+    viewer: u16,
+    input: &mut S,
+) -> Result<Stage, ShowFault>
+    ensures stage { ReadsCapture result viewer (S.left input.old) (S.left input.new) }
+    ensures fault { IfErr result IsReadFault }
+    ensures cause { ReadCause result (S.faults input.old) (S.faults input.new) }
+{
+    let mut reader = CaptureReader::new(alloc, viewer)?;
+    let mut stage = Stage::NotJoined;
+    for _ in rt.forever() {
+        let told = reader.next_line(input)?;
+        match told {
+            Told::End => return Ok(stage),
+            Told::Failed => return Err(ShowFault::ReadFault),
+            _ => stage = advance(alloc, stage, told, reader.bytes())?,
+        }
+    }
+    unreachable!()
+}
