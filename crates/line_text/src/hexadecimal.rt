@@ -1,8 +1,7 @@
 ghost use Rattle.std.specs.Prelude.{◌≡◌, ◌∷◌, [], ◌+◌, ◌*◌, ◌/◌, ◌≤◌, ◌<◌, ◌^◌, ◌++◌, IfSome, IfOk, OnOk, OnErr, Some, None};
 ghost use Rattle.std.specs.Option.{option_map};
-ghost use Rattle.std.specs.Char.{digit_char};
 ghost use Rattle.line_text.specs.Numbers.{digits_behind};
-ghost use Rattle.line_text.specs.Hexadecimal.{hexadecimal_of, hexadecimals_of, hexadecimal_text, HoldsFront};
+ghost use Rattle.line_text.specs.Hexadecimal.{hexadecimal_of, hexadecimals_of};
 
 use crate::OutOfMemory;
 use std::alloc::Global;
@@ -54,29 +53,6 @@ pub fn read_hexadecimals(
     }
 }
 
-/// Appends bytes as lower-case hexadecimal digits, two for each byte. After an `Err` a front of the digits was appended.
-pub fn write_hexadecimal(out: &mut Vec<u8>, bytes: &[u8]) -> Result<(), OutOfMemory>
-    ensures ok { OnOk result (out.new.items ≡ out.old.items ++ hexadecimal_text bytes.now) }
-    ensures front { OnErr result (HoldsFront out.old.items out.new.items (hexadecimal_text bytes.now)) }
-{
-    for byte in bytes {
-        out.extend_from_slice(&[digit_char(*byte / 16), digit_char(*byte % 16)])?;
-    }
-    Ok(())
-}
-
-/// The lower-case hexadecimal digit of a number.
-fn digit_char(digit: u8) -> u8
-    requires { digit < 16 }
-    ensures { result ≡ digit_char digit }
-{
-    if digit < 10 {
-        b'0' + digit
-    } else {
-        b'a' + (digit - 10)
-    }
-}
-
 /// A number of at most seven digits with one more digit behind it.
 fn with_hexadecimal_digit(value: u32, digit: u8) -> Option<u32>
     requires { value < 16 ^ 7 }
@@ -98,14 +74,6 @@ mod tests {
             "the word is two colours",
         )?;
         assert_eq!(rt; colours.as_slice(), [1, 0xFF_FFFF].as_slice());
-        Ok(())
-    }
-
-    #[test]
-    fn bytes_are_written_in_lower_case(rt: HostRuntime) -> Result<(), Fail> {
-        let mut out = Vec::new(rt.alloc());
-        write_hexadecimal(&mut out, &[0x03, 0xEB])?;
-        assert_eq!(rt; out.as_slice(), b"03eb".as_slice());
         Ok(())
     }
 }

@@ -6,7 +6,7 @@ mod number;
 mod parts;
 mod word;
 
-pub use hexadecimal::{read_hexadecimal, read_hexadecimals, write_hexadecimal};
+pub use hexadecimal::{read_hexadecimal, read_hexadecimals};
 pub use number::{read_coordinate, read_number, write_decimal};
 pub use out_of_memory::OutOfMemory;
 pub use parts::Parts;

@@ -3,5 +3,4 @@ pub mod Secondary
 pub mod OrderStream
 pub mod OrderDelta
 pub mod Kept
-pub mod OpaqueRect
 pub mod NamedDrawing

@@ -45,6 +45,19 @@ impl Fields {
         })
     }
 
+    /// A field list of its type, its values and its counted bytes, whose vector it takes over.
+    pub fn holding(kind: u8, values: &[i64], bytes: Vec<u8>) -> Fields
+        requires { IsFieldList (field_list kind values.now bytes.items) }
+        ensures { result ≡ field_list kind values.now bytes.items }
+    {
+        Fields {
+            kind,
+            values: padded(values),
+            count: values.len(),
+            counted: Some(bytes),
+        }
+    }
+
     /// A field list without counted bytes.
     pub fn plain(kind: u8, values: &[i64]) -> Fields
         requires { IsFieldList (field_list kind values.now []) }
@@ -89,6 +102,20 @@ impl Fields {
             None => &[],
             Some(bytes) => bytes,
         }
+    }
+
+    /// The vector of the counted bytes, to be filled again; `None` where it was made without one.
+    pub fn into_bytes(self) -> Option<Vec<u8>>
+        ensures { optional_bytes result ≡ self.values.bytes }
+    {
+        self.counted
+    }
+
+    /// What holds of every field list; it does nothing.
+    pub fn is_field_list(&self)
+        ensures { IsFieldList self.now }
+    {
+        let _count = self.count;
     }
 }
 

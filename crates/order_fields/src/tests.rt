@@ -1,3 +1,4 @@
+use crate::table::OPAQUE_RECT;
 use crate::*;
 use px_core::Rect;
 use std::test::Fail;
@@ -7,33 +8,9 @@ use std::test::Fail;
 fn fills_say_only_what_changed(rt: HostRuntime) -> Result<(), Fail> {
     let mut out = Vec::new(rt.alloc());
     let mut regs = Regs::new();
-    let black = opaque_rect(
-        Rect {
-            x: 0,
-            y: 0,
-            w: 64,
-            h: 48,
-        },
-        0,
-    );
-    let red = opaque_rect(
-        Rect {
-            x: 10,
-            y: 20,
-            w: 5,
-            h: 5,
-        },
-        0xFF0000,
-    );
-    let far = opaque_rect(
-        Rect {
-            x: 138,
-            y: 21,
-            w: 5,
-            h: 5,
-        },
-        0xFF0000,
-    );
+    let black = Fields::plain(OPAQUE_RECT, &[0, 0, 64, 48, 0, 0, 0]);
+    let red = Fields::plain(OPAQUE_RECT, &[10, 20, 5, 5, 255, 0, 0]);
+    let far = Fields::plain(OPAQUE_RECT, &[138, 21, 5, 5, 255, 0, 0]);
     write_order(&mut out, &mut regs, &black, None, false)?;
     write_order(&mut out, &mut regs, &red, None, false)?;
     write_order(&mut out, &mut regs, &red, None, false)?;
@@ -53,15 +30,7 @@ fn fills_say_only_what_changed(rt: HostRuntime) -> Result<(), Fail> {
 fn bounds_are_omitted_where_they_are_the_last_ones(rt: HostRuntime) -> Result<(), Fail> {
     let mut out = Vec::new(rt.alloc());
     let mut regs = Regs::new();
-    let black = opaque_rect(
-        Rect {
-            x: 0,
-            y: 0,
-            w: 64,
-            h: 48,
-        },
-        0,
-    );
+    let black = Fields::plain(OPAQUE_RECT, &[0, 0, 64, 48, 0, 0, 0]);
     let copy = Fields::plain(0x02, &[0, 1, 64, 47, 0xCC, 0, 0]);
     let clip = Rect {
         x: 8,
@@ -88,15 +57,7 @@ fn bounds_are_omitted_where_they_are_the_last_ones(rt: HostRuntime) -> Result<()
 fn a_run_has_its_counted_bytes(rt: HostRuntime) -> Result<(), Fail> {
     let mut out = Vec::new(rt.alloc());
     let mut regs = Regs::new();
-    let black = opaque_rect(
-        Rect {
-            x: 0,
-            y: 0,
-            w: 64,
-            h: 48,
-        },
-        0,
-    );
+    let black = Fields::plain(OPAQUE_RECT, &[0, 0, 64, 48, 0, 0, 0]);
     let run = Fields::new(
         rt.alloc(),
         0x1B,

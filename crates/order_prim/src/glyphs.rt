@@ -44,8 +44,16 @@ pub fn glyph_index(
     requires { IsFieldList (drawing_fields area (Glyphs cache x y color run.now)) }
     ensures { IfOk result (λ fields. fields ≡ drawing_fields area (Glyphs cache x y color run.now)) }
 {
-    Fields::new(
-        alloc,
+    let run = Vec::from_slice(alloc, run)?;
+    Ok(glyph_index_of(cache, x, y, color, area, run))
+}
+
+/// The same of a run whose vector it takes over.
+pub fn glyph_index_of(cache: u8, x: i32, y: i32, color: u32, area: Rect, run: Vec<u8>) -> Fields
+    requires { IsFieldList (drawing_fields area (Glyphs cache x y color run.items)) }
+    ensures { result ≡ drawing_fields area (Glyphs cache x y color run.items) }
+{
+    Fields::holding(
         GLYPH_INDEX,
         &[
             i64::from(cache),

@@ -10,7 +10,7 @@ mod saved;
 mod screen;
 
 pub use cached::{mem_blt, mem3_blt, pat_blt};
-pub use glyphs::glyph_index;
+pub use glyphs::{glyph_index, glyph_index_of};
 pub use saved::save_bitmap;
 pub use screen::{dst_blt, opaque_rect, scr_blt};
 pub use wire_num::OutOfMemory;

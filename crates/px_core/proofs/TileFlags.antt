@@ -8,7 +8,7 @@ use Rattle.px_core.specs.declared.rectangle.Rect.{Rect}
 use Rattle.px_core.specs.Picture.{listed}
 use Rattle.px_core.specs.Rectangle.{within, whole}
 use Rattle.px_core.specs.Tiles.{Tiles, no_tiles, either_tiles, tiles_of, any_shared, share_tile, HasPixelIn}
-use Rattle.px_core.specs.TileFlags.{tiles, is_between, touches, row_tiles, box_tiles, IsShared}
+use Rattle.px_core.specs.TileFlags.{tiles, is_between, touches, row_tiles, box_tiles, IsShared, EndsBelow}
 use Rattle.px_core.proofs.Stretches.{same_test, within-low}
 use Rattle.px_core.proofs.TilePixels.{tile_has_pixel, pixel_has_tile, in_whole}
 
@@ -163,6 +163,16 @@ pub box_added : (size : Size) (r : Rect) (old flags : List Bool) (top bottom fro
     → IsAdded old (box_tiles top bottom from end) flags → tiles flags ≡ either_tiles (tiles old) (tiles_of size r)
 box_added size r old flags top bottom from end rows columns is = added-set old flags (tiles_of size r)
     (λ t. is t ∙ ap (λ b. tiles old t || b) (box_is size r top bottom from end rows columns t))
+
+-- no flag is set behind the rows of a box that was added, nor behind those that were set before
+pub ends_behind : (old flags : List Bool) (top bottom from end before after : ℕ) → EndsBelow (tiles old) before → before ≤ after → 32 * bottom ≤ after
+    → IsAdded old (box_tiles top bottom from end) flags → EndsBelow (tiles flags) after
+ends_behind old flags top bottom from end before after none low high is tile far =
+    is tile ∙ (ap (λ b. b || box_tiles top bottom from end tile) (none tile (omega (arith, low, far))) ∙ (ap (λ b. b && is_between from end (tile % 32)) below))
+  where
+    below : is_between top bottom (tile / 32) ≡ false
+    below = sym (same_test false (is_between top bottom (tile / 32)) (λ e. absurd (cc e))
+        (λ e. let p = and_parts (nat_le top (tile / 32)) (nat_lt (tile / 32) bottom) e in let b = ltb-true (tile / 32) bottom p.1 in absurd (omega (arith, b, high, far))))
 
 -- ---- common tiles
 

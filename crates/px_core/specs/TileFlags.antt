@@ -13,6 +13,10 @@ abbrev pub IsNextTile : Tiles → ℕ → Option ℕ → Type 0
 IsNextTile set from None = (tile : ℕ) → from ≤ tile → set tile ≡ false
 IsNextTile set from (Some tile) = (from ≤ tile) × IsTrue (set tile) × ((lower : ℕ) → from ≤ lower → lower < tile → set lower ≡ false)
 
+-- no tile of the set has this number or a greater one
+abbrev pub EndsBelow : Tiles → ℕ → Type 0
+EndsBelow set end = (tile : ℕ) → end ≤ tile → set tile ≡ false
+
 -- whether a number is one of those from a first one to before an end
 abbrev pub is_between : ℕ → ℕ → ℕ → Bool
 is_between from end k = nat_le from k && nat_lt k end

@@ -101,7 +101,9 @@ fn one_pixel_at_the_lower_right_has_the_last_tile_alone(rt: HostRuntime) {
     };
     let mut tiles = TileSet::none();
     assert!(rt; !tiles.meets(pixel, size));
+    assert_eq!(rt; tiles.end(), 0);
     tiles.add(pixel, size);
+    assert_eq!(rt; tiles.end(), 64);
     assert_eq!(rt; tiles.next(0), Some(33));
     assert!(rt; tiles.next(34).is_none());
     assert!(rt; tiles.meets(pixel, size));

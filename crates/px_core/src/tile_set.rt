@@ -2,7 +2,7 @@
 ghost use Rattle.std.specs.Prelude.{◌≡◌, ◌≤◌, ◌<◌, length, IsTrue};
 ghost use Rattle.px_core.specs.Rectangle.{is_session_size, IsPlaced};
 ghost use Rattle.px_core.specs.Tiles.{no_tiles, either_tiles, tiles_of, share_tile};
-ghost use Rattle.px_core.specs.TileFlags.{tiles, row_tiles, IsNextTile, IsShared};
+ghost use Rattle.px_core.specs.TileFlags.{tiles, row_tiles, IsNextTile, IsShared, EndsBelow};
 
 use crate::rectangle::Rect;
 use crate::surface::Size;
@@ -19,14 +19,18 @@ const TILES_IN_ROW: usize = 32;
 #[derive(Debug, Drop)]
 pub struct TileSet {
     flags: [bool; 1024],
+    end: u32,
 }
 
 impl Model for TileSet {
     ghost use Rattle.std.specs.Prelude.{List, Bool};
+    ghost use Rattle.px_core.specs.TileFlags.{tiles, EndsBelow};
 
     ghost Value = { List Bool };
 
     ghost view = { λ s. s.flags };
+
+    ghost invariant = { λ s. EndsBelow (tiles s.flags) s.end };
 }
 
 impl TileSet {
@@ -36,6 +40,7 @@ impl TileSet {
     {
         TileSet {
             flags: [false; 1024],
+            end: 0,
         }
     }
 
@@ -47,9 +52,18 @@ impl TileSet {
     {
         let columns = touched_columns(r, s);
         let rows = touched_rows(r, s);
+        let end = self.end.max((TILES_IN_ROW * rows.end) as u32);
         for row in rows.from..rows.end {
             set_row(&mut self.flags, row, columns);
         }
+        self.end = end;
+    }
+
+    /// A number that no tile of the set has, nor has one a greater number.
+    pub fn end(&self) -> u32
+        ensures ends { EndsBelow (tiles self.now) result }
+    {
+        self.end
     }
 
     /// Whether a tile is in the set; a number above 1,023 isn't.
@@ -83,7 +97,7 @@ impl TileSet {
     pub fn next(&self, from: u32) -> Option<u32>
         ensures { IsNextTile (tiles self.now) from result }
     {
-        for tile in from..TILES {
+        for tile in from..self.end.min(TILES) {
             if self.flags[tile as usize] {
                 return Some(tile);
             }

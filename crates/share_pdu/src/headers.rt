@@ -14,7 +14,6 @@
 
 ghost use Rattle.std.specs.Prelude.{◌≡◌, ◌≤◌, ◌++◌, OnOk, OnErr};
 ghost use Rattle.wire_num.specs.Written.{AppendsFront};
-ghost use Rattle.share_pdu.specs.Share.{share_headers};
 ghost use Rattle.share_pdu.specs.Data.{data_headers};
 
 use wire_num::OutOfMemory;
@@ -24,18 +23,6 @@ const HEADERS: u16 = 18;
 
 /// How many of them stand from pduType2 on.
 const FROM_TYPE: u16 = 4;
-
-/// The pduType2 of an update (PDUTYPE2_UPDATE).
-const UPDATE: u8 = 0x02;
-
-/// Writes the headers before an update's body of so many bytes at the end. An `Err` leaves a front of them there.
-pub fn put_share_headers(out: &mut Vec<u8>, length: u16) -> Result<(), OutOfMemory>
-    requires { length ≤ 65517 }
-    ensures ok { OnOk result (out.new.items ≡ out.old.items ++ share_headers length) }
-    ensures memory { OnErr result (AppendsFront out.old.items (share_headers length) out.new.items) }
-{
-    put_data_headers(out, UPDATE, length)
-}
 
 /// Writes the headers before a body of so many bytes, of a PDU of this pduType2, at the end. An `Err` leaves a front of them
 /// there.

@@ -15,7 +15,6 @@ mod share_fault;
 pub use client_pdu::{ClientPdu, read_share};
 pub use data::write_data;
 pub use finals::{Final, write_final};
-pub use headers::put_share_headers;
 pub use laws::share_is_read_from_its_bytes;
 pub use refresh::{find_areas, read_area, read_areas};
 pub use share_fault::ShareFault;
