@@ -33,7 +33,7 @@ pub(crate) fn paint(
     ensures { (count : ℕ) → pixels.new ≡ picture_after size (in_clip clip) (painting_of size (state_of pixels.old slots.now count) shape.now) pixels.old }
 {
     match shape {
-        Shape::Fill { rect, color } => fill_rect(pixels, size, *rect, clip, *color),
+        Shape::Fill { rect, color } => fill_rect(pixels, size, *rect, clip, *color, source),
         Shape::Dst { rect, rop } => {
             let blend = Blend {
                 rop: *rop,

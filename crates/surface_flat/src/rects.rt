@@ -29,16 +29,24 @@ pub(crate) struct Blend<'a> {
     pub(crate) sy: i32,
 }
 
-/// Gives a rectangle one colour.
-pub(crate) fn fill_rect(pixels: &mut [u32], size: Size, rect: Rect, clip: Option<Rect>, color: u32)
+/// Gives a rectangle one colour. `row` is for one row of it.
+pub(crate) fn fill_rect(
+    pixels: &mut [u32],
+    size: Size,
+    rect: Rect,
+    clip: Option<Rect>,
+    color: u32,
+    row: &mut [u32],
+)
     requires canvas { IsCanvas size pixels.old }
     requires rect { IsPlaced rect }
     requires clip { clip_rule size clip ≡ None }
+    requires row { 2048 ≤ length row.old }
     ensures { pixels.new ≡ picture_after size (in_clip clip) (over_rect rect (solid session_colors color)) pixels.old }
 {
     match visible(size, rect, clip) {
         None => {}
-        Some(part) => fill_part(pixels, size, part, color),
+        Some(part) => fill_part(pixels, size, part, color, &mut row[..part.w]),
     }
 }
 

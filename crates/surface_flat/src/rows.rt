@@ -8,16 +8,18 @@ use crate::part::{Part, part_of};
 use crate::texture::Texture;
 use px_core::{Rect, Size};
 
-/// Gives every pixel of a part one colour.
-pub(crate) fn fill_part(pixels: &mut [u32], size: Size, part: Part, color: u32)
+/// Gives every pixel of a part one colour. The colours of one row are made once, in `row`, and copied to each.
+pub(crate) fn fill_part(pixels: &mut [u32], size: Size, part: Part, color: u32, row: &mut [u32])
     requires canvas { IsCanvas size pixels.old }
     requires inside { IsInside size part }
+    requires row { length row.old ≡ part.w }
     ensures { IsRepainted size (in_part part) (λ x y. color) pixels.old pixels.new }
 {
+    row.fill(color);
     let width = size.w as usize;
     for y in part.y..part.y + part.h {
         let at = width * y + part.x;
-        pixels[at..at + part.w].fill(color);
+        pixels[at..at + part.w].copy_from_slice(row);
     }
 }
 

@@ -1,6 +1,5 @@
 use Rattle.std.proofs.Common.{◌≡◌, ◌+◌, ◌*◌, ◌-◌, ◌<◌, length, get_or, refl, ◌∙◌, ap, arith}
 use Rattle.std.proofs.lemmas.List.{get_or-replicate}
-use borrow.Rule.Slice.PartMut.{mid_of}
 use Rattle.surface_flat.proofs.Repaint.{stretch_fits, length_mid, no_rows, all_rows, next_row_down}
 use Rattle.surface_flat.proofs.rows.fill_part.Goals as goal
 
@@ -13,10 +12,9 @@ loop-y-preserved c = let p = c.args.part in let size = c.args.size in let cur = 
     let whole = c.loop-y.auto.pixels ∙ c.requires.canvas.sized in
     let n = size.w * y + p.x in
     let fits = stretch_fits size p.x y p.w cur whole high c.requires.inside.columns in
-    let wide : length (mid_of n ((n + p.w) - n) cur) ≡ p.w = length_mid n ((n + p.w) - n) p.w cur fits (omega arith) in
-    next_row_down size p.x p.y p.w (λ u v. c.args.color) c.args.pixels.now cur c.fill.new.self y n ((n + p.w) - n) c.loop-y.invariant whole c.loop-y.auto.y high c.requires.inside.columns refl (omega arith)
-    (c.fill.ensures.len ∙ wide)
-    (λ i below. ap (λ xs. get_or xs i 0) (c.fill.ensures.after (λ v e. e)) ∙ get_or-replicate (length (mid_of n ((n + p.w) - n) cur)) i c.args.color 0 (omega (arith, below, wide)))
+    let long : length c.copy_from_slice.new.self ≡ p.w = c.copy_from_slice.ensures.len ∙ length_mid n ((n + p.w) - n) p.w cur fits (omega arith) in
+    next_row_down size p.x p.y p.w (λ u v. c.args.color) c.args.pixels.now cur c.copy_from_slice.new.self y n ((n + p.w) - n) c.loop-y.invariant whole c.loop-y.auto.y high c.requires.inside.columns refl (omega arith) long
+    (λ i below. ap (λ xs. get_or xs i 0) (c.copy_from_slice.ensures.after ∙ c.fill.ensures.after (λ v e. e)) ∙ get_or-replicate (length c.args.row.now) i c.args.color 0 (omega (arith, below, c.requires.row)))
 
 pub returns : goal.returns
 returns c = let p = c.args.part in all_rows c.args.size p.x p.y p.w (c.loop-y.y - p.y) p.h (λ u v. c.args.color) c.args.pixels.now c.loop-y.pixels (omega arith) c.loop-y.invariant
