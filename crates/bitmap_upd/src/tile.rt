@@ -1,98 +1,123 @@
-//! A Bitmap update of one rectangle ([MS-RDPBCGR] 2.2.9.1.1.3.1.2 and 2.2.9.1.1.3.1.2.2).
-//!
-//! | offset | size | field | value |
-//! |---|---|---|---|
-//! | 0 | 2 | updateType | `01 00`, a bitmap |
-//! | 2 | 2 | numberRectangles | `01 00` |
-//! | 4 | 2 | destLeft | the left column |
-//! | 6 | 2 | destTop | the top row |
-//! | 8 | 2 | destRight | the right column, inclusive |
-//! | 10 | 2 | destBottom | the bottom row, inclusive |
-//! | 12 | 2 | width | the columns |
-//! | 14 | 2 | height | the rows |
-//! | 16 | 2 | bitsPerPixel | 24 |
-//! | 18 | 2 | flags | 0x0401 where packed: BITMAP_COMPRESSION and NO_BITMAP_COMPRESSION_HDR; else 0 |
-//! | 20 | 2 | bitmapLength | how many bytes stand behind it |
-//! | 22 | | bitmapDataStream | the pixels from the bottom row up, packed or as blue, green, red |
+//! The body of a Bitmap update of one rectangle ([MS-RDPBCGR] 2.2.9.1.1.3.1.2): what `head` has, and the pixels from the bottom row up, packed or as blue, green, red.
 
-ghost use Rattle.std.specs.Prelude.{◌≡◌, ◌≤◌, ◌*◌, ◌++◌, ◌∷◌, length, List, ℕ, OnOk, OnErr, IsTrue, pos, ◌≤ℤ◌};
+ghost use Rattle.std.specs.Prelude.{◌≡◌, ◌≤◌, ◌*◌, ◌++◌, [], length, List, ℕ, IfOk, OnOk, OnErr, IsTrue};
 ghost use Rattle.wire_num.specs.Written.{AppendsFront};
 ghost use Rattle.px_core.specs.Colors.{are_colors};
-ghost use Rattle.px_core.specs.Picture.{nat_of};
-ghost use Rattle.host_bytes.specs.WirePixels.{pixel_data};
-ghost use Rattle.host_bytes.specs.UpdateBodies.{tile_flags, tile_data_bytes, tile_body};
+ghost use Rattle.byte_fields.specs.Pixels.{pixels_bytes};
+ghost use Rattle.host_bytes.specs.WirePixels.{data_of, turned_over};
+ghost use Rattle.wire_pixels.specs.Packed.{data_with};
+ghost use Rattle.host_bytes.specs.UpdateBodies.{tile_body};
 ghost use Rattle.bitmap_upd.specs.Place.{IsUpdated};
 
 use crate::OutOfMemory;
+use crate::head::{place, tile_head};
 use px_core::Rect;
 use std::alloc::Global;
-use wire_pixels::{pixel_data, put_both, turn_over};
+use std::marker::Model;
+use wire_pixels::{packed_pixels, put_both, put_turned, turn_over};
 
-/// BITMAP_COMPRESSION and NO_BITMAP_COMPRESSION_HDR.
-const PACKED: u16 = 0x0401;
+/// The bytes of a pixel.
+const BYTES: usize = 3;
 
-/// How many bits a pixel has.
-const BITS_PER_PIXEL: u8 = 24;
-
-/// A place of a rectangle that is updated.
-fn place(at: i32) -> u16
-    requires least { pos 0 ≤ℤ at }
-    requires most { at ≤ℤ pos 2047 }
-    ensures value { result ≡ nat_of at }
-    ensures bound { result ≤ 2047 }
-{
-    at as u16
-}
-
-/// What stands before the pixels of a rectangle that are so many bytes.
-fn tile_head(left: u16, top: u16, w: u16, h: u16, is_packed: bool, size: u16) -> [u8; 22]
-    requires left { left ≤ 2047 }
-    requires top { top ≤ 2047 }
-    requires narrow { w ≤ 64 }
-    requires low { h ≤ 64 }
+/// The packed pixels of a tile, whose pixels go row by row from the top; `None` where they go as three bytes a pixel.
+fn packed_tile(
+    alloc: Global,
+    pixels: &[u32],
+    w: usize,
+    h: usize,
+    no_header: bool,
+) -> Result<Option<Vec<u8>>, OutOfMemory>
     requires wide { 1 ≤ w }
+    requires narrow { w ≤ 64 }
     requires tall { 1 ≤ h }
-    ensures { (bytes : List ℕ) → length bytes ≡ size → result ++ bytes ≡ 1 ∷ 0 ∷ 1 ∷ 0 ∷ tile_data_bytes left top w h (pixel_data is_packed bytes) }
+    requires low { h ≤ 64 }
+    requires number { length pixels.now ≡ w * h }
+    requires colors { IsTrue (are_colors pixels.now) }
+    ensures value { IfOk result (λ packed. data_with packed (pixels_bytes (turned_over w h pixels.now)) ≡ data_of no_header w (turned_over w h pixels.now)) }
+    ensures bound { IfOk result (λ packed. length (data_with packed []).bytes ≤ 12288) }
 {
-    let [left_low, left_high] = left.to_le_bytes();
-    let [top_low, top_high] = top.to_le_bytes();
-    let [right, right_high] = (left + w - 1).to_le_bytes();
-    let [bottom, bottom_high] = (top + h - 1).to_le_bytes();
-    let [w_low, w_high] = w.to_le_bytes();
-    let [h_low, h_high] = h.to_le_bytes();
-    let [flags, flags_high] = flags_of(is_packed).to_le_bytes();
-    let [low, high] = size.to_le_bytes();
-    [
-        1,
-        0,
-        1,
-        0,
-        left_low,
-        left_high,
-        top_low,
-        top_high,
-        right,
-        right_high,
-        bottom,
-        bottom_high,
-        w_low,
-        w_high,
-        h_low,
-        h_high,
-        BITS_PER_PIXEL,
-        0,
-        flags,
-        flags_high,
-        low,
-        high,
-    ]
+    if !no_header {
+        return Ok(None);
+    }
+    let wire = turn_over(alloc, pixels, w, h)?;
+    packed_pixels(alloc, &wire, w, true)
 }
 
-/// The flags of pixels that are packed or aren't.
-fn flags_of(is_packed: bool) -> u16
-    ensures { result ≡ tile_flags is_packed }
-{
-    if is_packed { PACKED } else { 0 }
+/// The body of a Bitmap update of one rectangle, before it is written: what stands before the pixels, the pixels row by row from the
+/// top, and their packed bytes, where they go packed.
+#[derive(Drop)]
+pub struct TileBody<'a> {
+    head: [u8; 22],
+    pixels: &'a [u32],
+    w: usize,
+    h: usize,
+    packed: Option<Vec<u8>>,
+}
+
+impl<'a> Model for TileBody<'a> {
+    ghost use Rattle.std.specs.Prelude.{◌≡◌, ◌≤◌, ◌*◌, ◌++◌, List, [], ℕ, length};
+    ghost use Rattle.byte_fields.specs.Pixels.{pixels_bytes};
+    ghost use Rattle.host_bytes.specs.WirePixels.{turned_over};
+    ghost use Rattle.wire_pixels.specs.Packed.{data_with};
+
+    ghost Value = { List ℕ };
+
+    ghost view = { λ s. s.head ++ (data_with s.packed (pixels_bytes (turned_over s.w s.h s.pixels.now))).bytes };
+
+    ghost invariant = { λ s. (length s.head ≡ 22) × (length s.pixels.now ≡ s.w * s.h) × (length s.pixels.now ≤ 4096) × (length (data_with s.packed []).bytes ≤ 12288) };
+}
+
+impl<'a> TileBody<'a> {
+    /// The body of a rectangle's pixels, which go row by row from the top; `no_header` says whether the viewer takes packed pixels
+    /// without a header.
+    pub fn new(
+        alloc: Global,
+        r: Rect,
+        pixels: &'a [u32],
+        no_header: bool,
+    ) -> Result<TileBody<'a>, OutOfMemory>
+        requires place { IsUpdated r }
+        requires number { length pixels.now ≡ r.w * r.h }
+        requires colors { IsTrue (are_colors pixels.now) }
+        ensures { IfOk result (λ body. body ≡ tile_body no_header r pixels.now) }
+    {
+        let (w, h) = (r.w as usize, r.h as usize);
+        let packed = packed_tile(alloc, pixels, w, h, no_header)?;
+        let size = bytes_of(&packed, pixels.len());
+        let head = tile_head(
+            place(r.x),
+            place(r.y),
+            r.w as u16,
+            r.h as u16,
+            packed.is_some(),
+            size,
+        );
+        Ok(TileBody {
+            head,
+            pixels,
+            w,
+            h,
+            packed,
+        })
+    }
+
+    /// How many bytes it has.
+    pub fn size(&self) -> u16
+        ensures { result ≡ length self.now }
+    {
+        self.head.len() as u16 + bytes_of(&self.packed, self.pixels.len())
+    }
+
+    /// Writes it at the end. An `Err` is want of memory and leaves a front of the body there.
+    pub fn put(&self, out: &mut Vec<u8>) -> Result<(), OutOfMemory>
+        ensures ok { OnOk result (out.new.items ≡ out.old.items ++ self.now) }
+        ensures memory { OnErr result (AppendsFront out.old.items self.now out.new.items) }
+    {
+        match &self.packed {
+            Some(bytes) => put_both(out, &self.head, bytes.as_slice()),
+            None => put_raw(out, &self.head, self.pixels, self.w, self.h),
+        }
+    }
 }
 
 /// Writes the body of a Bitmap update of one rectangle at the end. The pixels go row by row from the top, and `no_header` says whether
@@ -112,15 +137,35 @@ pub fn write_tile(
     ensures ok { OnOk result (out.new.items ≡ out.old.items ++ tile_body no_header r pixels.now) }
     ensures memory { OnErr result (AppendsFront out.old.items (tile_body no_header r pixels.now) out.new.items) }
 {
-    let wire = turn_over(alloc, pixels, r.w as usize, r.h as usize)?;
-    let data = pixel_data(alloc, &wire, r.w as usize, no_header)?;
-    let head = tile_head(
-        place(r.x),
-        place(r.y),
-        r.w as u16,
-        r.h as u16,
-        data.is_packed(),
-        data.bytes().len() as u16,
-    );
-    put_both(out, &head, data.bytes())
+    let body = TileBody::new(alloc, r, pixels, no_header)?;
+    body.put(out)
+}
+
+/// How many bytes so many pixels go as, of which the packed bytes may be there.
+fn bytes_of(packed: &Option<Vec<u8>>, pixels: usize) -> u16
+    requires few { pixels ≤ 4096 }
+    requires short { length (data_with packed.now []).bytes ≤ 12288 }
+    ensures value { (raw : List ℕ) → length raw ≡ 3 * pixels → result ≡ length (data_with packed.now raw).bytes }
+    ensures bound { result ≤ 12288 }
+{
+    match packed {
+        Some(bytes) => bytes.len() as u16,
+        None => (BYTES * pixels) as u16,
+    }
+}
+
+/// Writes a head and the rows of pixels from the bottom up at the end. An `Err` leaves a front of them there.
+fn put_raw(
+    out: &mut Vec<u8>,
+    head: &[u8],
+    pixels: &[u32],
+    w: usize,
+    h: usize,
+) -> Result<(), OutOfMemory>
+    requires { length pixels.now ≡ w * h }
+    ensures ok { OnOk result (out.new.items ≡ out.old.items ++ (head.now ++ pixels_bytes (turned_over w h pixels.now))) }
+    ensures memory { OnErr result (AppendsFront out.old.items (head.now ++ pixels_bytes (turned_over w h pixels.now)) out.new.items) }
+{
+    out.extend_from_slice(head)?;
+    put_turned(out, pixels, w, h)
 }

@@ -1,9 +1,9 @@
 -- A take has work, and finds, what the steps of a session say of it.
 use Rattle.std.proofs.Common.{◌≡◌, ℕ, length, ap, sym, ◌∙◌}
-use Rattle.std.specs.Prelude.{Bool, ◌==◌, ◌&&◌, ◌||◌, not}
+use Rattle.std.specs.Prelude.{◌==◌, ◌&&◌, ◌||◌, not}
 use Rattle.px_core.specs.Tiles.{Tiles, all_tiles, share_tile}
 use Rattle.session_rules.specs.Steps.{TakeOf, Play, has_work, take_of}
-use Rattle.session_core.specs.SessionModel.{SessionModel, asked_by, is_suppressed}
+use Rattle.session_core.specs.SessionModel.{SessionModel, asked_by}
 use Rattle.frame_plan.specs.Takes.{DeskModel}
 use Rattle.frame_plan.specs.Plans.{is_work, take_at, IsPlayOf}
 

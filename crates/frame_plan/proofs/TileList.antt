@@ -1,5 +1,5 @@
 -- The tiles of a set on a picture, tile by tile.
-use Rattle.std.proofs.Common.{◌≡◌, ℕ, suc, ◌+◌, ◌-◌, ◌*◌, ◌/◌, ◌<◌, ◌≤◌, List, [], ◌∷◌, ◌++◌, map, refl, ap, sym, ◌∙◌, arith, append_assoc, append-nil}
+use Rattle.std.proofs.Common.{◌≡◌, ℕ, zero, suc, ◌+◌, ◌-◌, ◌*◌, ◌/◌, ◌<◌, ◌≤◌, List, [], ◌∷◌, ◌++◌, map, refl, ap, sym, ◌∙◌, arith, append_assoc, append-nil}
 use Rattle.std.specs.Prelude.{Bool, true, false, ◌&&◌, ◌||◌, filter, ℤ, pos, negsuc, ◌+ℤ◌, ◌-ℤ◌, int_le, nat_le, if◌then◌else◌}
 use Rattle.std.specs.Int.{int_min, int_max}
 use Rattle.std.proofs.lemmas.Bool.{and_parts, and_from}
@@ -7,7 +7,8 @@ use Rattle.std.proofs.lemmas.Int.{ints, clamps}
 use Rattle.px_core.specs.declared.surface.Size.{Size}
 use Rattle.px_core.specs.Picture.{listed, nat_of}
 use Rattle.px_core.specs.Rectangle.{boxed, whole, common, common_length, has_pixel, is_inside}
-use Rattle.px_core.specs.Tiles.{Tiles, all_tiles, tile_rect, tile_on, tiles_of, any_shared, share_tile}
+use Rattle.px_core.specs.Tiles.{Tiles, all_tiles, tile_rect, tile_on, tiles_of, any_shared, share_tile, picture_tiles}
+use Rattle.px_core.specs.TileFlags.{EndsBelow}
 use Rattle.px_core.proofs.Stretches.{int_le_from}
 use Rattle.frame_plan.proofs.Lengths.{nat_of_is}
 
@@ -71,6 +72,28 @@ module _ {A : Type 0} (size : Size) (set : Tiles) (f : ℕ → A) where
       ap (λ xs. before ++ xs) (sym (ap (λ m. tiles_from m k) (next n k h) ∙ turn on wanted k (listed (n - (k + 1)) (k + 1) (λ t. t)) (tile_there size k ∙ is) w
       ∙ ap (λ b. if b then f k ∷ tiles_from (n - (k + 1)) (k + 1) else tiles_from (n - (k + 1)) (k + 1)) neither)) ∙ e
 
+  and_false : (b : Bool) → (b && false) ≡ false
+  and_false true = refl
+  and_false false = refl
+
+  -- none of the tiles is wanted
+  none_wanted : (n k : ℕ) → ((t : ℕ) → k ≤ t → t < k + n → set t ≡ false) → tiles_from n k ≡ []
+  none_wanted zero k h = refl
+  none_wanted (suc n) k h =
+      turn (tiles_of size (whole size) k) false k (listed n (k + 1) (λ t. t)) refl (h k (omega arith) (omega arith))
+      ∙ ap (λ b. if b then f k ∷ tiles_from n (k + 1) else tiles_from n (k + 1)) (and_false (tiles_of size (whole size) k))
+      ∙ none_wanted n (k + 1) (λ t a b. h t (omega (arith, a)) (omega (arith, b)))
+
+  -- tiles that aren't wanted needn't be looked at
+  pub cut_at : (m n k : ℕ) → m ≤ n → ((t : ℕ) → k + m ≤ t → t < k + n → set t ≡ false) → tiles_from m k ≡ tiles_from n k
+  cut_at zero n k le h = sym (none_wanted n k (λ t a b. h t (omega (arith, a)) b))
+  cut_at (suc m) zero k le h = absurd (omega (arith, le))
+  cut_at (suc m) (suc n) k le h =
+      turn (tiles_of size (whole size) k) (set k) k (listed m (k + 1) (λ t. t)) refl refl
+      ∙ ap (λ ts. if tiles_of size (whole size) k && set k then f k ∷ ts else ts)
+      (cut_at m n (k + 1) (omega (arith, le)) (λ t a b. h t (omega (arith, a)) (omega (arith, b))))
+      ∙ sym (turn (tiles_of size (whole size) k) (set k) k (listed n (k + 1) (λ t. t)) refl refl)
+
   pub none_left : (n k : ℕ) (before all : List A) → n ≤ k → before ++ tiles_from (n - k) k ≡ all → before ≡ all
   none_left n k before all h e =
       let none : n - k ≡ 0 = omega (arith, h) in
@@ -92,3 +115,11 @@ shared_on size a (t ∷ ts) = one (tiles_of size (whole size) t) refl (shared_on
 
 pub asked_on : (size : Size) (a : Tiles) → share_tile size a (tiles_of size (whole size)) ≡ share_tile size a all_tiles
 asked_on size a = shared_on size a (listed (32 * ((size.h + 63) / 64)) 0 (λ t. t))
+
+-- where a set has no tile, none is asked for
+none_in : (size : Size) (a : Tiles) (ts : List ℕ) → ((t : ℕ) → a t ≡ false) → any_shared ts a all_tiles ≡ false
+none_in size a [] h = refl
+none_in size a (t ∷ ts) h = rw (h t) (none_in size a ts h)
+
+pub none_asked : (size : Size) (a : Tiles) (end : ℕ) → end ≤ 0 → EndsBelow a end → false ≡ share_tile size a all_tiles
+none_asked size a end least ends = sym (none_in size a (picture_tiles size) (λ t. ends t (omega (arith, least))))

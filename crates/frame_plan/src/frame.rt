@@ -1,5 +1,8 @@
 //! A viewer's take: the frame that is due to it.
 ghost use Rattle.std.specs.Prelude.{◌≡◌, ◌≤◌, length, IfOk, OnOk, OnErr, IsTrue};
+ghost use Rattle.px_core.specs.Rectangle.{is_session_size};
+ghost use Rattle.px_core.specs.Tiles.{all_tiles, share_tile};
+ghost use Rattle.px_core.specs.TileFlags.{tiles};
 ghost use Rattle.frame_rules.specs.Pending.{pending_between};
 ghost use Rattle.session_core.specs.SessionModel.{is_here, asked_by};
 ghost use Rattle.frame_plan.specs.Takes.{taken_as};
@@ -13,6 +16,7 @@ use crate::area::whole;
 use crate::tiles::cut_tiles;
 use crate::walk::Walker;
 use crate::{Desk, OutOfMemory, Sent, Take, Taken, TakenTile};
+use px_core::{Size, TileSet};
 use save_plan::Blocks;
 use session_core::Session;
 use std::alloc::Global;
@@ -76,7 +80,15 @@ fn is_work(session: &Session, desk: &Desk) -> bool
     session.is_legal();
     let size = session.size();
     !session.suppressed(desk.v)
-        && (desk.number != session.length() || session.asked(desk.v).meets(whole(size), size))
+        && (desk.number != session.length() || is_asked(size, session.asked(desk.v)))
+}
+
+/// Whether a tile of the picture is asked for.
+fn is_asked(size: Size, asked: &TileSet) -> bool
+    requires { IsTrue (is_session_size size.w size.h) }
+    ensures { result ≡ share_tile size (tiles asked.now) all_tiles }
+{
+    asked.end() > 0 && asked.meets(whole(size), size)
 }
 
 /// The frame that is due, apart from its numbers.
@@ -105,26 +117,28 @@ fn walked(alloc: Global, session: &Session, desk: &Desk) -> Result<Walker, OutOf
     let size = session.size();
     let mut walker = Walker::begin(alloc, size, desk.number == 0, &desk.confirmed, &desk.held)?;
     let all = session.drawings_before(session.length());
-    if all - session.drawings_before(desk.number) > MOST_ORDERS {
+    let count = all - session.drawings_before(desk.number);
+    if count > MOST_ORDERS {
         jump_over(alloc, session, desk.number, &mut walker)?;
     } else {
-        walk_over(alloc, session, desk, &mut walker)?;
+        walk_over(alloc, session, desk, count as usize, &mut walker)?;
     }
     Ok(walker)
 }
 
-/// Walks over the drawings of all entries from the desk's number on.
+/// Walks over the drawings of all entries from the desk's number on, for so many of which there is to be room at once.
 fn walk_over(
     alloc: Global,
     session: &Session,
     desk: &Desk,
+    count: usize,
     walker: &mut Walker,
 ) -> Result<(), OutOfMemory>
     requires { desk.now.number ≤ length session.now.journal }
     ensures { OnOk result (HasWalkedAll session.now.head.size desk.now.confirmed walker.old (pending_between session.now.head.size session.now.journal desk.now.number (length session.now.journal)) walker.new) }
 {
     session.is_legal();
-    let mut pending = Vec::new(alloc);
+    let mut pending = Vec::with_capacity(alloc, count)?;
     for entry in desk.number..session.length() {
         session.put_pending(entry, &mut pending)?;
     }

@@ -1,5 +1,5 @@
 //! The tiles of a frame, with the pixels that the surface has.
-ghost use Rattle.std.specs.Prelude.{◌≡◌, ◌+◌, ◌*◌, ◌/◌, ◌≤◌, ◌<◌, ◌&&◌, map, IfOk, IsTrue};
+ghost use Rattle.std.specs.Prelude.{◌≡◌, ℕ, false, ◌+◌, ◌*◌, ◌/◌, ◌≤◌, ◌<◌, ◌&&◌, map, IfOk, IsTrue};
 ghost use Rattle.px_core.specs.Rectangle.{is_session_size, has_pixel};
 ghost use Rattle.px_core.specs.Tiles.{either_tiles, tile_on, tiles_in};
 ghost use Rattle.px_core.specs.TileFlags.{tiles};
@@ -29,7 +29,7 @@ pub(crate) fn cut_tiles(
 {
     let size = surface.size();
     let mut all = Vec::new(alloc);
-    for tile in 0..tile_numbers(size) {
+    for tile in 0..tiles_end(size, dirty, asked) {
         if is_taken(size, tile, dirty, asked) {
             let pixels = surface.pixels_of(tile_on(size, tile))?;
             all.push(TakenTile::new(tile, pixels))?;
@@ -45,6 +45,16 @@ fn is_taken(size: Size, tile: u32, dirty: &TileSet, asked: &TileSet) -> bool
     ensures { result ≡ (has_pixel (tile_on size tile) && either_tiles (tiles dirty.now) (tiles asked.now) tile) }
 {
     (dirty.has(tile) || asked.has(tile)) && has_pixel(tile_on(size, tile))
+}
+
+/// The first number above those of the tiles that go.
+fn tiles_end(size: Size, dirty: &TileSet, asked: &TileSet) -> u32
+    requires { IsTrue (is_session_size size.w size.h) }
+    ensures within { result ≤ 32 * ((size.h + 63) / 64) }
+    ensures few { result ≤ 1024 }
+    ensures ends { (tile : ℕ) → result ≤ tile → tile < 32 * ((size.h + 63) / 64) → either_tiles (tiles dirty.now) (tiles asked.now) tile ≡ false }
+{
+    tile_numbers(size).min(dirty.end().max(asked.end()))
 }
 
 /// The first number above those of a picture's tiles.

@@ -55,6 +55,7 @@ impl Walker {
         requires cuttable { AllCuttable size pending.items }
         ensures { OnOk result (HasWalkedAll size confirmed.now self.old pending.items self.new) }
     {
+        self.sent.reserve(pending.len())?;
         for drawing in pending {
             self.walk_one(size, confirmed, drawing)?;
         }

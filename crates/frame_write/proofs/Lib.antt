@@ -4,3 +4,4 @@ pub mod CacheSteps
 pub mod NewCaches
 pub mod UseSteps
 pub mod TileShort
+pub mod TilePacket

@@ -2,6 +2,7 @@
 #![tactic(auto)]
 
 mod caches;
+mod packet;
 mod updates;
 mod writer;
 

@@ -25,7 +25,8 @@ ghost use Rattle.bitmap_upd.specs.Place.{IsUpdated};
 ghost use Rattle.frame_write.specs.Gathering.{Gathering, gathering, nothing_gathered, closed, packets_if, packets_of, with_order, after_order, with_packet, orders_in};
 
 use crate::OutOfMemory;
-use bitmap_upd::write_tile;
+use crate::packet::{put_packet_headers, share_headers};
+use bitmap_upd::TileBody;
 use draw_ops::{Brush, Glyph, Image};
 use mcs_dom::write_indication;
 use order_fields::{Fields, Regs, write_order};
@@ -179,9 +180,10 @@ impl Updates {
         requires colors { IsTrue (are_colors pixels.now) }
         ensures { OnOk result (self.new ≡ with_packet self.old (tile_packet no_header r pixels.now)) }
     {
-        let mut user = Vec::from_slice(alloc, &[0; BEFORE_BODY])?;
-        write_tile(alloc, &mut user, r, pixels, no_header)?;
-        write_user_data(&mut self.packets, &mut user)
+        let body = TileBody::new(alloc, r, pixels, no_header)?;
+        let size = body.size();
+        put_packet_headers(&mut self.packets, size)?;
+        body.put(&mut self.packets)
     }
 
     /// Writes the packet of a Synchronize update behind the packets that are whole.
@@ -248,18 +250,6 @@ impl Updates {
         self.count = 0;
         Ok(())
     }
-}
-
-/// The headers of the share data PDU of an update whose body has so many bytes.
-fn share_headers(length: u16) -> [u8; 18]
-    requires { length ≤ 65517 }
-    ensures { result ≡ share_headers length }
-{
-    let [total, total_high] = (18 + length).to_le_bytes();
-    let [part, part_high] = (4 + length).to_le_bytes();
-    [
-        total, total_high, 0x17, 0, 0xEA, 3, 0xEA, 3, 1, 0, 0, 1, part, part_high, 2, 0, 0, 0,
-    ]
 }
 
 /// What stands before so many orders of an update.

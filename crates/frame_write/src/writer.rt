@@ -37,6 +37,8 @@ pub struct FrameWriter {
     pub caches: Caches,
     /// The updates so far.
     pub updates: Updates,
+    /// Room for the counted bytes of a run's order, which is used again.
+    pub run: Vec<u8>,
 }
 
 impl FrameWriter {
@@ -54,6 +56,7 @@ impl FrameWriter {
             registers: Regs::new(),
             caches,
             updates,
+            run: Vec::new(alloc),
         })
     }
 

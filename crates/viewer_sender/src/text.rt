@@ -1,11 +1,14 @@
 //! Runs of glyphs ([MS-RDPEGDI] 2.2.2.2.1.1.2.13): the glyphs that the viewer's cache hasn't go before the order, in the run's order.
 ghost use Rattle.std.specs.Prelude.{◌≡◌, ℕ, ◌<◌, ◌≤◌, ◌+◌, [], ◌∷◌, ◌++◌, List, length, IfOk, OnOk};
+ghost use Rattle.order_fields.specs.OrderTable.{FitBounds};
+ghost use Rattle.order_fields.specs.OrderDelta.{edges_of_optional};
+ghost use Rattle.order_fields.specs.NamedDrawing.{NamedDrawing, drawing_fields};
 ghost use Rattle.order_fields.specs.NamedDrawing.NamedDrawing.{Glyphs};
 ghost use Rattle.frame_rules.specs.Support.{run_cache};
 ghost use Rattle.frame_rules.specs.FrameOrders.{Uses, or_0, bounds_of, sending, run_use, run_pairs};
 ghost use Rattle.frame_rules.specs.FrameOrders.SentOrder.{Drawn};
 ghost use Rattle.frame_write.specs.Stands.{CachesStand};
-ghost use Rattle.frame_write.specs.Writes.{Writes};
+ghost use Rattle.frame_write.specs.Writes.{Writes, IsDrawing};
 ghost use Rattle.viewer_sender.specs.Goes.{FitsDrawn, GlyphsGo};
 ghost use Rattle.viewer_sender.specs.Runs.{run_sending};
 
@@ -14,10 +17,12 @@ use crate::plain::put_drawn;
 use draw_ops::Run;
 use frame_plan::{Pending, run_cache};
 use frame_write::FrameWriter;
-use order_prim::glyph_index;
+use order_fields::Fields;
+use order_prim::glyph_index_of;
 use px_core::Rect;
 use session_core::LoadedGlyph;
 use std::alloc::Global;
+use std::mem;
 
 /// Adds the orders of a run of glyphs from a pen at (x, y).
 pub(crate) fn put_text(
@@ -40,10 +45,33 @@ pub(crate) fn put_text(
         sending (g.orders ++ Drawn pending.now.rect (Glyphs cache x y color (run_pairs g.indices run.now)) (bounds_of pending.now.rect clip) ∷ []) g.uses)) }
 {
     let cache = cache_of(writer, pending);
-    let pairs = use_run(alloc, writer, cache, pending.glyphs(), run.pairs())?;
+    let room = mem::replace(&mut writer.run, Vec::new(alloc));
+    let pairs = use_run(alloc, writer, cache, pending.glyphs(), run.pairs(), room)?;
     let area = pending.rect();
-    let order = glyph_index(alloc, cache, x, y, color, area, &pairs)?;
-    put_drawn(writer, &order, area, clip)
+    let order = glyph_index_of(cache, x, y, color, area, pairs);
+    put_run(writer, order, area, clip)
+}
+
+/// Adds the order of a run, whose vector is kept for the next one.
+fn put_run(
+    writer: &mut FrameWriter,
+    order: Fields,
+    area: Rect,
+    clip: Option<Rect>,
+) -> Result<(), OutOfMemory>
+    requires bounds { FitBounds (edges_of_optional (bounds_of area clip)) }
+    requires drawing { IsDrawing order }
+    requires run { length order.values.bytes < 256 }
+    ensures { OnOk result ((d : NamedDrawing) → order ≡ drawing_fields area d → Writes writer.old writer.new (λ uses. sending (Drawn area d (bounds_of area clip) ∷ []) uses)) }
+{
+    put_drawn(writer, &order, area, clip)?;
+    match order.into_bytes() {
+        Some(run) => {
+            writer.run = run;
+            Ok(())
+        }
+        None => Ok(()),
+    }
 }
 
 /// The number of the glyph cache that a run's glyphs go to.
@@ -58,13 +86,14 @@ fn cache_of(writer: &FrameWriter, pending: &Pending) -> u8
     }
 }
 
-/// Uses the glyphs of a run, in its order; answers the pairs of entry and delta.
+/// Uses the glyphs of a run, in its order; answers the pairs of entry and delta, in a vector that is filled anew.
 fn use_run(
     alloc: Global,
     writer: &mut FrameWriter,
     cache: u8,
     glyphs: &[LoadedGlyph],
     run: &[(u8, u8)],
+    room: Vec<u8>,
 ) -> Result<Vec<u8>, OutOfMemory>
     requires cache { cache < 10 }
     requires number { length glyphs.now ≡ length run.now }
@@ -74,7 +103,8 @@ fn use_run(
         → pairs.items ≡ run_pairs (run_use writer.old.confirmed uses cache glyphs.now).indices run.now) }
     ensures orders { OnOk result (Writes writer.old writer.new (λ uses. run_sending (run_use writer.old.confirmed uses cache glyphs.now))) }
 {
-    let mut pairs = Vec::new(alloc);
+    let mut pairs = room;
+    pairs.clear();
     for (i, glyph) in glyphs.iter().enumerate() {
         let index = writer.use_glyph(alloc, cache, glyph.number(), glyph.content())?;
         let [entry, _] = index.to_le_bytes();

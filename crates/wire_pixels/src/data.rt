@@ -6,10 +6,12 @@
 //! | 3 * k + 1 | 1 | green | |
 //! | 3 * k + 2 | 1 | red | |
 
-ghost use Rattle.std.specs.Prelude.{◌≡◌, ◌≤◌, ◌*◌, ◌%◌, ◌++◌, length, OnOk, IfOk, IsTrue, false};
+ghost use Rattle.std.specs.Prelude.{◌≡◌, ◌≤◌, ◌*◌, ◌%◌, ◌++◌, [], length, OnOk, OnErr, IfOk, IsTrue, false};
+ghost use Rattle.wire_num.specs.Written.{AppendsFront};
 ghost use Rattle.byte_fields.specs.Pixels.{pixel_bytes, pixels_bytes};
 ghost use Rattle.px_core.specs.Colors.{are_colors};
-ghost use Rattle.host_bytes.specs.WirePixels.{data_of, pixel_data};
+ghost use Rattle.host_bytes.specs.WirePixels.{data_of, pixel_data, turned_over};
+ghost use Rattle.wire_pixels.specs.Packed.{data_with};
 
 use crate::OutOfMemory;
 use rle_enc::{Packed, pack};
@@ -52,7 +54,8 @@ impl PixelBytes {
 
 /// Puts a pixel at the end: blue, green, red.
 fn put_pixel(out: &mut Vec<u8>, color: u32) -> Result<(), OutOfMemory>
-    ensures { OnOk result (out.new.items ≡ out.old.items ++ pixel_bytes color) }
+    ensures ok { OnOk result (out.new.items ≡ out.old.items ++ pixel_bytes color) }
+    ensures memory { OnErr result (AppendsFront out.old.items (pixel_bytes color) out.new.items) }
 {
     let [blue, green, red, _] = color.to_le_bytes();
     out.extend_from_slice(&[blue, green, red])?;
@@ -61,7 +64,8 @@ fn put_pixel(out: &mut Vec<u8>, color: u32) -> Result<(), OutOfMemory>
 
 /// Puts four pixels at the end.
 fn put_four(out: &mut Vec<u8>, a: u32, b: u32, c: u32, d: u32) -> Result<(), OutOfMemory>
-    ensures { OnOk result (out.new.items ≡ out.old.items ++ (pixel_bytes a ++ pixel_bytes b ++ pixel_bytes c ++ pixel_bytes d)) }
+    ensures ok { OnOk result (out.new.items ≡ out.old.items ++ (pixel_bytes a ++ pixel_bytes b ++ pixel_bytes c ++ pixel_bytes d)) }
+    ensures memory { OnErr result (AppendsFront out.old.items (pixel_bytes a ++ pixel_bytes b ++ pixel_bytes c ++ pixel_bytes d) out.new.items) }
 {
     let [a_blue, a_green, a_red, _] = a.to_le_bytes();
     let [b_blue, b_green, b_red, _] = b.to_le_bytes();
@@ -74,9 +78,10 @@ fn put_four(out: &mut Vec<u8>, a: u32, b: u32, c: u32, d: u32) -> Result<(), Out
     Ok(())
 }
 
-/// Puts pixels at the end, one by one.
+/// Puts pixels at the end, one by one. An `Err` leaves a front of them there.
 fn put_each(out: &mut Vec<u8>, pixels: &[u32]) -> Result<(), OutOfMemory>
-    ensures { OnOk result (out.new.items ≡ out.old.items ++ pixels_bytes pixels.now) }
+    ensures ok { OnOk result (out.new.items ≡ out.old.items ++ pixels_bytes pixels.now) }
+    ensures memory { OnErr result (AppendsFront out.old.items (pixels_bytes pixels.now) out.new.items) }
 {
     for pixel in pixels {
         put_pixel(out, *pixel)?;
@@ -84,9 +89,10 @@ fn put_each(out: &mut Vec<u8>, pixels: &[u32]) -> Result<(), OutOfMemory>
     Ok(())
 }
 
-/// Puts pixels at the end; four at once while there are so many.
+/// Puts pixels at the end; four at once while there are so many. An `Err` leaves a front of them there.
 fn put_pixels(out: &mut Vec<u8>, pixels: &[u32]) -> Result<(), OutOfMemory>
-    ensures { OnOk result (out.new.items ≡ out.old.items ++ pixels_bytes pixels.now) }
+    ensures ok { OnOk result (out.new.items ≡ out.old.items ++ pixels_bytes pixels.now) }
+    ensures memory { OnErr result (AppendsFront out.old.items (pixels_bytes pixels.now) out.new.items) }
 {
     let mut rest = pixels;
     while let [a, b, c, d, others @ ..] = rest {
@@ -94,6 +100,22 @@ fn put_pixels(out: &mut Vec<u8>, pixels: &[u32]) -> Result<(), OutOfMemory>
         rest = others;
     }
     put_each(out, rest)
+}
+
+/// Puts the rows of `w` by `h` pixels at the end in the other order: of rows from the top those from the bottom up. An `Err` leaves a
+/// front of them there.
+pub fn put_turned(out: &mut Vec<u8>, pixels: &[u32], w: usize, h: usize) -> Result<(), OutOfMemory>
+    requires { length pixels.now ≡ w * h }
+    ensures ok { OnOk result (out.new.items ≡ out.old.items ++ pixels_bytes (turned_over w h pixels.now)) }
+    ensures memory { OnErr result (AppendsFront out.old.items (pixels_bytes (turned_over w h pixels.now)) out.new.items) }
+{
+    let mut above = pixels;
+    for y in 0..h {
+        let (rest, row) = above.split_at(above.len() - w);
+        put_pixels(out, row)?;
+        above = rest;
+    }
+    Ok(())
 }
 
 /// Three bytes for each pixel.
@@ -118,6 +140,31 @@ fn raw_data(alloc: Global, pixels: &[u32]) -> Result<PixelBytes, OutOfMemory>
     })
 }
 
+/// The packed bytes of pixels in rows of `w`, the bottom row first; `None` where they go as three bytes a pixel: exactly where the
+/// viewer doesn't take packed bitmaps without a header, or that isn't shorter.
+pub fn packed_pixels(
+    alloc: Global,
+    pixels: &[u32],
+    w: usize,
+    no_header: bool,
+) -> Result<Option<Vec<u8>>, OutOfMemory>
+    requires wide { 1 ≤ w }
+    requires rows { length pixels.now % w ≡ 0 }
+    requires some { 1 ≤ length pixels.now }
+    requires few { length pixels.now ≤ 4096 }
+    requires colors { IsTrue (are_colors pixels.now) }
+    ensures value { IfOk result (λ packed. data_with packed (pixels_bytes pixels.now) ≡ data_of no_header w pixels.now) }
+    ensures bound { IfOk result (λ packed. length (data_with packed []).bytes ≤ 3 * length pixels.now) }
+{
+    if !no_header {
+        return Ok(None);
+    }
+    match pack(alloc, pixels, w)? {
+        Packed::Packed(bytes) => Ok(Some(bytes)),
+        Packed::Raw => Ok(None),
+    }
+}
+
 /// The bytes of pixels in rows of `w`, the bottom row first: packed exactly where the viewer takes packed bitmaps without a header and
 /// that is shorter than three bytes a pixel.
 pub fn pixel_data(
@@ -134,14 +181,11 @@ pub fn pixel_data(
     ensures value { IfOk result (λ data_. data_ ≡ data_of no_header w pixels.now) }
     ensures bound { IfOk result (λ data_. length data_.bytes ≤ 3 * length pixels.now) }
 {
-    if !no_header {
-        return raw_data(alloc, pixels);
-    }
-    match pack(alloc, pixels, w)? {
-        Packed::Packed(bytes) => Ok(PixelBytes {
+    match packed_pixels(alloc, pixels, w, no_header)? {
+        Some(bytes) => Ok(PixelBytes {
             is_packed: true,
             bytes,
         }),
-        Packed::Raw => raw_data(alloc, pixels),
+        None => raw_data(alloc, pixels),
     }
 }

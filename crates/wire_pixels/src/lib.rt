@@ -7,7 +7,7 @@ mod data;
 mod front;
 mod rows;
 
-pub use data::{PixelBytes, pixel_data, raw_bytes};
+pub use data::{PixelBytes, packed_pixels, pixel_data, put_turned, raw_bytes};
 pub use front::put_both;
 pub use out_of_memory::OutOfMemory;
 pub use rows::{pad_rows, padded_width, turn_over};

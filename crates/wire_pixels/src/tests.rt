@@ -1,5 +1,5 @@
 //! Rows on the wire, worked out by hand.
-use crate::{pad_rows, pixel_data, put_both, raw_bytes, turn_over};
+use crate::{packed_pixels, pad_rows, pixel_data, put_both, put_turned, raw_bytes, turn_over};
 use std::test::Fail;
 
 #[test]
@@ -20,6 +20,17 @@ fn pixels_stand_as_blue_green_red(rt: HostRuntime) -> Result<(), Fail> {
 }
 
 #[test]
+fn rows_stand_from_the_bottom_up_behind_what_was_there(rt: HostRuntime) -> Result<(), Fail> {
+    let mut out = Vec::from_slice(rt.alloc(), &[0xEE])?;
+    put_turned(&mut out, &[0x010203, 0, 0xA0B0C0, 0xFF], 2, 2)?;
+    let wanted: &[u8] = &[
+        0xEE, 0xC0, 0xB0, 0xA0, 0xFF, 0, 0, 0x03, 0x02, 0x01, 0, 0, 0,
+    ];
+    assert_eq!(rt; out.as_slice(), wanted);
+    Ok(())
+}
+
+#[test]
 fn pixels_are_packed_where_that_is_shorter_and_asked_for(rt: HostRuntime) -> Result<(), Fail> {
     let row = [0xFF0000u32; 8];
     let packed = pixel_data(rt.alloc(), &row, 8, true)?;
@@ -28,6 +39,7 @@ fn pixels_are_packed_where_that_is_shorter_and_asked_for(rt: HostRuntime) -> Res
     assert_eq!(rt; packed.bytes(), [0x68, 0x00, 0x00, 0xFF].as_slice());
     let raw = pixel_data(rt.alloc(), &row, 8, false)?;
     assert!(rt; !raw.is_packed());
+    assert!(rt; packed_pixels(rt.alloc(), &row, 8, false)?.is_none());
     assert_eq!(rt; raw.bytes().len(), 24);
     Ok(())
 }

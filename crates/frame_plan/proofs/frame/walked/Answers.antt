@@ -7,10 +7,10 @@ use Rattle.frame_plan.specs.Walks.{walk_of, HasJumped, IsBegun}
 use Rattle.frame_plan.proofs.Pendings.{pending_count}
 use Rattle.frame_plan.proofs.PlannedBy.{planned_jump, planned_walk}
 use Rattle.frame_plan.proofs.frame.walked.Goals as goal
-use Rattle.frame_plan.proofs.frame.walked.Goals.{then-all-drawings_before-gt-MOST_ORDERS+in_ok-jump_over, else-all-drawings_before-gt-MOST_ORDERS+in_ok-walk_over}
+use Rattle.frame_plan.proofs.frame.walked.Goals.{then-count-gt-MOST_ORDERS+in_ok-jump_over, else-count-gt-MOST_ORDERS+in_ok-walk_over}
 
-pub overflow_sub-all : goal.overflow_sub-all
-overflow_sub-all c =
+pub overflow_sub-count : goal.overflow_sub-count
+overflow_sub-count c =
     let s = c.args.session.now in
     let number : c.desk.inside.number ≡ c.args.desk.now.number = ap (λ (d : DeskModel). d.number) c.desk.view_is in
     let seen = c.requires in
@@ -36,16 +36,16 @@ returns c =
     let all = c.drawings_before-all.ensures in
     let before = c.drawings_before.ensures in
     let begun : IsBegun c.in_ok-walker.walker (begun_at c.args.session.now c.args.desk.now) = search rules in
-    elim c.if-all-drawings_before-gt-MOST_ORDERS.branch [
-      | then-all-drawings_before-gt-MOST_ORDERS+in_ok-jump_over w ↦
-          let test = w.if-all-drawings_before-gt-MOST_ORDERS.true in
+    elim c.if-count-gt-MOST_ORDERS.branch [
+      | then-count-gt-MOST_ORDERS+in_ok-jump_over w ↦
+          let test = w.if-count-gt-MOST_ORDERS.true in
           let many : 256 < length (pending_at c.args.session.now c.args.desk.now) = omega (arith, test, count, same, all, before) in
           let new = w.jump_over.new.walker in
           let jumps = subst (λ (n : ℕ). HasJumped c.in_ok-walker.walker (jumped s.head.size (walk_of c.in_ok-walker.walker) (pending_between s.head.size s.journal n (length s.journal))) new)
           number w.in_ok-jump_over.ensures in
           subst (HasPlanned c.args.session.now c.args.desk.now) (sym w.walker-is) (planned_jump c.args.session.now c.args.desk.now c.in_ok-walker.walker new begun many jumps)
-      | else-all-drawings_before-gt-MOST_ORDERS+in_ok-walk_over w ↦
-          let test = w.if-all-drawings_before-gt-MOST_ORDERS.false in
+      | else-count-gt-MOST_ORDERS+in_ok-walk_over w ↦
+          let test = w.if-count-gt-MOST_ORDERS.false in
           let few : length (pending_at c.args.session.now c.args.desk.now) ≤ 256 = omega (arith, test, count, same, all, before) in
           subst (HasPlanned c.args.session.now c.args.desk.now) (sym w.walker-is)
           (planned_walk c.args.session.now c.args.desk.now c.in_ok-walker.walker w.walk_over.new.walker begun few w.in_ok-walk_over.ensures)

@@ -10,6 +10,14 @@ use Rattle.viewer_sender.specs.Runs.{run_sending}
 use Rattle.viewer_sender.proofs.Loops.{drop_next, take_next, run_more, pairs_more}
 use Rattle.viewer_sender.proofs.text.use_run.Goals as goal
 
+pub loop-i-init : goal.loop-i-init
+loop-i-init c = record {
+  wrote = (refl, λ uses stands. record { gathered = refl; registers = refl; caches = stands });
+  pairs = λ uses stands. c.clear.ensures.items;
+  number = ap length c.clear.ensures.items;
+  fit = c.requires.glyphs;
+}
+
 pub loop-i-preserved : goal.loop-i-preserved
 loop-i-preserved c =
     let gs = c.args.glyphs.now in

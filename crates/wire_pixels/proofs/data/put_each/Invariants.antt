@@ -1,7 +1,8 @@
-use Rattle.std.proofs.Common.{◌≡◌, ◌++◌, take}
+use Rattle.std.proofs.Common.{drop}
 use Rattle.std.specs.Prelude.{flat_map}
 use Rattle.byte_fields.specs.Pixels.{pixel_bytes}
+use Rattle.order_fields.proofs.Sent.{HasSent}
 use Rattle.wire_pixels.proofs.data.put_each.Given as goal
 
 abbrev pub invariant-loop-pixel : goal.invariant-loop-pixel
-invariant-loop-pixel l = l.out.items ≡ l.fn.out.items ++ flat_map pixel_bytes (take l.pixel-index l.pixels)
+invariant-loop-pixel l = HasSent l.fn.out.items (flat_map pixel_bytes l.pixels) l.out.items (flat_map pixel_bytes (drop l.pixel-index l.pixels))

@@ -1,11 +1,12 @@
-use Rattle.std.proofs.Common.{◌≡◌, ◌++◌, length}
+use Rattle.std.proofs.Common.{length}
 use Rattle.std.specs.Prelude.{flat_map}
 use Rattle.byte_fields.specs.Pixels.{pixel_bytes}
+use Rattle.order_fields.proofs.Sent.{HasSent}
 use Rattle.wire_pixels.proofs.data.put_pixels.Given as goal
 
--- what is written, before the pixels that are left, is what was there before them all
+-- what is written is a front of all the pixels, and the others are left
 abbrev pub invariant-loop-rest : goal.invariant-loop-rest
-invariant-loop-rest l = l.out.items ++ flat_map pixel_bytes l.rest ≡ l.fn.out.items ++ flat_map pixel_bytes l.pixels
+invariant-loop-rest l = HasSent l.fn.out.items (flat_map pixel_bytes l.pixels) l.out.items (flat_map pixel_bytes l.rest)
 
 abbrev pub decreases-loop-rest : goal.decreases-loop-rest
 decreases-loop-rest l = length l.rest

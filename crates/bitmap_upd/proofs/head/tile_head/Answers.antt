@@ -1,7 +1,5 @@
-use Rattle.std.proofs.Common.{◌≡◌, ℕ, List, ◌∷◌, ◌++◌, length, refl, sym, ap}
-use Rattle.host_bytes.specs.UpdateBodies.{tile_data_bytes}
-use Rattle.host_bytes.specs.WirePixels.{pixel_data}
-use Rattle.bitmap_upd.proofs.tile.tile_head.Goals as goal
+use Rattle.std.proofs.Common.{refl, sym}
+use Rattle.bitmap_upd.proofs.head.tile_head.Goals as goal
 
 pub returns : goal.returns
 returns c bytes e =

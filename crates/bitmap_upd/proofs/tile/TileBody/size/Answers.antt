@@ -1,0 +1,16 @@
+use Rattle.std.proofs.Common.{length, length-append, ap, arith}
+use Rattle.byte_fields.specs.Pixels.{pixels_bytes}
+use Rattle.host_bytes.specs.WirePixels.{turned_over}
+use Rattle.wire_pixels.specs.Packed.{data_with}
+use Rattle.bitmap_upd.proofs.Body.{raw_length}
+use Rattle.bitmap_upd.proofs.tile.TileBody.size.Goals as goal
+
+pub returns : goal.returns
+returns c =
+    let s = c.self.inside in
+    let raw = pixels_bytes (turned_over s.w s.h s.pixels.now) in
+    let is = c.bytes_of.ensures.value raw (raw_length s.w s.h s.pixels.now c.self.invariant.1) in
+    let head = c.self.invariant.0 in
+    let both = length-append c.self.inside.head (data_with s.packed raw).bytes in
+    let view = ap length c.self.view_is in
+    omega (arith, is, head, both, view)
