@@ -1,10 +1,9 @@
 -- A seat after its client's take.
-use Rattle.std.proofs.Common.{◌≡◌, ℕ, ◌+◌, ◌≤◌, List, [], ◌∷◌, ◌++◌, length, refl, ap, sym, ◌∙◌, subst, arith, append-nil}
-use Rattle.std.specs.Prelude.{Bool, true, false, IsTrue}
+use Rattle.std.proofs.Common.{◌≡◌, ℕ, List, [], length, refl, ap, sym, ◌∙◌, subst, arith, append-nil}
+use Rattle.std.specs.Prelude.{Bool, true, false}
 use Rattle.px_core.specs.Tiles.{no_tiles}
 use Rattle.session_rules.specs.Journal.{Head, reached_at_first}
-use Rattle.session_rules.specs.Steps.{TakeOf, PerViewer, take_of, take_effect, has_work, outcome, outcome_of}
-use Rattle.session_rules.specs.Steps.Step.{TakeStep}
+use Rattle.session_rules.specs.Steps.{take_of, take_effect, has_work, outcome_of}
 use Rattle.session_rules.proofs.Journals.{length-reached_after}
 use Rattle.session_core.specs.SessionModel.{SessionModel, reached_by, asked_by, is_suppressed}
 use Rattle.session_core.specs.PerViewer.{kept_for}
@@ -17,8 +16,7 @@ use Rattle.frame_plan.specs.Plans.{is_work, take_at, frame_at, taken_at, taken_i
 use Rattle.frame_plan.specs.declared.taken.Taken.TheVariants as taken
 use Rattle.frame_plan.proofs.TakeSteps.{work_of_steps, take_of_steps}
 use Rattle.viewer_sender.specs.Senders.{SenderModel, desk_of, with_desk, with_encoded, StandsFor, Follows, IsIdle}
-use Rattle.script_rules.specs.Script.{Asked, without_preset}
-use Rattle.script_rules.specs.CaptureText.{Run, run_after, run_by, bytes_of_answer}
+use Rattle.script_rules.specs.CaptureText.{Run, run_by, bytes_of_answer}
 use Rattle.script_rules.specs.Headline.{encoder_frames}
 use Rattle.answer_run.specs.Asking.{client, asks_for_frame}
 use Rattle.answer_run.specs.Seats.{IsSeated, IsRunOf, Takes}

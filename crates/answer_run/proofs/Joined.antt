@@ -1,16 +1,15 @@
 -- A client joins.
-use Rattle.std.proofs.Common.{◌≡◌, ℕ, ◌+◌, ◌≤◌, List, [], ◌∷◌, ◌++◌, length, refl, ap, sym, ◌∙◌, subst, arith}
-use Rattle.std.specs.Prelude.{Bool, true, false, IsTrue, Option, Some, None, is_some, option_to_list, if◌then◌else◌}
+use Rattle.std.proofs.Common.{◌≡◌, ℕ, List, [], ◌∷◌, ◌++◌, refl, ap, sym, ◌∙◌, subst, arith}
+use Rattle.std.specs.Prelude.{Bool, true, false, Option, Some, None, is_some, option_to_list, if◌then◌else◌}
 use Rattle.px_core.specs.declared.surface.Size.{Size}
 use Rattle.px_core.specs.Tiles.{no_tiles}
 use Rattle.line_text.specs.Words.{is_same_word}
 use Rattle.caps_sets.specs.declared.confirmed.Confirmed.{Confirmed}
 use Rattle.session_rules.specs.declared.entry.Role.{Role}
 use Rattle.session_rules.specs.declared.entry.Role.TheVariants.{Owner}
-use Rattle.session_rules.specs.declared.entry.Entry.{Entry}
 use Rattle.session_rules.specs.declared.entry.Entry.TheVariants.{Join}
-use Rattle.session_rules.specs.Journal.{Head, Reached, reached_at_first, is_present}
-use Rattle.session_rules.specs.Steps.{Answer, Outcome, Play, play_at_first, join_effect, outcome_of}
+use Rattle.session_rules.specs.Journal.{Reached, is_present}
+use Rattle.session_rules.specs.Steps.{Outcome, play_at_first, join_effect, outcome_of}
 use Rattle.session_rules.specs.Steps.Step.{JoinStep}
 use Rattle.session_rules.specs.Steps.Answer.{Joined}
 use Rattle.session_laws.specs.Entering.{entry_of_step, answer_at}
@@ -20,7 +19,7 @@ use Rattle.viewer_sender.specs.Senders.{SenderModel, StandsFor}
 use Rattle.script_rules.specs.CaptureText.{run_at_first, run_by}
 use Rattle.script_rules.specs.Headline.{encoder_frames}
 use Rattle.answer_run.specs.Asking.{owners_head, client, asks_to_join}
-use Rattle.answer_run.specs.Seats.{IsSeated, IsRunOf, Joins}
+use Rattle.answer_run.specs.Seats.{IsRunOf, Joins}
 use Rattle.answer_run.proofs.Seated.{seat_of, reached_grown}
 
 -- the role of the owner's name, and what comes of a join by it

@@ -6,4 +6,6 @@ pub mod Present
 pub mod Fronts
 pub mod Visiting
 pub mod Pieces
+pub mod Numbers
+pub mod Cut
 pub mod Served

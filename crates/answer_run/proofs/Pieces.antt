@@ -1,8 +1,8 @@
 -- What bytes of a stream come to, and what follows them.
 use Rattle.std.proofs.Common.{◌≡◌, ℕ, List, [], ◌∷◌, ◌++◌, length, refl, ap, sym, ◌∙◌, subst, append_assoc, append-nil}
-use Rattle.std.specs.Prelude.{Bool, true, false, ⊤, All, Option, Some, None, Result, Ok, Err}
-use Rattle.std.specs.Io.KnownBytes.{Appends, Consumes, Keeps, IsAtEnd}
-use Rattle.std.proofs.KnownBytes.{Appends-trans, Appends-nil}
+use Rattle.std.specs.Prelude.{Bool, true, false, Option, Some, None, Result, Ok, Err}
+use Rattle.std.specs.Io.KnownBytes.{Appends}
+use Rattle.std.proofs.KnownBytes.{Appends-trans}
 use Rattle.edge_io.specs.Sink.{WritesFront}
 use Rattle.session_rules.specs.Journal.{Head}
 use Rattle.frame_rules.specs.Encoder.{Encoder}
@@ -11,11 +11,10 @@ use Rattle.script_rules.specs.Headline.{encoder_frames, ConfirmAllCaches}
 use Rattle.conn_rules.specs.declared.conn_step.ConnStep.{ConnStep}
 use Rattle.conn_rules.specs.declared.stage.Stage.{Stage}
 use Rattle.conn_rules.specs.declared.stage.Stage.TheVariants as stage
-use Rattle.conn_rules.specs.Hearing.{Hearing, Heard, StreamEnd, is_over, silent, between, then_heard, heard, end_within, end_by, end_of}
-use Rattle.conn_rules.specs.Hearing.StreamEnd.{Between, Within, RefusedAt}
+use Rattle.conn_rules.specs.Hearing.{Hearing, Heard, is_over, silent, between, then_heard, heard, end_by, end_of}
+use Rattle.conn_rules.specs.Hearing.StreamEnd.{Between}
 use Rattle.conn_rules.proofs.Pieces.{heard_then}
-use Rattle.conn_laws.specs.Progress.{Progress, progress_of, ComeInOrder}
-use Rattle.conn_laws.specs.Progress.Progress.{Connecting, Ready, Ended}
+use Rattle.conn_laws.specs.Progress.{progress_of}
 use Rattle.conn_laws.specs.Placed.{AreBytes, ArePlaced}
 use Rattle.conn_laws.proofs.Quiet.{end_silence}
 use Rattle.conn_laws.proofs.Order.{heard_in_order}
@@ -23,22 +22,20 @@ use Rattle.conn_laws.proofs.Near.{heard_near}
 use Rattle.conn_core.specs.declared.conn_fault.ConnFault.{ConnFault}
 use Rattle.conn_core.specs.declared.conn_fault.ConnFault.TheVariants as conn
 use Rattle.conn_core.specs.Kept.{ConnOf, IsUnrefused, Feeds, FeedsAppend}
-use Rattle.conn_core.specs.Feeds.{Appends as AppendsHeard}
 use Rattle.answer_run.specs.Asking.{Guest, client, asked_from, guest_after_all}
 use Rattle.answer_run.specs.Asking.Guest.{Coming, Viewing, TurnedAway}
 use Rattle.answer_run.specs.declared.ending.Ending.{Ending}
 use Rattle.answer_run.specs.declared.ending.Ending.TheVariants as ending
 use Rattle.answer_run.specs.Service.{last_word, ending_at, ending_by, ultimatum_of, Service, heard_of, asked_of, written_of, service_after, ending_of, answer_of}
-use Rattle.answer_run.specs.Visits.{IsGuest, IsReady, HasCaches, frames_by, run_by_steps, DoesSteps, Visits}
-use Rattle.answer_run.specs.Serves.{IsAsFar, IsServiceOf, moment, GoesOn, Continues, ServedSome, Gives, ServedAll, ServedAFront, WentOn, IsClosed, PieceDone, PieceEnds, PieceStops, ServedPiece, ServedNext, Tells, end_of_piece, end_if, heard_text, end_of_heard, StopsAtEnd, StopsHeard, HeardDone, DoesHeard, EndsHeard, IsRefusal}
+use Rattle.answer_run.specs.Visits.{IsGuest, frames_by, run_by_steps, DoesSteps, Visits}
+use Rattle.answer_run.specs.Serves.{IsAsFar, GoesOn, IsClosed, end_of_piece, end_if, heard_text, end_of_heard, HeardDone, DoesHeard, EndsHeard, IsRefusal}
 use Rattle.answer_run.specs.Serves.IsClosed.{Over, Away}
 use Rattle.answer_run.specs.Serves.StopsHeard.{Before, AtEnd}
-use Rattle.answer_run.specs.declared.serving.Serving.{Serving}
 use Rattle.answer_run.specs.declared.visitor.Visitor.{Visitor}
 use Rattle.answer_run.specs.declared.visitor.Visitor.TheVariants as visitor
 use Rattle.answer_run.specs.declared.fault.AnswerFault.{AnswerFault}
-use Rattle.answer_run.proofs.Fronts.{front_none, front_extends, front_after, front_whole}
-use Rattle.answer_run.proofs.Streams.{guests_joined, asked_joined, words_joined, viewing_stays, away_stays, newcomer_asks, as_far, word_ends, ended_is_over, is_quiet, viewing_far, still_after, caches_joined, all_caches}
+use Rattle.answer_run.proofs.Fronts.{front_extends, front_after}
+use Rattle.answer_run.proofs.Streams.{guests_joined, asked_joined, words_joined, viewing_stays, away_stays, newcomer_asks, as_far, word_ends, ended_is_over, is_quiet, viewing_far, caches_joined}
 use Rattle.answer_run.proofs.Visiting.{frames_joined, frames_of_away}
 
 -- ---- of what was heard

@@ -1,6 +1,6 @@
 -- What a client's steps ask for is asked by viewers who are present: so the client sees the journal.
-use Rattle.std.proofs.Common.{◌≡◌, ℕ, List, [], ◌∷◌, ◌++◌, refl, ap, sym, ◌∙◌, subst}
-use Rattle.std.specs.Prelude.{Bool, true, false, ⊤, IsTrue, Option, Some, None, is_some, if◌then◌else◌}
+use Rattle.std.proofs.Common.{◌≡◌, ℕ, List, [], ◌∷◌, ◌++◌, refl, sym, subst}
+use Rattle.std.specs.Prelude.{Bool, true, false, Option, Some, None, is_some, if◌then◌else◌}
 use Rattle.px_core.specs.declared.surface.Size.{Size}
 use Rattle.line_text.specs.Words.{is_same_word}
 use Rattle.caps_sets.specs.declared.confirmed.Confirmed.{Confirmed}
@@ -10,18 +10,17 @@ use Rattle.session_rules.specs.declared.entry.Role.TheVariants.{Owner}
 use Rattle.session_rules.specs.declared.entry.Entry.{Entry}
 use Rattle.session_rules.specs.declared.entry.Entry.TheVariants.{Give, Input}
 use Rattle.session_rules.specs.Journal.{Head, Refusal, refusal_of, is_f12, is_present}
-use Rattle.session_rules.specs.Steps.{Play, play_at_first, Outcome, entered, outcome, outcome_of, has_work, take_effect, join_effect, is_release, receiver_of}
+use Rattle.session_rules.specs.Steps.{Play, play_at_first, entered, outcome, outcome_of, has_work, take_effect, join_effect, is_release, receiver_of}
 use Rattle.session_rules.specs.Steps.Step.{JoinStep, InputStep, RefreshStep, SuppressStep, TakeStep}
 use Rattle.session_rules.specs.Steps.Effect.{Enters, Answers}
 use Rattle.session_rules.specs.Steps.Answer.{Accepted}
-use Rattle.script_rules.specs.Script.{Asked, without_preset, is_invited}
 use Rattle.script_rules.specs.CaptureText.{run_at_first, sent_from}
 use Rattle.script_rules.specs.Headline.{encoder_frames, AreByPresentFrom, AreByPresentViewers, ConfirmAllCaches, HasSessionSize, EveryViewerSeesTheJournal}
 use Rattle.host_shows.proofs.Interleaved.{every_viewer_sees}
 use Rattle.conn_rules.specs.declared.conn_step.ConnStep.{ConnStep}
 use Rattle.conn_rules.specs.declared.conn_step.ConnStep.TheVariants as step
-use Rattle.answer_run.specs.Asking.{Guest, owners_head, client, asks_to_join, asks_for_frame, asked_at_ready, guest_if, asked_by_viewer, asked_from}
-use Rattle.answer_run.specs.Asking.Guest.{Coming, Viewing, TurnedAway}
+use Rattle.answer_run.specs.Asking.{owners_head, client, asked_at_ready, guest_if, asked_from}
+use Rattle.answer_run.specs.Asking.Guest.{Coming, Viewing}
 use Rattle.answer_run.proofs.Streams.{away_asks}
 
 -- ---- a viewer stays

@@ -1,6 +1,6 @@
 -- A seat after what its client asks for.
-use Rattle.std.proofs.Common.{◌≡◌, ℕ, ◌+◌, ◌≤◌, List, [], ◌∷◌, ◌++◌, length, refl, ap, sym, ◌∙◌, subst, arith, append-nil, length-append}
-use Rattle.std.specs.Prelude.{Bool, true, false, ⊤, IsTrue, Option, Some, None, option_to_list, if◌then◌else◌}
+use Rattle.std.proofs.Common.{◌≡◌, ℕ, List, [], ◌∷◌, ◌++◌, length, refl, ap, sym, ◌∙◌, subst, arith, append-nil, length-append}
+use Rattle.std.specs.Prelude.{Bool, true, false, ⊤, Option, Some, None, option_to_list, if◌then◌else◌}
 use Rattle.px_core.specs.declared.surface.Size.{Size}
 use Rattle.px_core.specs.declared.rectangle.Rect.{Rect}
 use Rattle.px_core.specs.Tiles.{either_tiles, tiles_of}
@@ -28,7 +28,7 @@ use Rattle.frame_rules.specs.Encoder.{Encoder}
 use Rattle.viewer_sender.specs.Senders.{SenderModel, Follows}
 use Rattle.script_rules.specs.Script.{Asked, without_preset}
 use Rattle.script_rules.specs.Capture.{viewer_of}
-use Rattle.script_rules.specs.CaptureText.{Run, run_after, run_by, confirmed_after, encoders_after}
+use Rattle.script_rules.specs.CaptureText.{Run, run_after, confirmed_after, encoders_after}
 use Rattle.script_rules.specs.Headline.{encoder_frames}
 use Rattle.answer_run.specs.Asking.{client}
 use Rattle.answer_run.specs.Seats.{IsSeated, IsRunOf, Does, IsSettled}

@@ -1,8 +1,8 @@
 -- A service, piece by piece.
-use Rattle.std.proofs.Common.{◌≡◌, ℕ, zero, suc, List, [], ◌∷◌, ◌++◌, length, take, refl, ap, sym, ◌∙◌, subst, append_assoc, append-nil}
-use Rattle.std.specs.Prelude.{Bool, true, false, ⊤, ◌<◌, All, Option, Some, None, Result, Ok, Err, IfOk, IfErr, IsTrue}
+use Rattle.std.proofs.Common.{◌≡◌, ℕ, zero, suc, List, [], ◌++◌, length, refl, ap, sym, ◌∙◌, subst, append_assoc}
+use Rattle.std.specs.Prelude.{true, false, ◌<◌, All, Option, Some, None, Result, Ok, Err, IfOk, IfErr}
 use Rattle.std.proofs.lemmas.List.Elements.{All-nil}
-use Rattle.std.specs.Io.KnownBytes.{Appends, Consumes, Keeps, IsAtEnd}
+use Rattle.std.specs.Io.KnownBytes.{Appends, Consumes, IsAtEnd}
 use Rattle.std.proofs.KnownBytes.{Appends-trans, Appends-nil}
 use Rattle.edge_io.specs.Sink.{WritesFront}
 use Rattle.px_core.specs.declared.surface.Size.{Size}
@@ -11,20 +11,20 @@ use Rattle.script_rules.specs.Headline.{ConfirmAllCaches, HasSessionSize}
 use Rattle.conn_rules.specs.declared.conn_step.ConnStep.{ConnStep}
 use Rattle.conn_rules.specs.declared.stage.Stage.{Stage}
 use Rattle.conn_rules.specs.declared.stage.Stage.TheVariants as stage
-use Rattle.conn_rules.specs.Hearing.{Hearing, Heard, StreamEnd, is_over, silent, between, heard, end_within, end_by, end_of}
+use Rattle.conn_rules.specs.Hearing.{Hearing, Heard, StreamEnd, is_over, silent, heard, end_within, end_by, end_of}
 use Rattle.conn_rules.specs.Hearing.StreamEnd.{Between, Within, RefusedAt}
 use Rattle.conn_laws.specs.Progress.{progress_of}
 use Rattle.conn_laws.specs.Placed.{AreBytes}
 use Rattle.conn_laws.proofs.Quiet.{end_silence}
 use Rattle.conn_laws.proofs.Near.{heard_near}
 use Rattle.conn_core.specs.Kept.{ConnOf, IsUnrefused}
-use Rattle.answer_run.specs.Asking.{Guest, client, owners_head, asked_from, guest_after_all}
+use Rattle.answer_run.specs.Asking.{Guest, owners_head, asked_from, guest_after_all}
 use Rattle.answer_run.specs.Asking.Guest.{Coming, Viewing, TurnedAway}
 use Rattle.answer_run.specs.declared.ending.Ending.{Ending}
 use Rattle.answer_run.specs.declared.ending.Ending.TheVariants as ending
 use Rattle.answer_run.specs.Service.{last_word, ending_at, ending_by, ultimatum_of, Service, first_service, heard_of, asked_of, written_of, service_after, ending_of, answer_of}
 use Rattle.answer_run.specs.Visits.{IsGuest, IsReady, HasCaches, frames_by, WritesCause, ReadsCause, IsWriteFault, IsFault}
-use Rattle.answer_run.specs.Serves.{fault_of, IsAnswerOf, Tells, ServesStream, WritesAFront, RunsAnswer, IsServiceOf, Moment, moment, GoesOn, Continues, ServedSome, Gives, ServedAll, ServedAFront, WentOn, IsClosed, PieceDone, PieceEnds, PieceStops, ServedPiece, ServedNext, end_of_heard, end_of_part, StopsHeard, HeardDone, DoesHeard, IsAsFar}
+use Rattle.answer_run.specs.Serves.{fault_of, IsAnswerOf, Tells, ServesStream, RunsAnswer, IsServiceOf, moment, GoesOn, Continues, ServedSome, Gives, ServedAll, ServedAFront, WentOn, IsClosed, PieceStops, ServedPiece, ServedNext, end_of_part, StopsHeard, HeardDone, DoesHeard, IsAsFar}
 use Rattle.answer_run.specs.Serves.StopsHeard.{Before, AtEnd}
 use Rattle.frame_rules.specs.Encoder.{Encoder}
 use Rattle.script_rules.specs.CaptureText.{Run}
@@ -34,8 +34,14 @@ use Rattle.answer_run.specs.declared.visitor.Visitor.{Visitor}
 use Rattle.answer_run.specs.declared.visitor.Visitor.TheVariants as visitor
 use Rattle.answer_run.specs.declared.fault.AnswerFault.{AnswerFault}
 use Rattle.answer_run.specs.declared.fault.AnswerFault.TheVariants as fault
-use Rattle.answer_run.proofs.Fronts.{front_none, front_extends, front_after, front_whole}
+use Rattle.answer_run.proofs.Fronts.{front_none, front_extends, front_after}
 use Rattle.answer_run.proofs.Streams.{still_after, all_caches}
+use Rattle.conn_laws.specs.Sound.{IsRefusalNumber, IsSound}
+use Rattle.conn_laws.proofs.SoundSteps.{heard_sound}
+use Rattle.answer_run.specs.Cut.{WritesAFront}
+use Rattle.answer_run.specs.Serves.{IsNumbered, IsNumberedFault}
+use Rattle.answer_run.proofs.Numbers.{service_numbered}
+use Rattle.answer_run.proofs.Cut.{front_shows, nothing_shows}
 use Rattle.answer_run.proofs.Present.{client_sees}
 use Rattle.answer_run.proofs.Pieces.{StandsBy, IsFed, no_end, far_after, ends_piece, closed_same, goes_on, begins}
 
@@ -51,10 +57,10 @@ fed_here old h bytes replies steps refusal conn e f = subst (λ k. IsFed (heard 
 
 module _ (head : Head) (s : Service) (bytes replies : List ℕ) (steps : List ConnStep) (refusal : Option Ending) (conn : ConnOf) (new : Visitor) (told telling : Option (List ℕ)) where
   piece_by : (result : Result (Option Ending) AnswerFault) → IsFed (heard s.hearing bytes) conn replies steps refusal
-      → IsAsFar s.guest (progress_of s.hearing.stage) → AreBytes s.hearing.part → AreBytes bytes → ConfirmAllCaches (asked_of head s bytes)
+      → IsAsFar s.guest (progress_of s.hearing.stage) → AreBytes s.hearing.part → AreBytes bytes → IsSound s.hearing.stage → ConfirmAllCaches (asked_of head s bytes)
       → HeardDone result head s.guest s.run (heard_of s bytes).replies (heard_of s bytes).steps refusal new told telling
       → IfOk result (λ how. how ≡ None → IsReady new) → ServedPiece result head s bytes (serving_of conn new) told telling
-  piece_by (Ok None) f far part b caches d ready =
+  piece_by (Ok None) f far part b safe caches d ready =
       let none = no_end (guest_after_all head s.guest (heard_of s bytes).steps) refusal (last_word (heard_of s bytes).steps) d.0 in
       record {
         is_service = record {
@@ -66,20 +72,22 @@ module _ (head : Head) (s : Service) (bytes replies : List ℕ) (steps : List Co
           part = (heard_near s.hearing bytes part b).1;
           still = still_after s.hearing bytes;
           unrefused = subst (λ r. StandsBy r (heard_of s bytes).after.stage) none.0 f.stands;
+          safe = (heard_sound s.hearing bytes safe).1;
         };
         written = d.2;
         unended = none.1;
         caches = caches;
       }
-  piece_by (Ok (Some how)) f far part b caches d ready =
+  piece_by (Ok (Some how)) f far part b safe caches d ready =
       let p = ends_piece head s bytes refusal how f.stands d.0 in
       record {
         is = p.is;
         written = subst (λ k. Appends told telling (written_of head s bytes ++ ultimatum_of k)) (sym p.is) d.1;
         closed = p.closed;
+        number = subst IsNumbered p.is (service_numbered head s bytes safe);
         caches = caches;
       }
-  piece_by (Err why) f far part b caches d ready = λ more. stopped d more
+  piece_by (Err why) f far part b safe caches d ready = λ more. stopped d more
     where
       stopped : StopsHeard head s.guest s.run (heard_of s bytes).replies (heard_of s bytes).steps refusal told telling → (more : List ℕ) → WritesFront told telling (answer_of head s (bytes ++ more))
       stopped (Before front) more =
@@ -98,7 +106,7 @@ piece_served result head old bytes replies steps refusal conn new told telling f
     let g = fed_here old s.hearing bytes replies steps refusal conn i.hearing f in
     let x = heard s.hearing bytes in
     let caches = all_caches head s.guest x.steps (subst (λ xs. All HasCaches xs) g.steps_are h) in
-    piece_by head s bytes replies steps refusal conn new told telling result g i.as_far i.part b caches
+    piece_by head s bytes replies steps refusal conn new told telling result g i.as_far i.part b i.safe caches
     (subst (λ r. HeardDone result head s.guest s.run r x.steps refusal new told telling) g.replies_are
     (subst (λ xs. HeardDone result head s.guest s.run replies xs refusal new told telling) g.steps_are (d s.guest s.run i.visitor)))
     ready
@@ -152,6 +160,7 @@ next_served (Ok (Some how)) head old new bytes ahead left told telling c p s i =
       text = answer_of head s bytes;
       written = d.written;
       gives = consumed_ends ahead left head s bytes how c (far_after head s bytes i.as_far) d.closed d.is d.caches;
+      number = d.number;
     }
 next_served (Err why) head old new bytes ahead left told telling c p s i = consumed_front ahead left head s bytes told telling c (p s i)
 
@@ -270,7 +279,7 @@ none_ahead (Some bytes) head old s how end i e = subst (Gives head s [] how) (sy
 pub end_served : (how : Ending) (head : Head) (old new : Serving) (ahead left told : Option (List ℕ)) → IsAtEnd ahead
     → ((head : Head) (s : Service) → IsServiceOf head old s → how ≡ ending_of head s []) → (s : Service) → IsServiceOf head old s
     → ServedNext (Ok (Some how)) head s new (moment ahead told) (moment left told)
-end_served how head old new ahead left told end is s i = record { text = []; written = Appends-nil told; gives = none_ahead ahead head old s how end i (is head s i) }
+end_served how head old new ahead left told end is s i = record { text = []; written = Appends-nil told; gives = none_ahead ahead head old s how end i (is head s i); number = subst IsNumbered (sym (is head s i)) (service_numbered head s [] i.safe) }
 
 -- a read that failed
 front_of_told : (ahead : Option (List ℕ)) (head : Head) (s : Service) (told : Option (List ℕ)) → ServedAFront head s (moment ahead told) told
@@ -315,6 +324,7 @@ all_joined head s t how ahead mid told some telling c d = record {
   text = c.text ++ d.text;
   written = Appends-trans told some telling c.text d.text c.written d.written;
   gives = gives_joined ahead mid head s t c.text d.text how c.continues d.gives;
+  number = d.number;
 }
 
 front_by : (ahead mid : Option (List ℕ)) (head : Head) (s t : Service) (text : List ℕ) (told some telling : Option (List ℕ)) → Appends told some text → Continues ahead mid head s text t
@@ -381,14 +391,34 @@ answered (Err fault.ReadFault) size owner how ahead told telling sized is d = ab
 answered (Err fault.WriteFault) size owner how ahead told telling sized is d = absurd (no_fault how fault.WriteFault tt is)
 answered (Err fault.OutOfMemory) size owner how ahead told telling sized is d = absurd (no_fault how fault.OutOfMemory tt is)
 
-pub stopped : (why : AnswerFault) (size : Size) (owner : List ℕ) (ahead told telling : Option (List ℕ)) → IsFault why
+-- a front where the stream is told
+fronts_by : (size : Size) (owner : List ℕ) (ahead told telling : Option (List ℕ)) → HasSessionSize (owners_head size owner)
+    → ServedAFront (owners_head size owner) (first_service size) (moment ahead told) telling → Tells ahead (λ stream. WritesAFront size owner stream told telling)
+fronts_by size owner None told telling sized d = tt
+fronts_by size owner (Some stream) told telling sized d = front_shows size owner stream told telling sized d
+
+pub stopped : (why : AnswerFault) (size : Size) (owner : List ℕ) (ahead told telling : Option (List ℕ)) → HasSessionSize (owners_head size owner) → IsFault why
     → ServedAFront (owners_head size owner) (first_service size) (moment ahead told) telling → RunsAnswer (Err why) size owner ahead told telling
-stopped (fault.Refused k at) size owner ahead told telling f d = absurd f
-stopped fault.Truncated size owner ahead told telling f d = absurd f
-stopped fault.NotInvited size owner ahead told telling f d = absurd f
-stopped fault.ReadFault size owner ahead told telling f d = d
-stopped fault.WriteFault size owner ahead told telling f d = d
-stopped fault.OutOfMemory size owner ahead told telling f d = d
+stopped (fault.Refused k at) size owner ahead told telling sized f d = absurd f
+stopped fault.Truncated size owner ahead told telling sized f d = absurd f
+stopped fault.NotInvited size owner ahead told telling sized f d = absurd f
+stopped fault.ReadFault size owner ahead told telling sized f d = fronts_by size owner ahead told telling sized d
+stopped fault.WriteFault size owner ahead told telling sized f d = fronts_by size owner ahead told telling sized d
+stopped fault.OutOfMemory size owner ahead told telling sized f d = fronts_by size owner ahead told telling sized d
+
+-- an answer has its number
+pub number_answered : (result : Result (Unit {0}) AnswerFault) (how : Ending) → IsAnswerOf result how → IsNumbered how → IfErr result IsNumberedFault
+number_answered (Ok x) how is n = tt
+number_answered (Err (fault.Refused k at)) ending.Left is n = absurd (cc is)
+number_answered (Err (fault.Refused k at)) ending.AskedForEnd is n = absurd (cc is)
+number_answered (Err (fault.Refused k at)) (ending.Refused j place) is n = let same : j ≡ k = cc in subst IsRefusalNumber same n
+number_answered (Err (fault.Refused k at)) ending.Truncated is n = absurd (cc is)
+number_answered (Err (fault.Refused k at)) ending.NotInvited is n = absurd (cc is)
+number_answered (Err fault.Truncated) how is n = tt
+number_answered (Err fault.NotInvited) how is n = tt
+number_answered (Err fault.ReadFault) how is n = tt
+number_answered (Err fault.WriteFault) how is n = tt
+number_answered (Err fault.OutOfMemory) how is n = tt
 
 -- ---- the loop
 
@@ -413,7 +443,8 @@ no_more_reads head s old ahead mid told some w = front_so_far head s w.after ahe
 
 -- nothing was done
 pub nothing_done : (size : Size) (owner : List ℕ) (ahead told : Option (List ℕ)) → RunsAnswer (Err fault.OutOfMemory) size owner ahead told told
-nothing_done size owner ahead told = front_of_told ahead (owners_head size owner) (first_service size) told
+nothing_done size owner None told = tt
+nothing_done size owner (Some stream) told = nothing_shows size owner stream told
 
 -- a service before the first byte
 still_first : (size : Size) → heard (first_service size).hearing [] ≡ silent (first_service size).hearing
@@ -431,6 +462,7 @@ starts size owner conn name is none = record {
   part = All-nil (λ b. b < 256);
   still = still_first size;
   unrefused = tt;
+  safe = tt;
 }
 
 -- ---- causes

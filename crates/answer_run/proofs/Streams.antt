@@ -1,6 +1,6 @@
 -- Steps, what they ask for and what is sent for them, one stretch after another.
 use Rattle.std.proofs.Common.{◌≡◌, ℕ, List, [], ◌∷◌, ◌++◌, refl, ap, sym, ◌∙◌, subst, append_assoc, append-nil}
-use Rattle.std.specs.Prelude.{Bool, true, false, ⊤, All, Option, Some, None}
+use Rattle.std.specs.Prelude.{Bool, true, false, All, Some, None}
 use Rattle.std.proofs.lemmas.List.Elements.{All-head, All-tail}
 use Rattle.caps_sets.specs.declared.confirmed.Confirmed.{Confirmed}
 use Rattle.caps_sets.specs.Confirmed.{plain}
@@ -16,15 +16,14 @@ use Rattle.conn_rules.specs.declared.stage.Stage.{Stage}
 use Rattle.conn_rules.specs.declared.stage.Stage.TheVariants as stage
 use Rattle.conn_rules.specs.declared.stage.SharePhase.TheVariants as phase
 use Rattle.conn_rules.specs.Told.{is_ready}
-use Rattle.conn_rules.specs.Hearing.{Hearing, Heard, is_over, silent, between, then_heard, heard}
+use Rattle.conn_rules.specs.Hearing.{Hearing, Heard, is_over, silent, then_heard, heard}
 use Rattle.conn_rules.proofs.Pieces.{heard_then}
 use Rattle.conn_laws.specs.Progress.{Progress, progress_of, StaysOrEnds, ComeInOrder}
 use Rattle.conn_laws.specs.Progress.Progress.{Connecting, Ready, Ended}
 use Rattle.conn_laws.proofs.Quiet.{ready_silence, end_silence}
-use Rattle.answer_run.specs.Asking.{Guest, client, asks_for_frame, asked_at_ready, guest_if, asked_by_viewer, asked_by, guest_after, asked_from, guest_after_all}
+use Rattle.answer_run.specs.Asking.{Guest, asked_at_ready, guest_if, asked_by_viewer, asked_by, guest_after, asked_from, guest_after_all}
 use Rattle.answer_run.specs.Asking.Guest.{Coming, Viewing, TurnedAway}
 use Rattle.answer_run.specs.declared.ending.Ending.{Ending}
-use Rattle.answer_run.specs.declared.ending.Ending.TheVariants as ending
 use Rattle.answer_run.specs.Service.{last_word}
 use Rattle.answer_run.specs.Visits.{HasCaches}
 use Rattle.answer_run.specs.Serves.{IsAsFar}

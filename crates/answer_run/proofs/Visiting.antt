@@ -1,6 +1,6 @@
 -- The steps of a client, one after the other.
-use Rattle.std.proofs.Common.{◌≡◌, ℕ, ◌+◌, ◌<◌, ◌≤◌, List, [], ◌∷◌, ◌++◌, length, get_or, drop, refl, ap, sym, ◌∙◌, subst, append_assoc, append-nil, add-one, arith}
-use Rattle.std.proofs.Math.Seq.{drop-cons, drop-length}
+use Rattle.std.proofs.Common.{◌≡◌, ℕ, ◌+◌, ◌<◌, List, [], ◌∷◌, ◌++◌, length, get_or, drop, refl, ap, sym, ◌∙◌, subst, append_assoc, append-nil, add-one}
+use Rattle.std.proofs.Math.Seq.{drop-cons}
 use Rattle.std.specs.Prelude.{Bool, true, false, Option, Some, None, Result, Ok, Err, if◌then◌else◌}
 use Rattle.std.specs.Io.KnownBytes.{Appends}
 use Rattle.std.proofs.KnownBytes.{Appends-trans, Appends-nil}
@@ -16,20 +16,20 @@ use Rattle.session_rules.specs.Steps.Step.{InputStep, RefreshStep, SuppressStep}
 use Rattle.session_rules.specs.Steps.Effect.{Enters, Answers}
 use Rattle.session_rules.specs.Steps.Answer.{Accepted}
 use Rattle.frame_rules.specs.Encoder.{Encoder}
-use Rattle.script_rules.specs.Script.{Asked, without_preset, is_invited}
+use Rattle.script_rules.specs.Script.{without_preset}
 use Rattle.script_rules.specs.CaptureText.{Run, run_at_first, run_after, run_after_all, bytes_of_answer, sent_by, sent_from}
 use Rattle.script_rules.specs.Headline.{encoder_frames}
 use Rattle.conn_rules.specs.declared.conn_step.ConnStep.{ConnStep}
 use Rattle.conn_rules.specs.declared.conn_step.ConnStep.TheVariants as step
 use Rattle.answer_run.specs.Asking.{Guest, client, asks_to_join, asks_for_frame, asked_at_ready, guest_if, asked_from, guest_after, guest_after_all}
 use Rattle.answer_run.specs.Asking.Guest.{Coming, Viewing, TurnedAway}
-use Rattle.answer_run.specs.Seats.{IsSeated, IsRunOf, Does, Takes, Joins}
-use Rattle.answer_run.specs.Visits.{IsGuest, frames_by, run_by_steps, DoesSteps, Visits, Comes, DoesAsked, Asks}
+use Rattle.answer_run.specs.Seats.{Does, Takes, Joins}
+use Rattle.answer_run.specs.Visits.{IsGuest, frames_by, run_by_steps, DoesSteps, Visits, Comes, Asks}
 use Rattle.answer_run.specs.declared.seat.Seat.{Seat}
 use Rattle.answer_run.specs.declared.visitor.Visitor.{Visitor}
 use Rattle.answer_run.specs.declared.visitor.Visitor.TheVariants as visitor
 use Rattle.answer_run.specs.declared.fault.AnswerFault.{AnswerFault}
-use Rattle.answer_run.proofs.Streams.{guests_joined, asked_joined, runs_joined, sent_joined, away_stays, away_asks}
+use Rattle.answer_run.proofs.Streams.{asked_joined, runs_joined, sent_joined, away_stays, away_asks}
 use Rattle.answer_run.proofs.Fronts.{front_none, front_extends, front_after}
 
 -- ---- joined

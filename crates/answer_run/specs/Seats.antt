@@ -2,11 +2,11 @@
 use Rattle.std.specs.Prelude.{◌≡◌, ℕ, ◌≤◌, true, false, ⊤, IsTrue, List, length, Option, Some, None, Result, Ok, Err}
 use Rattle.caps_sets.specs.declared.confirmed.Confirmed.{Confirmed}
 use Rattle.session_rules.specs.Journal.{Head}
-use Rattle.session_core.specs.SessionModel.{SessionModel, reached_by, is_here, asked_by, is_suppressed}
+use Rattle.session_core.specs.SessionModel.{reached_by, is_here, asked_by, is_suppressed}
 use Rattle.session_core.specs.declared.faults.InputRefusal.{InputRefusal}
 use Rattle.session_core.specs.declared.faults.InputRefusal.TheVariants as refusal
 use Rattle.frame_rules.specs.Encoder.{Encoder}
-use Rattle.viewer_sender.specs.Senders.{SenderModel, IsIdle, Follows}
+use Rattle.viewer_sender.specs.Senders.{IsIdle, Follows}
 use Rattle.script_rules.specs.Script.{Asked, is_invited}
 use Rattle.script_rules.specs.CaptureText.{Run, run_at_first, run_after, sent_by}
 use Rattle.script_rules.specs.Headline.{encoder_frames}

@@ -1,5 +1,5 @@
 -- What of a client's service was done.
-use Rattle.std.specs.Prelude.{◌≡◌, ℕ, zero, suc, Bool, true, false, List, [], ◌∷◌, ◌++◌, ⊤, All}
+use Rattle.std.specs.Prelude.{◌≡◌, ℕ, zero, suc, Bool, true, false, List, [], ◌++◌, ⊤}
 use Rattle.std.specs.Io.KnownBytes.{Appends}
 use Rattle.std.specs.declared.option.Option.{Option}
 use Rattle.std.specs.declared.option.Option.TheVariants.{Some, None}
@@ -10,17 +10,19 @@ use Rattle.edge_io.specs.Sink.{WritesFront}
 use Rattle.session_rules.specs.Journal.{Head}
 use Rattle.script_rules.specs.CaptureText.{Run, run_at_first, sent_from}
 use Rattle.script_rules.specs.Headline.{encoder_frames, ConfirmAllCaches, EveryViewerSeesTheJournal}
-use Rattle.conn_rules.specs.Hearing.{Hearing, is_over, silent, heard}
+use Rattle.conn_rules.specs.Hearing.{is_over, silent, heard}
 use Rattle.out_of_memory.specs.declared.OutOfMemory.{OutOfMemory}
 use Rattle.conn_core.specs.declared.conn_fault.ConnFault.{ConnFault}
 use Rattle.conn_core.specs.declared.conn_fault.ConnFault.TheVariants as conn
 use Rattle.conn_core.specs.Kept.{IsUnrefused}
 use Rattle.conn_laws.specs.Placed.{AreBytes}
+use Rattle.conn_laws.specs.Sound.{IsRefusalNumber, IsSound}
 use Rattle.conn_laws.specs.Progress.{Progress, progress_of}
 use Rattle.conn_laws.specs.Progress.Progress.{Connecting, Ready, Ended}
-use Rattle.answer_run.specs.Asking.{Guest, owners_head, client, guest_after_all}
+use Rattle.answer_run.specs.Asking.{Guest, owners_head, guest_after_all}
 use Rattle.answer_run.specs.Asking.Guest.{Coming, Viewing, TurnedAway}
-use Rattle.answer_run.specs.Service.{Service, heard_of, last_word, asked_of, frames_of, written_of, service_after, ultimatum_of, ending_of, answer_of, asked_of_stream, ending_of_stream, answer_of_stream}
+use Rattle.answer_run.specs.Service.{Service, heard_of, last_word, asked_of, written_of, service_after, ultimatum_of, ending_of, answer_of, asked_of_stream, ending_of_stream, answer_of_stream}
+use Rattle.answer_run.specs.Cut.{WritesAFront}
 use Rattle.answer_run.specs.Visits.{IsGuest, IsReady, frames_by, run_by_steps}
 use Rattle.answer_run.specs.declared.visitor.Visitor.{Visitor}
 use Rattle.conn_rules.specs.declared.conn_step.ConnStep.{ConnStep}
@@ -46,6 +48,22 @@ abbrev pub IsAnswerOf : Result (Unit {0}) AnswerFault → Ending → Type 0
 IsAnswerOf (Ok x) how = fault_of how ≡ None
 IsAnswerOf (Err why) how = fault_of how ≡ Some why
 
+-- a refusal has a number from 1 to 14
+abbrev pub IsNumbered : Ending → Type 0
+IsNumbered ending.Left = ⊤
+IsNumbered ending.AskedForEnd = ⊤
+IsNumbered (ending.Refused k at) = IsRefusalNumber k
+IsNumbered ending.Truncated = ⊤
+IsNumbered ending.NotInvited = ⊤
+
+abbrev pub IsNumberedFault : AnswerFault → Type 0
+IsNumberedFault (fault.Refused k at) = IsRefusalNumber k
+IsNumberedFault fault.Truncated = ⊤
+IsNumberedFault fault.NotInvited = ⊤
+IsNumberedFault fault.ReadFault = ⊤
+IsNumberedFault fault.WriteFault = ⊤
+IsNumberedFault fault.OutOfMemory = ⊤
+
 -- where a source tells its bytes, this is said of them
 abbrev pub Tells : Option (List ℕ) → (List ℕ → Type 0) → Type 0
 Tells None says = ⊤
@@ -59,11 +77,8 @@ pub record ServesStream (size : Size) (owner : List ℕ) (why : Option AnswerFau
   pub shows_journal : EveryViewerSeesTheJournal (owners_head size owner) (asked_of_stream size owner stream)
       (sent_from encoder_frames (owners_head size owner) (run_at_first encoder_frames size) (asked_of_stream size owner stream))
 
--- a front of its answer was written
-abbrev pub WritesAFront : Size → List ℕ → List ℕ → (told telling : Option (List ℕ)) → Type 0
-WritesAFront size owner stream told telling = WritesFront told telling (answer_of_stream size owner stream)
-
--- what was done where the input tells the client's stream: all of its answer was written, and this is how it ends; or after a fault, or want of memory, a front of it
+-- what was done where the input tells the client's stream: all of its answer was written, and this is how it ends; or after a fault, or want of memory, a front of
+-- it, whose frames show the first takes
 abbrev pub RunsAnswer : Result (Unit {0}) AnswerFault → Size → List ℕ → (left told telling : Option (List ℕ)) → Type 0
 RunsAnswer (Ok x) size owner left told telling = Tells left (λ stream. ServesStream size owner None stream told telling)
 RunsAnswer (Err (fault.Refused k at)) size owner left told telling = Tells left (λ stream. ServesStream size owner (Some (fault.Refused k at)) stream told telling)
@@ -97,6 +112,7 @@ pub record IsServiceOf (head : Head) (serving : Serving) (s : Service) : Type 0 
   pub part : AreBytes s.hearing.part
   pub still : heard s.hearing [] ≡ silent s.hearing
   pub unrefused : IsUnrefused s.hearing.stage
+  pub safe : IsSound s.hearing.stage
 
 -- what is told at a moment: the bytes ahead, by the input, and what was written, by the output
 pub record Moment : Type 0 where
@@ -134,6 +150,7 @@ pub record ServedAll (head : Head) (s : Service) (how : Ending) (before : Moment
   pub text : List ℕ
   pub written : Appends before.told telling text
   pub gives : Tells before.ahead (Gives head s text how)
+  pub number : IsNumbered how
 
 -- a front of what is due was written
 abbrev pub ServedAFront : Head → Service → Moment → Option (List ℕ) → Type 0
@@ -162,6 +179,7 @@ pub record PieceEnds (head : Head) (s : Service) (bytes : List ℕ) (how : Endin
   pub is : ending_of head s bytes ≡ how
   pub written : Appends told telling (answer_of head s bytes)
   pub closed : IsClosed head s bytes
+  pub number : IsNumbered how
   pub caches : ConfirmAllCaches (asked_of head s bytes)
 
 -- a front of what is due for bytes was written, whatever follows them

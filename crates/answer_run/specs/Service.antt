@@ -99,6 +99,10 @@ answer_of head s bytes = written_of head s bytes ++ ultimatum_of (ending_of head
 abbrev pub asked_of_stream : Size → List ℕ → List ℕ → List Asked
 asked_of_stream size owner stream = asked_of (owners_head size owner) (first_service size) stream
 
+-- the replies to it
+abbrev pub replies_of_stream : Size → List ℕ → List ℕ → List ℕ
+replies_of_stream size owner stream = (heard_of (first_service size) stream).replies
+
 -- the frames that it is sent
 abbrev pub frames_of_stream : Size → List ℕ → List ℕ → List ℕ
 frames_of_stream size owner stream = frames_of (owners_head size owner) (first_service size) stream

@@ -1,11 +1,11 @@
 //! The service of one client.
 
-ghost use Rattle.std.specs.Prelude.{◌≢◌, ◌<◌, ℕ, List, [], IsTrue, IfOk, vec_len};
+ghost use Rattle.std.specs.Prelude.{◌≢◌, ◌<◌, ℕ, List, [], IsTrue, IfOk, IfErr, vec_len};
 ghost use Rattle.px_core.specs.Rectangle.{is_session_size};
 ghost use Rattle.answer_run.specs.Asking.{owners_head};
 ghost use Rattle.answer_run.specs.Service.{first_service};
 ghost use Rattle.answer_run.specs.Visits.{WritesCause, ReadsCause};
-ghost use Rattle.answer_run.specs.Serves.{IsAnswerOf, IsServiceOf, RunsAnswer};
+ghost use Rattle.answer_run.specs.Serves.{IsAnswerOf, IsServiceOf, IsNumberedFault, RunsAnswer};
 
 use crate::serving::{Serving, serve_next};
 use crate::visitor::Visitor;
@@ -35,8 +35,11 @@ pub fn run_answer<S: Source, K: Sink>(
     requires owner { owner.now ≢ [] }
     // Where the input tells the client's stream, what is written is its answer, to the byte, and it ends as it is told to: well, refused
     // by just that number at just that place, truncated or not invited. The client's frames are never refused, and their marks show the
-    // pictures after exactly the journal entries that its takes found. After a fault, or want of memory, a front of it stands there.
+    // pictures after exactly the journal entries that its takes found. After a fault, or want of memory, a front of the answer stands
+    // there, and the frames in it show the first ones of these takes.
     ensures answer { RunsAnswer result size owner.now (S.left input.old) (K.told output.old) (K.told output.new) }
+    // A refusal's number is 1 to 14.
+    ensures number { IfErr result IsNumberedFault }
     ensures read { ReadsCause result (S.faults input.old) (S.faults input.new) }
     ensures write { WritesCause result (K.faults output.old) (K.faults output.new) }
 {

@@ -96,6 +96,12 @@ const SHUTDOWN: [u8; 32] = [
 
 const BYE: [u8; 12] = [3, 0, 0, 9, 2, 0xF0, 0x80, 0x21, 0x80, 4, 4, 4];
 
+/// An Input PDU that counts two events and has one.
+const HALF_AN_INPUT: [u8; 48] = [
+    3, 0, 0, 48, 2, 240, 128, 100, 0, 6, 3, 235, 112, 34, 34, 0, 23, 0, 239, 3, 234, 3, 1, 0, 0, 1,
+    20, 0, 28, 0, 0, 0, 2, 0, 0, 0, 0, 0, 0, 0, 1, 128, 0, 144, 20, 0, 30, 0,
+];
+
 /// Serves an owner with these bytes in pieces of one size, and says how that ends and whether just these texts were written.
 fn serve(
     alloc: Global,
@@ -179,6 +185,42 @@ fn services_end_as_their_streams_do(rt: HostRuntime) -> Result<(), Fail> {
         assert_eq!(rt; answer, wanted);
         assert!(rt; same);
     }
+    Ok(())
+}
+
+#[test]
+fn fourteen_changes_of_the_sample_are_refused(rt: HostRuntime) -> Result<(), Fail> {
+    let ann = Name::new(b"ann");
+    // the place of a byte and its new value; the refusal's number and place; and the replies before it
+    let changes: [(usize, u8, u8, u64, &[u8]); 13] = [
+        (19, 0x04, 1, 19, &REPLIES[..19]),
+        (358, 6, 2, 357, &REPLIES[..127]),
+        (24, 0x00, 3, 23, &REPLIES[..19]),
+        (26, 0x7E, 4, 26, &REPLIES[..19]),
+        (374, 0x2C, 5, 374, &REPLIES[..127]),
+        (386, 0xE9, 6, 385, &REPLIES[..138]),
+        (149, 0x45, 7, 149, &REPLIES[..19]),
+        (297, 8, 8, 155, &REPLIES[..19]),
+        (315, 32, 9, 315, &REPLIES[..19]),
+        (449, 0, 10, 449, &REPLIES[..213]),
+        (528, 3, 11, 526, &REPLIES[..550]),
+        (764, 0x12, 12, 764, &REPLIES[..550]),
+        (777, 0x20, 13, 777, &REPLIES[..550]),
+    ];
+    for (place, value, k, at, replies) in changes {
+        let mut bytes = SAMPLE;
+        if let Some(byte) = bytes.get_mut(place) {
+            *byte = value;
+        }
+        let texts: [&[u8]; 3] = [replies, &[], &REFUSED];
+        let (answer, same) = serve(rt.alloc(), &ann, [&bytes, &[], &[]], 64, texts)?;
+        assert_eq!(rt; answer, refused(k, at));
+        assert!(rt; same);
+    }
+    let texts: [&[u8]; 3] = [&REPLIES, &BLACK, &REFUSED];
+    let (answer, same) = serve(rt.alloc(), &ann, [&SAMPLE, &HALF_AN_INPUT, &[]], 64, texts)?;
+    assert_eq!(rt; answer, refused(14, 952));
+    assert!(rt; same);
     Ok(())
 }
 

@@ -1,15 +1,13 @@
 -- The areas that a stream of bytes tells lie within 65,536 pixels.
-use Rattle.std.proofs.Common.{◌≡◌, ℕ, zero, suc, ◌+◌, ◌-◌, ◌*◌, ◌<◌, ◌≤◌, List, [], ◌∷◌, ◌++◌, length, take, drop, refl, ap, sym, ◌∙◌, subst, Bool, true, false, cond, arith}
+use Rattle.std.proofs.Common.{◌≡◌, ℕ, zero, suc, ◌+◌, ◌-◌, ◌*◌, ◌<◌, List, [], ◌∷◌, ◌++◌, length, take, drop, refl, subst, Bool, true, false, cond, arith}
 use Rattle.std.proofs.lemmas.List.Elements.{All-nil, All-cons, All-head, All-tail, All-append, All-take, All-drop}
 use Rattle.std.proofs.lemmas.Int.{ints}
-use Rattle.std.specs.Prelude.{⊤, All, map, ◌||◌, nat_lt, pos, negsuc, ◌≤ℤ◌, Option, Some, None, option_to_list, slice_index, Result, Ok, Err}
+use Rattle.std.specs.Prelude.{⊤, All, map, ◌||◌, nat_lt, pos, Option, Some, None, option_to_list, slice_index, Result, Ok, Err}
 use Rattle.std.specs.List.{slice_range}
-use Rattle.byte_fields.specs.Field.{Read, then_read, map_read, bytes_at}
-use Rattle.byte_fields.specs.Number.{little_at, big_at}
+use Rattle.byte_fields.specs.Field.{Read, then_read, map_read}
 use Rattle.px_core.specs.declared.rectangle.Rect.{Rect}
 use Rattle.px_core.specs.Rectangle.{IsPlaced}
-use Rattle.wire_num.specs.declared.range.Range.{Range}
-use Rattle.wire_num.specs.Field.{passing_at, is_any}
+use Rattle.wire_num.specs.Field.{passing_at}
 use Rattle.wire_num.specs.Layout.{Layout, fields_at}
 use Rattle.wire_num.proofs.ReadIsText.{read_is_text}
 use Rattle.wire_num.proofs.Place.{text_end}
@@ -26,7 +24,7 @@ use Rattle.input_pdu.specs.Events.{events_of}
 use Rattle.share_pdu.specs.declared.client_pdu.ClientPdu.{ClientPdu}
 use Rattle.share_pdu.specs.declared.client_pdu.ClientPdu.TheVariants as pdu
 use Rattle.share_pdu.specs.declared.share_fault.ShareFault.{ShareFault}
-use Rattle.share_pdu.specs.Bodies.{rect_between, rect_of, inclusive_area, area_at, areas_at, refresh_header, refresh_at, areas_by, areas_of}
+use Rattle.share_pdu.specs.Bodies.{rect_between, inclusive_area, area_at, areas_at, refresh_header, refresh_at, areas_by, areas_of}
 use Rattle.share_pdu.specs.ClientPdu.{share_pdu_of}
 use Rattle.conn_rules.specs.declared.answer.News.{News}
 use Rattle.conn_rules.specs.declared.answer.News.TheVariants as news
@@ -36,8 +34,8 @@ use Rattle.conn_rules.specs.declared.stage.Stage.{Stage}
 use Rattle.conn_rules.specs.Answers.{Judged}
 use Rattle.conn_rules.specs.Headers.{mcs_headers}
 use Rattle.conn_rules.specs.Packets.{packet_judged}
-use Rattle.conn_rules.specs.Told.{event_steps, area_steps, pdu_steps, share_steps, mcs_steps, behind_headers_steps, packet_steps, news_steps, end_steps, is_ready, told_steps}
-use Rattle.conn_rules.specs.Hearing.{Hearing, Heard, silent, is_over, judged_heard, packet_heard, packets_heard, between, with_head, with_rest, heard}
+use Rattle.conn_rules.specs.Told.{event_steps, area_steps, pdu_steps, share_steps, mcs_steps, behind_headers_steps, news_steps, end_steps, is_ready, told_steps}
+use Rattle.conn_rules.specs.Hearing.{Hearing, Heard, silent, is_over, judged_heard, packet_heard, packets_heard, between, with_head, heard}
 use Rattle.conn_laws.specs.Progress.{Progress, progress_of}
 use Rattle.conn_laws.specs.Progress.Progress.{Connecting, Ready, Ended}
 use Rattle.conn_laws.specs.Placed.{AreBytes, IsStepPlaced, ArePlaced}

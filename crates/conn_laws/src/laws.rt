@@ -8,6 +8,7 @@ ghost use Rattle.conn_rules.specs.Told.{is_ready};
 ghost use Rattle.conn_laws.specs.Placed.{AreBytes, ArePlaced};
 ghost use Rattle.conn_laws.specs.Progress.{Progress, progress_of, ComeInOrder};
 ghost use Rattle.conn_laws.specs.Progress.Progress.{Connecting};
+ghost use Rattle.conn_laws.specs.Sound.{IsSound, AllConfirmCaches};
 
 /// Once a client is ready, no byte of its stream is replied to.
 pub fn once_ready_nothing_is_replied()
@@ -32,4 +33,11 @@ pub fn steps_come_in_order()
 pub fn areas_lie_near()
     ensures areas { (h : Hearing) (bytes : List ℕ) → AreBytes h.part → AreBytes bytes → ArePlaced (heard h bytes).steps }
     ensures part { (h : Hearing) (bytes : List ℕ) → AreBytes h.part → AreBytes bytes → AreBytes (heard h bytes).after.part }
+{}
+
+/// A stream is refused only by the numbers 1 to 14; and what it says that a client confirmed has three bitmap caches and ten glyph caches.
+pub fn streams_are_sound()
+    ensures stands { (h : Hearing) (bytes : List ℕ) → IsSound h.stage → IsSound (heard h bytes).after.stage }
+    ensures tells { (h : Hearing) (bytes : List ℕ) → IsSound h.stage → AllConfirmCaches (heard h bytes).steps }
+    ensures whole { (size : Size) (bytes : List ℕ) → IsSound (host_handshake size bytes).after.stage }
 {}

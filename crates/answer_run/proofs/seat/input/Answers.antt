@@ -1,5 +1,3 @@
-use Rattle.std.proofs.Common.{◌≡◌, ◌++◌}
-use Rattle.std.specs.Prelude.{option_to_list}
 use Rattle.session_rules.specs.Steps.Step.{InputStep}
 use Rattle.session_laws.specs.Entering.{entry_of_step}
 use Rattle.session_core.specs.SessionModel.{reached_by}

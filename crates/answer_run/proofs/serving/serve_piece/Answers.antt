@@ -1,5 +1,5 @@
-use Rattle.std.proofs.Common.{◌<◌, ◌≡◌, Fits, w8, get_or, sym, ◌∙◌, subst, arith, Ok}
-use Rattle.std.specs.Prelude.{ℕ, List, All, slice_index_or}
+use Rattle.std.proofs.Common.{◌<◌, Fits, w8, sym, subst, arith}
+use Rattle.std.specs.Prelude.{All, slice_index_or}
 use Rattle.std.proofs.lemmas.List.Elements.{All-from_get_or}
 use Rattle.conn_rules.specs.Hearing.{heard}
 use Rattle.conn_laws.specs.Placed.{AreBytes, ArePlaced}
@@ -7,7 +7,7 @@ use Rattle.answer_run.specs.Asking.{owners_head}
 use Rattle.answer_run.specs.Visits.{HasCaches}
 use Rattle.answer_run.specs.Serves.{DoesHeard}
 use Rattle.answer_run.specs.declared.fault.AnswerFault.TheVariants as fault
-use Rattle.answer_run.proofs.Pieces.{IsFed, fed_from, fed_placed}
+use Rattle.answer_run.proofs.Pieces.{fed_from, fed_placed}
 use Rattle.answer_run.proofs.Served.{piece_served, memory_served}
 use Rattle.answer_run.proofs.serving.serve_piece.Goals as goal
 

@@ -1,4 +1,4 @@
-use Rattle.std.proofs.Common.{◌≡◌, ◌+◌, [], ◌∷◌, drop, ap, sym, ◌∙◌, subst, Ok, true, false}
+use Rattle.std.proofs.Common.{◌≡◌, ◌+◌, [], ◌∷◌, drop, ap, sym, ◌∙◌, subst, Ok}
 use Rattle.answer_run.specs.Asking.{owners_head}
 use Rattle.answer_run.specs.Visits.{Visits}
 use Rattle.answer_run.proofs.Visiting.{next_step, step_done, steps_turned, steps_stopped}

@@ -1,0 +1,115 @@
+-- The frames in a front of an answer show the first takes.
+use Rattle.std.proofs.Common.{◌≡◌, ℕ, zero, suc, List, [], ◌∷◌, ◌++◌, length, take, drop, refl, ap, sym, ◌∙◌, subst}
+use Rattle.std.specs.Prelude.{All, Option}
+use Rattle.std.proofs.lemmas.List.Elements.{All-nil, All-cons, All-head, All-tail}
+use Rattle.std.proofs.KnownBytes.{Appends-nil}
+use Rattle.edge_io.specs.Sink.{WritesFront}
+use Rattle.px_core.specs.declared.surface.Size.{Size}
+use Rattle.session_rules.specs.Steps.{journal_of_steps, frame_numbers}
+use Rattle.script_rules.specs.Headline.{ConfirmAllCaches, HasSessionSize, steps_of, confirmed_in}
+use Rattle.capture_laws.specs.Fronts.{IsFront}
+use Rattle.capture_laws.proofs.CaptureFronts.{front_sees}
+use Rattle.conn_rules.specs.declared.conn_step.ConnStep.{ConnStep}
+use Rattle.conn_rules.specs.declared.conn_step.ConnStep.TheVariants as step
+use Rattle.conn_laws.specs.Sound.{ConfirmsCaches, AllConfirmCaches}
+use Rattle.conn_laws.proofs.SoundSteps.{heard_sound}
+use Rattle.answer_run.specs.Asking.{first_guest, client, owners_head}
+use Rattle.answer_run.specs.Service.{first_service, heard_of, ultimatum_of, asked_of_stream, replies_of_stream, frames_of_stream, ending_of_stream, answer_of_stream}
+use Rattle.answer_run.specs.Cut.{frames_in, ShowsFirstTakes, WritesAFront}
+use Rattle.answer_run.specs.Visits.{HasCaches}
+use Rattle.answer_run.proofs.Streams.{all_caches}
+use Rattle.answer_run.proofs.Present.{client_sees}
+
+-- ---- what a stream confirms
+
+caches_of : (one : ConnStep) → ConfirmsCaches one → HasCaches one
+caches_of (step.Named name) p = tt
+caches_of (step.Ready confirmed) p = record { bitmaps = p.bitmaps; glyphs = p.glyphs }
+caches_of (step.Event event) p = tt
+caches_of (step.Refresh area) p = tt
+caches_of (step.Suppress stop) p = tt
+caches_of step.Shutdown p = tt
+caches_of step.Bye p = tt
+caches_of step.Packet p = tt
+
+all_of : (steps : List ConnStep) → AllConfirmCaches steps → All HasCaches steps
+all_of [] p = All-nil HasCaches
+all_of (one ∷ steps) p =
+    All-cons HasCaches one steps (caches_of one (All-head ConfirmsCaches one steps p)) (all_of steps (All-tail ConfirmsCaches one steps p))
+
+stream_caches : (size : Size) (owner stream : List ℕ) → ConfirmAllCaches (asked_of_stream size owner stream)
+stream_caches size owner stream =
+    let x = heard_of (first_service size) stream in
+    all_caches (owners_head size owner) first_guest x.steps (all_of x.steps (heard_sound (first_service size).hearing stream tt).0)
+
+-- ---- fronts
+
+dropped : (n : ℕ) (front rest : List ℕ) → IsFront (drop n front) (drop n (front ++ rest))
+dropped zero front rest = record { rest = rest; joined = refl }
+dropped (suc n) [] rest = record { rest = drop (suc n) rest; joined = refl }
+dropped (suc n) (b ∷ front) rest = dropped n front rest
+
+taken : (n : ℕ) (front rest : List ℕ) → IsFront (take n front) (take n (front ++ rest))
+taken zero front rest = record { rest = []; joined = refl }
+taken (suc n) [] rest = record { rest = take (suc n) rest; joined = refl }
+taken (suc n) (b ∷ front) rest = let f = taken n front rest in record { rest = f.rest; joined = ap (λ xs. b ∷ xs) f.joined }
+
+behind : (replies more : List ℕ) → drop (length replies) (replies ++ more) ≡ more
+behind [] more = refl
+behind (b ∷ replies) more = behind replies more
+
+before : (frames more : List ℕ) → take (length frames) (frames ++ more) ≡ frames
+before [] more = refl
+before (b ∷ frames) more = ap (λ xs. b ∷ xs) (before frames more)
+
+grouped : (replies frames last : List ℕ) → (replies ++ frames) ++ last ≡ replies ++ (frames ++ last)
+grouped [] frames last = refl
+grouped (b ∷ replies) frames last = ap (λ xs. b ∷ xs) (grouped replies frames last)
+
+frames_front : (replies frames last text rest : List ℕ) → (replies ++ frames) ++ last ≡ text ++ rest → IsFront (frames_in replies frames text) frames
+frames_front replies frames last text rest e =
+    let d = dropped (length replies) text rest in
+    let t = taken (length frames) (drop (length replies) text) d.rest in
+    let whole : take (length frames) (drop (length replies) (text ++ rest)) ≡ frames =
+    ap (λ xs. take (length frames) (drop (length replies) xs)) (sym e ∙ grouped replies frames last)
+    ∙ ap (take (length frames)) (behind replies (frames ++ last)) ∙ before frames last in
+    record { rest = t.rest; joined = sym whole ∙ ap (take (length frames)) d.joined ∙ t.joined }
+
+-- ---- a service that was cut off
+
+pub front_shows : (size : Size) (owner stream : List ℕ) (told telling : Option (List ℕ)) → HasSessionSize (owners_head size owner)
+    → WritesFront told telling (answer_of_stream size owner stream) → WritesAFront size owner stream told telling
+front_shows size owner stream told telling sized f =
+    let head = owners_head size owner in
+    let asked = asked_of_stream size owner stream in
+    let sees = client_sees size owner [] (heard_of (first_service size) stream).steps sized (stream_caches size owner stream) in
+    record {
+      text = f.front;
+      written = f.written;
+      front = record { rest = f.rest; joined = f.whole };
+      shows_journal = front_sees size (confirmed_in head asked client) (journal_of_steps head (steps_of asked)) (frame_numbers head (steps_of asked) client)
+          (frames_of_stream size owner stream) (frames_in (replies_of_stream size owner stream) (frames_of_stream size owner stream) f.front) (sees.viewers client)
+          (frames_front (replies_of_stream size owner stream) (frames_of_stream size owner stream) (ultimatum_of (ending_of_stream size owner stream)) f.front f.rest f.whole);
+    }
+
+-- a service that wrote nothing
+no_frames : (replies frames : List ℕ) → [] ≡ frames_in replies frames []
+no_frames [] [] = refl
+no_frames [] (f ∷ frames) = refl
+no_frames (b ∷ replies) [] = refl
+no_frames (b ∷ replies) (f ∷ frames) = refl
+
+pub nothing_shows : (size : Size) (owner stream : List ℕ) (told : Option (List ℕ)) → WritesAFront size owner stream told told
+nothing_shows size owner stream told =
+    let head = owners_head size owner in
+    let asked = asked_of_stream size owner stream in
+    record {
+      text = [];
+      written = Appends-nil told;
+      front = record { rest = answer_of_stream size owner stream; joined = refl };
+      shows_journal = subst (λ xs. ShowsFirstTakes head asked xs) (no_frames (replies_of_stream size owner stream) (frames_of_stream size owner stream)) (record {
+        seen = [];
+        are_first = record { rest = frame_numbers head (steps_of asked) client; joined = refl };
+        marks_show_journal = refl;
+      });
+    }
