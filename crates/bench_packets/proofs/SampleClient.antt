@@ -16,7 +16,12 @@ use Rattle.gcc_per.specs.ClientNetwork.{channel_count_at, channels_at}
 use Rattle.gcc_per.specs.ClientBlocks.{kind_at, length_at, block_at, blocks_at}
 use Rattle.gcc_per.specs.ClientData.{create_request, client_blocks_at, user_data_at, client_data_at}
 use Rattle.gcc_per.specs.ServerData.{create_response}
-use Rattle.bench_packets.specs.declared.reader.Reader.TheVariants.{NextPacket, ConnectionRequest, ConnectInitial, ClientUserData, ErectDomain, ChannelJoin, SendData}
+use Rattle.info_lic.specs.ClientInfo.{info_start, other_texts, info_texts, info_at}
+use Rattle.caps_sets.specs.CapabilitySets.{says_bitmaps, says_glyphs}
+use Rattle.caps_sets.specs.ConfirmActive.{confirm_lengths, confirm_counts, set_header, with_content_of, set_at, confirm_at}
+use Rattle.share_pdu.specs.Bodies.{synchronize_body, refresh_header, inclusive_area, area_at, refresh_at}
+use Rattle.share_pdu.specs.ClientPdu.{total_length, control_header, data_header, compressed_type_at, data_body_at, data_pdu_at, client_pdu_at}
+use Rattle.bench_packets.specs.declared.reader.Reader.TheVariants.{NextPacket, ConnectionRequest, ConnectInitial, ClientUserData, ErectDomain, ChannelJoin, SendData, ClientInfo, ConfirmActive, SharePdu, RefreshArea}
 use Rattle.bench_packets.specs.Sample.{sample}
 use Rattle.bench_packets.specs.Readers.{answer_of}
 
@@ -46,6 +51,22 @@ join = refl
 send : answer_of SendData (sample SendData) ≡ 7
 unfolding send_data_request passing_at exactly_at
 send = refl
+
+info : answer_of ClientInfo (sample ClientInfo) ≡ 3
+unfolding info_start other_texts info_texts info_at passing_at
+info = refl
+
+confirm : answer_of ConfirmActive (sample ConfirmActive) ≡ 1
+unfolding confirm_lengths confirm_counts set_header with_content_of set_at confirm_at says_bitmaps says_glyphs passing_at
+confirm = refl
+
+share : answer_of SharePdu (sample SharePdu) ≡ 1
+unfolding total_length control_header data_header compressed_type_at data_body_at data_pdu_at client_pdu_at synchronize_body passing_at
+share = refl
+
+area : answer_of RefreshArea (sample RefreshArea) ≡ 64
+unfolding refresh_header inclusive_area area_at refresh_at passing_at
+area = refl
 
 -- the whole packet with the host's answer
 answered : connect_response (create_response 3 0)

@@ -3,11 +3,15 @@
 ghost use Rattle.std.specs.Prelude.{◌≡◌, ◌≢◌, ◌<◌, length, IfSome, IfNone};
 ghost use Rattle.bench_packets.specs.declared.reader.Reader.{Reader};
 ghost use Rattle.bench_packets.specs.Sample.{name_of};
-ghost use Rattle.bench_packets.specs.Readers.{packet_number, request_number, initial_number, client_number, pdu_number, domain_number, answer_of, answers};
+ghost use Rattle.bench_packets.specs.Readers.{packet_number, request_number, initial_number, client_number, pdu_number, domain_number, info_number, confirm_number, share_number, area_number, answer_of, answers};
 
+use caps_sets::{CapsFault, Confirmed, read_confirm};
 use gcc_per::{ClientData, GccFault, read_client};
+use info_lic::{InfoFault, Name, read_info};
 use mcs_ber::{BadBer, read_initial};
 use mcs_dom::{BadDomain, DomainPdu, read_domain};
+use px_core::Rect;
+use share_pdu::{ClientPdu, ShareFault, read_areas, read_share};
 use tpkt_x224::{BadTpdu, Packet, Request, next_packet, read_request};
 use wire_num::Range;
 
@@ -28,6 +32,14 @@ pub enum Reader {
     ChannelJoin,
     /// `read_domain`, on a Send Data Request.
     SendData,
+    /// `read_info`.
+    ClientInfo,
+    /// `read_confirm`.
+    ConfirmActive,
+    /// `read_share`, on a Synchronize PDU.
+    SharePdu,
+    /// `read_areas`, for the second of two areas.
+    RefreshArea,
 }
 
 /// The reader of this name.
@@ -43,6 +55,10 @@ pub fn reader_named(name: &str) -> Option<Reader>
         "erect-domain" => Some(Reader::ErectDomain),
         "channel-join" => Some(Reader::ChannelJoin),
         "send-data" => Some(Reader::SendData),
+        "client-info" => Some(Reader::ClientInfo),
+        "confirm-active" => Some(Reader::ConfirmActive),
+        "share-pdu" => Some(Reader::SharePdu),
+        "refresh-area" => Some(Reader::RefreshArea),
         _ => None,
     }
 }
@@ -73,6 +89,10 @@ fn answer_of(reader: Reader, packet: &[u8]) -> u64
         Reader::ErectDomain => domain_number(read_domain(packet)),
         Reader::ChannelJoin => domain_number(read_domain(packet)),
         Reader::SendData => domain_number(read_domain(packet)),
+        Reader::ClientInfo => info_number(read_info(packet)),
+        Reader::ConfirmActive => confirm_number(read_confirm(packet)),
+        Reader::SharePdu => share_number(read_share(packet)),
+        Reader::RefreshArea => area_number(read_areas(packet, 1)),
     }
 }
 
@@ -133,5 +153,55 @@ fn domain_number(pdu: Result<DomainPdu, BadDomain>) -> u64
         Ok(DomainPdu::Attach) => 1,
         Ok(DomainPdu::Bye { .. }) => 1,
         Err(_) => 0,
+    }
+}
+
+/// How many bytes a name has.
+fn info_number(name: Result<Name, InfoFault>) -> u64
+    ensures { result ≡ info_number name }
+{
+    match name {
+        Ok(name) => name.bytes().len() as u64,
+        Err(_) => 0,
+    }
+}
+
+/// Whether PatBlt orders are confirmed: 1 where they are, 2 where they aren't.
+fn confirm_number(confirmed: Result<Confirmed, CapsFault>) -> u64
+    ensures { result ≡ confirm_number confirmed }
+{
+    match confirmed {
+        Ok(confirmed) => { if confirmed.pat { 1 } else { 2 } }
+        Err(_) => 0,
+    }
+}
+
+/// Where the rest of a PDU begins that is read further, and 1 of others.
+fn share_number(pdu: Result<ClientPdu, ShareFault>) -> u64
+    ensures { result ≡ share_number pdu }
+{
+    match pdu {
+        Ok(ClientPdu::Confirm(place)) => place.from as u64,
+        Ok(ClientPdu::Input(place)) => place.from as u64,
+        Ok(ClientPdu::Refresh(place)) => place.from as u64,
+        Ok(ClientPdu::Synchronize) => 1,
+        Ok(ClientPdu::Cooperate) => 1,
+        Ok(ClientPdu::Request) => 1,
+        Ok(ClientPdu::FontList) => 1,
+        Ok(ClientPdu::KeyList) => 1,
+        Ok(ClientPdu::Suppress(_)) => 1,
+        Ok(ClientPdu::Shutdown) => 1,
+        Ok(ClientPdu::Other) => 1,
+        Err(_) => 0,
+    }
+}
+
+/// An area's columns.
+fn area_number(area: Option<Rect>) -> u64
+    ensures { result ≡ area_number area }
+{
+    match area {
+        Some(area) => u64::from(area.w),
+        None => 0,
     }
 }

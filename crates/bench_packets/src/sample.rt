@@ -39,6 +39,30 @@ const SEND_DATA: [u8; 45] = [
     0x64, 0, 6, 3, 0xEB, 0x70, 0x26, 0x40, 0, 0, 0, 0, 0, 0, 0, 0x10, 0, 0, 0, 0, 0, 6, 0, 0, 0, 0,
     0, 0, 0, 0, 0, 0x61, 0, 0x6E, 0, 0x6E, 0, 0, 0, 0, 0, 0, 0, 0, 0,
 ];
+/// The Client Info of a user `ann`, from its security header on.
+const CLIENT_INFO: [u8; 38] = [
+    0x40, 0, 0, 0, 0, 0, 0, 0, 0x10, 0, 0, 0, 0, 0, 6, 0, 0, 0, 0, 0, 0, 0, 0, 0, 0x61, 0, 0x6E, 0,
+    0x6E, 0, 0, 0, 0, 0, 0, 0, 0, 0,
+];
+/// A Confirm Active behind its share control header, with six sets that confirm PatBlt orders and zero bounds.
+const CONFIRM_ACTIVE: [u8; 240] = [
+    0xEA, 3, 1, 0, 0xEA, 3, 4, 0, 0xE2, 0, 0x52, 0x44, 0x50, 0, 6, 0, 0, 0, 1, 0, 0x18, 0, 0, 0, 0,
+    0, 0, 0, 0, 0, 0, 0, 0, 0, 0, 0, 0, 0, 0, 0, 0, 0, 3, 0, 0x58, 0, 0, 0, 0, 0, 0, 0, 0, 0, 0, 0,
+    0, 0, 0, 0, 0, 0, 0, 0, 0, 0, 0, 0, 0, 0, 0, 0, 0, 0, 0, 0, 0x82, 0, 0, 1, 0, 0, 0, 0, 0, 0, 0,
+    0, 0, 0, 0, 0, 0, 0, 0, 0, 0, 0, 0, 0, 0, 0, 0, 0, 0, 0, 0, 0, 0, 0, 0, 0, 0, 0, 0, 0, 0, 0, 0,
+    0, 0, 0, 0, 0, 0, 0, 0, 0, 0, 0, 4, 0, 0x28, 0, 0, 0, 0, 0, 0, 0, 0, 0, 0, 0, 0, 0, 0, 0, 0, 0,
+    0, 0, 0, 0, 0, 0, 0, 0, 0, 0, 0, 0, 0, 0, 0, 0, 0, 0, 0, 0, 0x0F, 0, 8, 0, 0, 0, 0, 0, 0x10, 0,
+    0x34, 0, 0, 0, 0, 0, 0, 0, 0, 0, 0, 0, 0, 0, 0, 0, 0, 0, 0, 0, 0, 0, 0, 0, 0, 0, 0, 0, 0, 0, 0,
+    0, 0, 0, 0, 0, 0, 0, 0, 0, 0, 0, 0, 0, 0, 0, 0, 0, 0, 0, 8, 0, 0x0A, 0, 0, 0, 0, 0, 0, 0,
+];
+/// A Synchronize PDU.
+const SYNCHRONIZE: [u8; 22] = [
+    0x16, 0, 0x17, 0, 0xEF, 3, 0xEA, 3, 1, 0, 0, 1, 8, 0, 0x1F, 0, 0, 0, 1, 0, 0xEA, 3,
+];
+/// The body of a Refresh Rect of two areas.
+const TWO_AREAS: [u8; 20] = [
+    2, 0, 0, 0, 0x10, 0, 0x14, 0, 0x1F, 0, 0x2F, 0, 0, 0, 0, 0, 0x3F, 0, 0x2F, 0,
+];
 
 /// The packet that a reader reads.
 pub fn sample_of(alloc: Global, reader: Reader) -> Result<Vec<u8>, AllocError>
@@ -56,12 +80,16 @@ pub fn sample_of(alloc: Global, reader: Reader) -> Result<Vec<u8>, AllocError>
         Reader::ErectDomain => packet.extend_from_slice(&ERECT_DOMAIN)?,
         Reader::ChannelJoin => packet.extend_from_slice(&CHANNEL_JOIN)?,
         Reader::SendData => packet.extend_from_slice(&SEND_DATA)?,
+        Reader::ClientInfo => packet.extend_from_slice(&CLIENT_INFO)?,
+        Reader::ConfirmActive => packet.extend_from_slice(&CONFIRM_ACTIVE)?,
+        Reader::SharePdu => packet.extend_from_slice(&SYNCHRONIZE)?,
+        Reader::RefreshArea => packet.extend_from_slice(&TWO_AREAS)?,
     }
     Ok(packet)
 }
 
 /// The offset of a byte in it that any value may have: the source reference, a selector, desktopWidth, an integer, the
-/// channel, or a byte of the data.
+/// channel, a byte of the data, the code page, the share identifier, the source, or a byte of padding.
 pub fn place_of(reader: Reader) -> usize
     ensures { result ≡ place_of reader }
 {
@@ -73,5 +101,9 @@ pub fn place_of(reader: Reader) -> usize
         Reader::ErectDomain => 2,
         Reader::ChannelJoin => 4,
         Reader::SendData => 10,
+        Reader::ClientInfo => 4,
+        Reader::ConfirmActive => 0,
+        Reader::SharePdu => 4,
+        Reader::RefreshArea => 1,
     }
 }
