@@ -36,6 +36,13 @@ stayed u v (x ∷ xs) h = by (x.number == v) (x.number == u) refl h (stayed u v 
     by true false eq k again = rw eq k
     by false false eq k again = rw eq (again (rw eq at k))
 
+-- a viewer that is present may leave
+pub leave_told : (host : HostModel) (run : Run Encoder) (v : ℕ) → v < 4294967296 → IsRunOf host run → IsTrue (is_here host.session v)
+    → (outcome host.session.head run.play (LeaveStep v)).answer ≡ Left
+leave_told host run v small r mine =
+    let here : is_present v run.play.reached.viewers ≡ true = ap (λ (x : Reached). is_present v x.viewers) r.reached ∙ mine in
+    ap (λ q. (entered host.session.head run.play (Leave v) Left q).answer) (leave_legal host.session.head run.play.reached v small here)
+
 -- a viewer that is present leaves: nothing is asked of it any more, and all is as it was for the others
 pub leave_on : (host new : HostModel) (run : Run Encoder) (a : Asked) (v : ℕ) → a.step ≡ LeaveStep v → v < 4294967296 → IsRunOf host run → IsTrue (is_here host.session v)
     → is_session_size host.session.head.size.w host.session.head.size.h ≡ true → IsLegalJournal host.session.head host.session.journal

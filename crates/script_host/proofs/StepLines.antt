@@ -11,7 +11,7 @@ use Rattle.script_rules.specs.Capture.{answer_line, viewer_of}
 use Rattle.script_lines.specs.Answers.{refusal_of}
 use Rattle.script_host.specs.declared.answer.StepAnswer.{StepAnswer}
 use Rattle.script_host.specs.declared.answer.StepAnswer.TheVariants as says
-use Rattle.script_host.specs.Answers.{answer_text, answer_of, IsVerdict}
+use Rattle.script_host.specs.Answers.{answer_text, answer_of, IsVerdict, Says}
 
 -- the answer's text is the line of the session's answer
 pub line_plain : (size : Size) (a : Asked) (s : StepAnswer) (answer : Answer) (frame : List ℕ) → answer_of s ≡ Some answer
@@ -25,6 +25,15 @@ line_plain size a s answer frame h = by s h
     by (says.Refused cause) k = let is : Refused (refusal_of cause) ≡ answer = cc k in ap (λ x. answer_line size a x frame) is
     by says.Nothing k = let is : Nothing ≡ answer = cc k in ap (λ x. answer_line size a x frame) is
     by (says.Frame bytes) k = absurd (cc k)
+
+-- an answer that is no frame says the session's answer
+pub plain_says : (s : StepAnswer) (answer : Answer) (frame : List ℕ) → answer_of s ≡ Some answer → Says s answer frame
+plain_says (says.Joined u) answer frame k = let is : Joined u ≡ answer = cc k in sym is
+plain_says says.Left answer frame k = let is : Left ≡ answer = cc k in sym is
+plain_says says.Accepted answer frame k = let is : Accepted ≡ answer = cc k in sym is
+plain_says (says.Refused cause) answer frame k = let is : Refused (refusal_of cause) ≡ answer = cc k in sym is
+plain_says says.Nothing answer frame k = let is : Nothing ≡ answer = cc k in sym is
+plain_says (says.Frame bytes) answer frame k = absurd (cc k)
 
 -- a verdict has no preset words
 pub verdict_text : (size : Size) (v : ℕ) (preset other : List (List ℕ)) (s : StepAnswer) → IsVerdict s → answer_text size v preset s ≡ answer_text size v other s

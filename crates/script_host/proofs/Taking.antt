@@ -8,7 +8,7 @@ use Rattle.session_rules.specs.Journal.{reached_at_first}
 use Rattle.session_rules.specs.Steps.{Outcome, take_of, take_effect, has_work, replaced_for, outcome, outcome_of}
 use Rattle.session_rules.specs.Steps.Step.{TakeStep}
 use Rattle.session_rules.specs.Steps.Effect.{Takes, Answers}
-use Rattle.session_rules.specs.Steps.Answer.{Nothing}
+use Rattle.session_rules.specs.Steps.Answer.{Nothing, Frame}
 use Rattle.session_rules.proofs.Journals.{length-reached_after}
 use Rattle.session_core.specs.SessionModel.{SessionModel, reached_by, is_here, asked_by, is_suppressed}
 use Rattle.session_core.proofs.Sessions.{reached_at_end}
@@ -20,11 +20,11 @@ use Rattle.frame_plan.proofs.TakeSteps.{work_of_steps, take_of_steps}
 use Rattle.viewer_sender.specs.Senders.{SenderModel, desk_of, Follows, IsIdle}
 use Rattle.script_rules.specs.Script.{Asked}
 use Rattle.script_rules.specs.Capture.{of_viewer}
-use Rattle.script_rules.specs.CaptureText.{Run, run_after, run_by, line_by, line_in_run}
+use Rattle.script_rules.specs.CaptureText.{Run, run_after, run_by, line_by, line_in_run, bytes_of_answer}
 use Rattle.script_rules.specs.Headline.{encoder_frames}
 use Rattle.script_host.specs.declared.answer.StepAnswer.{StepAnswer}
 use Rattle.script_host.specs.declared.answer.StepAnswer.TheVariants as says
-use Rattle.script_host.specs.Answers.{answer_text}
+use Rattle.script_host.specs.Answers.{answer_text, Says, SaysOutcome}
 use Rattle.script_host.specs.Hosts.{HostModel, sender_of}
 use Rattle.script_host.specs.Runs.{IsViewerOf, IsRunOf, IsInCourse}
 use Rattle.script_host.specs.Sent.{IsFrameOf, HasSent}
@@ -52,6 +52,7 @@ module _ (host new : HostModel) (run : Run Encoder) (v : ℕ) (s t : SenderModel
   abbrev Comes : Outcome → Type 0
   Comes o = (answer_text host.session.head.size v preset answer ≡ line_by encoder_frames host.session.head.size run (record { step = TakeStep v; preset = []; confirmed = c }) o.answer)
       × IsRunOf new (run_by encoder_frames host.session.head.size run (record { step = TakeStep v; preset = []; confirmed = c }) o)
+      × Says answer o.answer (bytes_of_answer encoder_frames host.session.head.size run v o.answer)
 
   frame_is : IsRunOf host run → (w : IsViewerOf host v run) → w.sender ≡ s → take_at host.session (desk_of s) ≡ take_of run.play v
       → frame_at host.session (desk_of s) ≡ frame_of host.session.head.size (run.confirmed v) run.journal (run.encoders v).held (take_of run.play v)
@@ -99,8 +100,17 @@ module _ (host new : HostModel) (run : Run Encoder) (v : ℕ) (s t : SenderModel
               idle = sent.idle;
               follows = sent.follows (run.encoders v) (subst (λ (x : SenderModel). Follows x (run.encoders v)) same w.follows);
             }),
+        told answer sent_frame,
       )
     where
+      told : (x : StepAnswer) → IsFrameOf false host.session s (run.encoders v) x → Says x Nothing []
+      told (says.Joined u) h = absurd h
+      told says.Left h = absurd h
+      told says.Accepted h = absurd h
+      told (says.Refused cause) h = absurd h
+      told says.Nothing h = refl
+      told (says.Frame bytes) h = absurd h
+
       text : (x : StepAnswer) → IsFrameOf false host.session s (run.encoders v) x → answer_text host.session.head.size v preset x ≡ of_viewer v (codes "nothing")
       text (says.Joined u) h = absurd h
       text says.Left h = absurd h
@@ -153,8 +163,20 @@ module _ (host new : HostModel) (run : Run Encoder) (v : ℕ) (s t : SenderModel
               idle = sent.idle;
               follows = subst (λ e. Follows t e) (after ∙ sym (replaced_here v _ run.encoders)) (sent.follows E follows);
             }),
+        told answer (sent.frame E follows.0) bytes,
       )
     where
+      told : (x : StepAnswer) → IsFrameOf true host.session s (run.encoders v) x
+          → frame_bytes host.session.head.size s.confirmed (run.encoders v).registers (run.encoders v).uses (frame_at host.session (desk_of s))
+          ≡ take_bytes host.session.head.size (run.confirmed v) run.journal (run.encoders v) (take_of run.play v)
+          → Says x (Frame (take_of run.play v)) (take_bytes host.session.head.size (run.confirmed v) run.journal (run.encoders v) (take_of run.play v))
+      told (says.Joined u) h b = absurd h
+      told says.Left h b = absurd h
+      told says.Accepted h b = absurd h
+      told (says.Refused cause) h b = absurd h
+      told says.Nothing h b = absurd h
+      told (says.Frame bytes) h b = (take_of run.play v, refl, h ∙ b)
+
       text : (x : StepAnswer) → IsFrameOf true host.session s (run.encoders v) x
           → frame_bytes host.session.head.size s.confirmed (run.encoders v).registers (run.encoders v).uses (frame_at host.session (desk_of s))
           ≡ take_bytes host.session.head.size (run.confirmed v) run.journal (run.encoders v) (take_of run.play v)
@@ -175,6 +197,7 @@ module _ (host new : HostModel) (run : Run Encoder) (v : ℕ) (s t : SenderModel
       → HasSent (is_work host.session (desk_of s)) host.session s t answer
       → (answer_text host.session.head.size v preset answer ≡ line_in_run encoder_frames host.session.head run (record { step = TakeStep v; preset = []; confirmed = c }))
       × IsRunOf new (run_after encoder_frames host.session.head run (record { step = TakeStep v; preset = []; confirmed = c }))
+      × SaysOutcome host.session.head run (TakeStep v) answer
   take_on r mine head journal asked suppressed here seats sent =
       let w = r.present v mine in
       let same : w.sender ≡ s = cc (w.found, here) in

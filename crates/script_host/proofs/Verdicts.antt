@@ -12,11 +12,24 @@ use Rattle.script_rules.specs.Capture.{viewer_of}
 use Rattle.script_rules.specs.CaptureText.{Run, bytes_of_answer}
 use Rattle.script_rules.specs.Headline.{encoder_frames}
 use Rattle.script_host.specs.declared.answer.StepAnswer.{StepAnswer}
-use Rattle.script_host.specs.Answers.{answer_text, answer_of, IsVerdict}
+use Rattle.script_host.specs.Answers.{answer_text, answer_of, IsVerdict, SaysOutcome}
 use Rattle.script_host.specs.Hosts.{HostModel}
 use Rattle.script_host.specs.Runs.{IsRunOf, Advances}
-use Rattle.script_host.proofs.StepLines.{line_plain, verdict_text, verdict_journal, answered}
+use Rattle.script_host.proofs.StepLines.{line_plain, plain_says, verdict_text, verdict_journal, answered}
 use Rattle.script_host.proofs.StepsOn.{KeepsAll, verdict_on}
+
+-- the session's answer is the run's
+said_in_run : (host : HostModel) (run : Run Encoder) (a : Asked) (s : StepAnswer) (given : Option Answer) → IsRunOf host run → is_take a.step ≡ false → IsVerdict s
+    → answer_of s ≡ given → IsAnswered given (answer_at host.session.head (reached_by host.session) a.step)
+    → answer_of s ≡ Some (outcome host.session.head run.play a.step).answer
+said_in_run host run a s given r other verdict is answer =
+    let hd = host.session.head in
+    answered s given (answer_at hd (reached_by host.session) a.step) verdict is answer
+    ∙ ap Some (ap (λ x. answer_at hd x a.step) (sym r.reached) ∙ sym (answer_of_outcome hd run.play a.step other))
+
+pub verdict_told : (host : HostModel) (run : Run Encoder) (a : Asked) (s : StepAnswer) (given : Option Answer) → IsRunOf host run → is_take a.step ≡ false → IsVerdict s
+    → answer_of s ≡ given → IsAnswered given (answer_at host.session.head (reached_by host.session) a.step) → SaysOutcome host.session.head run a.step s
+verdict_told host run a s given r other verdict is answer = plain_says s _ _ (said_in_run host run a s given r other verdict is answer)
 
 pub verdict_step : (host new : HostModel) (run : Run Encoder) (a : Asked) (preset : List (List ℕ)) (s : StepAnswer) (given : Option Answer) → IsRunOf host run
     → is_take a.step ≡ false → IsVerdict s → answer_of s ≡ given → IsAnswered given (answer_at host.session.head (reached_by host.session) a.step)
@@ -26,8 +39,7 @@ pub verdict_step : (host new : HostModel) (run : Run Encoder) (a : Asked) (prese
     → Advances host.session.head run a (answer_text host.session.head.size (viewer_of a.step) preset s) new
 verdict_step host new run a preset s given r other verdict is answer goes head asked suppressed seats keeps =
     let hd = host.session.head in
-    let said : answer_of s ≡ Some (outcome hd run.play a.step).answer = answered s given (answer_at hd (reached_by host.session) a.step) verdict is answer
-    ∙ ap Some (ap (λ x. answer_at hd x a.step) (sym r.reached) ∙ sym (answer_of_outcome hd run.play a.step other)) in
+    let said : answer_of s ≡ Some (outcome hd run.play a.step).answer = said_in_run host run a s given r other verdict is answer in
     let journal : new.session.journal ≡ host.session.journal ++ option_to_list (outcome hd run.play a.step).entry =
     verdict_journal s given _ host.session.journal new.session.journal verdict is goes
     ∙ ap (λ e. host.session.journal ++ option_to_list e) (ap (λ x. entry_of_step hd x a.step) (sym r.reached) ∙ sym (entry_of_outcome hd run.play a.step)) in

@@ -1,10 +1,14 @@
 -- What steps are answered, as the text of their lines and as answers.
-use Rattle.std.specs.Prelude.{ℕ, List, [], codes, Option, Some, None, ⊤}
+use Rattle.std.specs.Prelude.{◌≡◌, ℕ, List, [], codes, Option, Some, None, ⊤}
 use Rattle.px_core.specs.declared.surface.Size.{Size}
 use Rattle.line_text.specs.Hexadecimal.{hexadecimal_text}
-use Rattle.session_rules.specs.Steps.{Answer}
-use Rattle.session_rules.specs.Steps.Answer.{Joined, Left, Accepted, Refused, Nothing}
-use Rattle.script_rules.specs.Capture.{of_viewer, joined_line, refusal_line}
+use Rattle.session_rules.specs.Journal.{Head}
+use Rattle.session_rules.specs.Steps.{Step, Answer, TakeOf, outcome}
+use Rattle.session_rules.specs.Steps.Answer.{Joined, Left, Accepted, Refused, Nothing, Frame}
+use Rattle.frame_rules.specs.Encoder.{Encoder}
+use Rattle.script_rules.specs.Capture.{of_viewer, viewer_of, joined_line, refusal_line}
+use Rattle.script_rules.specs.CaptureText.{Run, bytes_of_answer}
+use Rattle.script_rules.specs.Headline.{encoder_frames}
 use Rattle.script_lines.specs.Answers.{refusal_of}
 use Rattle.script_host.specs.declared.answer.StepAnswer.{StepAnswer}
 use Rattle.script_host.specs.declared.answer.StepAnswer.TheVariants as says
@@ -35,3 +39,17 @@ IsVerdict says.Accepted = ⊤
 IsVerdict (says.Refused cause) = ⊤
 IsVerdict says.Nothing = ⊥
 IsVerdict (says.Frame bytes) = ⊥
+
+-- an answer says what a session answered, and the bytes of its frame
+abbrev pub Says : StepAnswer → Answer → List ℕ → Type 0
+Says (says.Joined u) answer frame = answer ≡ Joined u
+Says says.Left answer frame = answer ≡ Left
+Says says.Accepted answer frame = answer ≡ Accepted
+Says (says.Refused cause) answer frame = answer ≡ Refused (refusal_of cause)
+Says says.Nothing answer frame = answer ≡ Nothing
+Says (says.Frame bytes) answer frame = (take : TakeOf) × (answer ≡ Frame take) × (bytes.items ≡ frame)
+
+-- it says what a step comes to in its turn of a run
+abbrev pub SaysOutcome : Head → Run Encoder → Step → StepAnswer → Type 0
+SaysOutcome head run step s =
+    Says s (outcome head run.play step).answer (bytes_of_answer encoder_frames head.size run (viewer_of step) (outcome head run.play step).answer)

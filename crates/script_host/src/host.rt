@@ -12,7 +12,7 @@ ghost use Rattle.script_rules.specs.Headline.{encoder_frames};
 ghost use Rattle.script_lines.specs.Keywords.{step_of};
 ghost use Rattle.script_lines.specs.Lines.{IsStepInRange};
 ghost use Rattle.frame_rules.specs.Encoder.{Encoder};
-ghost use Rattle.script_host.specs.Answers.{answer_text};
+ghost use Rattle.script_host.specs.Answers.{answer_text, SaysOutcome};
 ghost use Rattle.script_host.specs.Hosts.{with_invited};
 ghost use Rattle.script_host.specs.Runs.{IsRunOf, IsInCourse, Advances};
 
@@ -110,6 +110,8 @@ impl ScriptHost {
         ensures done { IfOk result (λ answer. (run : Run Encoder) (preset : List (List ℕ)) → IsRunOf self.old run
             → Advances self.old.session.head run (without_preset (step_of viewer step))
             (answer_text self.old.session.head.size viewer preset answer) self.new) }
+        ensures told { IfOk result (λ answer. (run : Run Encoder) → IsRunOf self.old run
+            → SaysOutcome self.old.session.head run (step_of viewer step) answer) }
     {
         match &mut self.running {
             Some(running) => running.step(viewer, step),
@@ -169,6 +171,26 @@ impl ScriptHost {
         match &self.running {
             Some(running) => running.present(viewer),
             None => false,
+        }
+    }
+
+    /// Who holds control; 0 for nobody.
+    pub fn holder(&self) -> u32
+        ensures { (run : Run Encoder) → IsRunOf self.now run → result ≡ run.play.reached.holder }
+    {
+        match &self.running {
+            Some(running) => running.holder(),
+            None => 0,
+        }
+    }
+
+    /// How many entries the journal has.
+    pub fn entries(&self) -> u64
+        ensures { result ≡ length self.now.session.journal }
+    {
+        match &self.running {
+            Some(running) => running.entries(),
+            None => 0,
         }
     }
 }

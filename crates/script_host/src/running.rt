@@ -5,7 +5,7 @@ ghost use Rattle.px_core.specs.Rectangle.{is_session_size, IsPlaced};
 ghost use Rattle.draw_ops.specs.Ranges.{HasColors};
 ghost use Rattle.session_rules.specs.Steps.Step.{JoinStep, LeaveStep, TakeStep, RefreshStep, SuppressStep, InputStep, DrawStep};
 ghost use Rattle.session_core.specs.Heads.{rows_of};
-ghost use Rattle.session_core.specs.SessionModel.{new_session, is_here, asked_by, AreInvited};
+ghost use Rattle.session_core.specs.SessionModel.{new_session, reached_by, is_here, asked_by, AreInvited};
 ghost use Rattle.frame_rules.specs.Encoder.{Encoder};
 ghost use Rattle.frame_plan.specs.Plans.{is_work, asked_if};
 ghost use Rattle.viewer_sender.specs.Senders.{IsIdle, desk_of};
@@ -14,7 +14,7 @@ ghost use Rattle.script_rules.specs.Capture.{of_viewer};
 ghost use Rattle.script_rules.specs.CaptureText.{Run};
 ghost use Rattle.script_lines.specs.Keywords.{step_of};
 ghost use Rattle.script_lines.specs.Lines.{IsStepInRange};
-ghost use Rattle.script_host.specs.Answers.{answer_text};
+ghost use Rattle.script_host.specs.Answers.{answer_text, SaysOutcome};
 ghost use Rattle.script_host.specs.Runs.{IsRunOf, IsInCourse, Advances};
 ghost use Rattle.script_host.specs.Sent.{HasSent};
 
@@ -71,6 +71,20 @@ impl Running {
         self.session.present(viewer)
     }
 
+    /// Who holds control; 0 for nobody.
+    pub fn holder(&self) -> u32
+        ensures { result ≡ (reached_by self.now.session).holder }
+    {
+        self.session.holder()
+    }
+
+    /// How many entries the journal has.
+    pub fn entries(&self) -> u64
+        ensures { result ≡ length self.now.session.journal }
+    {
+        self.session.length()
+    }
+
     /// A viewer joins, where it is let in, and gets a sender.
     pub fn join(&mut self, name: &Name, confirmed: Confirmed) -> Result<StepAnswer, OutOfMemory>
         ensures begun { self.new.begun ≡ true }
@@ -101,6 +115,7 @@ impl Running {
         ensures head { self.new.session.head ≡ self.old.session.head }
         ensures done { IfOk result (λ answer. (run : Run Encoder) (preset : List (List ℕ)) → IsRunOf self.old run
             → Advances self.old.session.head run (without_preset (step_of viewer step)) (answer_text self.old.session.head.size viewer preset answer) self.new) }
+        ensures told { IfOk result (λ answer. (run : Run Encoder) → IsRunOf self.old run → SaysOutcome self.old.session.head run (step_of viewer step) answer) }
     {
         match step {
             ViewerStep::Leave => self.leave(viewer),
@@ -120,6 +135,7 @@ impl Running {
         ensures head { self.new.session.head ≡ self.old.session.head }
         ensures done { IfOk result (λ answer. (run : Run Encoder) (preset : List (List ℕ)) → IsRunOf self.old run
             → Advances self.old.session.head run (without_preset (LeaveStep viewer)) (answer_text self.old.session.head.size viewer preset answer) self.new) }
+        ensures told { IfOk result (λ answer. (run : Run Encoder) → IsRunOf self.old run → SaysOutcome self.old.session.head run (LeaveStep viewer) answer) }
     {
         self.session.is_legal();
         let i = place_here(&self.seats, viewer);
@@ -136,6 +152,7 @@ impl Running {
         ensures head { self.new.session.head ≡ self.old.session.head }
         ensures done { IfOk result (λ answer. (run : Run Encoder) (preset : List (List ℕ)) → IsRunOf self.old run
             → Advances self.old.session.head run (without_preset (TakeStep viewer)) (answer_text self.old.session.head.size viewer preset answer) self.new) }
+        ensures told { IfOk result (λ answer. (run : Run Encoder) → IsRunOf self.old run → SaysOutcome self.old.session.head run (TakeStep viewer) answer) }
     {
         let i = place_here(&self.seats, viewer);
         let answer = send_next(self.alloc, &mut self.seats[i].sender, &mut self.session)?;
@@ -149,6 +166,7 @@ impl Running {
         ensures head { self.new.session.head ≡ self.old.session.head }
         ensures done { IfOk result (λ answer. (run : Run Encoder) (preset : List (List ℕ)) → IsRunOf self.old run
             → Advances self.old.session.head run (without_preset (SuppressStep viewer stop)) (answer_text self.old.session.head.size viewer preset answer) self.new) }
+        ensures told { IfOk result (λ answer. (run : Run Encoder) → IsRunOf self.old run → SaysOutcome self.old.session.head run (SuppressStep viewer stop) answer) }
     {
         self.session.suppress(viewer, stop);
         Ok(StepAnswer::Accepted)
@@ -162,6 +180,7 @@ impl Running {
         ensures head { self.new.session.head ≡ self.old.session.head }
         ensures done { IfOk result (λ answer. (run : Run Encoder) (preset : List (List ℕ)) → IsRunOf self.old run
             → Advances self.old.session.head run (without_preset (RefreshStep viewer rect)) (answer_text self.old.session.head.size viewer preset answer) self.new) }
+        ensures told { IfOk result (λ answer. (run : Run Encoder) → IsRunOf self.old run → SaysOutcome self.old.session.head run (RefreshStep viewer rect) answer) }
     {
         self.session.refresh(viewer, rect);
         Ok(StepAnswer::Accepted)
@@ -174,6 +193,7 @@ impl Running {
         ensures head { self.new.session.head ≡ self.old.session.head }
         ensures done { IfOk result (λ answer. (run : Run Encoder) (preset : List (List ℕ)) → IsRunOf self.old run
             → Advances self.old.session.head run (without_preset (InputStep viewer event)) (answer_text self.old.session.head.size viewer preset answer) self.new) }
+        ensures told { IfOk result (λ answer. (run : Run Encoder) → IsRunOf self.old run → SaysOutcome self.old.session.head run (InputStep viewer event) answer) }
     {
         let answer = input_answer(self.session.input(viewer, event))?;
         Ok(answer)
@@ -187,6 +207,7 @@ impl Running {
         ensures head { self.new.session.head ≡ self.old.session.head }
         ensures done { IfOk result (λ answer. (run : Run Encoder) (preset : List (List ℕ)) → IsRunOf self.old run
             → Advances self.old.session.head run (without_preset (DrawStep viewer drawing)) (answer_text self.old.session.head.size viewer preset answer) self.new) }
+        ensures told { IfOk result (λ answer. (run : Run Encoder) → IsRunOf self.old run → SaysOutcome self.old.session.head run (DrawStep viewer drawing) answer) }
     {
         let answer = draw_answer(self.session.draw(viewer, drawing))?;
         Ok(answer)

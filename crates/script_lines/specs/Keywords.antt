@@ -4,6 +4,7 @@ use Rattle.line_text.specs.Words.{is_same_word}
 use Rattle.std.specs.declared.option.Option.{Option}
 use Rattle.std.specs.declared.option.Option.TheVariants.{Some, None}
 use Rattle.std.specs.Option.{option_map, option_and_then}
+use Rattle.draw_ops.specs.declared.shape.Drawing.{Drawing}
 use Rattle.session_rules.specs.Steps.{Step}
 use Rattle.session_rules.specs.Steps.Step.{LeaveStep, InputStep, DrawStep, RefreshStep, SuppressStep, TakeStep}
 use Rattle.script_rules.specs.Fields.{rect_of, with_clip, without_clip, fill_by, dst_by, pat_by, copy_by, blit_by, blit3_by, line_by, save_by, restore_by, image_by, brush_by, glyph_by}
@@ -73,6 +74,39 @@ step_read word.Restore words = option_map (λ d. asks.Draw d) (drawing_of withou
 step_read word.Image words = option_map (λ d. asks.Draw d) (load_of image_fields image_by words)
 step_read word.Brush words = option_map (λ d. asks.Draw d) (load_of brush_fields brush_by words)
 step_read word.Glyph words = option_map (λ d. asks.Draw d) (load_of glyph_fields glyph_by words)
+
+-- what a keyword asks for that stands alone
+abbrev pub step_alone : Keyword → Option ViewerStep
+step_alone word.Leave = Some asks.Leave
+step_alone word.Take = Some asks.Take
+step_alone word.Suppress = Some (asks.Suppress true)
+step_alone word.Allow = Some (asks.Suppress false)
+step_alone keyword = None
+
+-- what a keyword asks for that has to stand alone
+abbrev pub alone_read : Keyword → List (List ℕ) → Option ViewerStep
+alone_read keyword words = option_and_then (λ s. alone_of s words) (step_alone keyword)
+
+-- the drawing that the words after a keyword ask for, where its form has no glyphs, pixels or rows
+abbrev pub plain_drawing : Keyword → List (List ℕ) → Option Drawing
+plain_drawing word.Fill words = drawing_of with_clip fill_fields fill_by words
+plain_drawing word.Dst words = drawing_of with_clip (raster_fields []) dst_by words
+plain_drawing word.Pat words = drawing_of with_clip (raster_fields (Small ∷ [])) pat_by words
+plain_drawing word.Copy words = drawing_of with_clip (raster_fields (Coordinate ∷ Coordinate ∷ [])) copy_by words
+plain_drawing word.Blit words = drawing_of with_clip (raster_fields (Small ∷ Coordinate ∷ Coordinate ∷ [])) blit_by words
+plain_drawing word.Blit3 words = drawing_of with_clip (raster_fields (Small ∷ Coordinate ∷ Coordinate ∷ Small ∷ [])) blit3_by words
+plain_drawing word.Line words = drawing_of with_clip line_fields line_by words
+plain_drawing word.Save words = drawing_of without_clip save_fields save_by words
+plain_drawing word.Restore words = drawing_of without_clip restore_fields restore_by words
+plain_drawing keyword words = None
+
+-- the drawing that they ask for, where its form has glyphs, pixels or rows
+abbrev pub stored_drawing : Keyword → List (List ℕ) → Option Drawing
+stored_drawing word.Text words = text_of_words words
+stored_drawing word.Image words = load_of image_fields image_by words
+stored_drawing word.Brush words = load_of brush_fields brush_by words
+stored_drawing word.Glyph words = load_of glyph_fields glyph_by words
+stored_drawing keyword words = None
 
 -- the step of a viewer
 abbrev pub step_of : ℕ → ViewerStep → Step

@@ -156,8 +156,9 @@ fn step_form<'a>(
     ensures form { IfOk result (λ form. option_map form_of form ≡ step_form viewer (words_of text.now)) }
     ensures range { IfOk result (λ form. IfSome form IsFormInRange) }
 {
-    match read_step(alloc, &mut Parts::words(text))? {
-        Some(step) => Ok(Some(LineForm::Step { viewer, step })),
-        None => Ok(None),
+    match read_step(alloc, &mut Parts::words(text)) {
+        Ok(Some(step)) => Ok(Some(LineForm::Step { viewer, step })),
+        Ok(None) => Ok(None),
+        Err(fault) => Err(fault),
     }
 }

@@ -1,7 +1,7 @@
 //! What a viewer's line asks for: a row for each first word.
-ghost use Rattle.std.specs.Prelude.{◌≡◌, IfOk, IfSome};
+ghost use Rattle.std.specs.Prelude.{◌≡◌, Ok, IfOk, IfSome};
 ghost use Rattle.std.specs.Option.{option_map, option_and_then};
-ghost use Rattle.script_lines.specs.Keywords.{step_read, alone_of, step_in_words};
+ghost use Rattle.script_lines.specs.Keywords.{step_read, step_in_words, alone_of, alone_read, step_alone, plain_drawing, stored_drawing};
 ghost use Rattle.script_lines.specs.Lines.{IsStepInRange};
 
 use crate::OutOfMemory;
@@ -52,7 +52,8 @@ pub(crate) fn read_step(
     }
 }
 
-/// The step that the words after a keyword ask for.
+/// The step that the words after a keyword ask for. Each arm hands on what its form makes, so that only the one that is taken needs room
+/// for a step.
 fn read_rest(
     alloc: Global,
     keyword: Keyword,
@@ -61,27 +62,48 @@ fn read_rest(
     ensures { IfOk result (λ step. step ≡ step_read keyword words.old) }
 {
     match keyword {
-        Keyword::Leave => Ok(alone(ViewerStep::Leave, words)),
-        Keyword::Take => Ok(alone(ViewerStep::Take, words)),
-        Keyword::Suppress => Ok(alone(ViewerStep::Suppress { stop: true }, words)),
-        Keyword::Allow => Ok(alone(ViewerStep::Suppress { stop: false }, words)),
-        Keyword::Refresh => Ok(refresh(last_rect(words))),
-        Keyword::Key => Ok(input(read_key(words))),
-        Keyword::Char => Ok(input(read_char(words))),
-        Keyword::Mouse => Ok(input(read_mouse(words))),
-        Keyword::Fill => Ok(draw(read_fill(words))),
-        Keyword::Dst => Ok(draw(read_dst(words))),
-        Keyword::Pat => Ok(draw(read_pat(words))),
-        Keyword::Copy => Ok(draw(read_copy(words))),
-        Keyword::Blit => Ok(draw(read_blit(words))),
-        Keyword::Blit3 => Ok(draw(read_blit3(words))),
-        Keyword::Text => Ok(draw(read_text(alloc, words)?)),
-        Keyword::Line => Ok(draw(read_line(words))),
-        Keyword::Save => Ok(draw(read_save(words))),
-        Keyword::Restore => Ok(draw(read_restore(words))),
-        Keyword::Image => Ok(draw(read_image(alloc, words)?)),
-        Keyword::Brush => Ok(draw(read_brush(alloc, words)?)),
-        Keyword::Glyph => Ok(draw(read_glyph(alloc, words)?)),
+        Keyword::Leave | Keyword::Take | Keyword::Suppress | Keyword::Allow => {
+            alone_step(keyword, words)
+        }
+        Keyword::Refresh => refresh(last_rect(words)),
+        Keyword::Key => input(read_key(words)),
+        Keyword::Char => input(read_char(words)),
+        Keyword::Mouse => input(read_mouse(words)),
+        Keyword::Text | Keyword::Image | Keyword::Brush | Keyword::Glyph => {
+            stored_step(alloc, keyword, words)
+        }
+        Keyword::Fill
+        | Keyword::Dst
+        | Keyword::Pat
+        | Keyword::Copy
+        | Keyword::Blit
+        | Keyword::Blit3
+        | Keyword::Line
+        | Keyword::Save
+        | Keyword::Restore => plain_step(keyword, words),
+    }
+}
+
+/// The step of a keyword that stands alone.
+fn alone_step(keyword: Keyword, words: &mut Parts<'_>) -> Result<Option<ViewerStep>, OutOfMemory>
+    ensures { result ≡ Ok (alone_read keyword words.old) }
+{
+    match step_alone(keyword) {
+        Some(step) => Ok(alone(step, words)),
+        None => Ok(None),
+    }
+}
+
+/// What a keyword asks for that stands alone, where it may.
+fn step_alone(keyword: Keyword) -> Option<ViewerStep>
+    ensures { result ≡ step_alone keyword }
+{
+    match keyword {
+        Keyword::Leave => Some(ViewerStep::Leave),
+        Keyword::Take => Some(ViewerStep::Take),
+        Keyword::Suppress => Some(ViewerStep::Suppress { stop: true }),
+        Keyword::Allow => Some(ViewerStep::Suppress { stop: false }),
+        _ => None,
     }
 }
 
@@ -96,25 +118,84 @@ fn alone(step: ViewerStep, words: &mut Parts<'_>) -> Option<ViewerStep>
 }
 
 /// A refresh of a rectangle.
-fn refresh(rect: Option<Rect>) -> Option<ViewerStep>
-    ensures { result ≡ option_map (λ r. ViewerStep.Refresh r) rect }
+fn refresh(rect: Option<Rect>) -> Result<Option<ViewerStep>, OutOfMemory>
+    ensures { result ≡ Ok (option_map (λ r. ViewerStep.Refresh r) rect) }
 {
-    Some(ViewerStep::Refresh { rect: rect? })
+    match rect {
+        Some(rect) => Ok(Some(ViewerStep::Refresh { rect })),
+        None => Ok(None),
+    }
 }
 
 /// An input event.
-fn input(event: Option<Event>) -> Option<ViewerStep>
-    ensures { result ≡ option_map (λ e. ViewerStep.Input e) event }
+fn input(event: Option<Event>) -> Result<Option<ViewerStep>, OutOfMemory>
+    ensures { result ≡ Ok (option_map (λ e. ViewerStep.Input e) event) }
 {
-    Some(ViewerStep::Input { event: event? })
+    match event {
+        Some(event) => Ok(Some(ViewerStep::Input { event })),
+        None => Ok(None),
+    }
+}
+
+/// A drawing whose form has no glyphs, pixels or rows.
+fn plain_step(keyword: Keyword, words: &mut Parts<'_>) -> Result<Option<ViewerStep>, OutOfMemory>
+    ensures { result ≡ Ok (option_map (λ d. ViewerStep.Draw d) (plain_drawing keyword words.old)) }
+{
+    draw(read_plain(keyword, words))
+}
+
+/// The drawing that the words after a keyword ask for, where its form has no glyphs, pixels or rows.
+fn read_plain(keyword: Keyword, words: &mut Parts<'_>) -> Option<Drawing>
+    ensures { result ≡ plain_drawing keyword words.old }
+{
+    match keyword {
+        Keyword::Fill => read_fill(words),
+        Keyword::Dst => read_dst(words),
+        Keyword::Pat => read_pat(words),
+        Keyword::Copy => read_copy(words),
+        Keyword::Blit => read_blit(words),
+        Keyword::Blit3 => read_blit3(words),
+        Keyword::Line => read_line(words),
+        Keyword::Save => read_save(words),
+        Keyword::Restore => read_restore(words),
+        _ => None,
+    }
+}
+
+/// A drawing whose form has glyphs, pixels or rows.
+fn stored_step(
+    alloc: Global,
+    keyword: Keyword,
+    words: &mut Parts<'_>,
+) -> Result<Option<ViewerStep>, OutOfMemory>
+    ensures { IfOk result (λ step. step ≡ option_map (λ d. ViewerStep.Draw d) (stored_drawing keyword words.old)) }
+{
+    draw(read_stored(alloc, keyword, words)?)
+}
+
+/// The drawing that the words after a keyword ask for, where its form has glyphs, pixels or rows.
+fn read_stored(
+    alloc: Global,
+    keyword: Keyword,
+    words: &mut Parts<'_>,
+) -> Result<Option<Drawing>, OutOfMemory>
+    ensures { IfOk result (λ d. d ≡ stored_drawing keyword words.old) }
+{
+    match keyword {
+        Keyword::Text => read_text(alloc, words),
+        Keyword::Image => read_image(alloc, words),
+        Keyword::Brush => read_brush(alloc, words),
+        Keyword::Glyph => read_glyph(alloc, words),
+        _ => Ok(None),
+    }
 }
 
 /// A drawing.
-fn draw(drawing: Option<Drawing>) -> Option<ViewerStep>
-    ensures { result ≡ option_map (λ d. ViewerStep.Draw d) drawing }
+fn draw(drawing: Option<Drawing>) -> Result<Option<ViewerStep>, OutOfMemory>
+    ensures { result ≡ Ok (option_map (λ d. ViewerStep.Draw d) drawing) }
 {
     match drawing {
-        Some(drawing) => Some(ViewerStep::Draw { drawing }),
-        None => None,
+        Some(drawing) => Ok(Some(ViewerStep::Draw { drawing })),
+        None => Ok(None),
     }
 }

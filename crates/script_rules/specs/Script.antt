@@ -1,5 +1,5 @@
 -- Scripts: the rows, the steps and the presets of the lines before the first that breaks a rule, and that line with its least rule.
-use Rattle.std.specs.Prelude.{ℕ, ◌+◌, ◌==◌, nat_lt, nat_le, Bool, true, false, ◌&&◌, ◌||◌, not, List, [], ◌∷◌, ◌++◌, map, length, if◌then◌else◌, codes}
+use Rattle.std.specs.Prelude.{ℕ, ◌+◌, ◌==◌, nat_lt, nat_le, Bool, true, false, ◌&&◌, ◌||◌, not, List, [], ◌∷◌, ◌++◌, length, if◌then◌else◌, codes}
 use Rattle.std.specs.declared.option.Option.{Option}
 use Rattle.std.specs.declared.option.Option.TheVariants.{Some, None}
 use Rattle.std.specs.Option.{option_map, option_and_then}
@@ -278,7 +278,3 @@ opening_of_lines (line ∷ lines) = opening_by line (size_of_words (words_of lin
 -- what a script's bytes ask for
 abbrev pub opening_of : List ℕ → Opening
 opening_of bytes = opening_of_lines (lines_of bytes)
-
--- the steps of a script
-abbrev pub steps_of_script : Script → List Step
-steps_of_script s = map (λ a. a.step) s.asked

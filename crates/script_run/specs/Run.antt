@@ -67,8 +67,8 @@ pub record WritesHandedLines (script : List ℕ) (left before now : Option (List
   pub is_capture : IsFrontOfCapture script (text_of_first (ended_lines (lines_of handed)))
 
 -- a run that was done up to the script's end, or up to the first line that breaks a rule, wrote the capture; it ends with Ok only where
--- no byte is left. After a failed read the capture of the whole lines before it stands there, and after a failed write, or want of
--- memory, that of the lines done and a front of one more line's
+-- no byte is left. After a failed read what the whole lines write stands there that were handed out, and after a failed write, or want
+-- of memory, what the lines done write and a front of what the next line, or the script's end, writes
 abbrev pub RunsScript : Result (Unit {0}) ScriptFault → (left rest told telling : Option (List ℕ)) → Type 0
 RunsScript (Ok x) left rest told telling = Tells left (λ script. WritesTheCapture script None told telling) × EndsWhereTold left rest
 RunsScript (Err (fault.Line k rule)) left rest told telling = Tells left (λ script. WritesTheCapture script (refusal_at k rule) told telling)

@@ -45,11 +45,12 @@ pub(crate) fn do_line(
     if !is_text_line(text, ended) {
         return Ok(Some(LineRule::Text));
     }
-    match line_form(alloc, text)? {
-        None => Ok(Some(LineRule::Form)),
-        Some(LineForm::Invite { name, role }) => invite(host, name, role),
-        Some(LineForm::Join { name, preset }) => join(alloc, out, host, name, preset),
-        Some(LineForm::Step { viewer, step }) => do_step(alloc, out, host, viewer, step),
+    match line_form(alloc, text) {
+        Ok(None) => Ok(Some(LineRule::Form)),
+        Ok(Some(LineForm::Invite { name, role })) => invite(host, name, role),
+        Ok(Some(LineForm::Join { name, preset })) => join(alloc, out, host, name, preset),
+        Ok(Some(LineForm::Step { viewer, step })) => do_step(alloc, out, host, viewer, step),
+        Err(fault) => Err(fault),
     }
 }
 

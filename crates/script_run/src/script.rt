@@ -14,8 +14,9 @@ const FIRST: u32 = 1;
 /// Reads a script, a line at a time, and writes its capture, a line for each step that was done.
 ///
 /// `Line` names the first line that breaks a rule and the least rule that it breaks; the capture's last line says it too. A `ReadFault`
-/// leaves what the whole lines before it write, and a `WriteFault`, or want of memory, what the lines done write and a front of one more
-/// line's. From the second line on that is their capture; behind the first alone nothing is written, as it isn't known who joins.
+/// leaves exactly what the whole lines write that the input had handed out, and a `WriteFault`, or want of memory, what the lines done
+/// write and a front of what the next line, or the script's end, writes. From the second line on lines have written their capture;
+/// behind the first alone nothing is written, as it isn't known who joins.
 pub fn run_script<S: Source, K: Sink>(
     alloc: Global,
     input: &mut S,
@@ -23,8 +24,9 @@ pub fn run_script<S: Source, K: Sink>(
 ) -> Result<(), ScriptFault>
     // What is written is the script's capture: in it each viewer's bytes are never refused, and at each mark they show the picture
     // after exactly the journal entries that the frame's take found. A line is refused exactly where it is the first that breaks a rule.
-    // After a fault, or want of memory, the capture of the lines that were done stands there, and then a front of one more line's; after
-    // a failed read exactly that of the whole lines that the input had handed out. Each viewer's marks are then the first ones.
+    // After a failed read exactly what the whole lines write stands there that the input had handed out; after a failed write, or want
+    // of memory, what the lines done write, and then a front of what the next line, or the script's end, writes. Each viewer's marks are
+    // then the first ones.
     ensures capture { RunsScript result (S.left input.old) (S.left input.new) (K.told output.old) (K.told output.new) }
     ensures read { ReadsCause result (S.faults input.old) (S.faults input.new) }
     ensures write { WritesCause result (K.faults output.old) (K.faults output.new) }

@@ -281,13 +281,15 @@ const VIEWERS: [(&[u8], &[&[u8]], Result<(), ScriptFault>); 6] = [
         ],
         Ok(()),
     ),
-    // A viewer that is sent plainer orders: a copy and a fill as far as they draw, and nothing of what doesn't.
+    // A viewer that is sent plainer orders: a copy and a fill as far as they draw, nothing of what doesn't, and a text as its tile.
     (
-        b"size 64 48\ninvite ann owner\njoin ann full cautious\ntake\ncopy -2 -1 10 10 CC 3 4 clip 0 0 6 6\nfill 60 40 10 10 FF0000\ndst 0 0 9 9 AA\nfill 70 0 5 5 00FF00\ntake\n",
+        b"size 64 48\ninvite ann owner\njoin ann full cautious\ntake\ncopy -2 -1 10 10 CC 3 4 clip 0 0 6 6\nfill 60 40 10 10 FF0000\ndst 0 0 9 9 AA\nfill 70 0 5 5 00FF00\ntake\nglyph 0 65 0 0 8 1 FF\ntext 4 5 FFFFFF 0 65:0\ntake\n",
         &[
             b"1 joined 64 48 full cautious\n",
             FIRST,
             b"1 0300003802f08068000103eb702a2a001700ea03ea03010000011c0002000000000000000200000019027c0606cc0505190a1f3c28c4d8ff",
+            MARK,
+            b"1 0300004f02f08068000103eb704141001700ea03ea030100000133000200000001000100000000003f002f0040003000180001041900001c640000fff0fc01f3480800000068fffffff37401000000",
             MARK,
         ],
         Ok(()),

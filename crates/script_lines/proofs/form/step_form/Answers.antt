@@ -5,10 +5,10 @@ use Rattle.script_lines.specs.Keywords.{step_in_words}
 use Rattle.script_lines.proofs.StepForms.{step_line, step_form_is}
 use Rattle.script_lines.proofs.form.step_form.Goals as goal
 
-pub returns-in-Some-clause-form : goal.returns-in-Some-clause-form
-returns-in-Some-clause-form c =
-    ap (option_map (step_line c.args.viewer)) (sym c.in-Some.is ∙ c.in_ok-step.ensures.step ∙ ap step_in_words c.words.ensures) ∙ sym (step_form_is c.args.viewer (words_of c.args.text.now))
+pub returns-in-Ok-Some-clause-form : goal.returns-in-Ok-Some-clause-form
+returns-in-Ok-Some-clause-form c =
+    ap (option_map (step_line c.args.viewer)) (sym c.in-Ok-Some.field-0-is ∙ c.in-Ok-Some.ensures.step ∙ ap step_in_words c.words.ensures) ∙ sym (step_form_is c.args.viewer (words_of c.args.text.now))
 
-pub returns-in-None-clause-form : goal.returns-in-None-clause-form
-returns-in-None-clause-form c =
-    ap (option_map (step_line c.args.viewer)) (sym c.in-None.is ∙ c.in_ok-step.ensures.step ∙ ap step_in_words c.words.ensures) ∙ sym (step_form_is c.args.viewer (words_of c.args.text.now))
+pub returns-in-Ok-None-clause-form : goal.returns-in-Ok-None-clause-form
+returns-in-Ok-None-clause-form c =
+    ap (option_map (step_line c.args.viewer)) (sym c.in-Ok-None.field-0-is ∙ c.in-Ok-None.ensures.step ∙ ap step_in_words c.words.ensures) ∙ sym (step_form_is c.args.viewer (words_of c.args.text.now))

@@ -4,7 +4,7 @@ use Rattle.session_rules.specs.Steps.Step.{LeaveStep}
 use Rattle.script_rules.specs.Script.{without_preset}
 use Rattle.script_host.specs.Hosts.{HostModel, place_of, sender_of}
 use Rattle.script_host.proofs.SeatLemmas.{sender_removed}
-use Rattle.script_host.proofs.Leaving.{leave_on}
+use Rattle.script_host.proofs.Leaving.{leave_on, leave_told}
 use Rattle.script_host.proofs.Taking.{has_sender}
 use Rattle.script_host.proofs.running.Running.leave.Goals as goal
 
@@ -29,3 +29,9 @@ returns-clause-done c =
     let k = leave_on host new run (without_preset (LeaveStep v)) v refl c.ranges.viewer.fits r mine c.is_legal.ensures.size c.is_legal.ensures.journal e.head e.journal e.asked
     e.suppressed others in
     record { line = k.0; is_run = k.1 })
+
+pub returns-clause-told : goal.returns-clause-told
+returns-clause-told c =
+    let host : HostModel = record { begun = true; session = c.self.inside.session; seats = c.self.inside.seats.items } in
+    let mine = rw (← c.self.view_is) at c.requires.present in
+    rw (← c.self.view_is) (λ run r. leave_told host run c.args.viewer c.ranges.viewer.fits r mine)

@@ -1,5 +1,5 @@
 use Rattle.std.proofs.Common.{◌≡◌, ◌∙◌, ap, sym, subst}
-use Rattle.std.specs.Prelude.{true, Some, IsTrue, slice_set}
+use Rattle.std.specs.Prelude.{true, Some, [], IsTrue, slice_set}
 use Rattle.caps_sets.specs.Confirmed.{plain}
 use Rattle.session_core.specs.SessionModel.{is_here, asked_by}
 use Rattle.frame_plan.specs.Plans.{is_work, asked_if}
@@ -72,3 +72,25 @@ returns-clause-done c =
     let k = take_on host new run v x.sender y.sender c.in_ok-answer.answer preset plain r mine e.head e.journal asked (suppressed_same s c.send_next.new.session e.suppressed) here.0
     (sender_changed v old i y at here.1) e.sent in
     record { line = k.0; is_run = k.1 })
+
+pub returns-clause-told : goal.returns-clause-told
+returns-clause-told c =
+    let v = c.args.viewer in
+    let old = c.self.inside.seats.items in
+    let i = c.place_here-i.result in
+    let x : Seat = c.index_mut.result.now in
+    let y : Seat = record { viewer = x.viewer; sender = c.send_next.new.sender } in
+    let s = c.self.inside.session in
+    let e = c.in_ok-answer.ensures in
+    let host : HostModel = record { begun = true; session = s; seats = old } in
+    let new : HostModel = record { begun = true; session = c.send_next.new.session; seats = slice_set old i y } in
+    let course = rw (← c.self.view_is) at c.requires.course in
+    let mine = rw (← c.self.view_is) at c.requires.present in
+    let at : place_of v old ≡ Some i = rw c.deref.ensures.value at c.place_here-i.ensures.place in
+    let here = sender_here v old i x at c.index_mut.ensures.value in
+    let own = is_mine host v x.sender course mine here.0 in
+    let asked : asked_by c.send_next.new.session ≡ asked_if (is_work s (desk_of x.sender)) v (asked_by s) =
+    e.asked ∙ ap (λ w. asked_if (is_work s (desk_of x.sender)) w (asked_by s)) own.viewer in
+    rw (← c.self.view_is) (λ run r.
+    (take_on host new run v x.sender y.sender c.in_ok-answer.answer [] plain r mine e.head e.journal asked (suppressed_same s c.send_next.new.session e.suppressed) here.0
+    (sender_changed v old i y at here.1) e.sent).2)
