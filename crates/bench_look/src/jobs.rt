@@ -7,7 +7,7 @@ use px_core::{Rect, Size, is_inside};
 use std::alloc::Global;
 
 /// The greatest picture of a session.
-const SIZE: Size = Size { w: 2_048, h: 2_048 };
+pub const SIZE: Size = Size { w: 2_048, h: 2_048 };
 
 /// The raster operation that copies its source.
 const SRCCOPY: u8 = 0xCC;

@@ -1,4 +1,4 @@
--- Texts of pictures, pixel by pixel and row by row.
+-- Texts of what is shown.
 use Rattle.std.proofs.Common.{◌≡◌, ◌∙◌, ℕ, suc, ◌+◌, ◌<◌, List, [], ◌∷◌, ◌++◌, length, codes, refl, sym, ap, append_assoc, add-one, arith}
 use Rattle.std.specs.Prelude.{decimal}
 use Rattle.std.specs.declared.option.Option.{Option}
@@ -9,19 +9,13 @@ use Rattle.client_view.specs.Views.{capped, last_picture}
 use Rattle.client_view.specs.Clients.{ClientOf}
 use Rattle.capture_show.specs.declared.stage.Stage.TheVariants as stage
 use Rattle.capture_show.specs.Stages.{Shows, ShowsReading}
-use Rattle.capture_show.specs.Shown.{Shown, line_of, pixel_text, row_text, rows_text, picture_head, picture_text, marked_shown, text_of}
+use Rattle.capture_show.specs.Shown.{Shown, line_of, pixel_text, row_text, picture_text, marked_shown, text_of}
 
 -- one pixel more of a row
 pub row_grows : (pixel : ℕ → Option ℕ) (x : ℕ) (first old new bytes : List ℕ) → old ≡ first ++ row_text pixel x → new ≡ old ++ bytes → bytes ≡ pixel_text (pixel x) →
     new ≡ first ++ row_text pixel (x + 1)
 row_grows pixel x first old new bytes so grown are = grown ∙ ap (λ o. o ++ bytes) so ∙ append_assoc first (row_text pixel x) bytes
     ∙ ap (λ b. first ++ (row_text pixel x ++ b)) are ∙ ap (λ n. first ++ row_text pixel n) (sym (add-one x))
-
--- one row more
-pub rows_grow : (w : ℕ) (pixel : ℕ → ℕ → Option ℕ) (y : ℕ) (first old new : List ℕ) → old ≡ first ++ rows_text w pixel y → new ≡ old ++ row_text (λ x. pixel x y) w →
-    new ≡ first ++ rows_text w pixel (y + 1)
-rows_grow w pixel y first old new so grown = grown ∙ ap (λ o. o ++ row_text (λ x. pixel x y) w) so ∙ append_assoc first (rows_text w pixel y) (row_text (λ x. pixel x y) w)
-    ∙ ap (λ n. first ++ rows_text w pixel n) (sym (add-one y))
 
 -- there was no mark
 by_pictures : (size : Size) (view : View) (ps : List (List (Option ℕ))) → 0 ≡ capped (length ps) → codes "no mark" ++ 10 ∷ [] ≡ text_of (marked_shown size view ps)

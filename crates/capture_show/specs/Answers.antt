@@ -27,9 +27,9 @@ WritesShown (Ok accepted) s told telling = Appends told telling (text_of s) × (
 WritesShown (Err fault) s told telling = WritesFront told telling (text_of s)
 
 -- a text was written whole; after a fault, or want of memory, a front of it
-abbrev pub WritesText : Result Bool ShowFault → List ℕ → Bool → (told telling : Option (List ℕ)) → Type 0
-WritesText (Ok answer) text accepted told telling = Appends told telling text × (answer ≡ accepted)
-WritesText (Err fault) text accepted told telling = WritesFront told telling text
+abbrev pub Writes : Result (Unit {0}) ShowFault → List ℕ → (told telling : Option (List ℕ)) → Type 0
+Writes (Ok x) text told telling = Appends told telling text
+Writes (Err fault) text told telling = WritesFront told telling text
 
 -- what a capture shows was written whole, behind its end; after a fault, or want of memory, a front of it
 abbrev pub ShowsCapture : Result Bool ShowFault → ℕ → (left rest told telling : Option (List ℕ)) → Type 0

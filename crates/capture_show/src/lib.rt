@@ -1,6 +1,7 @@
 //! What a viewer is shown, read from a capture (profile): a picture in portable pixel format, or why there is none.
 #![tactic(auto)]
 
+mod picture;
 mod read;
 mod show;
 mod show_fault;
@@ -15,3 +16,5 @@ pub use writing::put;
 
 #[cfg(test)]
 mod tests;
+#[cfg(test)]
+mod worked;

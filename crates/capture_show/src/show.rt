@@ -1,16 +1,25 @@
-ghost use Rattle.std.specs.Prelude.{IfErr};
-ghost use Rattle.capture_show.specs.Shown.{Shown};
-ghost use Rattle.capture_show.specs.Stages.{Shows};
-ghost use Rattle.capture_show.specs.Answers.{ShowsCapture, WritesShown, WritesText, ReadCause, WriteCause, IsWriteFault};
+ghost use Rattle.std.specs.Prelude.{◌≡◌, ◌<◌, IfErr};
+ghost use Rattle.std.specs.Bool.{MatchBool};
+ghost use Rattle.capture_show.specs.Shown.{Shown, text_of, is_accepted};
+ghost use Rattle.capture_show.specs.Stages.{Shows, ShowsReading};
+ghost use Rattle.capture_show.specs.Answers.{ShowsCapture, Writes, WritesShown, ReadCause, WriteCause, IsWriteFault};
 
+use crate::ShowFault;
+use crate::picture::write_picture;
 use crate::read::read_capture;
 use crate::stage::Stage;
-use crate::text::{is_accepted, stage_text};
-use crate::writing::put;
-use crate::{OutOfMemory, ShowFault};
+use crate::text::number_line;
+use crate::writing::{put, put_made};
+use client_view::Client;
 use edge_io::{Sink, Source};
 use std::alloc::Global;
 use std::sync::Wait;
+
+/// The line that says that no line joins the viewer.
+const NOBODY: &[u8] = b"line 0\n";
+
+/// The line that says that there was no mark.
+const NO_MARK: &[u8] = b"no mark\n";
 
 /// Reads a capture to its end, and writes what it shows one of its viewers; says whether the capture and the viewer's bytes are accepted.
 ///
@@ -36,26 +45,54 @@ pub fn show_capture<R: Wait, S: Source, K: Sink>(
 }
 
 /// Writes what a stage at a capture's end shows.
-#[tactic(auto, using(crate::proofs::Showing::text_is_shown, crate::proofs::Showing::nothing))]
 fn write_stage<K: Sink>(alloc: Global, stage: &Stage, output: &mut K) -> Result<bool, ShowFault>
     ensures written { (s : Shown) → Shows stage.now s → WritesShown result s (K.told output.old) (K.told output.new) }
     ensures fault { IfErr result IsWriteFault }
     ensures cause { WriteCause result (K.faults output.old) (K.faults output.new) }
 {
-    match stage_text(alloc, stage) {
-        Ok(text) => write_text(&text, is_accepted(stage), output),
-        Err(OutOfMemory) => Err(ShowFault::OutOfMemory),
+    match write_text(alloc, stage, output) {
+        Ok(()) => Ok(is_accepted(stage)),
+        Err(fault) => Err(fault),
     }
 }
 
-/// Writes a text, and answers what it was given.
-fn write_text<K: Sink>(text: &[u8], accepted: bool, output: &mut K) -> Result<bool, ShowFault>
-    ensures written { WritesText result text.now accepted (K.told output.old) (K.told output.new) }
+/// Whether the capture and the viewer's bytes are accepted.
+fn is_accepted(stage: &Stage) -> bool
+    ensures { (s : Shown) → Shows stage.now s → result ≡ is_accepted s }
+{
+    matches!(stage, Stage::Reads(_))
+}
+
+/// Writes the text of what a stage at a capture's end shows. An `Err` leaves a front of it there.
+fn write_text<K: Sink>(alloc: Global, stage: &Stage, output: &mut K) -> Result<(), ShowFault>
+    ensures written { (s : Shown) → Shows stage.now s → Writes result (text_of s) (K.told output.old) (K.told output.new) }
     ensures fault { IfErr result IsWriteFault }
     ensures cause { WriteCause result (K.faults output.old) (K.faults output.new) }
 {
-    match put(output, text) {
-        Ok(()) => Ok(accepted),
-        Err(fault) => Err(fault),
+    match stage {
+        Stage::NotJoined => put(output, NOBODY),
+        Stage::Reads(client) => write_client(alloc, client, output),
+        Stage::Refused { at } => put_made(output, number_line(alloc, b"refused ", *at)),
+        Stage::Broken { line } => put_made(output, number_line(alloc, b"line ", *line)),
     }
+}
+
+/// Writes the text of a client that has read all: the picture of its last mark. An `Err` leaves a front of it there.
+fn write_client<K: Sink>(alloc: Global, client: &Client, output: &mut K) -> Result<(), ShowFault>
+    ensures written { (s : Shown) → ShowsReading client.now s → Writes result (text_of s) (K.told output.old) (K.told output.new) }
+    ensures fault { IfErr result IsWriteFault }
+    ensures cause { WriteCause result (K.faults output.old) (K.faults output.new) }
+{
+    if has_mark(client) {
+        write_picture(alloc, client, output)
+    } else {
+        put(output, NO_MARK)
+    }
+}
+
+/// Whether a client has met a mark.
+fn has_mark(client: &Client) -> bool
+    ensures { MatchBool result (0 < client.now.viewer.marks) (0 ≡ client.now.viewer.marks) }
+{
+    client.marks() > 0
 }

@@ -1,18 +1,18 @@
--- Readings of a host's bytes, byte by byte.
-use Rattle.std.proofs.Common.{◌≡◌, ◌<◌, ℕ, ◌+◌, List, [], ◌∷◌, length, get_or, drop, refl, ap, sym, ◌∙◌, Some, None, append-nil, add-one}
+-- Readings of a host's bytes, byte by byte, and of those within a packet.
+use Rattle.std.proofs.Common.{◌≡◌, ◌<◌, ℕ, ◌+◌, List, [], ◌∷◌, length, get_or, drop, take, take-append-drop, drop-drop, refl, ap, sym, subst, ◌∙◌, Some, None, append-nil, add-one}
 use Rattle.std.specs.Prelude.{Option, Result, Ok, Err, true, false}
 use Rattle.std.proofs.Math.Seq.{drop-cons}
 use Rattle.px_core.specs.declared.surface.Size.{Size}
 use Rattle.byte_fields.specs.Field.{bind}
 use Rattle.caps_sets.specs.declared.confirmed.Confirmed.{Confirmed}
 use Rattle.order_means.specs.ClientState.Fault.{Broken, Oversized, Empty}
-use Rattle.order_means.specs.Updates.{Body, Cutting, Updates, updates, updates_by, refusal_in}
+use Rattle.order_means.specs.Updates.{Body, Cutting, Updates, updates, updates_by, updates_from, refusal_in}
 use Rattle.order_means.specs.FrameMarks.{View, Refusal, ClientReading, reading, reading_after, read_on, view_after_body, view_after_bodies, unless_refused_at}
 use Rattle.order_means.proofs.Pieces.{read_joined}
 use Rattle.host_updates.specs.declared.state.State.{State}
 use Rattle.host_updates.specs.declared.state.State.TheVariants.{Open, Whole, Refused as RefusedAt}
 use Rattle.host_updates.specs.declared.step.Step.TheVariants.{More, Update, Refused as RefusedStep}
-use Rattle.host_updates.specs.Cutters.{CutterOf, Stands, StandsBy, Gives, AreBodies, stage_of, step_by, body_by}
+use Rattle.host_updates.specs.Cutters.{CutterOf, Stands, StandsBy, Gives, GoesOn, AreBodies, stage_of, step_by, body_by}
 use Rattle.client_view.specs.declared.client_fault.ClientFault.{ClientFault}
 use Rattle.client_view.specs.declared.client_fault.ClientFault.TheVariants.{Refused, Named, OutOfMemory}
 use Rattle.client_view.specs.declared.viewer.Viewer.{Viewer}
@@ -111,6 +111,14 @@ reads_more confirmed size r b m old new s g e =
       record { view = s.view; cut = g.1; unrefused = more.1 },
     )
 
+-- bytes lie within the packet
+pub reads_within : (confirmed : Confirmed) (size : Size) (r : ClientReading) (xs : List ℕ) (m : Viewer) (old new : CutterOf) → StandFor r m old → GoesOn r.cut (updates_from r.cut xs) new
+    → Reads (Ok tt) (read_on confirmed size r xs) m new
+reads_within confirmed size r xs m old new s g =
+    let u : Updates = updates_from r.cut xs in
+    let none = g.2 s.unrefused in
+    (reading r.view u.next, no_body confirmed size r.view u None g.0 none, record { view = s.view; cut = g.1; unrefused = none })
+
 -- the stream is refused
 pub reads_refusal : (confirmed : Confirmed) (size : Size) (r : ClientReading) (b at : ℕ) (new : CutterOf) → Gives (by_byte r b) new → step_by new.state new.start ≡ RefusedStep at
     → RefusesAt (Refused at) (read_on confirmed size r (b ∷ []))
@@ -157,6 +165,23 @@ one_byte_less confirmed size whole b bs left m n k j l e o = record {
   same = l.same ∙ ap (read_on confirmed size l.here) e ∙ read_joined confirmed size l.here (b ∷ []) bs ∙ ap (λ (x : Result ClientReading Refusal). bind x (λ s. read_on confirmed size s bs)) o.1;
   stand = o.2;
 }
+
+-- those within the packet are read
+pub taken_left : (confirmed : Confirmed) (size : Size) (whole : Result ClientReading Refusal) (n : ℕ) (left : List ℕ) (m : Viewer) (k j : CutterOf) → (l : LeftBytes confirmed size whole left m k)
+    → GoesOn l.here.cut (updates_from l.here.cut (take n left)) j → LeftBytes confirmed size whole (drop n left) m j
+taken_left confirmed size whole n left m k j l g =
+    let o = reads_within confirmed size l.here (take n left) m k j l.stand g in
+    record {
+      here = o.0;
+      same = l.same ∙ ap (read_on confirmed size l.here) (sym (take-append-drop n left)) ∙ read_joined confirmed size l.here (take n left) (drop n left)
+          ∙ ap (λ (x : Result ClientReading Refusal). bind x (λ s. read_on confirmed size s (drop n left))) o.1;
+      stand = o.2;
+    }
+
+pub taken_behind : (confirmed : Confirmed) (size : Size) (whole : Result ClientReading Refusal) (n i : ℕ) (bytes : List ℕ) (m : Viewer) (k j : CutterOf) → (l : LeftBytes confirmed size whole (drop i bytes) m k)
+    → GoesOn l.here.cut (updates_from l.here.cut (take n (drop i bytes))) j → LeftBytes confirmed size whole (drop (i + n) bytes) m j
+taken_behind confirmed size whole n i bytes m k j l g =
+    subst (λ (left : List ℕ). LeftBytes confirmed size whole left m j) (drop-drop n i bytes) (taken_left confirmed size whole n (drop i bytes) m k j l g)
 
 pub one_byte_refused : (f : ClientFault) (confirmed : Confirmed) (size : Size) (whole : Result ClientReading Refusal) (b : ℕ) (bs left : List ℕ) (m : Viewer) (k : CutterOf) → (l : LeftBytes confirmed size whole left m k) → left ≡ b ∷ bs
     → RefusesAt f (read_on confirmed size l.here (b ∷ [])) → RefusesAt f whole

@@ -1,4 +1,4 @@
-//! A host's bytes, one by one.
+//! A host's bytes: those within a packet all at once, and one by one where a packet may begin or end.
 
 ghost use Rattle.std.specs.Prelude.{[], ◌∷◌};
 ghost use Rattle.order_means.specs.FrameMarks.{ClientReading, read_on};
@@ -38,8 +38,11 @@ pub(crate) fn read_bytes(
     ensures read { (r : ClientReading) → StandFor r viewer.old cutter.old → Reads result (read_on viewer.old.confirmed viewer.old.pictures.size r bytes.now) viewer.new cutter.new }
     ensures same { SameViewer viewer.old viewer.new }
 {
-    for byte in bytes {
-        read_byte(viewer, cutter, alloc, *byte)?;
+    let mut at = cutter.take(bytes);
+    while at < bytes.len() {
+        read_byte(viewer, cutter, alloc, bytes[at])?;
+        at += 1;
+        at += cutter.take(&bytes[at..]);
     }
     Ok(())
 }

@@ -2,3 +2,4 @@ pub mod Headers
 pub mod Contents
 pub mod Judged
 pub mod Pushed
+pub mod Taken

@@ -1,8 +1,8 @@
 -- How far a cutter has come, and what a byte gives.
-use Rattle.std.specs.Prelude.{◌≡◌, ◌≤◌, ℕ, ◌+◌, ◌-◌, ◌*◌, ◌^◌, min, List, [], ◌∷◌, length, take, drop, slice_index, ⊤}
+use Rattle.std.specs.Prelude.{◌≡◌, ◌≤◌, ℕ, ◌+◌, ◌-◌, ◌*◌, ◌^◌, min, List, [], ◌∷◌, length, take, drop, slice_index, ⊤, None}
 use Rattle.wire_num.specs.declared.range.Range.{Range}
 use Rattle.host_bytes.specs.WirePixels.{turned}
-use Rattle.order_means.specs.Updates.{Stage, Body, Cutting, cutting, Updates, updates}
+use Rattle.order_means.specs.Updates.{Stage, Body, Cutting, cutting, Updates, updates, refusal_in}
 use Rattle.order_means.specs.Updates.Stage.{Between, One, Two, Three, Inside, Refused}
 use Rattle.host_updates.specs.declared.state.State.{State}
 use Rattle.host_updates.specs.declared.state.State.TheVariants.{Open, Whole, Refused as RefusedAt}
@@ -69,6 +69,14 @@ AreBodies (RefusedAt at) bodies m = bodies ≡ []
 -- what a byte gives is what the cutter has, and it has come as far
 abbrev pub Gives : Updates → CutterOf → Type 0
 Gives u m = AreBodies m.state u.bodies m × Stands u.next m
+
+-- so many bytes of a packet are missing before its last one
+abbrev pub IsMissing : List ℕ → ℕ → Type 0
+IsMissing packet n = (4 ≤ length packet) × (length packet + 1 + n ≤ 256 * slice_index packet 2 + slice_index packet 3)
+
+-- bytes give no update, refuse nothing, and the cutter has come as far
+abbrev pub GoesOn : Cutting → Updates → CutterOf → Type 0
+GoesOn c u m = (u.bodies ≡ []) × Stands u.next m × (refusal_in c.stage ≡ None → refusal_in u.next.stage ≡ None)
 
 -- a packet that isn't whole is open; a body lies in its packet
 abbrev pub IsSoundBy : State → List ℕ → Type 0

@@ -1,9 +1,10 @@
 ghost use Rattle.std.specs.Prelude.{◌≡◌, ◌≤◌, ◌<◌, ◌+◌, ◌++◌, ◌∷◌, [], take, length, IfOk};
-ghost use Rattle.order_means.specs.Updates.{Cutting, cutting, updates_by};
+ghost use Rattle.order_means.specs.Updates.{Cutting, cutting, updates_by, updates_from};
 ghost use Rattle.order_means.specs.Updates.Stage.{Between};
-ghost use Rattle.host_updates.specs.Cutters.{Stands, Gives, step_of, step_by, body_by, place_after};
+ghost use Rattle.host_updates.specs.declared.state.State.TheVariants.{Open};
+ghost use Rattle.host_updates.specs.Cutters.{Stands, Gives, GoesOn, IsMissing, step_of, step_by, body_by, place_after};
 
-use crate::judge::judge;
+use crate::judge::{judge, length_of};
 use crate::state::State;
 use crate::{OutOfMemory, Step};
 use std::alloc::Global;
@@ -64,6 +65,20 @@ impl Cutter {
         step_of(self.state, start)
     }
 
+    /// Takes some of these bytes from the front, maybe none, by which no update ends and nothing is refused, and says how many.
+    pub fn take(&mut self, bytes: &[u8]) -> usize
+        ensures count { result ≤ length bytes.now }
+        ensures cut { (c : Cutting) → Stands c self.old → GoesOn c (updates_from c (take result bytes.now)) self.new }
+    {
+        let count = sure(self.state, &self.bytes[..self.count]).min(bytes.len());
+        if count == 0 {
+            return 0;
+        }
+        put_behind(&mut self.bytes, self.count, &bytes[..count]);
+        self.count += count;
+        count
+    }
+
     /// The body of the update whose packet the last byte ended; none else.
     pub fn body(&self) -> &[u8]
         ensures { result.now ≡ body_by self.now.state self.now.packet }
@@ -73,6 +88,27 @@ impl Cutter {
             _ => &[],
         }
     }
+}
+
+/// How many bytes of a packet that goes on are missing before its last one, where its length is there.
+fn sure(state: State, packet: &[u8]) -> usize
+    ensures { 0 < result → (state ≡ Open) × IsMissing packet.now result }
+{
+    match (state, packet) {
+        (State::Open, [_, _, high, low, ..]) => {
+            length_of(*high, *low).saturating_sub(packet.len() + 1)
+        }
+        _ => 0,
+    }
+}
+
+/// Puts bytes behind the first so many of others.
+fn put_behind(all: &mut [u8], count: usize, bytes: &[u8])
+    requires { count + length bytes.now ≤ length all.old }
+    ensures front { take (count + length bytes.now) all.new ≡ take count all.old ++ bytes.now }
+    ensures size { length all.new ≡ length all.old }
+{
+    all[count..count + bytes.len()].copy_from_slice(bytes);
 }
 
 /// Where the packet of the next byte begins, and how many bytes of it are there.

@@ -27,7 +27,7 @@ const LEAST_LENGTH: usize = 7;
 const LENGTH_OFFSET: u64 = 2;
 
 /// The number of two bytes, the highest first.
-fn length_of(high: u8, low: u8) -> usize
+pub(crate) fn length_of(high: u8, low: u8) -> usize
     ensures value { result ≡ 256 * high + low }
     ensures most { result ≤ 65535 }
 {

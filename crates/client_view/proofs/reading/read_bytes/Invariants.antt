@@ -1,4 +1,4 @@
-use Rattle.std.proofs.Common.{drop}
+use Rattle.std.proofs.Common.{drop, length, ◌≤◌, ◌-◌}
 use Rattle.order_means.specs.FrameMarks.{ClientReading, read_on}
 use Rattle.client_view.specs.Views.{SameViewer}
 use Rattle.client_view.specs.Clients.{StandFor}
@@ -6,8 +6,12 @@ use Rattle.client_view.proofs.Streams.{LeftBytes}
 use Rattle.client_view.proofs.reading.read_bytes.Given as goal
 
 -- what is left comes to what all came to
-abbrev pub invariant-loop-byte : goal.invariant-loop-byte
-invariant-loop-byte l = record {
-  left : (r : ClientReading) → StandFor r l.fn.viewer l.fn.cutter → LeftBytes l.fn.viewer.confirmed l.fn.viewer.pictures.size (read_on l.fn.viewer.confirmed l.fn.viewer.pictures.size r l.bytes) (drop l.byte-index l.bytes) l.viewer l.cutter;
+abbrev pub invariant-loop-at : goal.invariant-loop-at
+invariant-loop-at l = record {
+  left : (r : ClientReading) → StandFor r l.fn.viewer l.fn.cutter → LeftBytes l.fn.viewer.confirmed l.fn.viewer.pictures.size (read_on l.fn.viewer.confirmed l.fn.viewer.pictures.size r l.bytes) (drop l.at l.bytes) l.viewer l.cutter;
   same : SameViewer l.fn.viewer l.viewer;
+  within : l.at ≤ length l.bytes;
 }
+
+abbrev pub decreases-loop-at : goal.decreases-loop-at
+decreases-loop-at l = length l.bytes - l.at
