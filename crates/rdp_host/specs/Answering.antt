@@ -1,5 +1,5 @@
 -- The mode answer: its words, and the statuses that it ends with.
-use Rattle.std.specs.Prelude.{◌≡◌, ◌≢◌, ℕ, ◌+◌, min, List, [], ◌∷◌, Bool, Option, Some, None, IsTrue, codes, if◌then◌else◌}
+use Rattle.std.specs.Prelude.{◌≡◌, ◌≢◌, ℕ, ◌+◌, List, [], ◌∷◌, Bool, Option, Some, None, IsTrue, IfErr, codes, if◌then◌else◌}
 use Rattle.std.specs.Option.{option_and_then}
 use Rattle.std.specs.Bool.{then_some}
 use Rattle.std.specs.declared.result.Result.{Result}
@@ -10,7 +10,7 @@ use Rattle.line_text.specs.Words.{is_same_word}
 use Rattle.line_text.specs.Numbers.{number_up_to}
 use Rattle.script_rules.specs.Script.{is_name, size_with}
 use Rattle.host_words.specs.Words.{RequestOf}
-use Rattle.answer_run.specs.Serves.{RunsAnswer}
+use Rattle.answer_run.specs.Serves.{IsNumberedFault, RunsAnswer}
 use Rattle.answer_run.specs.Visits.{ReadsCause, WritesCause}
 use Rattle.answer_run.specs.declared.fault.AnswerFault.{AnswerFault}
 use Rattle.answer_run.specs.declared.fault.AnswerFault.TheVariants as fault
@@ -45,7 +45,7 @@ pub record IsServable (client : Client) : Type 0 where
 -- the exit status that an answer of a service is: 20 and the number of a refusal
 abbrev pub answer_status : Result (Unit {0}) AnswerFault → ℕ
 answer_status (Ok x) = 0
-answer_status (Err (fault.Refused k at)) = min (20 + k) 255
+answer_status (Err (fault.Refused k at)) = 20 + k
 answer_status (Err fault.Truncated) = 35
 answer_status (Err fault.NotInvited) = 36
 answer_status (Err fault.ReadFault) = 4
@@ -58,6 +58,7 @@ answer_status (Err fault.OutOfMemory) = 6
 pub record RunsService (status : ℕ) (client : Client) (before now : Outside) : Type 0 where
   pub answer : Result (Unit {0}) AnswerFault
   pub status_is : status ≡ answer_status answer
+  pub number : IfErr answer IsNumberedFault
   pub serves : RunsAnswer answer client.size client.owner before.left before.told now.told
   pub read_cause : ReadsCause answer before.reads now.reads
   pub write_cause : WritesCause answer before.writes now.writes

@@ -10,6 +10,9 @@ use Rattle.line_text.specs.Words.{is_same_word}
 use Rattle.host_words.specs.Words.{RequestOf, request_of}
 use Rattle.rdp_host.specs.declared.answering.Client.{Client}
 use Rattle.rdp_host.specs.Answering.{client_of}
+use Rattle.rdp_host.specs.declared.loading.Load.{Load}
+use Rattle.rdp_host.specs.Loading.{load_of}
+use Rattle.rdp_host.specs.Statuses.{script_status}
 use Rattle.rdp_host.specs.Outside.{Outside}
 use Rattle.script_run.specs.Run.{RunsScript, ReadsCause, WritesCause}
 use Rattle.script_run.specs.Steps.{IsWriteFault}
@@ -34,21 +37,26 @@ client_of_request (Some request) = if is_script_request (Some request) then None
 abbrev pub client_asked : List (List ℕ) → Option Client
 client_asked words = client_of_request (request_of words)
 
+-- the load that a request asks for
+abbrev pub load_of_request : Option RequestOf → Option Load
+load_of_request None = None
+load_of_request (Some request) = load_of request
+
+-- the load that the words ask for, by the mode demo
+abbrev pub load_asked : List (List ℕ) → Option Load
+load_asked words = load_of_request (request_of words)
+
+-- the words ask for a mode that reads the input
+abbrev pub asks_for_reading : List (List ℕ) → Bool
+asks_for_reading words = asks_for_script words || is_some (client_asked words)
+
 -- the words ask for a mode
 abbrev pub asks_for_mode : List (List ℕ) → Bool
-asks_for_mode words = asks_for_script words || is_some (client_asked words)
+asks_for_mode words = asks_for_reading words || is_some (load_asked words)
 
 -- what is printed where the words ask for no mode
 abbrev pub usage : List ℕ
 usage = codes "usage: rdp_host MODE ARGS" ++ 10 ∷ []
-
--- the exit status that an answer of a script's run is
-abbrev pub script_status : Result (Unit {0}) ScriptFault → ℕ
-script_status (Ok x) = 0
-script_status (Err (Line k rule)) = 3
-script_status (Err ReadFault) = 4
-script_status (Err WriteFault) = 5
-script_status (Err OutOfMemory) = 6
 
 -- the exit status that an answer of a write of the usage is
 abbrev pub usage_status : Result (Unit {0}) ScriptFault → ℕ

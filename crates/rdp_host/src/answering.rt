@@ -1,9 +1,10 @@
 //! The mode `answer`: its words, and the status that it ends with.
 
-ghost use Rattle.std.specs.Prelude.{◌≡◌, IsTrue, IfSome};
+ghost use Rattle.std.specs.Prelude.{◌≡◌, IsTrue, IfSome, IfErr};
 ghost use Rattle.px_core.specs.Rectangle.{is_session_size};
 ghost use Rattle.line_text.specs.Numbers.{number_up_to};
 ghost use Rattle.script_rules.specs.Script.{size_with};
+ghost use Rattle.answer_run.specs.Serves.{IsNumberedFault};
 ghost use Rattle.rdp_host.specs.Answering.{client_of, client_of_words, answer_status, IsServable};
 
 use crate::top::{DONE, OUT_OF_MEMORY, READ_FAULT, WRITE_FAULT};
@@ -23,7 +24,7 @@ const ARGS: usize = 3;
 /// The most columns, and the most rows, of a session's picture (profile).
 const MOST_SIDE: u64 = 2_048;
 
-/// What the number of a refusal is added to.
+/// What the number of a refusal, 1 to 14, is added to.
 const REFUSED: u8 = 20;
 
 /// The exit status where the stream ended within a packet, or before the client was ready.
@@ -93,11 +94,12 @@ fn session_size(w: u32, h: u32) -> Option<Size>
 
 /// The exit status that an answer of a service is.
 pub(crate) fn answer_status(answer: Result<(), AnswerFault>) -> u8
+    requires { IfErr answer IsNumberedFault }
     ensures { result ≡ answer_status answer }
 {
     match answer {
         Ok(()) => DONE,
-        Err(AnswerFault::Refused { k, .. }) => REFUSED.saturating_add(k),
+        Err(AnswerFault::Refused { k, .. }) => REFUSED + k,
         Err(AnswerFault::Truncated) => TRUNCATED,
         Err(AnswerFault::NotInvited) => NOT_INVITED,
         Err(AnswerFault::ReadFault) => READ_FAULT,

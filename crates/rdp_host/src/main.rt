@@ -1,12 +1,14 @@
-//! The session host: `rdp_host script` reads a script and writes the capture of what each viewer is sent, and `rdp_host answer W H OWNER`
-//! serves one client.
+//! The session host: `rdp_host script` reads a script and writes the capture of what each viewer is sent, `rdp_host answer W H OWNER`
+//! serves one client, and `rdp_host demo SEED STEPS` runs the demonstration load and writes the line of its counts.
 #![tactic(auto)]
 
 mod answering;
+mod loading;
 mod top;
 mod words;
 
 pub use answer_run::{AnswerFault, run_answer};
+pub use demo_run::run_demo;
 use edge_io::{FileIn, FileOut, PlanGate};
 pub use script_run::{ScriptFault, run_script};
 use std::process::ExitCode;

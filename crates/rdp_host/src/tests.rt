@@ -31,12 +31,19 @@ fn joined(alloc: Global, parts: &[&[u8]]) -> Result<Vec<u8>, Fail> {
     Ok(whole)
 }
 
-/// The words that ask for a mode.
-fn words(alloc: Global, mode: &str) -> Result<Vec<String>, Fail> {
+/// The program's name and these words.
+fn words_of(alloc: Global, others: &[&str]) -> Result<Vec<String>, Fail> {
     let mut words = Vec::new(alloc);
     words.push(String::from_str(alloc, "rdp_host")?)?;
-    words.push(String::from_str(alloc, mode)?)?;
+    for word in others {
+        words.push(String::from_str(alloc, word)?)?;
+    }
     Ok(words)
+}
+
+/// The words that ask for a mode.
+fn words(alloc: Global, mode: &str) -> Result<Vec<String>, Fail> {
+    words_of(alloc, &[mode])
 }
 
 #[test]
@@ -75,19 +82,48 @@ fn a_first_read_or_write_that_fails_gives_its_status(rt: HostRuntime) -> Result<
     Ok(())
 }
 
+/// What a load of no steps from seed 1 comes to: joins, loads and last takes.
+const NO_STEPS: &[u8] =
+    b"steps 0 entries 36 takes 16 marks 16 orders 16 tiles 0 bytes 1384 refused 0\n";
+
+#[test]
+fn a_demonstration_gives_the_line_of_its_counts(rt: HostRuntime) -> Result<(), Fail> {
+    let alloc = rt.alloc();
+    let words = words_of(alloc, &["demo", "1", "0"])?;
+    let mut input = Bytes::new(ONE_FRAME.to_vec(alloc)?, Vec::new(alloc));
+    let mut output = Keep::new(alloc);
+    let mut gate = PlanGate::new(alloc, Vec::new(alloc), Vec::new(alloc))?;
+    let answer = top(&rt, alloc, &words, &mut input, &mut output, &mut gate);
+    assert_eq!(rt; answer, 0);
+    assert_eq!(rt; output.bytes(), NO_STEPS);
+    let mut output = PlanSink::new(alloc, vec![in alloc; 1; 1]?);
+    let answer = top(&rt, alloc, &words, &mut input, &mut output, &mut gate);
+    assert_eq!(rt; answer, 5);
+    Ok(())
+}
+
 /// The line of words that ask for no mode.
 const USAGE: &[u8] = b"usage: rdp_host MODE ARGS\n";
 
 #[test]
 fn other_words_give_the_usage_line(rt: HostRuntime) -> Result<(), Fail> {
     let alloc = rt.alloc();
-    let words = words(alloc, "scripts")?;
-    let mut input = Bytes::new(ONE_FRAME.to_vec(alloc)?, Vec::new(alloc));
-    let mut output = Keep::new(alloc);
-    let mut gate = PlanGate::new(alloc, Vec::new(alloc), Vec::new(alloc))?;
-    let answer = top(&rt, alloc, &words, &mut input, &mut output, &mut gate);
-    assert_eq!(rt; answer, 2);
-    assert_eq!(rt; output.bytes(), USAGE);
+    // no mode, none of this name, a number with a leading zero, and a picture's width that isn't a multiple of four
+    let lists: [&[&str]; 4] = [
+        &[],
+        &["scripts"],
+        &["demo", "01", "5"],
+        &["answer", "62", "48", "ann"],
+    ];
+    for list in lists {
+        let words = words_of(alloc, list)?;
+        let mut input = Bytes::new(ONE_FRAME.to_vec(alloc)?, Vec::new(alloc));
+        let mut output = Keep::new(alloc);
+        let mut gate = PlanGate::new(alloc, Vec::new(alloc), Vec::new(alloc))?;
+        let answer = top(&rt, alloc, &words, &mut input, &mut output, &mut gate);
+        assert_eq!(rt; answer, 2);
+        assert_eq!(rt; output.bytes(), USAGE);
+    }
     Ok(())
 }
 
@@ -150,10 +186,7 @@ fn a_word_that_is_not_text_leaves_no_words(rt: HostRuntime) -> Result<(), Fail> 
 #[test]
 fn a_client_is_answered_by_its_stream(rt: HostRuntime) -> Result<(), Fail> {
     let alloc = rt.alloc();
-    let mut words = words(alloc, "answer")?;
-    for word in ["64", "48", "ann"] {
-        words.push(String::from_str(alloc, word)?)?;
-    }
+    let words = words_of(alloc, &["answer", "64", "48", "ann"])?;
     // the stream, what is written, and the status: an ultimatum, or nothing
     let streams: [(&[u8], &[u8], u8); 4] = [
         (&[3, 0, 0, 19, 14], &[], 35),

@@ -1,11 +1,16 @@
 ghost use Rattle.std.specs.Prelude.{◌≡◌, [], false, Some, None, map, string_bytes, IsTrue, IfSome};
 ghost use Rattle.rdp_host.specs.declared.answering.Client.{Client};
 ghost use Rattle.rdp_host.specs.Outside.{outside};
-ghost use Rattle.rdp_host.specs.Answering.{IsServable, RunsService};
-ghost use Rattle.rdp_host.specs.Top.{asks_for_script, asks_for_mode, client_asked, is_script_request, script_status, RunsMode, WritesUsage};
+ghost use Rattle.rdp_host.specs.declared.loading.Load.{Load};
+ghost use Rattle.rdp_host.specs.Answering.{client_of, IsServable, RunsService};
+ghost use Rattle.rdp_host.specs.Loading.{load_of, RunsDemo};
+ghost use Rattle.rdp_host.specs.Statuses.{script_status};
+ghost use Rattle.rdp_host.specs.Top.{asks_for_script, asks_for_reading, asks_for_mode, client_asked, load_asked, is_script_request, RunsMode, WritesUsage};
 
-use crate::answering::{Client, answer_status, client_of};
+use crate::answering::{answer_status, client_of};
+use crate::loading::load_of;
 use answer_run::run_answer;
+use demo_run::run_demo;
 use edge_io::{Gate, Sink, Source};
 use host_words::{OutOfMemory, Request};
 use line_text::is_same_word;
@@ -42,7 +47,8 @@ pub(crate) const OUT_OF_MEMORY: u8 = 6;
 ///
 /// The words are read by `clap` as one simple command with a mode and its arguments. `script` reads a script from the input and writes
 /// its capture to the output. `answer W H OWNER` serves one client, whose bytes come from the input, and whose answer goes to the output.
-/// Other words write the usage line. The gate isn't touched.
+/// `demo SEED STEPS` runs the demonstration load and writes the line that counts its run. Other words write the usage line. Only the
+/// first two modes touch the input, and none touches the gate.
 pub fn top<R: Threads + Wait + Sync, S: Source, K: Sink, G: Gate>(
     _rt: &R,
     alloc: Global,
@@ -64,38 +70,44 @@ pub fn top<R: Threads + Wait + Sync, S: Source, K: Sink, G: Gate>(
     ensures answer { (client : Client) → client_asked (map string_bytes words.now) ≡ Some client → RunsService result client
         (outside (S.left input.old) (K.told output.old) (S.faults input.old) (K.faults output.old))
         (outside (S.left input.new) (K.told output.new) (S.faults input.new) (K.faults output.new)) }
+    // The line of the demonstration load's counts, of which the marks are those that its viewers' clients read.
+    ensures demo { (load : Load) → load_asked (map string_bytes words.now) ≡ Some load
+        → RunsDemo result load (K.told output.old) (K.told output.new) (K.faults output.old) (K.faults output.new) }
     ensures usage { asks_for_mode (map string_bytes words.now) ≡ false
         → WritesUsage result (K.told output.old) (K.told output.new) (K.faults output.old) (K.faults output.new) }
-    ensures input { asks_for_mode (map string_bytes words.now) ≡ false → input.new ≡ input.old }
+    ensures input { asks_for_reading (map string_bytes words.now) ≡ false → input.new ≡ input.old }
     ensures gate { gate.new ≡ gate.old }
 {
     match Request::read(alloc, words) {
         Ok(Some(request)) if is_script(&request) => status(run_script(alloc, input, output)),
-        Ok(Some(request)) => serve(alloc, client_of(&request), input, output),
+        Ok(Some(request)) => run_other(alloc, &request, input, output),
         Ok(None) => refuse_words(output),
         Err(OutOfMemory) => OUT_OF_MEMORY,
     }
 }
 
-/// Serves a client, where there is one; else the words ask for no mode.
-fn serve<S: Source, K: Sink>(
+/// Does what a request of another mode than `script` asks for, where it asks for something.
+fn run_other<S: Source, K: Sink>(
     alloc: Global,
-    client: Option<Client>,
+    request: &Request<'_>,
     input: &mut S,
     output: &mut K,
 ) -> u8
-    requires { IfSome client IsServable }
-    ensures answer { IfSome client (λ client. RunsService result client
+    ensures answer { IfSome (client_of request.now) (λ client. RunsService result client
         (outside (S.left input.old) (K.told output.old) (S.faults input.old) (K.faults output.old))
         (outside (S.left input.new) (K.told output.new) (S.faults input.new) (K.faults output.new))) }
-    ensures usage { client ≡ None → WritesUsage result (K.told output.old) (K.told output.new) (K.faults output.old) (K.faults output.new) }
-    ensures input { client ≡ None → input.new ≡ input.old }
+    ensures demo { IfSome (load_of request.now) (λ load. RunsDemo result load
+        (K.told output.old) (K.told output.new) (K.faults output.old) (K.faults output.new)) }
+    ensures usage { client_of request.now ≡ None → load_of request.now ≡ None
+        → WritesUsage result (K.told output.old) (K.told output.new) (K.faults output.old) (K.faults output.new) }
+    ensures input { client_of request.now ≡ None → input.new ≡ input.old }
 {
-    match client {
-        Some(client) => {
-            let answer = run_answer(alloc, client.size, &client.owner, input, output);
-            answer_status(answer)
-        }
+    if let Some(client) = client_of(request) {
+        let answer = run_answer(alloc, client.size, &client.owner, input, output);
+        return answer_status(answer);
+    }
+    match load_of(request) {
+        Some(load) => status(run_demo(alloc, load.seed, load.steps, output)),
         None => refuse_words(output),
     }
 }

@@ -1,0 +1,4 @@
+pub mod Asks
+pub mod Watching
+pub mod Standing
+pub mod Sums
