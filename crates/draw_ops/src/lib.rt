@@ -12,6 +12,7 @@ mod rect_rule;
 mod rules;
 mod run;
 mod shape;
+mod shared_brush;
 
 pub use brush::Brush;
 pub use fault::BadDrawing;
@@ -22,6 +23,7 @@ pub use out_of_memory::OutOfMemory;
 pub use rect_rule::keeps_rect_rule;
 pub use run::Run;
 pub use shape::{Drawing, Shape};
+pub use shared_brush::SharedBrush;
 
 #[cfg(test)]
 mod tests;

@@ -1,7 +1,7 @@
-use crate::brush::Brush;
 use crate::glyph::Glyph;
 use crate::image::Image;
 use crate::run::Run;
+use crate::shared_brush::SharedBrush;
 use px_core::Rect;
 
 /// What a drawing does. Places and sides are in pixels; `rop` is the code of a ternary raster operation; `sx` and `sy` say which
@@ -83,7 +83,7 @@ pub enum Shape {
     /// Loads a brush into a slot.
     LoadBrush {
         slot: u8,
-        brush: Brush,
+        brush: SharedBrush,
     },
     /// Loads a glyph of a font.
     LoadGlyph {

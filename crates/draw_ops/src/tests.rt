@@ -1,4 +1,4 @@
-use crate::{Brush, Drawing, Glyph, Image, Run, Shape, valid};
+use crate::{Brush, Drawing, Glyph, Image, OutOfMemory, Run, Shape, SharedBrush, valid};
 use px_core::{Rect, Size};
 use std::test::Fail;
 
@@ -308,12 +308,24 @@ fn each_rule_can_be_the_least_that_is_broken(rt: HostRuntime) -> Result<(), Fail
 }
 
 #[test]
-fn a_brush_is_loaded_without_a_clip_alone(rt: HostRuntime) {
-    let brush = Brush::new(&[0; 64]);
+fn a_brush_is_loaded_without_a_clip_alone(rt: HostRuntime) -> Result<(), OutOfMemory> {
+    let first = SharedBrush::new(rt.alloc(), Brush::new(&[0; 64]))?;
+    let brush = first.share()?;
     assert_eq!(rt; least_rule(Shape::LoadBrush { slot: 63, brush }, None), 0);
+    let brush = first.share()?;
     assert_eq!(rt;
         least_rule(Shape::LoadBrush { slot: 64, brush }, Some(INSIDE)),
         2
     );
-    assert_eq!(rt; least_rule(Shape::LoadBrush { slot: 64, brush }, None), 5);
+    assert_eq!(rt;
+        least_rule(
+            Shape::LoadBrush {
+                slot: 64,
+                brush: first
+            },
+            None
+        ),
+        5
+    );
+    Ok(())
 }
