@@ -138,7 +138,7 @@ impl Board {
         } else {
             let load = unclipped(Shape::LoadBrush {
                 slot: BRUSH_SLOT,
-                brush: checkered(),
+                brush: checkered(alloc)?,
             });
             Vec::from_array(alloc, [load, pattern])?
         };

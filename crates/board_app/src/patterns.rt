@@ -4,7 +4,7 @@ ghost use Rattle.std.specs.Prelude.{◌≡◌, ◌<◌, ◌≤◌, ◌+◌, ◌*
 ghost use Rattle.session_rules.specs.Board.{checkered, shaded, sign_of};
 
 use crate::OutOfMemory;
-use draw_ops::{Brush, Glyph, Image};
+use draw_ops::{Brush, Glyph, Image, SharedBrush};
 use std::alloc::Global;
 
 /// White, and black.
@@ -28,10 +28,10 @@ const IMAGE_SIDE: u16 = 16;
 const SIGN_SIDE: u16 = 8;
 
 /// The checkered brush.
-pub fn checkered() -> Brush
-    ensures { result ≡ checkered }
+pub fn checkered(alloc: Global) -> Result<SharedBrush, OutOfMemory>
+    ensures { IfOk result (λ brush. brush ≡ checkered) }
 {
-    Brush::new(&CHECKERED)
+    SharedBrush::new(alloc, Brush::new(&CHECKERED))
 }
 
 /// The image in which red goes up to the right, and green downwards.
