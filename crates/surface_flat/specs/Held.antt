@@ -1,7 +1,6 @@
 -- What the slots of a surface hold, and what a drawing puts into them.
 use Rattle.std.specs.Prelude.{◌≡◌, ℕ, ◌*◌, ◌≤◌, List, [], ◌∷◌, length, Option, None, IfSome, IsTrue}
 use Rattle.px_core.specs.declared.rectangle.Rect.{Rect}
-use Rattle.std.specs.Arc.{arc_value}
 use Rattle.px_core.specs.declared.surface.Size.{Size}
 use Rattle.px_core.specs.Rectangle.{boxed, is_inside, IsPlaced}
 use Rattle.draw_ops.specs.declared.shape.Drawing.{Drawing}
@@ -34,7 +33,7 @@ held_in st = record { images = st.images; brushes = st.brushes; glyphs = st.glyp
 abbrev pub state_filled : Size → SurfaceState → Room → SurfaceState
 state_filled size st Nothing = st
 state_filled size st (Image slot image) = record st { images = filled_slot slot (loaded st image) st.images }
-state_filled size st (Brush slot brush) = record st { brushes = filled_slot slot (loaded st (arc_value brush)) st.brushes }
+state_filled size st (Brush slot brush) = record st { brushes = filled_slot slot (loaded st brush) st.brushes }
 state_filled size st (Glyph font code glyph) = record st { glyphs = filled_slot (glyph_slot font code) (loaded st glyph) st.glyphs }
 state_filled size st (Block slot rect block) = record st { blocks = filled_slot slot (block_of size st rect) st.blocks }
 

@@ -1,5 +1,5 @@
 -- Parts of a picture, and pictures of which an area was painted anew.
-use Rattle.std.specs.Prelude.{◌≡◌, ℕ, ◌+◌, ◌<◌, ◌≤◌, nat_le, nat_lt, Bool, false, ◌&&◌, pos, ◌+ℤ◌, ◌≤ℤ◌, List, length, Option, Some, None, if◌then◌else◌}
+use Rattle.std.specs.Prelude.{◌≡◌, ℕ, ◌+◌, ◌*◌, ◌<◌, ◌≤◌, nat_le, nat_lt, Bool, false, ◌&&◌, pos, ◌+ℤ◌, ◌≤ℤ◌, List, length, Option, Some, None, if◌then◌else◌}
 use Rattle.px_core.specs.declared.rectangle.Rect.{Rect}
 use Rattle.px_core.specs.declared.surface.Size.{Size}
 use Rattle.px_core.specs.Picture.{pixel_count, pixel_at}
@@ -47,6 +47,11 @@ pub record IsRectPart (rect : Rect) (part : Part) : Type 0 where
   pub y : rect.y ≡ pos part.y
   pub w : rect.w ≡ part.w
   pub h : rect.h ≡ part.h
+
+-- a list holds the first rows of a part of a picture, one after the other
+pub record AreFirstRows (size : Size) (ps : List ℕ) (part : Part) (rows : ℕ) (cut : List ℕ) : Type 0 where
+  pub sized : length cut ≡ part.w * rows
+  pub pixel : (u v : ℕ) → u < part.w → v < rows → pixel_at (record { w = part.w; h = rows }) cut 0 u v ≡ pixel_at size ps 0 (part.x + u) (part.y + v)
 
 -- a part lies within a rectangle
 pub record IsWithinRect (rect : Rect) (part : Part) : Type 0 where

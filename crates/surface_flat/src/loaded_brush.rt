@@ -1,10 +1,8 @@
 ghost use Rattle.std.specs.Prelude.{◌≡◌, IfOk};
 
 use crate::OutOfMemory;
-use draw_ops::Brush;
-use std::alloc::Global;
+use draw_ops::{Brush, SharedBrush};
 use std::marker::Model;
-use std::sync::Arc;
 
 /// A brush in its slot, with the number of the drawing that loaded it.
 ///
@@ -12,25 +10,22 @@ use std::sync::Arc;
 #[derive(Debug, Drop)]
 pub struct LoadedBrush {
     number: u64,
-    content: Arc<Brush>,
+    content: SharedBrush,
 }
 
 impl Model for LoadedBrush {
     ghost use Rattle.std.specs.Prelude.{ℕ, List};
-    ghost use Rattle.std.specs.Arc.{arc_value};
     ghost use Rattle.draw_ops.specs.Slots.{Loaded};
 
     ghost Value = { Loaded (List ℕ) };
 
-    ghost view = { λ s. record { number = s.number; content = arc_value s.content } };
+    ghost view = { λ s. record { number = s.number; content = s.content } };
 }
 
 impl LoadedBrush {
-    ghost use Rattle.std.specs.Arc.{arc_value};
-
     /// What a drawing of this number loads.
-    pub fn new(number: u64, content: Arc<Brush>) -> LoadedBrush
-        ensures { result ≡ record { number = number; content = arc_value content } }
+    pub fn new(number: u64, content: SharedBrush) -> LoadedBrush
+        ensures { result ≡ record { number = number; content = content } }
     {
         LoadedBrush { number, content }
     }
@@ -46,7 +41,7 @@ impl LoadedBrush {
     pub fn share(&self) -> Result<LoadedBrush, OutOfMemory>
         ensures { IfOk result (λ brush. brush ≡ self.now) }
     {
-        let content = Arc::try_clone(&self.content)?;
+        let content = self.content.share()?;
         Ok(LoadedBrush {
             number: self.number,
             content,
@@ -57,6 +52,6 @@ impl LoadedBrush {
     pub fn content(&self) -> &Brush
         ensures { result.now ≡ self.now.content }
     {
-        &self.content
+        self.content.brush()
     }
 }

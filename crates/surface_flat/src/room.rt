@@ -4,17 +4,16 @@ ghost use Rattle.surface_flat.specs.Held.{IsRoomFor, IsSmallSave};
 
 use crate::OutOfMemory;
 use crate::block::Block;
-use draw_ops::{Brush, Glyph, Image, Shape};
+use draw_ops::{Glyph, Image, Shape, SharedBrush};
 use px_core::Rect;
 use std::alloc::Global;
-use std::sync::Arc;
 
 /// What a drawing puts into a slot, with its memory. The pixels of a block are still to be copied.
 #[derive(Drop)]
 pub(crate) enum Room {
     Nothing,
     Image { slot: u8, image: Image },
-    Brush { slot: u8, brush: Arc<Brush> },
+    Brush { slot: u8, brush: SharedBrush },
     Glyph { font: u8, code: u8, glyph: Glyph },
     Block { slot: u8, rect: Rect, block: Block },
 }
@@ -31,7 +30,7 @@ impl Room {
                 Ok(Room::Image { slot: *slot, image })
             }
             Shape::LoadBrush { slot, brush } => {
-                let brush = Arc::new(alloc, *brush)?;
+                let brush = brush.share()?;
                 Ok(Room::Brush { slot: *slot, brush })
             }
             Shape::LoadGlyph { font, code, glyph } => {

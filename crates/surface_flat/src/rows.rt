@@ -1,12 +1,14 @@
 //! Stretches of rows, filled and copied.
-ghost use Rattle.std.specs.Prelude.{◌≡◌, ◌*◌, length, IsTrue};
+ghost use Rattle.std.specs.Prelude.{◌≡◌, ◌*◌, length, IfOk, IsTrue};
 ghost use Rattle.px_core.specs.Rectangle.{is_inside, cut_out};
 ghost use Rattle.surface_flat.specs.Parts.{in_part, IsCanvas, IsInside, IsRepainted};
 ghost use Rattle.surface_flat.specs.Textures.{texture_color, CoversPart};
 
+use crate::OutOfMemory;
 use crate::part::{Part, part_of};
 use crate::texture::Texture;
 use px_core::{Rect, Size};
+use std::alloc::Global;
 
 /// Gives every pixel of a part one colour. The colours of one row are made once, in `row`, and copied to each.
 pub(crate) fn fill_part(pixels: &mut [u32], size: Size, part: Part, color: u32, row: &mut [u32])
@@ -63,4 +65,25 @@ pub(crate) fn cut_rect(pixels: &[u32], size: Size, rect: Rect, out: &mut [u32])
         y: part.y,
     };
     paste_part(out, block, whole, texture)
+}
+
+/// The pixels of a rectangle that lies on the surface, row by row from the top, in a list of their own.
+pub(crate) fn cut_pixels(
+    alloc: Global,
+    pixels: &[u32],
+    size: Size,
+    rect: Rect,
+) -> Result<Vec<u32>, OutOfMemory>
+    requires canvas { IsCanvas size pixels.now }
+    requires inside { IsTrue (is_inside size rect) }
+    ensures { IfOk result (λ cut. cut.items ≡ cut_out size pixels.now 0 rect) }
+{
+    let part = part_of(size, rect);
+    let width = size.w as usize;
+    let mut cut = Vec::with_capacity(alloc, part.w * part.h)?;
+    for y in part.y..part.y + part.h {
+        let at = width * y + part.x;
+        cut.extend_from_slice(&pixels[at..at + part.w])?;
+    }
+    Ok(cut)
 }

@@ -18,7 +18,7 @@ use crate::loaded_glyph::LoadedGlyph;
 use crate::loaded_image::LoadedImage;
 use crate::paint::paint;
 use crate::room::Room;
-use crate::rows::cut_rect;
+use crate::rows::cut_pixels;
 use crate::slots::Slots;
 use draw_ops::Drawing;
 use out_of_memory::OutOfMemory;
@@ -197,9 +197,7 @@ impl Surface {
         ensures pixels { IfOk result (λ pixels. pixels.items ≡ cut_out self.now.size self.now.state.picture 0 r) }
         ensures colors { IfOk result (λ pixels. IsTrue (are_colors pixels.items)) }
     {
-        let mut pixels = black_pixels(self.alloc, r.w as usize * r.h as usize)?;
-        cut_rect(self.pixels.as_slice(), self.size, r, pixels.as_mut_slice());
-        Ok(pixels)
+        cut_pixels(self.alloc, self.pixels.as_slice(), self.size, r)
     }
 
     /// The sides in pixels.

@@ -4,7 +4,7 @@ ghost use Rattle.px_core.specs.Rectangle.{boxed};
 ghost use Rattle.draw_ops.specs.Ranges.{colors_of};
 
 use crate::{DrawFault, OutOfMemory, Surface};
-use draw_ops::{Brush, Drawing, Glyph, Image, Run, Shape, valid};
+use draw_ops::{Brush, Drawing, Glyph, Image, Run, Shape, SharedBrush, valid};
 use px_core::{Rect, Size};
 use std::alloc::Global;
 use std::process::Abort;
@@ -220,7 +220,7 @@ fn an_image_is_mixed_with_a_brush(rt: HostRuntime) -> Result<(), Fail> {
     let image = Image::new(rt.alloc(), 2, 2, &[0xFF0000, 0x00FF00, 0x0000FF, 0xFFFFFF])?;
     let load = Shape::LoadImage { slot: 255, image };
     assert!(rt; draw(&rt, &mut surface, load, None) == Ok(()));
-    let brush = Brush::new(&[0xFF00FF; 64]);
+    let brush = SharedBrush::new(rt.alloc(), Brush::new(&[0xFF00FF; 64]))?;
     let load = Shape::LoadBrush { slot: 63, brush };
     assert!(rt; draw(&rt, &mut surface, load, None) == Ok(()));
     // C0: pattern and source.
