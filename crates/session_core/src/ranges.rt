@@ -111,7 +111,7 @@ fn shape_is_in_range(shape: &Shape)
         }
         Shape::LoadBrush { slot, brush } => {
             byte_is_in_range(*slot);
-            let _pixels = brush.pixels();
+            let _pixels = brush.brush().pixels();
         }
         Shape::LoadGlyph { font, code, glyph } => {
             byte_is_in_range(*font);

@@ -111,7 +111,7 @@ fn share_shape(alloc: Global, shape: &Shape) -> Result<Shape, OutOfMemory>
         },
         Shape::LoadBrush { slot, brush } => Shape::LoadBrush {
             slot: *slot,
-            brush: *brush,
+            brush: brush.share()?,
         },
         Shape::LoadGlyph { font, code, glyph } => Shape::LoadGlyph {
             font: *font,

@@ -67,7 +67,7 @@ fn shown_at(
         | Shape::Copy { rect, .. }
         | Shape::Save { rect, .. } => Ok(bare(*rect)),
         Shape::Pat { rect, brush, .. } => {
-            let brush = brush_after(alloc, surface, before, *brush)?;
+            let brush = brush_after(surface, before, *brush)?;
             with_held(alloc, *rect, None, brush, Vec::new(alloc))
         }
         Shape::Blit { rect, image, .. } => {
@@ -81,7 +81,7 @@ fn shown_at(
             ..
         } => {
             let image = image_after(surface, before, *image)?;
-            let brush = brush_after(alloc, surface, before, *brush)?;
+            let brush = brush_after(surface, before, *brush)?;
             with_held(alloc, *rect, image, brush, Vec::new(alloc))
         }
         Shape::Text {

@@ -11,7 +11,6 @@ use crate::filled::{Slot, glyph_slot, last_filling};
 use draw_ops::{Drawing, Shape};
 use px_core::Size;
 use std::alloc::Global;
-use std::sync::Arc;
 use surface_flat::{LoadedBrush, LoadedGlyph, LoadedImage, Surface};
 
 /// The image in a slot.
@@ -52,7 +51,6 @@ pub fn shared_image(image: Option<&LoadedImage>) -> Result<Option<LoadedImage>, 
 
 /// The brush in a slot, which is below 64.
 pub fn brush_after(
-    alloc: Global,
     surface: &Surface,
     before: &[Drawing],
     slot: u8,
@@ -63,20 +61,17 @@ pub fn brush_after(
 {
     surface.is_sound();
     match last_filling(Slot::Brush(slot), before) {
-        Some(i) => loaded_brush(alloc, &before[i], surface.count() + i as u64 + 1),
+        Some(i) => loaded_brush(&before[i], surface.count() + i as u64 + 1),
         None => shared_brush(surface.brush(slot)),
     }
 }
 
 /// The brush that a drawing loads as the n-th.
-fn loaded_brush(alloc: Global, d: &Drawing, n: u64) -> Result<Option<LoadedBrush>, OutOfMemory>
+fn loaded_brush(d: &Drawing, n: u64) -> Result<Option<LoadedBrush>, OutOfMemory>
     ensures { IfOk result (λ brush. brush ≡ brush_load d.now.shape n) }
 {
     match &d.shape {
-        Shape::LoadBrush { brush, .. } => {
-            let brush = Arc::new(alloc, *brush)?;
-            Ok(Some(LoadedBrush::new(n, brush)))
-        }
+        Shape::LoadBrush { brush, .. } => Ok(Some(LoadedBrush::new(n, brush.share()?))),
         _ => Ok(None),
     }
 }
