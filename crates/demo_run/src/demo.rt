@@ -75,7 +75,7 @@ impl Demo {
         ensures { OnOk result ((done : List Asked) → Stands done self.old → Stands (done ++ listed 4 0 (λ slot. draw_by 1 (brush_load slot))) self.new) }
     {
         for slot in 0..BRUSHES {
-            self.ask(draw(OWNER, brush_load(slot)))?;
+            self.ask(draw(OWNER, brush_load(self.alloc, slot)?))?;
         }
         Ok(())
     }

@@ -7,7 +7,7 @@ ghost use Rattle.session_rules.specs.Board.{sign_of};
 ghost use Rattle.demo_rules.specs.Scene.{image_color, image_load, brush_load, glyph_load};
 
 use crate::OutOfMemory;
-use draw_ops::{Brush, Glyph, Image, Shape};
+use draw_ops::{Brush, Glyph, Image, Shape, SharedBrush};
 use std::alloc::Global;
 
 /// The side of an image in pixels, and of a glyph.
@@ -51,15 +51,15 @@ fn image_color(slot: u8) -> u32
 }
 
 /// Loads a brush in one colour into a slot.
-pub(crate) fn brush_load(slot: u8) -> Shape
+pub(crate) fn brush_load(alloc: Global, slot: u8) -> Result<Shape, OutOfMemory>
     requires { slot < 4 }
-    ensures value { result ≡ brush_load slot }
-    ensures colors { are_colors (colors_of result) ≡ true }
+    ensures value { IfOk result (λ shape. shape ≡ brush_load slot) }
+    ensures colors { IfOk result (λ shape. are_colors (colors_of shape) ≡ true) }
 {
     let color = (u32::from(slot) + 1) * BRUSH_COLORS;
     let pixels = [color; 64];
-    let brush = Brush::new(&pixels);
-    Shape::LoadBrush { slot, brush }
+    let brush = SharedBrush::new(alloc, Brush::new(&pixels))?;
+    Ok(Shape::LoadBrush { slot, brush })
 }
 
 /// Loads the sign of a letter as a glyph.

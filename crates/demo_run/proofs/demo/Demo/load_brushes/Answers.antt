@@ -12,5 +12,5 @@ loop-slot-preserved c = λ done s.
     let first : i ≡ 0 + i = omega arith in
     listed_on c.ask.new.self (λ slot. draw_by 1 (brush_load slot)) i 0 _ done
     (ap (λ v. without_preset (step_of v c.draw.result.step)) c.draw.ensures.viewer
-    ∙ (ap without_preset c.draw.ensures.value ∙ (ap (draw_by 1) c.brush_load.ensures.value ∙ ap (λ k. draw_by 1 (brush_load k)) first)))
+    ∙ (ap without_preset c.draw.ensures.value ∙ (ap (draw_by 1) c.in_ok-brush_load.ensures.value ∙ ap (λ k. draw_by 1 (brush_load k)) first)))
     (c.in_ok-ask.ensures (done ++ listed i 0 (λ slot. draw_by 1 (brush_load slot))) (c.loop-slot.invariant done s))
