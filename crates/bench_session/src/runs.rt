@@ -35,7 +35,7 @@ pub fn run(alloc: Global, request: Request) -> Result<u32, Fault> {
     let mut session = opened(alloc)?;
     let image = image(alloc)?;
     draw(&mut session, load_image(&image)?)?;
-    draw(&mut session, load_brush())?;
+    draw(&mut session, load_brush(alloc)?)?;
     draw(&mut session, load_letter(alloc)?)?;
     for _ in 0..request.count {
         draw(&mut session, shape_of(alloc, request.kind, &image)?)?;

@@ -3,7 +3,7 @@ ghost use Rattle.std.specs.Prelude.{◌≡◌, true, IfOk, replicate};
 ghost use Rattle.px_core.specs.Colors.{are_colors};
 ghost use Rattle.draw_ops.specs.Ranges.{colors_of};
 
-use draw_ops::{Brush, Glyph, Image, OutOfMemory, Run, Shape};
+use draw_ops::{Brush, Glyph, Image, OutOfMemory, Run, Shape, SharedBrush};
 use px_core::Rect;
 use std::alloc::Global;
 
@@ -96,13 +96,11 @@ fn image_pixels(alloc: Global) -> Result<Vec<u32>, OutOfMemory>
 }
 
 /// The load of the brush.
-pub fn load_brush() -> Shape
-    ensures { are_colors (colors_of result) ≡ true }
+pub fn load_brush(alloc: Global) -> Result<Shape, OutOfMemory>
+    ensures { IfOk result (λ shape. are_colors (colors_of shape) ≡ true) }
 {
-    Shape::LoadBrush {
-        slot: 0,
-        brush: Brush::new(&[BRUSH_COLOR; 64]),
-    }
+    let brush = SharedBrush::new(alloc, Brush::new(&[BRUSH_COLOR; 64]))?;
+    Ok(Shape::LoadBrush { slot: 0, brush })
 }
 
 /// The load of the letter.
