@@ -12,7 +12,7 @@ ghost use Rattle.order_fields.specs.OrderDelta.{change, is_anew, is_moved, edge_
 ghost use Rattle.order_fields.specs.Kept.{edges_in, optional_edges};
 
 use crate::change::{Change, change_of};
-use crate::number::{difference_byte, put_low, signed_two_bytes};
+use crate::number::{difference_byte, put_byte, put_low, signed_two_bytes};
 use px_core::Rect;
 use wire_num::OutOfMemory;
 
@@ -156,15 +156,6 @@ fn put_changed(out: &mut Vec<u8>, old: Bounds, new: Bounds) -> Result<(), OutOfM
 {
     put_byte(out, flags_between(old, new))?;
     put_edges(out, old, new)
-}
-
-/// Writes one byte.
-pub fn put_byte(out: &mut Vec<u8>, byte: u8) -> Result<(), OutOfMemory>
-    ensures ok { OnOk result (out.new.items ≡ out.old.items ++ byte ∷ []) }
-    ensures memory { OnErr result (AppendsFront out.old.items (byte ∷ []) out.new.items) }
-{
-    out.push(byte)?;
-    Ok(())
 }
 
 /// Writes the bounds of an order, where it has some and they must stand there.

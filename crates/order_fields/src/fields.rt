@@ -63,12 +63,29 @@ impl Fields {
         requires { IsFieldList (field_list kind values.now []) }
         ensures { result ≡ field_list kind values.now [] }
     {
-        Fields {
+        let mut fields = Fields {
             kind,
-            values: padded(values),
+            values: [0; MOST_VALUES],
             count: values.len(),
             counted: None,
-        }
+        };
+        put_front(&mut fields.values, values);
+        fields
+    }
+
+    /// A field list of its type, its values and its counted bytes, where it has some, whose vector it takes over.
+    pub fn of(kind: u8, values: &[i64], counted: Option<Vec<u8>>) -> Fields
+        requires { IsFieldList (field_list kind values.now (optional_bytes counted)) }
+        ensures { result ≡ field_list kind values.now (optional_bytes counted) }
+    {
+        let mut fields = Fields {
+            kind,
+            values: [0; MOST_VALUES],
+            count: values.len(),
+            counted,
+        };
+        put_front(&mut fields.values, values);
+        fields
     }
 
     /// The order's type.
@@ -87,7 +104,7 @@ impl Fields {
     }
 
     /// All values, in the table's order.
-    pub(crate) fn values(&self) -> &[i64]
+    pub fn values(&self) -> &[i64]
         ensures value { result.now ≡ self.now.values.numbers }
         ensures fits { IsFieldList self.now }
     {

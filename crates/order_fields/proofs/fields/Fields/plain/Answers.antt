@@ -3,5 +3,5 @@ use Rattle.order_fields.specs.OrderTable.{field_list}
 use Rattle.order_fields.proofs.Rows.{few_values}
 use Rattle.order_fields.proofs.fields.Fields.plain.Goals as goal
 
-pub padded-requires : goal.padded-requires
-padded-requires c = few_values (field_list c.args.kind c.args.values.now []) c.requires
+pub put_front-requires : goal.put_front-requires
+put_front-requires c = few_values (field_list c.args.kind c.args.values.now []) c.requires
