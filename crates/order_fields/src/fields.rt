@@ -73,19 +73,23 @@ impl Fields {
         fields
     }
 
-    /// A field list of its type, its values and its counted bytes, where it has some, whose vector it takes over.
-    pub fn of(kind: u8, values: &[i64], counted: Option<Vec<u8>>) -> Fields
-        requires { IsFieldList (field_list kind values.now (optional_bytes counted)) }
-        ensures { result ≡ field_list kind values.now (optional_bytes counted) }
+    /// A field list of its type, of so many values at the front of an array, and of its counted bytes, where it has some, whose vector it takes over.
+    pub fn of_front(
+        kind: u8,
+        values: [i64; 21],
+        count: usize,
+        counted: Option<Vec<u8>>,
+    ) -> Fields
+        requires few { count ≤ 21 }
+        requires fits { IsFieldList (field_list kind (take count values) (optional_bytes counted)) }
+        ensures { result ≡ field_list kind (take count values) (optional_bytes counted) }
     {
-        let mut fields = Fields {
+        Fields {
             kind,
-            values: [0; MOST_VALUES],
-            count: values.len(),
+            values,
+            count,
             counted,
-        };
-        put_front(&mut fields.values, values);
-        fields
+        }
     }
 
     /// The order's type.

@@ -1,7 +1,7 @@
 //! What a reader of orders takes from the registers, and keeps in them.
 
 ghost use Rattle.std.specs.Prelude.{◌≡◌, is_some};
-ghost use Rattle.order_fields.specs.OrderTable.{row_of, last_values, registers_after, AreRegisters, FitEdges, FitBounds};
+ghost use Rattle.order_fields.specs.OrderTable.{row_of, last_values, registers_after, AreRegisters, FitEdges, FitBounds, field_list, IsFieldList};
 ghost use Rattle.order_fields.specs.Kept.{edges_in, optional_edges};
 
 use crate::bounds::{Bounds, bounds_after};
@@ -64,8 +64,17 @@ impl Regs {
         ensures { self.new ≡ registers_after self.old o.now (optional_edges bounds) }
     {
         let values = o.values();
-        self.last = o.kind();
-        self.lasts.keep(o.kind(), values, o.bytes());
+        self.keep_values(o.kind(), values, o.bytes(), bounds);
+    }
+
+    /// The same of an order by its type, its values and its counted bytes.
+    pub fn keep_values(&mut self, kind: u8, values: &[i64], bytes: &[u8], bounds: Option<Bounds>)
+        requires fits { IsFieldList (field_list kind values.now bytes.now) }
+        requires bounds { FitBounds (optional_edges bounds) }
+        ensures { self.new ≡ registers_after self.old (field_list kind values.now bytes.now) (optional_edges bounds) }
+    {
+        self.last = kind;
+        self.lasts.keep(kind, values, bytes);
         self.bounds = bounds_after(self.bounds, bounds);
     }
 }

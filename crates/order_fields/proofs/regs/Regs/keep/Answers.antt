@@ -1,9 +1,0 @@
-use Rattle.order_fields.specs.Kept.{registers_of, optional_edges}
-use Rattle.order_fields.proofs.Rows.{registers_kept}
-use Rattle.order_fields.proofs.regs.Regs.keep.Goals as goal
-
-pub invariant_of-self : goal.invariant_of-self
-invariant_of-self c =
-    let old = registers_of c.self.inside.last c.self.inside.lasts c.self.inside.bounds in
-    let kept = registers_kept old c.args.o.now (optional_edges c.args.bounds) c.self.invariant.0 c.values-values.ensures.fits c.requires in
-    (rw (c.keep.ensures.kept, c.bounds_after-self-inside.ensures, c.kind-self-inside.ensures, c.kind.ensures, c.values-values.ensures.value, c.bytes.ensures) kept, c.keep.ensures.count)
