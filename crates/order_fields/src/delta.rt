@@ -1,4 +1,4 @@
-ghost use Rattle.std.specs.Prelude.{◌≡◌, ◌≤◌, ◌<◌, ◌^◌, suc, length, true, ◌-ℤ◌};
+ghost use Rattle.std.specs.Prelude.{◌≡◌, ◌≤◌, ◌<◌, ◌^◌, ◌||◌, ◌&&◌, suc, length, true, ◌-ℤ◌};
 ghost use Rattle.std.specs.Ordering.{int_eq};
 ghost use Rattle.order_fields.specs.OrderTable.{FitKinds, FitsKind, fits_coordinate};
 ghost use Rattle.order_fields.specs.OrderDelta.{Field, fields_of, is_unchanged as same_field, is_near as near_field, is_present_coordinate as present_field, is_byte as byte_difference, any_coordinate as has_coordinate, all_near as are_near, takes_deltas as takes, flag as flag_of, flags_of, shown as shown_of, same_list, keeps_bytes};
@@ -36,47 +36,6 @@ fn is_present_coordinate(kind: FieldKind, last: i64, value: i64) -> bool
     }
 }
 
-/// Whether a coordinate stands there.
-fn any_coordinate(kinds: &[FieldKind], last: &[i64], values: &[i64]) -> bool
-    requires lasts { length last.now ≡ length kinds.now }
-    requires count { length values.now ≡ length kinds.now }
-    ensures { result ≡ has_coordinate (fields_of kinds.now last.now values.now) }
-{
-    for i in 0..kinds.len() {
-        if is_present_coordinate(kinds[i], last[i], values[i]) {
-            return true;
-        }
-    }
-    false
-}
-
-/// Whether every field bears the delta form.
-fn all_near(kinds: &[FieldKind], last: &[i64], values: &[i64]) -> bool
-    requires lasts { length last.now ≡ length kinds.now }
-    requires count { length values.now ≡ length kinds.now }
-    requires last { FitKinds kinds.now last.now }
-    requires values { FitKinds kinds.now values.now }
-    ensures { result ≡ are_near (fields_of kinds.now last.now values.now) }
-{
-    for i in 0..kinds.len() {
-        if !is_near(kinds[i], last[i], values[i]) {
-            return false;
-        }
-    }
-    true
-}
-
-/// Whether an order is written in the delta form.
-pub fn takes_deltas(kinds: &[FieldKind], last: &[i64], values: &[i64]) -> bool
-    requires lasts { length last.now ≡ length kinds.now }
-    requires count { length values.now ≡ length kinds.now }
-    requires last { FitKinds kinds.now last.now }
-    requires values { FitKinds kinds.now values.now }
-    ensures { result ≡ takes (fields_of kinds.now last.now values.now) }
-{
-    any_coordinate(kinds, last, values) && all_near(kinds, last, values)
-}
-
 /// The flag of a field: 1 where its value differs from the last one.
 fn changed_flag(last: i64, value: i64) -> u32
     ensures flag { result ≡ flag_of (int_eq last value) }
@@ -85,19 +44,53 @@ fn changed_flag(last: i64, value: i64) -> u32
     u32::from(last != value)
 }
 
-/// The flags of an order's fields, the first the lowest, and above them that of the counted bytes.
-pub fn changed_flags(kinds: &[FieldKind], last: &[i64], values: &[i64], keeps: bool) -> u32
+/// Whether one of two holds.
+fn either(first: bool, second: bool) -> bool
+    ensures { result ≡ (first || second) }
+{
+    first || second
+}
+
+/// Whether two hold.
+fn both(first: bool, second: bool) -> bool
+    ensures { result ≡ (first && second) }
+{
+    first && second
+}
+
+/// What the fields of an order come to against their last values.
+#[derive(Clone, Copy)]
+pub struct Changes {
+    /// The flags of the fields, the first the lowest, and above them that of the counted bytes.
+    pub flags: u32,
+    /// Whether the order is written in the delta form.
+    pub delta: bool,
+}
+
+/// The flags of an order's fields, and whether it is written in the delta form.
+pub fn changes_of(kinds: &[FieldKind], last: &[i64], values: &[i64], keeps: bool) -> Changes
     requires lasts { length last.now ≡ length kinds.now }
     requires count { length values.now ≡ length kinds.now }
     requires few { length kinds.now ≤ 21 }
-    ensures flags { result ≡ flags_of (fields_of kinds.now last.now values.now) keeps }
-    ensures bound { result < 2 ^ suc (length kinds.now) }
+    requires last { FitKinds kinds.now last.now }
+    requires values { FitKinds kinds.now values.now }
+    ensures flags { result.flags ≡ flags_of (fields_of kinds.now last.now values.now) keeps }
+    ensures bound { result.flags < 2 ^ suc (length kinds.now) }
+    ensures delta { result.delta ≡ takes (fields_of kinds.now last.now values.now) }
 {
     let mut flags = u32::from(!keeps);
+    let mut any = false;
+    let mut near = true;
     for i in (0..kinds.len()).rev() {
-        flags = 2 * flags + changed_flag(last[i], values[i]);
+        let (kind, last, value) = (kinds[i], last[i], values[i]);
+        flags = 2 * flags + changed_flag(last, value);
+        any = either(is_present_coordinate(kind, last, value), any);
+        near = both(is_near(kind, last, value), near);
     }
-    flags
+    Changes {
+        flags,
+        delta: both(any, near),
+    }
 }
 
 /// How many flag bytes stand there: all but the zero bytes at the end.

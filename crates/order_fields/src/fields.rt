@@ -74,12 +74,7 @@ impl Fields {
     }
 
     /// A field list of its type, of so many values at the front of an array, and of its counted bytes, where it has some, whose vector it takes over.
-    pub fn of_front(
-        kind: u8,
-        values: [i64; 21],
-        count: usize,
-        counted: Option<Vec<u8>>,
-    ) -> Fields
+    pub fn of_front(kind: u8, values: [i64; 21], count: usize, counted: Option<Vec<u8>>) -> Fields
         requires few { count ≤ 21 }
         requires fits { IsFieldList (field_list kind (take count values) (optional_bytes counted)) }
         ensures { result ≡ field_list kind (take count values) (optional_bytes counted) }

@@ -16,7 +16,7 @@ ghost use Rattle.order_fields.specs.OrderTable.{FitKinds, FitsKind, FitEdges, Fi
 ghost use Rattle.order_fields.specs.OrderDelta.{Field, fields_of, is_near as near_field, value_bytes, field_bytes, present_bytes, counted_bytes, all_near, control_byte as control_of, has_bounds, order_bytes, type_bytes, shown as shown_of, bounds_bytes};
 
 use crate::bounds::{Bounds, keeps_bounds, put_bounds};
-use crate::delta::{are_kept, changed_flags, shown, takes_deltas};
+use crate::delta::{are_kept, changes_of, shown};
 use crate::lasts::Lasts;
 use crate::number::{difference_byte, put_low, signed_two_bytes};
 use crate::table::{flag_bytes_of, is_counted, kinds_of};
@@ -199,16 +199,15 @@ pub fn put_order(
     let bytes = o.bytes();
     let counted = is_counted(kind);
     let keeps = are_kept(counted, last_bytes, bytes);
-    let flags = changed_flags(kinds, last, values, keeps);
-    let delta = takes_deltas(kinds, last, values);
+    let changes = changes_of(kinds, last, values, keeps);
     let typed = is_typed(last_kind, kind);
     let keeps_edges = keeps_bounds(confirmed, old, new);
     let all = flag_bytes_of(kind);
-    let some = shown(flags);
+    let some = shown(changes.flags);
     let bounded = is_bounded(new);
-    let control = control_byte(bounded, typed, delta, keeps_edges, all - some);
+    let control = control_byte(bounded, typed, changes.delta, keeps_edges, all - some);
     put_head(out, control, typed, kind)?;
-    put_low(out, usize::from(some), u64::from(flags))?;
+    put_low(out, usize::from(some), u64::from(changes.flags))?;
     put_bounds(out, keeps_edges, old, new)?;
-    put_fields(out, kinds, delta, last, values, keeps, bytes)
+    put_fields(out, kinds, changes.delta, last, values, keeps, bytes)
 }

@@ -11,23 +11,13 @@ use Rattle.order_fields.proofs.Sent.{both_sent, both_cut}
 use Rattle.order_fields.proofs.Parts.{ready, order_from_parts}
 use Rattle.order_fields.proofs.write.put_order.Goals as goal
 
-pub changed_flags-flags-requires-clause-lasts : goal.changed_flags-flags-requires-clause-lasts
-changed_flags-flags-requires-clause-lasts c =
+pub changes_of-changes-requires-clause-lasts : goal.changes_of-changes-requires-clause-lasts
+changes_of-changes-requires-clause-lasts c =
     let r = ready (registers_of c.args.last_kind c.args.lasts.now c.args.old) c.args.o.now c.requires.registers c.requires.fits in
     rw (c.values-last.ensures, c.kinds_of-kinds.ensures, c.kind-kind.ensures) r.lasts
 
-pub changed_flags-flags-requires-clause-count : goal.changed_flags-flags-requires-clause-count
-changed_flags-flags-requires-clause-count c =
-    let r = ready (registers_of c.args.last_kind c.args.lasts.now c.args.old) c.args.o.now c.requires.registers c.requires.fits in
-    rw (c.values-values.ensures.value, c.kinds_of-kinds.ensures, c.kind-kind.ensures) r.count
-
-pub takes_deltas-delta-requires-clause-lasts : goal.takes_deltas-delta-requires-clause-lasts
-takes_deltas-delta-requires-clause-lasts c =
-    let r = ready (registers_of c.args.last_kind c.args.lasts.now c.args.old) c.args.o.now c.requires.registers c.requires.fits in
-    rw (c.values-last.ensures, c.kinds_of-kinds.ensures, c.kind-kind.ensures) r.lasts
-
-pub takes_deltas-delta-requires-clause-count : goal.takes_deltas-delta-requires-clause-count
-takes_deltas-delta-requires-clause-count c =
+pub changes_of-changes-requires-clause-count : goal.changes_of-changes-requires-clause-count
+changes_of-changes-requires-clause-count c =
     let r = ready (registers_of c.args.last_kind c.args.lasts.now c.args.old) c.args.o.now c.requires.registers c.requires.fits in
     rw (c.values-values.ensures.value, c.kinds_of-kinds.ensures, c.kind-kind.ensures) r.count
 
@@ -46,12 +36,12 @@ returns-in_err-put_head-clause-memory c =
     let regs = registers_of c.args.last_kind c.args.lasts.now c.args.old in
     let bounds = optional_edges c.args.new in
     let kind = c.kind-kind.result in
-    let flags = c.changed_flags-flags.result in
+    let flags = c.changes_of-changes.result.flags in
     let kinds = c.kinds_of-kinds.result.now in
     let last = c.values-last.result.now in
     let values = c.values-values.result.now in
     let bytes = c.bytes-bytes.result.now in
-    let delta = c.takes_deltas-delta.result in
+    let delta = c.changes_of-changes.result.delta in
     let typed = c.is_typed-typed.result in
     let keeps_edges = c.keeps_bounds-keeps_edges.result in
     let keeps = c.are_kept-keeps.result in
@@ -60,7 +50,7 @@ returns-in_err-put_head-clause-memory c =
     let same_control : control ≡ control_byte (has_bounds bounds) typed delta keeps_edges (row_flags (row_of kind) - shown flags) =
     rw (c.is_bounded-bounded.ensures, c.flag_bytes_of-all.ensures, c.shown-some.ensures.shown) at c.control_byte-control.ensures in
     let whole = order_from_parts regs c.args.confirmed c.args.o.now bounds c.requires.fits control typed delta keeps_edges keeps kind flags kinds last values bytes
-    c.kind-kind.ensures c.kinds_of-kinds.ensures c.values-last.ensures c.values-values.ensures.value c.bytes-bytes.ensures same_keeps c.changed_flags-flags.ensures.flags c.takes_deltas-delta.ensures
+    c.kind-kind.ensures c.kinds_of-kinds.ensures c.values-last.ensures c.values-values.ensures.value c.bytes-bytes.ensures same_keeps c.changes_of-changes.ensures.flags c.changes_of-changes.ensures.delta
     c.is_typed-typed.ensures c.keeps_bounds-keeps_edges.ensures same_control in
     let a = control ∷ type_bytes typed kind in
     let b = little_bytes (shown flags) flags in
@@ -76,12 +66,12 @@ returns-in_err-put_low-clause-memory c =
     let regs = registers_of c.args.last_kind c.args.lasts.now c.args.old in
     let bounds = optional_edges c.args.new in
     let kind = c.kind-kind.result in
-    let flags = c.changed_flags-flags.result in
+    let flags = c.changes_of-changes.result.flags in
     let kinds = c.kinds_of-kinds.result.now in
     let last = c.values-last.result.now in
     let values = c.values-values.result.now in
     let bytes = c.bytes-bytes.result.now in
-    let delta = c.takes_deltas-delta.result in
+    let delta = c.changes_of-changes.result.delta in
     let typed = c.is_typed-typed.result in
     let keeps_edges = c.keeps_bounds-keeps_edges.result in
     let keeps = c.are_kept-keeps.result in
@@ -90,7 +80,7 @@ returns-in_err-put_low-clause-memory c =
     let same_control : control ≡ control_byte (has_bounds bounds) typed delta keeps_edges (row_flags (row_of kind) - shown flags) =
     rw (c.is_bounded-bounded.ensures, c.flag_bytes_of-all.ensures, c.shown-some.ensures.shown) at c.control_byte-control.ensures in
     let whole = order_from_parts regs c.args.confirmed c.args.o.now bounds c.requires.fits control typed delta keeps_edges keeps kind flags kinds last values bytes
-    c.kind-kind.ensures c.kinds_of-kinds.ensures c.values-last.ensures c.values-values.ensures.value c.bytes-bytes.ensures same_keeps c.changed_flags-flags.ensures.flags c.takes_deltas-delta.ensures
+    c.kind-kind.ensures c.kinds_of-kinds.ensures c.values-last.ensures c.values-values.ensures.value c.bytes-bytes.ensures same_keeps c.changes_of-changes.ensures.flags c.changes_of-changes.ensures.delta
     c.is_typed-typed.ensures c.keeps_bounds-keeps_edges.ensures same_control in
     let a = control ∷ type_bytes typed kind in
     let b = little_bytes (shown flags) flags in
@@ -106,12 +96,12 @@ returns-in_err-put_bounds-clause-memory c =
     let regs = registers_of c.args.last_kind c.args.lasts.now c.args.old in
     let bounds = optional_edges c.args.new in
     let kind = c.kind-kind.result in
-    let flags = c.changed_flags-flags.result in
+    let flags = c.changes_of-changes.result.flags in
     let kinds = c.kinds_of-kinds.result.now in
     let last = c.values-last.result.now in
     let values = c.values-values.result.now in
     let bytes = c.bytes-bytes.result.now in
-    let delta = c.takes_deltas-delta.result in
+    let delta = c.changes_of-changes.result.delta in
     let typed = c.is_typed-typed.result in
     let keeps_edges = c.keeps_bounds-keeps_edges.result in
     let keeps = c.are_kept-keeps.result in
@@ -120,7 +110,7 @@ returns-in_err-put_bounds-clause-memory c =
     let same_control : control ≡ control_byte (has_bounds bounds) typed delta keeps_edges (row_flags (row_of kind) - shown flags) =
     rw (c.is_bounded-bounded.ensures, c.flag_bytes_of-all.ensures, c.shown-some.ensures.shown) at c.control_byte-control.ensures in
     let whole = order_from_parts regs c.args.confirmed c.args.o.now bounds c.requires.fits control typed delta keeps_edges keeps kind flags kinds last values bytes
-    c.kind-kind.ensures c.kinds_of-kinds.ensures c.values-last.ensures c.values-values.ensures.value c.bytes-bytes.ensures same_keeps c.changed_flags-flags.ensures.flags c.takes_deltas-delta.ensures
+    c.kind-kind.ensures c.kinds_of-kinds.ensures c.values-last.ensures c.values-values.ensures.value c.bytes-bytes.ensures same_keeps c.changes_of-changes.ensures.flags c.changes_of-changes.ensures.delta
     c.is_typed-typed.ensures c.keeps_bounds-keeps_edges.ensures same_control in
     let a = control ∷ type_bytes typed kind in
     let b = little_bytes (shown flags) flags in
@@ -137,12 +127,12 @@ returns-clause-ok c =
     let regs = registers_of c.args.last_kind c.args.lasts.now c.args.old in
     let bounds = optional_edges c.args.new in
     let kind = c.kind-kind.result in
-    let flags = c.changed_flags-flags.result in
+    let flags = c.changes_of-changes.result.flags in
     let kinds = c.kinds_of-kinds.result.now in
     let last = c.values-last.result.now in
     let values = c.values-values.result.now in
     let bytes = c.bytes-bytes.result.now in
-    let delta = c.takes_deltas-delta.result in
+    let delta = c.changes_of-changes.result.delta in
     let typed = c.is_typed-typed.result in
     let keeps_edges = c.keeps_bounds-keeps_edges.result in
     let keeps = c.are_kept-keeps.result in
@@ -151,7 +141,7 @@ returns-clause-ok c =
     let same_control : control ≡ control_byte (has_bounds bounds) typed delta keeps_edges (row_flags (row_of kind) - shown flags) =
     rw (c.is_bounded-bounded.ensures, c.flag_bytes_of-all.ensures, c.shown-some.ensures.shown) at c.control_byte-control.ensures in
     let whole = order_from_parts regs c.args.confirmed c.args.o.now bounds c.requires.fits control typed delta keeps_edges keeps kind flags kinds last values bytes
-    c.kind-kind.ensures c.kinds_of-kinds.ensures c.values-last.ensures c.values-values.ensures.value c.bytes-bytes.ensures same_keeps c.changed_flags-flags.ensures.flags c.takes_deltas-delta.ensures
+    c.kind-kind.ensures c.kinds_of-kinds.ensures c.values-last.ensures c.values-values.ensures.value c.bytes-bytes.ensures same_keeps c.changes_of-changes.ensures.flags c.changes_of-changes.ensures.delta
     c.is_typed-typed.ensures c.keeps_bounds-keeps_edges.ensures same_control in
     let a = control ∷ type_bytes typed kind in
     let b = little_bytes (shown flags) flags in
@@ -169,12 +159,12 @@ returns-clause-memory c =
     let regs = registers_of c.args.last_kind c.args.lasts.now c.args.old in
     let bounds = optional_edges c.args.new in
     let kind = c.kind-kind.result in
-    let flags = c.changed_flags-flags.result in
+    let flags = c.changes_of-changes.result.flags in
     let kinds = c.kinds_of-kinds.result.now in
     let last = c.values-last.result.now in
     let values = c.values-values.result.now in
     let bytes = c.bytes-bytes.result.now in
-    let delta = c.takes_deltas-delta.result in
+    let delta = c.changes_of-changes.result.delta in
     let typed = c.is_typed-typed.result in
     let keeps_edges = c.keeps_bounds-keeps_edges.result in
     let keeps = c.are_kept-keeps.result in
@@ -183,7 +173,7 @@ returns-clause-memory c =
     let same_control : control ≡ control_byte (has_bounds bounds) typed delta keeps_edges (row_flags (row_of kind) - shown flags) =
     rw (c.is_bounded-bounded.ensures, c.flag_bytes_of-all.ensures, c.shown-some.ensures.shown) at c.control_byte-control.ensures in
     let whole = order_from_parts regs c.args.confirmed c.args.o.now bounds c.requires.fits control typed delta keeps_edges keeps kind flags kinds last values bytes
-    c.kind-kind.ensures c.kinds_of-kinds.ensures c.values-last.ensures c.values-values.ensures.value c.bytes-bytes.ensures same_keeps c.changed_flags-flags.ensures.flags c.takes_deltas-delta.ensures
+    c.kind-kind.ensures c.kinds_of-kinds.ensures c.values-last.ensures c.values-values.ensures.value c.bytes-bytes.ensures same_keeps c.changes_of-changes.ensures.flags c.changes_of-changes.ensures.delta
     c.is_typed-typed.ensures c.keeps_bounds-keeps_edges.ensures same_control in
     let a = control ∷ type_bytes typed kind in
     let b = little_bytes (shown flags) flags in

@@ -1,9 +1,0 @@
-use Rattle.std.proofs.Common.{◌≡◌, ◌<◌, ◌^◌, ◌-◌, suc, length, drop}
-use Rattle.order_fields.specs.OrderDelta.{fields_of, flags_of}
-use Rattle.order_fields.proofs.delta.changed_flags.Given as goal
-
-abbrev pub invariant-loop-i : goal.invariant-loop-i
-invariant-loop-i l = record {
-  flags : l.flags ≡ flags_of (fields_of (drop l.i l.kinds) (drop l.i l.last) (drop l.i l.values)) l.keeps;
-  bound : l.flags < 2 ^ suc (length l.kinds - l.i);
-}
