@@ -15,7 +15,7 @@ ghost use Rattle.script_lines.specs.Reading.{Reads, ReadsNone, load_of, image_fi
 use crate::OutOfMemory;
 use crate::area::next_point;
 use crate::field::{next_count, next_small};
-use draw_ops::{Brush, Drawing, Glyph, Image, Shape};
+use draw_ops::{Brush, Drawing, Glyph, Image, Shape, SharedBrush};
 use line_text::{Parts, read_hexadecimal, read_hexadecimals};
 use std::alloc::Global;
 
@@ -226,10 +226,10 @@ fn brush_shape(alloc: Global, slot: u8, digits: &[u8]) -> Result<Option<Shape>, 
     ensures { IfOk result (λ shape. shape ≡ brush_with slot digits.now) }
 {
     match read_colors(alloc, digits)? {
-        Some(colors) if colors.len() == BRUSH_PIXELS => Ok(Some(Shape::LoadBrush {
-            slot,
-            brush: Brush::new(&colors),
-        })),
+        Some(colors) if colors.len() == BRUSH_PIXELS => {
+            let brush = SharedBrush::new(alloc, Brush::new(&colors))?;
+            Ok(Some(Shape::LoadBrush { slot, brush }))
+        }
         _ => Ok(None),
     }
 }
