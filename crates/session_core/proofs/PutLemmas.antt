@@ -12,7 +12,7 @@ use Rattle.frame_rules.specs.Pending.{pending_drawings, pending_between}
 use Rattle.session_core.specs.declared.kept.Kept.{Kept}
 use Rattle.session_core.specs.declared.standing.Standing.{Standing}
 use Rattle.session_core.specs.Keeping.{journal_of, IsBoardKept, IsKept}
-use Rattle.session_core.specs.Showing.{all_shown}
+use Rattle.session_core.specs.Showing.{all_shown, shown_list}
 use Rattle.session_core.specs.Standing.{IsSession}
 use Rattle.session_core.specs.Putting.{drawings_made, IsBoardReady}
 use Rattle.session_core.specs.Outcomes.{AppendsFront}
@@ -23,28 +23,28 @@ use Rattle.session_core.proofs.PendingLaws.{pending_here, enough, made_again, is
 
 -- what is shown is pending
 shown_is : (size : Size) (ks : List Kept) (k : ℕ) (x : Kept) → slice_get ks k ≡ Some x → IsKept size (state_after size (journal_of ks) k) x
-    → all_shown (drawings_of size (state_after size (journal_of ks) k).board x.entry) x.shown.items ≡ pending_between size (journal_of ks) k (k + 1)
+    → all_shown (drawings_of size (state_after size (journal_of ks) k).board x.entry) (shown_list x.shown) ≡ pending_between size (journal_of ks) k (k + 1)
 shown_is size ks k x at h = h.shown ∙ sym (pending_here size (journal_of ks) k x.entry (entry_at ks k x at))
 
 pub record PutsDrawn (size : Size) (ks : List Kept) (k : ℕ) (x : Kept) (d : Drawing) : Type 0 where
-  pub each : 1 ≤ length x.shown.items
-  pub pending : all_shown (d ∷ []) x.shown.items ≡ pending_between size (journal_of ks) k (k + 1)
+  pub each : 1 ≤ length (shown_list x.shown)
+  pub pending : all_shown (d ∷ []) (shown_list x.shown) ≡ pending_between size (journal_of ks) k (k + 1)
 
 pub puts_drawn : (head : Head) (s : Standing) (ks : List Kept) (k by : ℕ) (x : Kept) (d : Drawing) → IsSession head s ks → slice_get ks k ≡ Some x → x.entry ≡ Draw by d → PutsDrawn head.size ks k x d
 puts_drawn head s ks k by x d h at is =
     let st = state_after head.size (journal_of ks) k in
     let kept = kept_at head.size ks k x h.entries at in
     let one : drawings_of head.size st.board x.entry ≡ d ∷ [] = ap (drawings_of head.size st.board) is in
-    let shown = subst (λ ds. all_shown ds x.shown.items ≡ pending_drawings head.size st.surface ds) one kept.shown in
+    let shown = subst (λ ds. all_shown ds (shown_list x.shown) ≡ pending_drawings head.size st.surface ds) one kept.shown in
     record {
-      each = enough head.size st.surface (d ∷ []) x.shown.items shown;
-      pending = subst (λ ds. all_shown ds x.shown.items ≡ pending_between head.size (journal_of ks) k (k + 1)) one (shown_is head.size ks k x at kept);
+      each = enough head.size st.surface (d ∷ []) (shown_list x.shown) shown;
+      pending = subst (λ ds. all_shown ds (shown_list x.shown) ≡ pending_between head.size (journal_of ks) k (k + 1)) one (shown_is head.size ks k x at kept);
     }
 
 pub record PutsReaction (size : Size) (ks : List Kept) (k : ℕ) (x : Kept) (e : Event) : Type 0 where
   pub ready : IsBoardReady x.board
-  pub each : length (drawings_made x.board e) ≤ length x.shown.items
-  pub pending : all_shown (drawings_made x.board e) x.shown.items ≡ pending_between size (journal_of ks) k (k + 1)
+  pub each : length (drawings_made x.board e) ≤ length (shown_list x.shown)
+  pub pending : all_shown (drawings_made x.board e) (shown_list x.shown) ≡ pending_between size (journal_of ks) k (k + 1)
 
 pub puts_reaction : (head : Head) (s : Standing) (ks : List Kept) (k by : ℕ) (x : Kept) (e : Event) → IsSession head s ks → slice_get ks k ≡ Some x → x.entry ≡ Input by e → PutsReaction head.size ks k x e
 puts_reaction head s ks k by x e h at is =
@@ -52,11 +52,11 @@ puts_reaction head s ks k by x e h at is =
     let kept = kept_at head.size ks k x h.entries at in
     let board : IsBoardKept head.size st.board (Input by e) x.board = subst (λ y. IsBoardKept head.size st.board y x.board) is kept.board in
     let made : drawings_of head.size st.board x.entry ≡ drawings_made x.board e = ap (drawings_of head.size st.board) is ∙ sym (made_again head.size st.board by e x.board board) in
-    let shown = subst (λ ds. all_shown ds x.shown.items ≡ pending_drawings head.size st.surface ds) made kept.shown in
+    let shown = subst (λ ds. all_shown ds (shown_list x.shown) ≡ pending_drawings head.size st.surface ds) made kept.shown in
     record {
       ready = is_ready head (journal_of ks) k by e x.board h.size h.legal board;
-      each = enough head.size st.surface (drawings_made x.board e) x.shown.items shown;
-      pending = subst (λ ds. all_shown ds x.shown.items ≡ pending_between head.size (journal_of ks) k (k + 1)) made (shown_is head.size ks k x at kept);
+      each = enough head.size st.surface (drawings_made x.board e) (shown_list x.shown) shown;
+      pending = subst (λ ds. all_shown ds (shown_list x.shown) ≡ pending_between head.size (journal_of ks) k (k + 1)) made (shown_is head.size ks k x at kept);
     }
 
 -- the others have none
@@ -65,7 +65,7 @@ pub puts_none : (head : Head) (s : Standing) (ks : List Kept) (k : ℕ) (x : Kep
 puts_none head s ks k x e h at is none =
     let st = state_after head.size (journal_of ks) k in
     let kept = kept_at head.size ks k x h.entries at in
-    sym (shown_is head.size ks k x at kept) ∙ ap (λ ds. all_shown ds x.shown.items) (ap (drawings_of head.size st.board) is ∙ none)
+    sym (shown_is head.size ks k x at kept) ∙ ap (λ ds. all_shown ds (shown_list x.shown)) (ap (drawings_of head.size st.board) is ∙ none)
 
 -- ---- what is put, where what is pending is given otherwise
 

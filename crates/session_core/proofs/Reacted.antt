@@ -19,6 +19,7 @@ use Rattle.session_laws.proofs.Reactions.{reaction_colored}
 use Rattle.session_core.specs.declared.standing.Standing.{Standing}
 use Rattle.session_core.specs.declared.events.Reaction.{Reaction}
 use Rattle.session_core.specs.declared.kept.Kept.{Kept}
+use Rattle.session_core.specs.declared.shown.ShownList.TheVariants.{Many}
 use Rattle.session_core.specs.Keeping.{IsKept}
 use Rattle.session_core.specs.Reacting.{Reacts}
 use Rattle.session_core.specs.Showing.{all_shown}
@@ -35,7 +36,7 @@ reaction_colors s e r ds h is = subst (All HasColors) (sym (is ∙ h.drawings)) 
 
 -- the entry of an event is kept with the board that it found and with what its drawings show
 pub reaction_kept : (head : Head) (s : Standing) (n by first : ℕ) (e : Event) (r : Reaction) → s.surface.size ≡ head.size → s.board.size ≡ head.size → Reacts s e r → first ≡ s.surface.state.count
-    → IsKept head.size (reached_of s n).state (record { entry = Input by e; first = first; board = Some r.found; shown = r.shown })
+    → IsKept head.size (reached_of s n).state (record { entry = Input by e; first = first; board = Some r.found; shown = Many r.shown })
 reaction_kept head s n by first e r surface board h count = record {
   first = count;
   board = (ap (λ b. b.size) h.found ∙ board, ap board_of h.found);

@@ -11,7 +11,7 @@ use Rattle.session_rules.specs.Board.{Board}
 use Rattle.session_rules.specs.Journal.{State, drawings_of, state_after_entry}
 use Rattle.frame_rules.specs.Pending.{pending_drawings}
 use Rattle.session_core.specs.declared.kept.Kept.{Kept}
-use Rattle.session_core.specs.Showing.{all_shown}
+use Rattle.session_core.specs.Showing.{all_shown, shown_list}
 
 abbrev pub journal_of : List Kept → List Entry
 journal_of ks = map (λ (k : Kept). k.entry) ks
@@ -29,7 +29,7 @@ IsBoardKept size b (Input by event) (Some kept) = ((box_value kept).size ≡ siz
 pub record IsKept (size : Size) (st : State) (k : Kept) : Type 0 where
   pub first : k.first ≡ st.surface.count
   pub board : IsBoardKept size st.board k.entry k.board
-  pub shown : all_shown (drawings_of size st.board k.entry) k.shown.items ≡ pending_drawings size st.surface (drawings_of size st.board k.entry)
+  pub shown : all_shown (drawings_of size st.board k.entry) (shown_list k.shown) ≡ pending_drawings size st.surface (drawings_of size st.board k.entry)
 
 -- so is each of some entries after a state
 abbrev pub AllKept : Size → State → List Kept → Type 0

@@ -8,6 +8,8 @@ use Rattle.draw_ops.specs.Slots.{Loaded}
 use Rattle.frame_rules.specs.Pending.{Pending}
 use Rattle.session_core.specs.declared.shown.Held.{Held}
 use Rattle.session_core.specs.declared.shown.Shown.{Shown}
+use Rattle.session_core.specs.declared.shown.ShownList.{ShownList}
+use Rattle.session_core.specs.declared.shown.ShownList.TheVariants.{One, Many}
 
 abbrev pub image_held : Option (Box Held) → Option (Loaded ImageOf)
 image_held None = None
@@ -24,6 +26,11 @@ glyphs_held (Some held) = (box_value held).glyphs.items
 -- a drawing with what is kept of it
 abbrev pub shown_with : Drawing → Shown → Pending
 shown_with d s = record { drawing = d; rect = s.rect; image = image_held s.held; brush = brush_held s.held; glyphs = glyphs_held s.held }
+
+-- what each of an entry's drawings shows
+abbrev pub shown_list : ShownList → List Shown
+shown_list (One shown) = shown ∷ []
+shown_list (Many shown) = shown.items
 
 -- drawings, each with what is kept of it
 abbrev pub all_shown : List Drawing → List Shown → List Pending

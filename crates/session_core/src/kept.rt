@@ -4,7 +4,7 @@ ghost use Rattle.std.specs.Prelude.{◌≡◌, ◌+◌, ◌≤◌};
 ghost use Rattle.std.specs.Bool.{OnTrue};
 ghost use Rattle.std.specs.Vec.{vec_len, vec_capacity};
 
-use crate::shown::Shown;
+use crate::shown::ShownList;
 use board_app::Board;
 use session_rules::Entry;
 
@@ -14,7 +14,7 @@ pub struct Kept {
     pub entry: Entry,
     pub first: u64,
     pub board: Option<Box<Board>>,
-    pub shown: Vec<Shown>,
+    pub shown: ShownList,
 }
 
 /// Makes room for so many more entries; whether there was memory for it.

@@ -27,7 +27,7 @@ use crate::kept::{Kept, make_room};
 use crate::members::{asked_by, is_suppressed, role_of};
 use crate::pending::Pending;
 use crate::putting::{put_drawn, put_reaction};
-use crate::shown::shown_one;
+use crate::shown::{ShownList, shown_one};
 use crate::standing::Standing;
 use draw_ops::Drawing;
 use grow_lock::Grows;
@@ -117,7 +117,7 @@ impl Session {
             entry: Entry::Join { v, role },
             first,
             board: None,
-            shown: Vec::new(self.alloc),
+            shown: ShownList::Many(Vec::new(self.alloc)),
         });
         Ok(v)
     }
@@ -136,7 +136,7 @@ impl Session {
             entry: Entry::Leave { v },
             first,
             board: None,
-            shown: Vec::new(self.alloc),
+            shown: ShownList::Many(Vec::new(self.alloc)),
         });
     }
 
@@ -183,7 +183,7 @@ impl Session {
             entry: Entry::Draw { by: v, d },
             first,
             board: None,
-            shown,
+            shown: ShownList::One(shown),
         });
         Ok(())
     }
@@ -301,9 +301,9 @@ impl Session {
     {
         let kept = &self.kept[k as usize];
         match &kept.entry {
-            Entry::Draw { d, .. } => put_drawn(self.alloc, d, &kept.shown, out),
+            Entry::Draw { d, .. } => put_drawn(self.alloc, d, kept.shown.list(), out),
             Entry::Input { event, .. } => {
-                put_reaction(self.alloc, &kept.board, *event, &kept.shown, out)
+                put_reaction(self.alloc, &kept.board, *event, kept.shown.list(), out)
             }
             Entry::Join { .. } => Ok(()),
             Entry::Leave { .. } => Ok(()),
@@ -342,7 +342,7 @@ impl Session {
             entry: Entry::Give { by: v, to },
             first,
             board: None,
-            shown: Vec::new(self.alloc),
+            shown: ShownList::Many(Vec::new(self.alloc)),
         });
         Ok(())
     }
@@ -370,7 +370,7 @@ impl Session {
             entry: Entry::Input { by: v, event: e },
             first,
             board: Some(reaction.found),
-            shown: reaction.shown,
+            shown: ShownList::Many(reaction.shown),
         });
         Ok(())
     }

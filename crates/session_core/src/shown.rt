@@ -7,7 +7,7 @@ ghost use Rattle.draw_ops.specs.Drawing.{restoring, state_after_drawings};
 ghost use Rattle.draw_ops.specs.Fits.{FitsState, AllFitState};
 ghost use Rattle.frame_rules.specs.Pending.{pending_of, pending_drawings};
 ghost use Rattle.session_core.specs.Cells.{IsNear};
-ghost use Rattle.session_core.specs.Showing.{shown_with, all_shown, image_held, brush_held, glyphs_held};
+ghost use Rattle.session_core.specs.Showing.{shown_with, all_shown, shown_list, image_held, brush_held, glyphs_held};
 
 use crate::OutOfMemory;
 use crate::cells::{lesser, run_rect};
@@ -15,6 +15,7 @@ use crate::slots::{block_sides, brush_after, glyphs_after, image_after};
 use draw_ops::{Drawing, Shape};
 use px_core::Rect;
 use std::alloc::Global;
+use std::slice;
 use surface_flat::{LoadedBrush, LoadedGlyph, LoadedImage, Surface};
 
 /// What the slots that a drawing reads held at its place.
@@ -30,6 +31,25 @@ pub struct Held {
 pub struct Shown {
     pub rect: Rect,
     pub held: Option<Box<Held>>,
+}
+
+/// What each of an entry's drawings shows. What one alone shows takes no memory of its own.
+#[derive(Drop)]
+pub enum ShownList {
+    One(Shown),
+    Many(Vec<Shown>),
+}
+
+impl ShownList {
+    /// What each shows, in the order of the drawings.
+    pub fn list(&self) -> &[Shown]
+        ensures { result.now ≡ shown_list self.now }
+    {
+        match self {
+            ShownList::One(shown) => slice::from_ref(shown),
+            ShownList::Many(shown) => shown.as_slice(),
+        }
+    }
 }
 
 /// What each of some drawings shows, which are drawn one after the other on a surface.
@@ -178,11 +198,10 @@ fn restored_rect(surface: &Surface, before: &[Drawing], slot: u8, x: i32, y: i32
 }
 
 /// What a drawing shows that is drawn on a surface.
-pub fn shown_one(alloc: Global, surface: &Surface, d: &Drawing) -> Result<Vec<Shown>, OutOfMemory>
+pub fn shown_one(alloc: Global, surface: &Surface, d: &Drawing) -> Result<Shown, OutOfMemory>
     requires fits { FitsState surface.now.size surface.now.state d.now }
     requires few { surface.now.state.count < 2 ^ 64 }
-    ensures { IfOk result (λ shown. all_shown (d.now ∷ []) shown.items ≡ pending_drawings surface.now.size surface.now.state (d.now ∷ [])) }
+    ensures { IfOk result (λ shown. all_shown (d.now ∷ []) (shown ∷ []) ≡ pending_drawings surface.now.size surface.now.state (d.now ∷ [])) }
 {
-    let shown = shown_at(alloc, surface, &[], d)?;
-    Ok(Vec::from_array(alloc, [shown])?)
+    shown_at(alloc, surface, &[], d)
 }

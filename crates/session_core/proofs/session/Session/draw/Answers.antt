@@ -94,7 +94,7 @@ invariant_of-self-2 c =
           (record {
             first = c.count-first.ensures;
             board = tt;
-            shown = subst (λ z. all_shown (c.args.d ∷ []) c.in_ok-shown.shown.items ≡ pending_drawings z s.surface.state (c.args.d ∷ [])) h.surface_size c.in_ok-shown.ensures;
+            shown = subst (λ z. all_shown (c.args.d ∷ []) (c.in_ok-shown.shown ∷ []) ≡ pending_drawings z s.surface.state (c.args.d ∷ [])) h.surface_size c.in_ok-shown.ensures;
           })
           (subst (λ z. reached_of c.draw.new.self (length ks + 1) ≡ reached_after_entry z (reached_of s (length ks)) (Draw c.args.v c.args.d)) h.surface_size
           (c.if-not-draw.ensures.reached (length ks) c.args.v))

@@ -16,7 +16,7 @@ put_drawn-requires c =
     let within : c.args.k < length ks = omega (arith, below, length_journal ks) in
     let puts = puts_drawn c.self.inside.head c.self.inside.standing ks c.args.k c.in-Draw.by c.index-kept.result.now c.in-Draw.d c.self.invariant.is_session
     (item_at ks c.args.k c.index-kept.result.now within c.index-kept.ensures) c.in-Draw.is in
-    rw c.deref.ensures.value puts.each
+    rw c.list.ensures puts.each
 
 pub put_reaction-requires-clause-ready : goal.put_reaction-requires-clause-ready
 put_reaction-requires-clause-ready c =
@@ -33,7 +33,7 @@ put_reaction-requires-clause-each c =
     let within : c.args.k < length ks = omega (arith, below, length_journal ks) in
     let puts = puts_reaction c.self.inside.head c.self.inside.standing ks c.args.k c.in-Input.by c.index-kept.result.now c.in-Input.event c.self.invariant.is_session
     (item_at ks c.args.k c.index-kept.result.now within c.index-kept.ensures) c.in-Input.is in
-    rw c.deref-in-Input.ensures.value puts.each
+    rw c.list-in-Input.ensures puts.each
 
 pub returns-in-Draw-clause-ok : goal.returns-in-Draw-clause-ok
 returns-in-Draw-clause-ok c =
@@ -42,7 +42,7 @@ returns-in-Draw-clause-ok c =
     let within : c.args.k < length ks = omega (arith, below, length_journal ks) in
     let puts = puts_drawn c.self.inside.head c.self.inside.standing ks c.args.k c.in-Draw.by c.index-kept.result.now c.in-Draw.d c.self.invariant.is_session
     (item_at ks c.args.k c.index-kept.result.now within c.index-kept.ensures) c.in-Draw.is in
-    let made = ap (all_shown (c.in-Draw.d ∷ [])) c.deref.ensures.value ∙ puts.pending in
+    let made = ap (all_shown (c.in-Draw.d ∷ [])) c.list.ensures ∙ puts.pending in
     puts_ok c.put_drawn.result c.args.out.now.items c.put_drawn.new.out.items _ _ (made ∙ seen_so c.self.inside.head c.self.inside.standing ks c.args.self.now c.args.k c.self.view_is) c.put_drawn.ensures.ok
 
 pub returns-in-Draw-clause-memory : goal.returns-in-Draw-clause-memory
@@ -52,7 +52,7 @@ returns-in-Draw-clause-memory c =
     let within : c.args.k < length ks = omega (arith, below, length_journal ks) in
     let puts = puts_drawn c.self.inside.head c.self.inside.standing ks c.args.k c.in-Draw.by c.index-kept.result.now c.in-Draw.d c.self.invariant.is_session
     (item_at ks c.args.k c.index-kept.result.now within c.index-kept.ensures) c.in-Draw.is in
-    let made = ap (all_shown (c.in-Draw.d ∷ [])) c.deref.ensures.value ∙ puts.pending in
+    let made = ap (all_shown (c.in-Draw.d ∷ [])) c.list.ensures ∙ puts.pending in
     puts_err c.put_drawn.result c.args.out.now.items c.put_drawn.new.out.items _ _ (made ∙ seen_so c.self.inside.head c.self.inside.standing ks c.args.self.now c.args.k c.self.view_is) c.put_drawn.ensures.memory
 
 pub returns-in-Input-clause-ok : goal.returns-in-Input-clause-ok
@@ -62,7 +62,7 @@ returns-in-Input-clause-ok c =
     let within : c.args.k < length ks = omega (arith, below, length_journal ks) in
     let puts = puts_reaction c.self.inside.head c.self.inside.standing ks c.args.k c.in-Input.by c.index-kept.result.now c.in-Input.event c.self.invariant.is_session
     (item_at ks c.args.k c.index-kept.result.now within c.index-kept.ensures) c.in-Input.is in
-    let made = ap (all_shown (drawings_made c.index-kept.result.now.board c.in-Input.event)) c.deref-in-Input.ensures.value ∙ puts.pending in
+    let made = ap (all_shown (drawings_made c.index-kept.result.now.board c.in-Input.event)) c.list-in-Input.ensures ∙ puts.pending in
     puts_ok c.put_reaction.result c.args.out.now.items c.put_reaction.new.out.items _ _ (made ∙ seen_so c.self.inside.head c.self.inside.standing ks c.args.self.now c.args.k c.self.view_is) c.put_reaction.ensures.ok
 
 pub returns-in-Input-clause-memory : goal.returns-in-Input-clause-memory
@@ -72,7 +72,7 @@ returns-in-Input-clause-memory c =
     let within : c.args.k < length ks = omega (arith, below, length_journal ks) in
     let puts = puts_reaction c.self.inside.head c.self.inside.standing ks c.args.k c.in-Input.by c.index-kept.result.now c.in-Input.event c.self.invariant.is_session
     (item_at ks c.args.k c.index-kept.result.now within c.index-kept.ensures) c.in-Input.is in
-    let made = ap (all_shown (drawings_made c.index-kept.result.now.board c.in-Input.event)) c.deref-in-Input.ensures.value ∙ puts.pending in
+    let made = ap (all_shown (drawings_made c.index-kept.result.now.board c.in-Input.event)) c.list-in-Input.ensures ∙ puts.pending in
     puts_err c.put_reaction.result c.args.out.now.items c.put_reaction.new.out.items _ _ (made ∙ seen_so c.self.inside.head c.self.inside.standing ks c.args.self.now c.args.k c.self.view_is) c.put_reaction.ensures.memory
 
 pub returns-in-Join-clause-ok : goal.returns-in-Join-clause-ok
