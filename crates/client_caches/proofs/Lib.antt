@@ -1,6 +1,6 @@
-pub mod Stores
-pub mod KindsKept
-pub mod RunsUsed
-pub mod Zeros
-pub mod FieldsFit
 pub mod Apart
+pub mod FieldsFit
+pub mod RunsUsed
+pub mod Stores
+pub mod TypesFit
+pub mod Zeros

@@ -10,7 +10,7 @@ use crate::Named;
 use crate::values::{
     byte, closed_rect_at, coordinate, is_cached_brush, is_cached_run, number, rect_at, short,
 };
-use order_fields::{Fields, Regs};
+use order_fields::Fields;
 use px_core::has_pixel;
 
 const DST_BLT: u8 = 0x00;
@@ -35,15 +35,12 @@ const SAVE: u8 = 0;
 const RESTORE: u8 = 1;
 
 /// The drawing that a primary order says; there is none where a side is below 1, or a brush, an operation or a run is none that is read.
-///
-/// `spare` is overwritten.
-pub fn drawing_of(fields: &Fields, spare: &mut Regs) -> Option<Named>
+pub fn drawing_of(fields: &Fields) -> Option<Named>
     ensures drawing { optional_drawing fields.now.values.bytes result ≡ drawing_of fields.now }
     ensures short { IfSome result (λ _. length fields.now.values.bytes ≤ 255) }
 {
     let kind = fields.kind();
-    spare.keep(fields, None);
-    let values = spare.last_values(kind);
+    let values = fields.values();
     match kind {
         DST_BLT => dst_of(values),
         PAT_BLT => pat_of(values),
