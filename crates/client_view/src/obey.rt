@@ -29,7 +29,7 @@ fn obey_drawing(viewer: &mut Viewer, fields: &Fields, bounds: Option<Rect>) -> R
     ensures obeyed { (v : View) → StandsFor v viewer.old → Obeys result (view_after_told viewer.old.confirmed viewer.old.pictures.size v (Drawn fields.now bounds)) viewer.new }
     ensures same { SameViewer viewer.old viewer.new }
 {
-    let Some(named) = drawing_of(fields, &mut viewer.spare) else {
+    let Some(named) = drawing_of(fields) else {
         return Err(ObeyFault::Broken);
     };
     draw(

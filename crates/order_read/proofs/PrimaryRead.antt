@@ -1,6 +1,6 @@
 -- A primary order from its parts.
 use Rattle.std.proofs.Common.{◌≡◌, ◌≤◌, ◌<◌, ◌/◌, ◌-◌, ◌^◌, ℕ, List, ◌∷◌, refl, ap, sym, ◌∙◌, arith, true, Some, None}
-use Rattle.std.specs.Prelude.{Option, is_some, nat_le, Ok, Err}
+use Rattle.std.specs.Prelude.{Option, Result, is_some, nat_le, Ok, Err}
 use Rattle.std.proofs.Math.Nat.{pow-le-pow_right}
 use Rattle.std.proofs.lemmas.Bool.Decides.{nat_tests}
 use Rattle.wire_num.specs.Cursor.{CursorOf, rest}
@@ -11,8 +11,8 @@ use Rattle.order_fields.specs.OrderStream.{Seen, seen_primary, values_at, bounds
 use Rattle.order_fields.specs.Kept.{row_flags}
 use Rattle.order_read.specs.declared.order_fault.OrderFault.{OrderFault}
 use Rattle.order_read.specs.declared.order_fault.OrderFault.TheVariants.{BadOrder, OutOfMemory}
-use Rattle.order_read.specs.Reading.{ReadsOr}
-use Rattle.order_read.specs.Primary.{ReadsPrimary}
+use Rattle.order_read.specs.declared.read.Read.{Read as Said}
+use Rattle.order_read.specs.Primary.{ReadsPrimary, ReadsTyped}
 use Rattle.order_read.specs.Parts.{list_at, list_and_bounds_at}
 
 pub flags_below : (n x : ℕ) → n ≤ 3 → x < 256 ^ n → x < 4294967296
@@ -65,10 +65,20 @@ primary_from kind regs control bs a read t some few e =
     ∙ typed_by (row_of kind) regs control (control ∷ bs) bs a some few
     ∙ ap (map_read (seen_pair regs)) e
 
--- what stands behind the type was refused, or no memory was left
-pub primary_refused : {X : Type 0} (view : X → FieldList × Option Edges) (kind all : ℕ) (regs : Registers) (control : ℕ) (fault : OrderFault) (old mid new : CursorOf) →
-    type_at (has_bit control 8) regs.last (rest old) ≡ Ok (kind, rest mid) → mid.bytes ≡ old.bytes → is_some (row_of kind) ≡ true → all ≡ row_flags (row_of kind) → control / 64 ≤ all →
-    ReadsOr view (list_and_bounds_at kind (all - control / 64) control regs) (Err fault) mid new → ReadsPrimary control regs regs (Err fault) old new
-primary_refused view kind all regs control (BadOrder at) old mid new t same some flags few read =
-    (primary_from kind regs control (rest old) (rest mid) _ t some (omega (arith, flags, few)) (sym (ap (λ (n : ℕ). list_and_bounds_at kind (n - control / 64) control regs (rest mid)) flags) ∙ read.0), read.1 ∙ same, read.2)
-primary_refused view kind all regs control OutOfMemory old mid new t same some flags few read = tt
+-- an order by what stands behind its type
+pub primary_read : (kind all control : ℕ) (result : Result Said OrderFault) (before after : Registers) (old mid new : CursorOf) →
+    type_at (has_bit control 8) before.last (rest old) ≡ Ok (kind, rest mid) → mid.bytes ≡ old.bytes → is_some (row_of kind) ≡ true → all ≡ row_flags (row_of kind) → control / 64 ≤ all →
+    ReadsTyped kind (all - control / 64) control before after result mid new → ReadsPrimary control before after result old new
+primary_read kind all control (Ok said) before after old mid new t same some flags few read =
+    let stands = sym (ap (λ (n : ℕ). list_and_bounds_at kind (n - control / 64) control before (rest mid)) flags) ∙ read.stands in
+    record {
+      fields = read.fields;
+      bounds = read.bounds;
+      stands = primary_from kind before control (rest old) (rest mid) _ t some (omega (arith, flags, few)) stands;
+      bytes = read.bytes ∙ same;
+      told = read.told;
+      kept = read.kept;
+    }
+primary_read kind all control (Err (BadOrder at)) before after old mid new t same some flags few read =
+    (primary_from kind before control (rest old) (rest mid) _ t some (omega (arith, flags, few)) (sym (ap (λ (n : ℕ). list_and_bounds_at kind (n - control / 64) control before (rest mid)) flags) ∙ read.0), read.1 ∙ same, read.2)
+primary_read kind all control (Err OutOfMemory) before after old mid new t same some flags few read = tt

@@ -6,6 +6,7 @@ use Rattle.order_fields.specs.OrderStream.{primary_at, seen_primary}
 use Rattle.order_read.specs.declared.order_fault.OrderFault.{OrderFault}
 use Rattle.order_read.specs.declared.order_fault.OrderFault.TheVariants.{BadOrder, OutOfMemory}
 use Rattle.order_read.specs.declared.read.Read.{Read}
+use Rattle.order_read.specs.Parts.{list_and_bounds_at}
 use Rattle.order_read.specs.Told.{told_read}
 use Rattle.order_read.specs.Told.Told.{Drawn}
 use Rattle.order_read.specs.Told.{optional_rect}
@@ -18,6 +19,20 @@ pub record IsDrawn (control : ℕ) (before after : Registers) (read : Read) (old
   pub bytes : new.bytes ≡ old.bytes
   pub told : (body : List ℕ) → told_read body read ≡ Drawn fields (optional_rect bounds)
   pub kept : after ≡ (seen_primary before fields bounds).after
+
+-- the call read the drawing behind the type of an order, and kept it
+pub record IsTyped (kind size control : ℕ) (before after : Registers) (read : Read) (old new : CursorOf) : Type 0 where
+  pub fields : FieldList
+  pub bounds : Option Edges
+  pub stands : list_and_bounds_at kind size control before (rest old) ≡ Ok ((fields, bounds), rest new)
+  pub bytes : new.bytes ≡ old.bytes
+  pub told : (body : List ℕ) → told_read body read ≡ Drawn fields (optional_rect bounds)
+  pub kept : after ≡ (seen_primary before fields bounds).after
+
+abbrev pub ReadsTyped : ℕ → ℕ → ℕ → Registers → Registers → Result Read OrderFault → CursorOf → CursorOf → Type 0
+ReadsTyped kind size control before after (Ok read) old new = IsTyped kind size control before after read old new
+ReadsTyped kind size control before after (Err (BadOrder at)) old new = (list_and_bounds_at kind size control before (rest old) ≡ Err (rest new)) × (new.bytes ≡ old.bytes) × (at ≡ new.at)
+ReadsTyped kind size control before after (Err OutOfMemory) old new = ⊤
 
 abbrev pub ReadsPrimary : ℕ → Registers → Registers → Result Read OrderFault → CursorOf → CursorOf → Type 0
 ReadsPrimary control before after (Ok read) old new = IsDrawn control before after read old new

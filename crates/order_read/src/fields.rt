@@ -1,20 +1,18 @@
 //! The fields of a primary order, read over the last ones of its type ([MS-RDPEGDI] 2.2.2.2.1.1.2).
 
-ghost use Rattle.std.specs.Prelude.{◌≡◌, ◌<◌, ◌≤◌, length, take, [], true, is_some, IfOk, OnOk};
+ghost use Rattle.std.specs.Prelude.{◌≡◌, ◌<◌, ◌≤◌, length, [], true, is_some, IfOk, OnOk};
 ghost use Rattle.wire_num.specs.Cursor.{ReadsField, ReadsFieldAs};
-ghost use Rattle.order_fields.specs.OrderTable.{FitsKind, FitKinds, row_of, last_values, AreRegisters};
+ghost use Rattle.order_fields.specs.OrderTable.{FitsKind, FitKinds, row_of, last_values, AreRegisters, field_list, IsFieldList};
+ghost use Rattle.order_fields.specs.Kept.{optional_bytes};
 ghost use Rattle.order_fields.specs.OrderStream.{value_at, field_at, counted_at};
 ghost use Rattle.order_read.specs.Reading.{ReadsOr};
 ghost use Rattle.order_read.specs.Parts.{IsShort, AreShort, ReadsNumbers, fields_at};
 
 use crate::OrderFault;
 use crate::number::{read_byte, read_color, read_moved, read_short, read_signed};
-use order_fields::{FieldKind, Fields, Regs, is_counted, kinds_of};
+use order_fields::{FieldKind, Regs, is_counted, kinds_of};
 use std::alloc::Global;
-use wire_num::{Cursor, Short};
-
-/// The most values that an order has: those of GlyphIndex.
-const MOST_VALUES: usize = 21;
+use wire_num::{Cursor, OutOfMemory, Short};
 
 /// The bytes of a signed number that isn't in the delta form.
 const SIGNED_SIZE: usize = 2;
@@ -97,43 +95,14 @@ fn read_counted<'a>(cursor: &mut Cursor<'a>) -> Result<&'a [u8], Short>
     }
 }
 
-/// Reads all fields of an order of a type over its last values.
-fn read_over(
-    alloc: Global,
-    cursor: &mut Cursor<'_>,
-    kind: u8,
-    flags: u32,
-    delta: bool,
-    regs: &Regs,
-    values: &mut [i64],
-) -> Result<Fields, OrderFault>
-    requires kind { is_some (row_of kind) ≡ true }
-    requires sound { AreRegisters regs.now }
-    requires last { values.old ≡ (last_values regs.now kind).numbers }
-    ensures { ReadsOr (λ o. o) (fields_at kind flags delta regs.now) result cursor.old cursor.new }
+/// A vector of these bytes.
+fn copied(alloc: Global, bytes: &[u8]) -> Result<Vec<u8>, OutOfMemory>
+    ensures { IfOk result (λ v. v.items ≡ bytes.now) }
 {
-    let left = read_values(cursor, kinds_of(kind), flags, delta, values)?;
-    if !is_counted(kind) {
-        return Ok(Fields::plain(kind, values));
-    }
-    let bytes = if left % 2 == 1 {
-        read_counted(cursor)?
-    } else {
-        regs.last_bytes(kind)
-    };
-    Ok(Fields::new(alloc, kind, values, bytes)?)
+    Ok(Vec::from_slice(alloc, bytes)?)
 }
 
-/// Puts values at the front of others.
-fn put_front(all: &mut [i64], values: &[i64])
-    requires { length values.now ≤ length all.old }
-    ensures { take (length values.now) all.new ≡ values.now }
-{
-    all[..values.len()].copy_from_slice(values);
-}
-
-/// Reads all fields of an order of a type.
-#[tactic(auto, using(crate::proofs::KnownTypes::few_last))]
+/// Reads all fields of an order of a type over its last values; the result is its counted bytes, where the type has such a field.
 pub fn read_fields(
     alloc: Global,
     cursor: &mut Cursor<'_>,
@@ -141,20 +110,22 @@ pub fn read_fields(
     flags: u32,
     delta: bool,
     regs: &Regs,
-) -> Result<Fields, OrderFault>
-    requires { is_some (row_of kind) ≡ true }
-    ensures { ReadsOr (λ o. o) (fields_at kind flags delta regs.now) result cursor.old cursor.new }
+    values: &mut [i64],
+) -> Result<Option<Vec<u8>>, OrderFault>
+    requires kind { is_some (row_of kind) ≡ true }
+    requires sound { AreRegisters regs.now }
+    requires last { values.old ≡ (last_values regs.now kind).numbers }
+    ensures read { ReadsOr (λ counted. field_list kind values.new (optional_bytes counted)) (fields_at kind flags delta regs.now) result cursor.old cursor.new }
+    ensures fits { IfOk result (λ counted. IsFieldList (field_list kind values.new (optional_bytes counted))) }
 {
-    let last = regs.last_values(kind);
-    let mut all = [0; MOST_VALUES];
-    put_front(&mut all, last);
-    read_over(
-        alloc,
-        cursor,
-        kind,
-        flags,
-        delta,
-        regs,
-        &mut all[..last.len()],
-    )
+    let left = read_values(cursor, kinds_of(kind), flags, delta, values)?;
+    if !is_counted(kind) {
+        return Ok(None);
+    }
+    let bytes = if left % 2 == 1 {
+        read_counted(cursor)?
+    } else {
+        regs.last_bytes(kind)
+    };
+    Ok(Some(copied(alloc, bytes)?))
 }

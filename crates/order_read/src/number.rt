@@ -29,10 +29,11 @@ pub fn read_number(cursor: &mut Cursor<'_>, size: usize) -> Result<u64, Short>
     ensures read { ReadsField (little_at size) result cursor.old cursor.new }
     ensures fits { IfOk result (λ n. n < 256 ^ size) }
 {
-    if size == 0 {
-        return Ok(0);
+    match size {
+        0 => Ok(0),
+        1 => Ok(u64::from(read_byte(cursor)?)),
+        _ => Ok(low_number(cursor.bytes(size)?)),
     }
-    Ok(low_number(cursor.bytes(size)?))
 }
 
 /// Reads a number of at most seven bytes, which is a signed one too.

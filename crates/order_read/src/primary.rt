@@ -8,14 +8,14 @@
 //! | 0 to 9 | bounds | where the order has some and they aren't the last ones |
 //! | | the fields | each where its flag is set |
 
-ghost use Rattle.std.specs.Prelude.{◌≡◌, ◌≤◌, ◌∷◌, true, is_some, drop, length, IfOk, OnErr};
+ghost use Rattle.std.specs.Prelude.{◌≡◌, ◌≤◌, ◌∷◌, true, is_some, drop, take, length, IfOk, OnErr};
 ghost use Rattle.wire_num.specs.Cursor.{ReadsField, rest};
-ghost use Rattle.order_fields.specs.OrderTable.{row_of, FitBounds};
+ghost use Rattle.order_fields.specs.OrderTable.{row_of, last_values, field_list, IsFieldList, AreRegisters, FitBounds};
 ghost use Rattle.order_fields.specs.OrderStream.{type_at, primary_at};
-ghost use Rattle.order_fields.specs.Kept.{optional_edges};
+ghost use Rattle.order_fields.specs.Kept.{optional_bytes, optional_edges};
 ghost use Rattle.order_read.specs.Reading.{ReadsOr};
 ghost use Rattle.order_read.specs.Parts.{list_and_bounds_at};
-ghost use Rattle.order_read.specs.Primary.{ReadsPrimary};
+ghost use Rattle.order_read.specs.Primary.{ReadsPrimary, ReadsTyped};
 
 use crate::bits::has_bit;
 use crate::edges::{optional_rect_of, read_bounds};
@@ -25,6 +25,9 @@ use crate::{OrderFault, Read};
 use order_fields::{Bounds, Fields, Regs, flag_bytes_of, is_order_type};
 use std::alloc::Global;
 use wire_num::{Cursor, Short};
+
+/// The most values that an order has: those of GlyphIndex.
+const MOST_VALUES: usize = 21;
 
 /// The bits of the control byte: TS_BOUNDS, TS_TYPE_CHANGE, TS_DELTA_COORDINATES, TS_ZERO_BOUNDS_DELTAS, and the first of the two that count omitted flag bytes.
 const BOUNDS: u8 = 0x04;
@@ -44,7 +47,7 @@ fn read_type(cursor: &mut Cursor<'_>, changed: bool, last: u8) -> Result<u8, Sho
     if changed { read_byte(cursor) } else { Ok(last) }
 }
 
-/// Reads an order's flags, so many bytes, its bounds, and its fields.
+/// Reads an order's flags, so many bytes, its bounds, and its fields over their last values; the result is its counted bytes, where the type has such a field, and the bounds.
 fn read_list(
     alloc: Global,
     cursor: &mut Cursor<'_>,
@@ -52,18 +55,76 @@ fn read_list(
     size: u8,
     control: u8,
     regs: &Regs,
-) -> Result<(Fields, Option<Bounds>), OrderFault>
+    values: &mut [i64],
+) -> Result<(Option<Vec<u8>>, Option<Bounds>), OrderFault>
     requires kind { is_some (row_of kind) ≡ true }
     requires size { size ≤ 3 }
-    ensures read { ReadsOr (λ p. (p.0, optional_edges p.1)) (list_and_bounds_at kind size control regs.now) result cursor.old cursor.new }
+    requires sound { AreRegisters regs.now }
+    requires last { values.old ≡ (last_values regs.now kind).numbers }
+    ensures read { ReadsOr (λ p. (field_list kind values.new (optional_bytes p.0), optional_edges p.1)) (list_and_bounds_at kind size control regs.now) result cursor.old cursor.new }
+    ensures list { IfOk result (λ p. IsFieldList (field_list kind values.new (optional_bytes p.0))) }
     ensures fits { IfOk result (λ p. FitBounds (optional_edges p.1)) }
 {
     let flags = read_number(cursor, usize::from(size))? as u32;
     let same = has_bit(control, ZERO_BOUNDS_DELTAS);
     let bounds = read_bounds(cursor, has_bit(control, BOUNDS), same, regs.last_bounds())?;
     let delta = has_bit(control, DELTA_COORDINATES);
-    let fields = read_fields(alloc, cursor, kind, flags, delta, regs)?;
-    Ok((fields, bounds))
+    let counted = read_fields(alloc, cursor, kind, flags, delta, regs, values)?;
+    Ok((counted, bounds))
+}
+
+/// Puts values at the front of others.
+fn put_front(all: &mut [i64], values: &[i64])
+    requires { length values.now ≤ length all.old }
+    ensures { take (length values.now) all.new ≡ values.now }
+{
+    all[..values.len()].copy_from_slice(values);
+}
+
+/// The counted bytes; none where there is no such field.
+fn bytes_in(counted: &Option<Vec<u8>>) -> &[u8]
+    ensures { result.now ≡ optional_bytes counted.now }
+{
+    match counted {
+        None => &[],
+        Some(bytes) => bytes,
+    }
+}
+
+/// Reads an order of a type behind its type, and keeps it in the registers. An `Err` leaves them as they were.
+#[tactic(auto, using(crate::proofs::KnownTypes::few_last))]
+fn read_typed(
+    alloc: Global,
+    cursor: &mut Cursor<'_>,
+    kind: u8,
+    size: u8,
+    control: u8,
+    regs: &mut Regs,
+) -> Result<Read, OrderFault>
+    requires kind { is_some (row_of kind) ≡ true }
+    requires size { size ≤ 3 }
+    ensures read { ReadsTyped kind size control regs.old regs.new result cursor.old cursor.new }
+    ensures unchanged { OnErr result (regs.new ≡ regs.old) }
+{
+    let last = regs.last_values(kind);
+    let count = last.len();
+    let mut values = [0; MOST_VALUES];
+    put_front(&mut values, last);
+    let (counted, bounds) = read_list(
+        alloc,
+        cursor,
+        kind,
+        size,
+        control,
+        regs,
+        &mut values[..count],
+    )?;
+    let rect = optional_rect_of(bounds);
+    regs.keep_values(kind, &values[..count], bytes_in(&counted), bounds);
+    Ok(Read::Primary {
+        fields: Fields::of_front(kind, values, count, counted),
+        bounds: rect,
+    })
 }
 
 /// Reads the order behind its control byte, which stands at `first`, and keeps it in the registers. An `Err` leaves them as they were.
@@ -91,10 +152,5 @@ pub fn read_primary(
         cursor.go_to(first);
         return Err(OrderFault::BadOrder { at: first });
     }
-    let (fields, bounds) = read_list(alloc, cursor, kind, all - omitted, control, regs)?;
-    regs.keep(&fields, bounds);
-    Ok(Read::Primary {
-        fields,
-        bounds: optional_rect_of(bounds),
-    })
+    read_typed(alloc, cursor, kind, all - omitted, control, regs)
 }
