@@ -9,12 +9,35 @@ use Rattle.px_core.specs.declared.surface.Size.{Size}
 use Rattle.line_text.specs.Words.{words_of}
 use Rattle.line_text.specs.Hexadecimal.{hexadecimal_text, HoldsFront}
 use Rattle.line_text.proofs.HexadecimalLemmas.{hexadecimal_more}
-use Rattle.script_rules.specs.Capture.{of_viewer, spaced, joined_line}
+use Rattle.script_rules.specs.Capture.{ended, of_viewer, spaced, joined_line}
 use Rattle.script_lines.specs.Answers.{joined_text}
 
 -- nothing was appended
 pub none_of_it : (old text : List ℕ) → HoldsFront old old text
 none_of_it old text = record { front = []; rest = text; whole = refl; held = sym (append-nil old) }
+
+-- ---- a text, a space, another text and a line feed, in part
+
+-- the first text
+pub after_head : {old new : List ℕ} (head text : List ℕ) → new ≡ old ++ head → HoldsFront old new (ended (head ++ 32 ∷ text))
+after_head head text e = record { front = head; rest = (32 ∷ text) ++ 10 ∷ []; whole = append_assoc head (32 ∷ text) (10 ∷ []); held = e }
+
+-- the first text, the space and a front of the second
+pub after_space : {old mid new : List ℕ} (head text : List ℕ) → mid ≡ (old ++ head) ++ 32 ∷ [] → HoldsFront mid new text → HoldsFront old new (ended (head ++ 32 ∷ text))
+after_space {old} {mid} {new} head text e h =
+    let f = h.front in
+    let r = h.rest in
+    record {
+      front = (head ++ 32 ∷ []) ++ f;
+      rest = r ++ 10 ∷ [];
+      whole = ap (λ t. (head ++ 32 ∷ t) ++ 10 ∷ []) h.whole
+          ∙ append_assoc head (32 ∷ (f ++ r)) (10 ∷ [])
+          ∙ ap (λ t. head ++ 32 ∷ t) (append_assoc f r (10 ∷ []))
+          ∙ sym (append_assoc (head ++ 32 ∷ []) f (r ++ 10 ∷ []) ∙ append_assoc head (32 ∷ []) (f ++ (r ++ 10 ∷ [])));
+      held = h.held ∙ ap (λ t. t ++ f) (e ∙ append_assoc old head (32 ∷ [])) ∙ append_assoc old (head ++ 32 ∷ []) f;
+    }
+
+-- ---- digits
 
 -- two digits more
 pub two_digits : (digits : List ℕ) (bytes : List ℕ) (at a b : ℕ) → length digits ≡ 2 * length bytes → at < length bytes →

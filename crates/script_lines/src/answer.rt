@@ -8,20 +8,30 @@
 //! | `V nothing` | its take found none |
 //! | `V refused CAUSE` | its step is refused; V is 0 where that is a join |
 //! | `line K rule R` | line K of the script breaks rule R |
-ghost use Rattle.std.specs.Prelude.{◌≡◌, ◌∷◌, [], ◌+◌, ◌*◌, ◌++◌, length, codes, string_bytes, IfOk, OnOk, OnErr};
+ghost use Rattle.std.specs.Prelude.{◌≡◌, ◌∷◌, ◌++◌, codes, string_bytes, IfOk, OnOk, OnErr};
 ghost use Rattle.line_text.specs.Hexadecimal.{hexadecimal_text, HoldsFront};
 ghost use Rattle.script_rules.specs.Capture.{ended, of_viewer, broken_line};
 ghost use Rattle.script_lines.specs.Answers.{joined_text, cause_text, line_of};
 ghost use Rattle.script_lines.specs.Lines.{number_of_rule};
 
 use crate::OutOfMemory;
-use crate::hexadecimal::hexadecimal_text;
+use crate::hexadecimal::append_hexadecimals;
 use crate::rule::LineRule;
+use itoa::Buffer;
 use px_core::Size;
 use std::alloc::Global;
 
+/// What stands between a viewer's number and what is said of it.
+const SPACE: u8 = b' ';
+
 /// What ends a line.
 const LINE_FEED: u8 = b'\n';
+
+/// How many hexadecimal digits a byte has.
+const BYTE_DIGITS: usize = 2;
+
+/// The most bytes of a frame's line beside its digits: a viewer's number, a space and the line feed.
+const LINE_ROOM: usize = 12;
 
 /// Why a step is refused.
 #[derive(Clone, Copy, Debug, PartialEq, Eq)]
@@ -89,17 +99,14 @@ pub fn write_answer(
             preset,
         } => {
             let text = joined_text(alloc, size, preset)?;
-            write_of_viewer(alloc, out, viewer, &text)
+            write_of_viewer(out, viewer, &text)
         }
-        AnswerLine::Left { viewer } => write_of_viewer(alloc, out, viewer, b"left"),
-        AnswerLine::Frame { viewer, bytes } => {
-            let digits = hexadecimal_text(alloc, bytes)?;
-            write_of_viewer(alloc, out, viewer, &digits)
-        }
-        AnswerLine::Nothing { viewer } => write_of_viewer(alloc, out, viewer, b"nothing"),
+        AnswerLine::Left { viewer } => write_of_viewer(out, viewer, b"left"),
+        AnswerLine::Frame { viewer, bytes } => write_frame(out, viewer, bytes),
+        AnswerLine::Nothing { viewer } => write_of_viewer(out, viewer, b"nothing"),
         AnswerLine::Refused { viewer, cause } => {
             let text = cause_text(alloc, cause)?;
-            write_of_viewer(alloc, out, viewer, text.as_bytes())
+            write_of_viewer(out, viewer, text.as_bytes())
         }
     }
 }
@@ -147,26 +154,44 @@ fn cause_text(alloc: Global, cause: Cause) -> Result<String, OutOfMemory>
 }
 
 /// Appends a viewer's number, a text and a line feed. After an `Err` a front of them was appended.
-fn write_of_viewer(
-    alloc: Global,
-    out: &mut Vec<u8>,
-    viewer: u32,
-    text: &[u8],
-) -> Result<(), OutOfMemory>
+fn write_of_viewer(out: &mut Vec<u8>, viewer: u32, text: &[u8]) -> Result<(), OutOfMemory>
     ensures ok { OnOk result (out.new.items ≡ out.old.items ++ of_viewer viewer text.now) }
     ensures front { OnErr result (HoldsFront out.old.items out.new.items (of_viewer viewer text.now)) }
 {
-    let head = format!(in alloc; "{viewer} ")?;
-    write_line(out, head.as_bytes(), text)
+    let mut buffer = Buffer::new();
+    write_line(out, buffer.format(viewer).as_bytes(), text)
 }
 
-/// Appends two texts and a line feed. After an `Err` a front of them was appended.
+/// Appends two texts with a space between, and a line feed. After an `Err` a front of them was appended.
 fn write_line(out: &mut Vec<u8>, head: &[u8], text: &[u8]) -> Result<(), OutOfMemory>
-    ensures ok { OnOk result (out.new.items ≡ out.old.items ++ (head.now ++ (text.now ++ 10 ∷ []))) }
-    ensures front { OnErr result (HoldsFront out.old.items out.new.items (head.now ++ (text.now ++ 10 ∷ []))) }
+    ensures ok { OnOk result (out.new.items ≡ out.old.items ++ ended (head.now ++ 32 ∷ text.now)) }
+    ensures front { OnErr result (HoldsFront out.old.items out.new.items (ended (head.now ++ 32 ∷ text.now))) }
 {
     out.extend_from_slice(head)?;
+    out.push(SPACE)?;
     out.extend_from_slice(text)?;
+    out.push(LINE_FEED)?;
+    Ok(())
+}
+
+/// Appends a viewer's number, the digits of a frame's bytes and a line feed. After an `Err` a front of them was appended.
+fn write_frame(out: &mut Vec<u8>, viewer: u32, bytes: &[u8]) -> Result<(), OutOfMemory>
+    ensures ok { OnOk result (out.new.items ≡ out.old.items ++ of_viewer viewer (hexadecimal_text bytes.now)) }
+    ensures front { OnErr result (HoldsFront out.old.items out.new.items (of_viewer viewer (hexadecimal_text bytes.now))) }
+{
+    let mut buffer = Buffer::new();
+    out.reserve((BYTE_DIGITS * bytes.len()).saturating_add(LINE_ROOM))?;
+    write_digits_line(out, buffer.format(viewer).as_bytes(), bytes)
+}
+
+/// Appends a text, a space, the digits of bytes and a line feed. After an `Err` a front of them was appended.
+fn write_digits_line(out: &mut Vec<u8>, head: &[u8], bytes: &[u8]) -> Result<(), OutOfMemory>
+    ensures ok { OnOk result (out.new.items ≡ out.old.items ++ ended (head.now ++ 32 ∷ hexadecimal_text bytes.now)) }
+    ensures front { OnErr result (HoldsFront out.old.items out.new.items (ended (head.now ++ 32 ∷ hexadecimal_text bytes.now))) }
+{
+    out.extend_from_slice(head)?;
+    out.push(SPACE)?;
+    append_hexadecimals(out, bytes)?;
     out.push(LINE_FEED)?;
     Ok(())
 }

@@ -53,15 +53,19 @@ pub fn line_form(alloc: Global, text: &[u8]) -> Result<Option<LineForm<'_>>, Out
     ensures form { IfOk result (λ form. option_map form_of form ≡ line_form (words_of text.now)) }
     ensures range { IfOk result (λ form. IfSome form IsFormInRange) }
 {
-    let (first, rest) = first_word(text);
+    let mut words = Parts::words(text);
+    let Some(first) = words.next_part() else {
+        return Ok(None);
+    };
     if is_same_word(first, INVITE) {
         Ok(invite_form(text))
     } else if is_same_word(first, JOIN) {
+        let (_, rest) = first_word(text);
         Ok(join_form(rest))
     } else if names_viewer(first) {
-        addressed_form(alloc, first, rest)
+        addressed_form(alloc, first, &mut words)
     } else {
-        step_form(alloc, FIRST_VIEWER, text)
+        step_form(alloc, FIRST_VIEWER, first, &mut words)
     }
 }
 
@@ -122,17 +126,17 @@ fn names_viewer(word: &[u8]) -> bool
     matches!(word, [AT, ..])
 }
 
-/// The step of the viewer that the first word names, by the text behind that word.
+/// The step of the viewer that the first word names, by the words behind that word.
 fn addressed_form<'a>(
     alloc: Global,
     first: &[u8],
-    rest: Option<&[u8]>,
+    words: &mut Parts<'_>,
 ) -> Result<Option<LineForm<'a>>, OutOfMemory>
-    ensures form { IfOk result (λ form. option_map form_of form ≡ addressed_form (first.now ∷ parts_left 32 (option_copied rest.entry))) }
+    ensures form { IfOk result (λ form. option_map form_of form ≡ addressed_form (first.now ∷ words.old)) }
     ensures range { IfOk result (λ form. IfSome form IsFormInRange) }
 {
-    match (viewer_of_word(first), rest) {
-        (Some(viewer), Some(text)) => step_form(alloc, viewer, text),
+    match (viewer_of_word(first), words.next_part()) {
+        (Some(viewer), Some(word)) => step_form(alloc, viewer, word, words),
         (_, _) => Ok(None),
     }
 }
@@ -147,16 +151,17 @@ fn viewer_of_word(word: &[u8]) -> Option<u32>
     }
 }
 
-/// The step of a viewer that a text asks for.
+/// The step of a viewer that a word and the words behind it ask for.
 fn step_form<'a>(
     alloc: Global,
     viewer: u32,
-    text: &[u8],
+    word: &[u8],
+    words: &mut Parts<'_>,
 ) -> Result<Option<LineForm<'a>>, OutOfMemory>
-    ensures form { IfOk result (λ form. option_map form_of form ≡ step_form viewer (words_of text.now)) }
+    ensures form { IfOk result (λ form. option_map form_of form ≡ step_form viewer (word.now ∷ words.old)) }
     ensures range { IfOk result (λ form. IfSome form IsFormInRange) }
 {
-    match read_step(alloc, &mut Parts::words(text)) {
+    match read_step(alloc, word, words) {
         Ok(Some(step)) => Ok(Some(LineForm::Step { viewer, step })),
         Ok(None) => Ok(None),
         Err(fault) => Err(fault),

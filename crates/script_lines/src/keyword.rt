@@ -56,10 +56,16 @@ const KEYWORDS: [Keyword; 21] = [
     Keyword::Glyph,
 ];
 
+/// The one that is tried first, since most lines of a long script are fills.
+const COMMON: Keyword = Keyword::Fill;
+
 /// The keyword that a word is.
 pub(crate) fn keyword_of(word: &[u8]) -> Option<Keyword>
     ensures { result ≡ find (λ k. is_same_word word.now (text_of k)) keywords }
 {
+    if is_same_word(word, text_of(COMMON)) {
+        return Some(COMMON);
+    }
     KEYWORDS
         .iter()
         .copied()

@@ -1,5 +1,5 @@
 //! What a viewer's line asks for: a row for each first word.
-ghost use Rattle.std.specs.Prelude.{◌≡◌, Ok, IfOk, IfSome};
+ghost use Rattle.std.specs.Prelude.{◌≡◌, ◌∷◌, Ok, IfOk, IfSome};
 ghost use Rattle.std.specs.Option.{option_map, option_and_then};
 ghost use Rattle.script_lines.specs.Keywords.{step_read, step_in_words, alone_of, alone_read, step_alone, plain_drawing, stored_drawing};
 ghost use Rattle.script_lines.specs.Lines.{IsStepInRange};
@@ -35,17 +35,15 @@ pub enum ViewerStep {
     Draw { drawing: Drawing },
 }
 
-/// The step that words ask for, where they are one of the forms.
+/// The step that a word and the words behind it ask for, where they are one of the forms.
 pub(crate) fn read_step(
     alloc: Global,
+    word: &[u8],
     words: &mut Parts<'_>,
 ) -> Result<Option<ViewerStep>, OutOfMemory>
-    ensures step { IfOk result (λ step. step ≡ step_in_words words.old) }
+    ensures step { IfOk result (λ step. step ≡ step_in_words (word.now ∷ words.old)) }
     ensures range { IfOk result (λ step. IfSome step IsStepInRange) }
 {
-    let Some(word) = words.next_part() else {
-        return Ok(None);
-    };
     match keyword_of(word) {
         Some(keyword) => read_rest(alloc, keyword, words),
         None => Ok(None),

@@ -1,0 +1,17 @@
+use Rattle.std.proofs.Common.{◌∷◌, [], ◌++◌, ap, ◌∙◌}
+use Rattle.std.proofs.lemmas.Result.{err_from_is_err_and}
+use Rattle.line_text.specs.Hexadecimal.{hexadecimal_text}
+use Rattle.script_lines.proofs.AnswerLines.{after_head, after_space}
+use Rattle.script_lines.proofs.answer.write_digits_line.Goals as goal
+
+pub returns-in_err-push-clause-front : goal.returns-in_err-push-clause-front
+returns-in_err-push-clause-front c =
+    let p = err_from_is_err_and c.from_residual-in_err-push.result c.from_residual-in_err-push.ensures.1 in
+    rw p.1 (after_head c.args.head.now (hexadecimal_text c.args.bytes.now) (c.in_err-push.ensures.items ∙ c.in_ok-extend_from_slice.ensures.items))
+
+pub returns-in_err-append_hexadecimals-clause-front : goal.returns-in_err-append_hexadecimals-clause-front
+returns-in_err-append_hexadecimals-clause-front c =
+    let p = err_from_is_err_and c.from_residual-in_err-append_hexadecimals.result c.from_residual-in_err-append_hexadecimals.ensures.1 in
+    rw p.1 (after_space c.args.head.now (hexadecimal_text c.args.bytes.now)
+    (c.in_ok-push.ensures.items ∙ ap (λ xs. xs ++ 32 ∷ []) c.in_ok-extend_from_slice.ensures.items)
+    c.in_err-append_hexadecimals.ensures.front)
