@@ -1,3 +1,4 @@
+mod FeedLemmas
 mod Rows
 pub mod BufferLemmas
 pub mod LineLemmas

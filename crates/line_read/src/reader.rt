@@ -5,7 +5,7 @@ ghost use Rattle.line_read.specs.Reading.{new_reading, ahead};
 
 use crate::buffer::{move_to_front, read_behind};
 use edge_io::{Got, OutOfMemory, Source};
-use line_text::find_byte;
+use memchr::memchr;
 use std::alloc::Global;
 use std::marker::Model;
 
@@ -127,7 +127,7 @@ impl LineReader {
     fn find_line_feed(&self) -> Option<usize>
         ensures { result ≡ position (λ b. b == 10) self.now.held }
     {
-        find_byte(&self.buffer[self.from..self.to], LINE_FEED)
+        memchr(LINE_FEED, &self.buffer[self.from..self.to])
     }
 
     /// Hands out so many bytes as the text of a line, and with them the line feed that ended it, unless it is past the limits.
