@@ -1,5 +1,5 @@
 -- What is planned by a walk, by a jump, and whether there is work.
-use Rattle.std.proofs.Common.{◌≡◌, ℕ, ◌<◌, ◌≤◌, List, ◌++◌, length, ap, sym, ◌∙◌, arith}
+use Rattle.std.proofs.Common.{◌≡◌, ℕ, ◌<◌, ◌≤◌, List, [], length, ap, sym, ◌∙◌, arith}
 use Rattle.std.specs.Prelude.{Bool, true, false, ◌==◌, nat_lt, ◌&&◌, ◌||◌, not, if◌then◌else◌}
 use Rattle.std.proofs.lemmas.Bool.Decides.{nat_tests}
 use Rattle.px_core.specs.declared.surface.Size.{Size}
@@ -20,26 +20,25 @@ many n h = grind (arith, nat_tests, h)
 few : (n : ℕ) → n ≤ 256 → nat_lt most_orders n ≡ false
 few n h = grind (arith, nat_tests, h)
 
-pub planned_jump : (s : SessionModel) (d : DeskModel) (begun w : Walker) → IsBegun begun (begun_at s d) → 256 < length (pending_at s d)
-    → HasJumped begun (jumped s.head.size (walk_of begun) (pending_at s d)) w → HasPlanned s d w
-planned_jump s d begun w h more k =
+pub planned_jump : (s : SessionModel) (d : DeskModel) (begun w : Walker) (orders : List Sent) → IsBegun begun (begun_at s d) → 256 < length (pending_at s d)
+    → HasJumped begun (jumped s.head.size (walk_of begun) (pending_at s d)) w → orders ≡ [] → HasPlanned s d w orders
+planned_jump s d begun w orders h more k none =
     let test = many (length (pending_at s d)) more in
     record {
       walk = k.walk ∙ (ap (λ (v : Walk). jumped s.head.size v (pending_at s d)) h.walk
           ∙ ap (λ b. walk_if b s.head.size d.confirmed (begun_at s d) (pending_at s d)) (sym test));
-      sent = k.sent ∙ (h.sent ∙ ap (λ b. sent_in b s.head.size d.confirmed (begun_at s d) (pending_at s d)) (sym test));
+      sent = none ∙ ap (λ b. sent_in b s.head.size d.confirmed (begun_at s d) (pending_at s d)) (sym test);
     }
 
-pub planned_walk : (s : SessionModel) (d : DeskModel) (begun w : Walker) → IsBegun begun (begun_at s d) → length (pending_at s d) ≤ 256
-    → HasWalkedAll s.head.size d.confirmed begun (pending_at s d) w → HasPlanned s d w
-planned_walk s d begun w h less k =
+pub planned_walk : (s : SessionModel) (d : DeskModel) (begun w : Walker) (orders : List Sent) → IsBegun begun (begun_at s d) → length (pending_at s d) ≤ 256
+    → HasWalkedAll s.head.size d.confirmed begun (pending_at s d) orders w → HasPlanned s d w orders
+planned_walk s d begun w orders h less k =
     let test = few (length (pending_at s d)) less in
     record {
       walk = k.walk ∙ (ap (λ (v : Walk). walk_after s.head.size d.confirmed v (pending_at s d)) h.walk
           ∙ ap (λ b. walk_if b s.head.size d.confirmed (begun_at s d) (pending_at s d)) (sym test));
-      sent = k.sent ∙ (ap (λ (ss : List Sent). ss ++ sent_from s.head.size d.confirmed (walk_of begun) (pending_at s d)) h.sent
-          ∙ (ap (λ (v : Walk). sent_from s.head.size d.confirmed v (pending_at s d)) h.walk
-          ∙ ap (λ b. sent_in b s.head.size d.confirmed (begun_at s d) (pending_at s d)) (sym test)));
+      sent = k.sent ∙ (ap (λ (v : Walk). sent_from s.head.size d.confirmed v (pending_at s d)) h.walk
+          ∙ ap (λ b. sent_in b s.head.size d.confirmed (begun_at s d) (pending_at s d)) (sym test));
     }
 
 -- a viewer who has seen the whole journal has work where it asks for a tile

@@ -59,6 +59,10 @@ abbrev pub AllCuttable : Size → List Pending → Type 0
 AllCuttable size [] = ⊤
 AllCuttable size (p ∷ ps) = IsCuttable size p × AllCuttable size ps
 
+abbrev pub AllWalkable : List Pending → Type 0
+AllWalkable [] = ⊤
+AllWalkable (p ∷ ps) = IsWalkable p × AllWalkable ps
+
 -- what a drawing is walked as, where it is walked at all
 abbrev pub IsWalkableAs : Option Pending → Type 0
 IsWalkableAs None = ⊤

@@ -1,5 +1,6 @@
 pub mod Takes
 pub mod Plans
+pub mod Orders
 pub mod Walks
 pub mod Needs
 pub mod Cuts

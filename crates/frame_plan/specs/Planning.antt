@@ -12,7 +12,7 @@ use Rattle.frame_plan.specs.declared.walk.Walker.{Walker}
 
 -- what was planned, as a frame
 abbrev pub planned_as : Planned → TakenFrame
-planned_as p = record { first = p.first; sent = p.sent.items; tiles = p.tiles.items; held = p.held }
+planned_as p = record { first = p.first; sent = p.sent; tiles = p.tiles.items; held = p.held }
 
 -- the drawings that are pending
 abbrev pub pending_at : SessionModel → DeskModel → List Pending
@@ -31,7 +31,7 @@ abbrev pub sent_in : Bool → Size → Confirmed → Walk → List Pending → L
 sent_in true size c w ps = []
 sent_in false size c w ps = sent_from size c w ps
 
--- a walk went over what is pending
-pub record HasPlanned (s : SessionModel) (d : DeskModel) (w : Walker) : Type 0 where
+-- a walk went over what is pending, and this goes as orders
+pub record HasPlanned (s : SessionModel) (d : DeskModel) (w : Walker) (orders : List Sent) : Type 0 where
   pub walk : walk_of w ≡ walk_if (nat_lt most_orders (length (pending_at s d))) s.head.size d.confirmed (begun_at s d) (pending_at s d)
-  pub sent : w.sent.items ≡ sent_in (nat_lt most_orders (length (pending_at s d))) s.head.size d.confirmed (begun_at s d) (pending_at s d)
+  pub sent : orders ≡ sent_in (nat_lt most_orders (length (pending_at s d))) s.head.size d.confirmed (begun_at s d) (pending_at s d)

@@ -1,30 +1,53 @@
 //! What a cautious viewer's drawings are walked as: cut to the pixels that they may change, or passed over (profile).
-ghost use Rattle.std.specs.Prelude.{◌≡◌, ◌≤ℤ◌, ◌==◌, negsuc, pos, true, IsTrue};
+ghost use Rattle.std.specs.Prelude.{◌≡◌, ◌≤ℤ◌, negsuc, pos, true, IfOk, IsTrue};
 ghost use Rattle.px_core.specs.Rectangle.{common, clipped, whole, is_session_size, IsPlaced};
-ghost use Rattle.frame_rules.specs.Cautious.{area_of, changes_nothing, moved, cut_to, is_cut, cut, as_walked};
-ghost use Rattle.frame_plan.specs.Cuts.{IsWalkable, IsCuttable, IsWalkableAs, NearSource};
+ghost use Rattle.frame_rules.specs.Cautious.{area_of, changes_nothing, moved, cut_to, is_cut, cut};
+ghost use Rattle.frame_plan.specs.Cuts.{AllWalkable, AllCuttable, IsCuttable, IsWalkableAs, NearSource};
+ghost use Rattle.frame_plan.specs.Walks.{all_cut, drawings_walked};
 
-use crate::Pending;
 use crate::area::{clipped, common, whole};
+use crate::{OutOfMemory, Pending};
 use caps_sets::Confirmed;
 use draw_ops::Shape;
 use px_core::{Rect, Size, has_pixel};
+use std::alloc::Global;
 
 /// The code of the raster operation that leaves every pixel as it was.
 const DESTINATION: u8 = 0xAA;
 
-/// What a viewer's drawing is walked as; `None` where it is passed over.
-pub(crate) fn as_walked(size: Size, confirmed: &Confirmed, pending: Pending) -> Option<Pending>
+/// What a viewer's drawings are walked as, without those that are passed over.
+pub(crate) fn drawings_walked(
+    alloc: Global,
+    size: Size,
+    confirmed: &Confirmed,
+    pending: Vec<Pending>,
+) -> Result<Vec<Pending>, OutOfMemory>
     requires size { IsTrue (is_session_size size.w size.h) }
-    requires cuttable { IsCuttable size pending }
-    ensures walked { result ≡ as_walked size confirmed.now pending }
-    ensures walkable { IsWalkableAs result }
+    requires cuttable { AllCuttable size pending.items }
+    ensures walked { IfOk result (λ drawings. drawings.items ≡ drawings_walked size confirmed.now pending.items) }
+    ensures walkable { IfOk result (λ drawings. AllWalkable drawings.items) }
 {
     if confirmed.cautious {
-        cut(size, pending)
+        cut_all(alloc, size, pending)
     } else {
-        Some(pending)
+        Ok(pending)
     }
+}
+
+/// Drawings cut to the pixels that they may change.
+fn cut_all(alloc: Global, size: Size, pending: Vec<Pending>) -> Result<Vec<Pending>, OutOfMemory>
+    requires size { IsTrue (is_session_size size.w size.h) }
+    requires cuttable { AllCuttable size pending.items }
+    ensures cut { IfOk result (λ drawings. drawings.items ≡ all_cut size pending.items) }
+    ensures walkable { IfOk result (λ drawings. AllWalkable drawings.items) }
+{
+    let mut drawings = Vec::with_capacity(alloc, pending.len())?;
+    for drawing in pending {
+        if let Some(drawing) = cut(size, drawing) {
+            drawings.push(drawing)?;
+        }
+    }
+    Ok(drawings)
 }
 
 /// A drawing cut to the pixels that it may change, without a clip; `None` where there are none, or its code changes nothing.

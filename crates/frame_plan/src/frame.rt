@@ -9,13 +9,16 @@ ghost use Rattle.frame_plan.specs.Takes.{taken_as};
 ghost use Rattle.frame_plan.specs.Plans.{is_work, frame_at, taken_if, desk_if, asked_if};
 ghost use Rattle.frame_rules.specs.Frame.{jumped};
 ghost use Rattle.frame_plan.specs.Walks.{walk_of, HasWalkedAll, HasJumped};
+ghost use Rattle.frame_plan.specs.Cuts.{AllCuttable};
 ghost use Rattle.frame_plan.specs.Planning.{planned_as, HasPlanned};
 ghost use Rattle.frame_plan.specs.declared.taken.Taken.TheVariants.{Nothing};
 
 use crate::area::whole;
+use crate::cut::drawings_walked;
 use crate::tiles::cut_tiles;
 use crate::walk::Walker;
-use crate::{Desk, OutOfMemory, Sent, Take, Taken, TakenTile};
+use crate::{Desk, Orders, OutOfMemory, Pending, Take, Taken, TakenTile};
+use caps_sets::Confirmed;
 use px_core::{Size, TileSet};
 use save_plan::Blocks;
 use session_core::Session;
@@ -67,7 +70,7 @@ pub fn plan(alloc: Global, session: &mut Session, desk: &mut Desk) -> Result<Tak
 #[derive(Drop)]
 struct Planned {
     first: bool,
-    sent: Vec<Sent>,
+    sent: Orders,
     tiles: Vec<TakenTile>,
     held: Blocks,
 }
@@ -98,20 +101,20 @@ fn plan_frame(alloc: Global, session: &Session, desk: &Desk) -> Result<Planned, 
     ensures { IfOk result (λ planned. planned_as planned ≡ taken_as session.now.head.size (frame_at session.now desk.now)) }
 {
     session.is_legal();
-    let walker = walked(alloc, session, desk)?;
+    let (walker, sent) = walked(alloc, session, desk)?;
     let tiles = cut_tiles(alloc, session.look(), &walker.dirty, session.asked(desk.v))?;
     Ok(Planned {
         first: desk.number == 0,
-        sent: walker.sent,
+        sent,
         tiles,
         held: walker.held,
     })
 }
 
-/// The walk over what is pending, or the jump over it where it is too much.
-fn walked(alloc: Global, session: &Session, desk: &Desk) -> Result<Walker, OutOfMemory>
+/// The walk over what is pending, or the jump over it where it is too much; and what goes as orders.
+fn walked(alloc: Global, session: &Session, desk: &Desk) -> Result<(Walker, Orders), OutOfMemory>
     requires { desk.now.number ≤ length session.now.journal }
-    ensures { IfOk result (λ walker. HasPlanned session.now desk.now walker) }
+    ensures { IfOk result (λ both. HasPlanned session.now desk.now both.0 both.1) }
 {
     session.is_legal();
     let size = session.size();
@@ -120,29 +123,48 @@ fn walked(alloc: Global, session: &Session, desk: &Desk) -> Result<Walker, OutOf
     let count = all - session.drawings_before(desk.number);
     if count > MOST_ORDERS {
         jump_over(alloc, session, desk.number, &mut walker)?;
+        Ok((walker, Orders::none(alloc)))
     } else {
-        walk_over(alloc, session, desk, count as usize, &mut walker)?;
+        let sent = walk_over(alloc, session, desk, count as usize, &mut walker)?;
+        Ok((walker, sent))
     }
-    Ok(walker)
 }
 
-/// Walks over the drawings of all entries from the desk's number on, for so many of which there is to be room at once.
+/// Walks over the drawings of all entries from the desk's number on, for so many of which there is to be room at once; answers those that
+/// go as orders.
 fn walk_over(
     alloc: Global,
     session: &Session,
     desk: &Desk,
     count: usize,
     walker: &mut Walker,
-) -> Result<(), OutOfMemory>
+) -> Result<Orders, OutOfMemory>
     requires { desk.now.number ≤ length session.now.journal }
-    ensures { OnOk result (HasWalkedAll session.now.head.size desk.now.confirmed walker.old (pending_between session.now.head.size session.now.journal desk.now.number (length session.now.journal)) walker.new) }
+    ensures { IfOk result (λ sent. HasWalkedAll session.now.head.size desk.now.confirmed walker.old (pending_between session.now.head.size session.now.journal desk.now.number (length session.now.journal)) sent walker.new) }
 {
     session.is_legal();
     let mut pending = Vec::with_capacity(alloc, count)?;
     for entry in desk.number..session.length() {
         session.put_pending(entry, &mut pending)?;
     }
-    walker.walk_all(session.size(), &desk.confirmed, pending)
+    walk_drawings(alloc, session.size(), &desk.confirmed, pending, walker)
+}
+
+/// Walks over drawings as what the viewer's are walked as; answers those that go as orders.
+fn walk_drawings(
+    alloc: Global,
+    size: Size,
+    confirmed: &Confirmed,
+    pending: Vec<Pending>,
+    walker: &mut Walker,
+) -> Result<Orders, OutOfMemory>
+    requires size { IsTrue (is_session_size size.w size.h) }
+    requires cuttable { AllCuttable size pending.items }
+    ensures { IfOk result (λ sent. HasWalkedAll size confirmed.now walker.old pending.items sent walker.new) }
+{
+    let drawings = drawings_walked(alloc, size, confirmed, pending)?;
+    let positions = walker.walk_all(alloc, size, confirmed, &drawings)?;
+    Ok(Orders::new(drawings, positions))
 }
 
 /// Jumps over the drawings of all entries from a number on, one entry after the other.

@@ -2,12 +2,12 @@
 ghost use Rattle.std.specs.Prelude.{◌≡◌, ℕ, ◌*◌, ◌&&◌, not, is_some, map};
 ghost use Rattle.cache_use.specs.CacheUse.{is_used};
 ghost use Rattle.caps_sets.specs.Confirmed.{first_cache};
-ghost use Rattle.frame_rules.specs.Support.{serves_image, greatest_cell, distinct_loads, image_cache, run_cache, has_glyph_level, supports};
+ghost use Rattle.frame_rules.specs.Support.{serves_image, greatest_cell, distinct_loads, image_cache, run_cache, has_glyph_level};
 
 use crate::Pending;
 use crate::needs::{Needs, first_cache};
 use caps_sets::Confirmed;
-use draw_ops::{Image, Shape};
+use draw_ops::Image;
 use session_core::LoadedGlyph;
 
 /// The most entries of a bitmap cache that are used.
@@ -101,30 +101,15 @@ fn has_glyph_level(level: u16) -> bool
     1 <= level && level <= 2
 }
 
-/// Whether the viewer has the order of a drawing, and caches that hold what it needs.
-pub(crate) fn supports(confirmed: &Confirmed, pending: &Pending) -> bool
-    ensures { result ≡ supports confirmed.now pending.now pending.now.drawing.shape }
+/// Whether the viewer has a cache that holds a drawing's image.
+pub(crate) fn supports_image(confirmed: &Confirmed, pending: &Pending) -> bool
+    ensures { result ≡ is_some (image_cache confirmed.now pending.now.image) }
 {
-    match &pending.drawing().shape {
-        Shape::Fill { .. } => confirmed.pat,
-        Shape::Dst { .. } => confirmed.dst,
-        Shape::Pat { .. } => confirmed.pat && confirmed.brush,
-        Shape::Copy { .. } => confirmed.scr,
-        Shape::Blit { .. } => confirmed.mem && image_cache(confirmed, pending).is_some(),
-        Shape::Blit3 { .. } => {
-            confirmed.mem3 && image_cache(confirmed, pending).is_some() && confirmed.brush
-        }
-        Shape::Text { .. } => supports_text(confirmed, pending),
-        Shape::Save { .. } | Shape::Restore { .. } => confirmed.save,
-        Shape::Line { .. }
-        | Shape::LoadImage { .. }
-        | Shape::LoadBrush { .. }
-        | Shape::LoadGlyph { .. } => false,
-    }
+    image_cache(confirmed, pending).is_some()
 }
 
 /// Whether the viewer has the order of a run of glyphs, and a cache that holds them.
-fn supports_text(confirmed: &Confirmed, pending: &Pending) -> bool
+pub(crate) fn supports_text(confirmed: &Confirmed, pending: &Pending) -> bool
     ensures { result ≡ (not confirmed.now.cautious && ((confirmed.now.glyph && has_glyph_level confirmed.now.glyph_level) && is_some (run_cache confirmed.now pending.now.glyphs))) }
 {
     !confirmed.cautious

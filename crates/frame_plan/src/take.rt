@@ -1,5 +1,5 @@
 //! A frame apart from its session: all that its bytes are made of.
-use crate::{Sent, TakenTile};
+use crate::{Orders, TakenTile};
 use px_core::Size;
 use save_plan::Blocks;
 use std::marker::Model;
@@ -12,7 +12,7 @@ pub struct Take {
     pub(crate) serial: u64,
     pub(crate) before: u64,
     pub(crate) number: u64,
-    pub(crate) sent: Vec<Sent>,
+    pub(crate) sent: Orders,
     pub(crate) tiles: Vec<TakenTile>,
     pub(crate) held_before: Blocks,
     pub(crate) held: Blocks,
@@ -29,7 +29,7 @@ impl Model for Take {
       before = s.before;
       number = s.number;
       held_before = s.held_before;
-      frame = record { first = s.first; sent = s.sent.items; tiles = s.tiles.items; held = s.held };
+      frame = record { first = s.first; sent = s.sent; tiles = s.tiles.items; held = s.held };
     } };
 }
 
@@ -72,7 +72,7 @@ impl Take {
     }
 
     /// The drawings that go as orders, in order.
-    pub fn sent(&self) -> &[Sent]
+    pub fn sent(&self) -> &Orders
         ensures { result.now ≡ self.now.frame.sent }
     {
         &self.sent

@@ -1,28 +1,26 @@
 //! The walk over pending drawings: which go as orders, and which tiles become dirty.
 ghost use Rattle.std.specs.Prelude.{◌≡◌, ◌&&◌, not, IfOk, OnOk, IsTrue};
 ghost use Rattle.px_core.specs.TileFlags.{tiles};
-ghost use Rattle.px_core.specs.Rectangle.{is_session_size};
-ghost use Rattle.frame_rules.specs.Frame.{walked, sent_if, sent_at, skipped, saved_if, given_up, restored_from, block_if, first_dirty, reads_clean_tiles, walked_pending, jumped, jumped_one};
-ghost use Rattle.frame_plan.specs.Cuts.{IsWalkable, IsCuttable, AllCuttable, ReadsPlaced};
-ghost use Rattle.frame_plan.specs.Walks.{walk_of, HasWalked, HasWalkedAll, HasJumped, IsBegun};
+ghost use Rattle.px_core.specs.Tiles.{share_tile, tiles_of};
+ghost use Rattle.px_core.specs.Rectangle.{is_session_size, boxed, IsPlaced};
+ghost use Rattle.frame_rules.specs.Frame.{walked, sent_if, skipped, saved_if, given_up, restored_from, block_if, first_dirty, jumped, jumped_one};
+ghost use Rattle.frame_plan.specs.Cuts.{IsWalkable, AllWalkable, AllCuttable};
+ghost use Rattle.frame_plan.specs.Walks.{walk_of, HasDecided, HasWalkedThrough, HasJumped, IsBegun};
 
 use crate::area::{clipped, whole};
-use crate::cut::as_walked;
-use crate::support::supports;
-use crate::turn::{Turn, turn_of};
-use crate::{OutOfMemory, Pending, Sent};
+use crate::support::{supports_image, supports_text};
+use crate::{OutOfMemory, Pending};
 use caps_sets::Confirmed;
 use draw_ops::Shape;
 use px_core::{Rect, Size, TileSet};
 use save_plan::{Blocks, PlaceFault};
 use std::alloc::Global;
 
-/// What a walk has come to: the tiles that go as bitmaps, the blocks that the viewer holds, and the drawings that go as orders.
+/// What a walk has come to: the tiles that go as bitmaps, and the blocks that the viewer holds.
 #[derive(Drop)]
 pub(crate) struct Walker {
     pub dirty: TileSet,
     pub held: Blocks,
-    pub sent: Vec<Sent>,
 }
 
 impl Walker {
@@ -40,43 +38,27 @@ impl Walker {
         Ok(Walker {
             dirty: first_dirty(size, first, confirmed),
             held: held.copy(alloc)?,
-            sent: Vec::new(alloc),
         })
     }
 
-    /// Walks over drawings, one after the other.
+    /// Walks over drawings, one after the other; answers the position of each that goes as an order.
     pub fn walk_all(
         &mut self,
+        alloc: Global,
         size: Size,
         confirmed: &Confirmed,
-        pending: Vec<Pending>,
-    ) -> Result<(), OutOfMemory>
+        drawings: &[Pending],
+    ) -> Result<Vec<Option<u32>>, OutOfMemory>
         requires size { IsTrue (is_session_size size.w size.h) }
-        requires cuttable { AllCuttable size pending.items }
-        ensures { OnOk result (HasWalkedAll size confirmed.now self.old pending.items self.new) }
+        requires walkable { AllWalkable drawings.now }
+        ensures { IfOk result (λ positions. HasWalkedThrough size confirmed.now self.old drawings.now positions.items self.new) }
     {
-        self.sent.reserve(pending.len())?;
-        for drawing in pending {
-            self.walk_one(size, confirmed, drawing)?;
+        let mut positions = Vec::with_capacity(alloc, drawings.len())?;
+        for drawing in drawings {
+            let position = self.walk(size, confirmed, drawing)?;
+            positions.push(position)?;
         }
-        Ok(())
-    }
-
-    /// Walks over a drawing, as what the viewer's are walked as.
-    fn walk_one(
-        &mut self,
-        size: Size,
-        confirmed: &Confirmed,
-        pending: Pending,
-    ) -> Result<(), OutOfMemory>
-        requires size { IsTrue (is_session_size size.w size.h) }
-        requires cuttable { IsCuttable size pending }
-        ensures { OnOk result (HasWalked self.old (walked_pending size confirmed.now (walk_of self.old) pending) self.new) }
-    {
-        match as_walked(size, confirmed, pending) {
-            Some(pending) => self.walk(size, confirmed, pending),
-            None => Ok(()),
-        }
+        Ok(positions)
     }
 
     /// Jumps over drawings: none goes as an order, the tiles that any of them touches are dirty, and each slot that a save names is given up.
@@ -106,125 +88,135 @@ impl Walker {
     fn skip(&mut self, size: Size, pending: &Pending)
         requires size { IsTrue (is_session_size size.w size.h) }
         requires walkable { IsWalkable pending.now }
-        ensures walk { HasWalked self.old (skipped size (walk_of self.old) pending.now) self.new }
+        ensures walk { walk_of self.new ≡ (skipped size (walk_of self.old) pending.now).walk }
     {
         self.dirty
             .add(clipped(pending.rect(), pending.drawing().clip), size);
     }
 
-    /// Sends a drawing as an order.
-    fn send(&mut self, pending: Pending, position: u32) -> Result<(), OutOfMemory>
-        ensures { OnOk result (HasWalked self.old (sent_at (walk_of self.old) pending position) self.new) }
-    {
-        self.sent.push(Sent::new(pending, position))?;
-        Ok(())
-    }
-
-    /// Sends a drawing as an order where it may go as one, and else makes its tiles dirty.
-    fn send_if(&mut self, goes: bool, size: Size, pending: Pending) -> Result<(), OutOfMemory>
-        requires size { IsTrue (is_session_size size.w size.h) }
-        requires walkable { IsWalkable pending }
-        ensures { OnOk result (HasWalked self.old (sent_if goes size (walk_of self.old) pending) self.new) }
-    {
-        if goes {
-            self.send(pending, 0)
-        } else {
-            self.skip(size, &pending);
-            Ok(())
-        }
-    }
-
-    /// Whether no tile that a shape's order reads is dirty.
-    fn reads_clean(&self, size: Size, shape: &Shape) -> bool
-        requires size { IsTrue (is_session_size size.w size.h) }
-        requires reads { ReadsPlaced shape.now }
-        ensures { result ≡ reads_clean_tiles size (walk_of self.now) shape.now }
-    {
-        match shape {
-            Shape::Copy { rect, sx, sy, .. } => {
-                let source = Rect {
-                    x: *sx,
-                    y: *sy,
-                    w: rect.w,
-                    h: rect.h,
-                };
-                !self.dirty.meets(source, size)
-            }
-            Shape::Save { rect, .. } => !self.dirty.meets(*rect, size),
-            _ => true,
-        }
-    }
-
-    /// A drawing in its turn.
+    /// A drawing in its turn: the position where it goes as an order, 0 where it needs none. Where it doesn't go, its tiles are dirty then,
+    /// but for a load.
     fn walk(
         &mut self,
         size: Size,
         confirmed: &Confirmed,
-        pending: Pending,
-    ) -> Result<(), OutOfMemory>
+        pending: &Pending,
+    ) -> Result<Option<u32>, OutOfMemory>
         requires size { IsTrue (is_session_size size.w size.h) }
-        requires walkable { IsWalkable pending }
-        ensures { OnOk result (HasWalked self.old (walked size confirmed.now (walk_of self.old) pending pending.drawing.shape) self.new) }
+        requires walkable { IsWalkable pending.now }
+        ensures { IfOk result (λ position. HasDecided (walked size confirmed.now (walk_of self.old) pending.now pending.now.drawing.shape) pending.now position self.new) }
     {
-        let shape = &pending.drawing().shape;
-        let turn = turn_of(shape);
-        let goes = supports(confirmed, &pending) && self.reads_clean(size, shape);
-        match turn {
-            Turn::Order => self.send_if(goes, size, pending),
-            Turn::Save { slot, rect } => self.save(goes, size, pending, slot, rect),
-            Turn::Restore { slot } => self.restore(goes, size, pending, slot),
-            Turn::Load => Ok(()),
+        match &pending.drawing().shape {
+            Shape::Fill { .. } => Ok(self.order_if(confirmed.pat, size, pending)),
+            Shape::Dst { .. } => Ok(self.order_if(confirmed.dst, size, pending)),
+            Shape::Pat { .. } => {
+                Ok(self.order_if(confirmed.pat && confirmed.brush, size, pending))
+            }
+            Shape::Copy { rect, sx, sy, .. } => {
+                let goes = confirmed.scr && self.is_clean(size, source_of(rect, *sx, *sy));
+                Ok(self.order_if(goes, size, pending))
+            }
+            Shape::Blit { .. } => {
+                let goes = confirmed.mem && supports_image(confirmed, pending);
+                Ok(self.order_if(goes, size, pending))
+            }
+            Shape::Blit3 { .. } => {
+                let goes = confirmed.mem3
+                    && (supports_image(confirmed, pending) && confirmed.brush);
+                Ok(self.order_if(goes, size, pending))
+            }
+            Shape::Text { .. } => {
+                Ok(self.order_if(supports_text(confirmed, pending), size, pending))
+            }
+            Shape::Line { .. } => Ok(self.order_if(false, size, pending)),
+            Shape::Save { slot, rect } => {
+                let goes = confirmed.save && self.is_clean(size, *rect);
+                self.save(goes, size, pending, *slot, *rect)
+            }
+            Shape::Restore { slot, .. } => {
+                Ok(self.restore(confirmed.save, size, pending, *slot))
+            }
+            Shape::LoadImage { .. } | Shape::LoadBrush { .. } | Shape::LoadGlyph { .. } => Ok(None),
         }
     }
 
-    /// Gives up a slot's block, and sends a save to the least free position where it may go as an order and there is one.
+    /// Has a drawing go as an order where it may, and else makes its tiles dirty.
+    fn order_if(&mut self, goes: bool, size: Size, pending: &Pending) -> Option<u32>
+        requires size { IsTrue (is_session_size size.w size.h) }
+        requires walkable { IsWalkable pending.now }
+        ensures { HasDecided (sent_if goes size (walk_of self.old) pending.now) pending.now result self.new }
+    {
+        if goes {
+            Some(0)
+        } else {
+            self.skip(size, pending);
+            None
+        }
+    }
+
+    /// Whether no tile with a pixel of a rectangle is dirty.
+    fn is_clean(&self, size: Size, rect: Rect) -> bool
+        requires size { IsTrue (is_session_size size.w size.h) }
+        requires rect { IsPlaced rect }
+        ensures { result ≡ not (share_tile size (walk_of self.now).dirty (tiles_of size rect)) }
+    {
+        !self.dirty.meets(rect, size)
+    }
+
+    /// Gives up a slot's block, and has a save go to the least free position where it may go as an order and there is one.
     fn save(
         &mut self,
         goes: bool,
         size: Size,
-        pending: Pending,
+        pending: &Pending,
         slot: u8,
         rect: Rect,
-    ) -> Result<(), OutOfMemory>
+    ) -> Result<Option<u32>, OutOfMemory>
         requires size { IsTrue (is_session_size size.w size.h) }
-        requires walkable { IsWalkable pending }
-        ensures { OnOk result (HasWalked self.old (saved_if goes size (given_up slot (walk_of self.old)) pending slot rect) self.new) }
+        requires walkable { IsWalkable pending.now }
+        ensures { IfOk result (λ position. HasDecided (saved_if goes size (given_up slot (walk_of self.old)) pending.now slot rect) pending.now position self.new) }
     {
         self.held.free(slot);
         if !goes {
-            self.skip(size, &pending);
-            return Ok(());
+            self.skip(size, pending);
+            return Ok(None);
         }
         match self.held.place(slot, rect.w, rect.h) {
-            Ok(position) => self.send(pending, position),
+            Ok(position) => Ok(Some(position)),
             Err(PlaceFault::NoRoom) => {
-                self.skip(size, &pending);
-                Ok(())
+                self.skip(size, pending);
+                Ok(None)
             }
             Err(PlaceFault::OutOfMemory) => Err(OutOfMemory),
         }
     }
 
-    /// Sends a restore of the block that its slot holds, where it may go as an order and there is one.
-    fn restore(
-        &mut self,
-        goes: bool,
-        size: Size,
-        pending: Pending,
-        slot: u8,
-    ) -> Result<(), OutOfMemory>
+    /// Has a restore go from the block that its slot holds, where it may go as an order and there is one.
+    fn restore(&mut self, goes: bool, size: Size, pending: &Pending, slot: u8) -> Option<u32>
         requires size { IsTrue (is_session_size size.w size.h) }
-        requires walkable { IsWalkable pending }
-        ensures { OnOk result (HasWalked self.old (restored_from size (walk_of self.old) pending (block_if goes slot (walk_of self.old))) self.new) }
+        requires walkable { IsWalkable pending.now }
+        ensures { HasDecided (restored_from size (walk_of self.old) pending.now (block_if goes slot (walk_of self.old))) pending.now result self.new }
     {
         let place = if goes { self.held.get(slot) } else { None };
         match place {
-            Some(place) => self.send(pending, place.position),
+            Some(place) => Some(place.position),
             None => {
-                self.skip(size, &pending);
-                Ok(())
+                self.skip(size, pending);
+                None
             }
         }
+    }
+}
+
+/// The rectangle that a copy reads.
+fn source_of(rect: &Rect, x: i32, y: i32) -> Rect
+    ensures { result ≡ boxed x y rect.now.w rect.now.h }
+{
+    Rect {
+        x,
+        y,
+        w: rect.w,
+        h: rect.h,
     }
 }
 

@@ -1,6 +1,6 @@
 -- One drawing, one glyph and one tile after the other.
 use Rattle.std.proofs.Common.{◌≡◌, ℕ, zero, suc, ◌+◌, ◌-◌, ◌<◌, ◌≤◌, ◌%◌, List, [], ◌∷◌, ◌++◌, length, take, drop, get_or, refl, ap, sym, ◌∙◌, subst, arith, append-nil, append_assoc, flat_map}
-use Rattle.std.specs.Prelude.{Bool, true, false, nat_lt}
+use Rattle.std.specs.Prelude.{Bool, true, false, nat_lt, Option}
 use Rattle.std.proofs.lemmas.Bool.Decides.{nat_tests}
 use Rattle.std.proofs.Math.Seq.{drop-cons}
 use Rattle.px_core.specs.declared.surface.Size.{Size}
@@ -26,6 +26,8 @@ use Rattle.frame_write.specs.Stands.{CachesStand}
 use Rattle.frame_write.specs.Writes.{Writes, used}
 use Rattle.frame_write.proofs.CacheSteps.{use_of_none}
 use Rattle.frame_write.proofs.UseSteps.{use_missed, writes_then, writes_as}
+use Rattle.frame_plan.specs.Orders.{sent_to, orders_at}
+use Rattle.viewer_sender.specs.Goes.{AllGo}
 use Rattle.viewer_sender.specs.Runs.{run_sending, drawings_sending}
 
 -- ---- lists
@@ -46,28 +48,66 @@ take_next {A} l i d h = let same : i + 1 ≡ suc i = omega arith in ap (λ n. ta
 pub writes_nothing : (w : FrameWriter) → Writes w w (λ uses. sending [] uses)
 writes_nothing w = (refl, λ uses stands. record { gathered = refl; registers = refl; caches = stands })
 
+-- drawings of which those with a position go, one more of them
+orders_cut : (ds : List Pending) (os : List (Option ℕ)) (i : ℕ) (d : Pending) (o : Option ℕ) → i < length ds → length os ≡ length ds
+    → orders_at (drop i ds) (drop i os) ≡ sent_to (get_or ds i d) (get_or os i o) ++ orders_at (drop (i + 1) ds) (drop (i + 1) os)
+orders_cut ds os i d o h e =
+    ap (λ (ps : List Pending). orders_at ps (drop i os)) (drop_next ds i d h)
+    ∙ ap (λ (qs : List (Option ℕ)). orders_at (get_or ds i d ∷ drop (i + 1) ds) qs) (drop_next os i o (omega (arith, h, e)))
+
+pub orders_last : (ds : List Pending) (os : List (Option ℕ)) (i : ℕ) (d : Pending) (o : Option ℕ) → i < length ds → length os ≡ length ds
+    → orders_at (take (i + 1) ds) (take (i + 1) os) ≡ orders_at (take i ds) (take i os) ++ sent_to (get_or ds i d) (get_or os i o)
+orders_last ds os i d o h e =
+    let same : i + 1 ≡ suc i = omega arith in
+    ap (λ n. orders_at (take n ds) (take n os)) same ∙ by ds os i h e
+  where
+    by : (ds : List Pending) (os : List (Option ℕ)) (i : ℕ) → i < length ds → length os ≡ length ds
+        → orders_at (take (suc i) ds) (take (suc i) os) ≡ orders_at (take i ds) (take i os) ++ sent_to (get_or ds i d) (get_or os i o)
+    by [] os i h e = absurd (omega (arith, h))
+    by (x ∷ ds) [] i h e = absurd (omega (arith, e))
+    by (x ∷ ds) (y ∷ os) zero h e = append-nil (sent_to x y)
+    by (x ∷ ds) (y ∷ os) (suc i) h e =
+        ap (λ ss. sent_to x y ++ ss) (by ds os i (omega (arith, h)) (omega (arith, e)))
+        ∙ sym (append_assoc (sent_to x y) (orders_at (take i ds) (take i os)) (sent_to (get_or ds i d) (get_or os i o)))
+
+-- the first of some drawings, and the others, can be written
+go_parts : (xs ys : List Sent) → AllGo (xs ++ ys) → AllGo xs × AllGo ys
+go_parts [] ys h = (tt, h)
+go_parts (x ∷ xs) ys h = let k = go_parts xs ys h.1 in ((h.0, k.0), k.1)
+
+pub next_goes : (ds : List Pending) (os : List (Option ℕ)) (i : ℕ) (d : Pending) (o : Option ℕ) → i < length ds → length os ≡ length ds
+    → AllGo (orders_at (drop i ds) (drop i os)) → AllGo (sent_to (get_or ds i d) (get_or os i o)) × AllGo (orders_at (drop (i + 1) ds) (drop (i + 1) os))
+next_goes ds os i d o h e k =
+    go_parts (sent_to (get_or ds i d) (get_or os i o)) (orders_at (drop (i + 1) ds) (drop (i + 1) os))
+    (subst (λ (ss : List Sent). AllGo ss) (orders_cut ds os i d o h e) k)
+
+-- a drawing that goes or doesn't
 module _ (c : Confirmed) where
-  orders-last : (xs : List Sent) (s : Sent) (uses : Uses) → orders_from c uses (xs ++ s ∷ []) ≡ orders_from c uses xs ++ (sending_of c (uses_after c uses xs) s).orders
-  orders-last [] s uses = append-nil (sending_of c uses s).orders
-  orders-last (x ∷ xs) s uses =
+  pub orders_joined : (xs ys : List Sent) (uses : Uses) → orders_from c uses (xs ++ ys) ≡ orders_from c uses xs ++ orders_from c (uses_after c uses xs) ys
+  orders_joined [] ys uses = refl
+  orders_joined (x ∷ xs) ys uses =
       let u = (sending_of c uses x).uses in
-      ap (λ os. (sending_of c uses x).orders ++ os) (orders-last xs s u) ∙ sym (append_assoc (sending_of c uses x).orders (orders_from c u xs) (sending_of c (uses_after c u xs) s).orders)
+      ap (λ os. (sending_of c uses x).orders ++ os) (orders_joined xs ys u) ∙ sym (append_assoc (sending_of c uses x).orders (orders_from c u xs) (orders_from c (uses_after c u xs) ys))
 
-  uses-last : (xs : List Sent) (s : Sent) (uses : Uses) → uses_after c uses (xs ++ s ∷ []) ≡ (sending_of c (uses_after c uses xs) s).uses
-  uses-last [] s uses = refl
-  uses-last (x ∷ xs) s uses = uses-last xs s (sending_of c uses x).uses
+  pub uses_joined : (xs ys : List Sent) (uses : Uses) → uses_after c uses (xs ++ ys) ≡ uses_after c (uses_after c uses xs) ys
+  uses_joined [] ys uses = refl
+  uses_joined (x ∷ xs) ys uses = uses_joined xs ys (sending_of c uses x).uses
 
--- a drawing more
-pub sent_more : (a b d : FrameWriter) (xs : List Sent) (s : Sent) → Writes a b (λ uses. drawings_sending a.confirmed uses xs) → Writes b d (λ uses. sending_of b.confirmed uses s)
-    → Writes a d (λ uses. drawings_sending a.confirmed uses (xs ++ s ∷ []))
-sent_more a b d xs s p q =
+pub sent_all : (a b d : FrameWriter) (xs ys : List Sent) → Writes a b (λ uses. drawings_sending a.confirmed uses xs) → Writes b d (λ uses. drawings_sending b.confirmed uses ys)
+    → Writes a d (λ uses. drawings_sending a.confirmed uses (xs ++ ys))
+sent_all a b d xs ys p q =
     let c = a.confirmed in
     writes_as a d _ _
     (λ uses stands.
-    ap (λ k. sending (orders_from c uses xs ++ (sending_of k (uses_after c uses xs) s).orders) (sending_of k (uses_after c uses xs) s).uses) p.0
-    ∙ (ap (λ os. sending os (sending_of c (uses_after c uses xs) s).uses) (sym (orders-last c xs s uses))
-    ∙ ap (λ us. sending (orders_from c uses (xs ++ s ∷ [])) us) (sym (uses-last c xs s uses))))
-    (writes_then a b d (λ uses. drawings_sending a.confirmed uses xs) (λ uses. sending_of b.confirmed uses s) p q)
+    ap (λ k. sending (orders_from c uses xs ++ orders_from k (uses_after c uses xs) ys) (uses_after k (uses_after c uses xs) ys)) p.0
+    ∙ (ap (λ os. sending os (uses_after c (uses_after c uses xs) ys)) (sym (orders_joined c xs ys uses))
+    ∙ ap (λ us. sending (orders_from c uses (xs ++ ys)) us) (sym (uses_joined c xs ys uses))))
+    (writes_then a b d (λ uses. drawings_sending a.confirmed uses xs) (λ uses. drawings_sending b.confirmed uses ys) p q)
+
+-- one drawing
+pub sent_alone : (a b : FrameWriter) (s : Sent) → Writes a b (λ uses. sending_of a.confirmed uses s) → Writes a b (λ uses. drawings_sending a.confirmed uses (s ∷ []))
+sent_alone a b s h =
+    writes_as a b _ _ (λ uses stands. ap (λ os. sending os (sending_of a.confirmed uses s).uses) (sym (append-nil (sending_of a.confirmed uses s).orders))) h
 
 -- ---- glyphs
 

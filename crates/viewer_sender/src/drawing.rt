@@ -1,6 +1,7 @@
 //! The orders of a drawing that goes as an order, by its shape ([MS-RDPEGDI] 2.2.2.2.1.1.2).
-ghost use Rattle.std.specs.Prelude.{◌≡◌, OnOk};
+ghost use Rattle.std.specs.Prelude.{◌≡◌, length, OnOk};
 ghost use Rattle.frame_rules.specs.FrameOrders.{sending_of};
+ghost use Rattle.frame_plan.specs.Orders.{sent_to, orders_at};
 ghost use Rattle.frame_write.specs.Writes.{Writes};
 ghost use Rattle.viewer_sender.specs.Goes.{SentGoes, AllGo};
 ghost use Rattle.viewer_sender.specs.Runs.{drawings_sending};
@@ -10,31 +11,53 @@ use crate::cached::{put_blit, put_blit3, put_pat};
 use crate::plain::{put_copy, put_dst, put_fill, put_restore, put_save};
 use crate::text::put_text;
 use draw_ops::Shape;
-use frame_plan::Sent;
+use frame_plan::Pending;
 use frame_write::FrameWriter;
 use std::alloc::Global;
 
-/// Adds the orders of drawings, one after the other.
+/// Adds the orders of drawings, one after the other: of those with a position.
 pub(crate) fn put_drawings(
     alloc: Global,
     writer: &mut FrameWriter,
-    drawings: &[Sent],
+    drawings: &[Pending],
+    positions: &[Option<u32>],
 ) -> Result<(), OutOfMemory>
-    requires { AllGo drawings.now }
-    ensures { OnOk result (Writes writer.old writer.new (λ uses. drawings_sending writer.old.confirmed uses drawings.now)) }
+    requires number { length positions.now ≡ length drawings.now }
+    requires go { AllGo (orders_at drawings.now positions.now) }
+    ensures { OnOk result (Writes writer.old writer.new (λ uses. drawings_sending writer.old.confirmed uses (orders_at drawings.now positions.now))) }
 {
-    for sent in drawings {
-        put_drawing(alloc, writer, sent)?;
+    for i in 0..drawings.len() {
+        put_if(alloc, writer, &drawings[i], positions[i])?;
     }
     Ok(())
 }
 
-/// Adds the orders of a drawing: those of the cache entries that its client hasn't, and then its own. A line and a load have none.
-fn put_drawing(alloc: Global, writer: &mut FrameWriter, sent: &Sent) -> Result<(), OutOfMemory>
-    requires { SentGoes sent.now }
-    ensures { OnOk result (Writes writer.old writer.new (λ uses. sending_of writer.old.confirmed uses sent.now)) }
+/// Adds the orders of a drawing, if it has a position.
+fn put_if(
+    alloc: Global,
+    writer: &mut FrameWriter,
+    pending: &Pending,
+    position: Option<u32>,
+) -> Result<(), OutOfMemory>
+    requires { AllGo (sent_to pending.now position) }
+    ensures { OnOk result (Writes writer.old writer.new (λ uses. drawings_sending writer.old.confirmed uses (sent_to pending.now position))) }
 {
-    let pending = sent.pending();
+    match position {
+        Some(position) => put_drawing(alloc, writer, pending, position),
+        None => Ok(()),
+    }
+}
+
+/// Adds the orders of a drawing: those of the cache entries that its client hasn't, and then its own. A line and a load have none.
+fn put_drawing(
+    alloc: Global,
+    writer: &mut FrameWriter,
+    pending: &Pending,
+    position: u32,
+) -> Result<(), OutOfMemory>
+    requires { SentGoes (record { pending = pending.now; position = position }) }
+    ensures { OnOk result (Writes writer.old writer.new (λ uses. sending_of writer.old.confirmed uses (record { pending = pending.now; position = position }))) }
+{
     let drawing = pending.drawing();
     let clip = drawing.clip;
     match &drawing.shape {
@@ -63,8 +86,8 @@ fn put_drawing(alloc: Global, writer: &mut FrameWriter, sent: &Sent) -> Result<(
             run,
             ..
         } => put_text(alloc, writer, pending, *x, *y, *color, run, clip),
-        Shape::Save { rect, .. } => put_save(writer, sent.position(), *rect),
-        Shape::Restore { .. } => put_restore(writer, sent.position(), pending.rect()),
+        Shape::Save { rect, .. } => put_save(writer, position, *rect),
+        Shape::Restore { .. } => put_restore(writer, position, pending.rect()),
         Shape::Line { .. }
         | Shape::LoadImage { .. }
         | Shape::LoadBrush { .. }

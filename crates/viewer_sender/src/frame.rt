@@ -62,7 +62,8 @@ fn put_orders(alloc: Global, writer: &mut FrameWriter, take: &Take) -> Result<()
 {
     put_start(writer)?;
     put_black(writer, take.size(), take.is_first())?;
-    put_drawings(alloc, writer, take.sent())
+    let (drawings, positions) = take.sent().parts();
+    put_drawings(alloc, writer, drawings, positions)
 }
 
 /// Adds the marker of a frame's begin, where the viewer has markers.

@@ -14,8 +14,8 @@ loop-entry-preserved c =
     let low : c.args.desk.now.number ≤ c.loop-entry.entry = omega (arith, number, from) in
     c.in_ok-put_pending.ensures.ok ∙ pending_more s.head.size s.journal c.args.desk.now.number c.loop-entry.entry c.loop-entry.pending.items low c.loop-entry.invariant
 
-pub walk_all-requires-clause-cuttable : goal.walk_all-requires-clause-cuttable
-walk_all-requires-clause-cuttable c =
+pub walk_drawings-requires-clause-cuttable : goal.walk_drawings-requires-clause-cuttable
+walk_drawings-requires-clause-cuttable c =
     let s = c.args.session.now in
     let number : c.desk.inside.number ≡ c.args.desk.now.number = ap (λ (d : DeskModel). d.number) c.desk.view_is in
     let from = c.loop-entry.auto.entry in

@@ -1,13 +1,12 @@
-use Rattle.std.proofs.Common.{◌≡◌, ◌≤◌, ◌<◌, ℕ, length, ap, sym, ◌∙◌, subst, arith, rules}
+use Rattle.std.proofs.Common.{◌≡◌, ◌≤◌, ◌<◌, ℕ, length, ap, ◌∙◌, subst, arith, rules}
 use Rattle.frame_rules.specs.Pending.{pending_between}
 use Rattle.frame_rules.specs.Frame.{jumped}
 use Rattle.frame_plan.specs.Takes.{DeskModel}
-use Rattle.frame_plan.specs.Planning.{pending_at, begun_at, HasPlanned}
+use Rattle.frame_plan.specs.Planning.{pending_at, begun_at}
 use Rattle.frame_plan.specs.Walks.{walk_of, HasJumped, IsBegun}
 use Rattle.frame_plan.proofs.Pendings.{pending_count}
 use Rattle.frame_plan.proofs.PlannedBy.{planned_jump, planned_walk}
 use Rattle.frame_plan.proofs.frame.walked.Goals as goal
-use Rattle.frame_plan.proofs.frame.walked.Goals.{then-count-gt-MOST_ORDERS+in_ok-jump_over, else-count-gt-MOST_ORDERS+in_ok-walk_over}
 
 pub overflow_sub-count : goal.overflow_sub-count
 overflow_sub-count c =
@@ -21,8 +20,8 @@ overflow_sub-count c =
     let before = c.drawings_before.ensures in
     omega (arith, count, all, before)
 
-pub returns : goal.returns
-returns c =
+pub returns-in_ok-jump_over : goal.returns-in_ok-jump_over
+returns-in_ok-jump_over c =
     let s = c.args.session.now in
     let d = c.args.desk.now in
     let number : c.desk.inside.number ≡ c.args.desk.now.number = ap (λ (d : DeskModel). d.number) c.desk.view_is in
@@ -36,17 +35,28 @@ returns c =
     let all = c.drawings_before-all.ensures in
     let before = c.drawings_before.ensures in
     let begun : IsBegun c.in_ok-walker.walker (begun_at c.args.session.now c.args.desk.now) = search rules in
-    elim c.if-count-gt-MOST_ORDERS.branch [
-      | then-count-gt-MOST_ORDERS+in_ok-jump_over w ↦
-          let test = w.if-count-gt-MOST_ORDERS.true in
-          let many : 256 < length (pending_at c.args.session.now c.args.desk.now) = omega (arith, test, count, same, all, before) in
-          let new = w.jump_over.new.walker in
-          let jumps = subst (λ (n : ℕ). HasJumped c.in_ok-walker.walker (jumped s.head.size (walk_of c.in_ok-walker.walker) (pending_between s.head.size s.journal n (length s.journal))) new)
-          number w.in_ok-jump_over.ensures in
-          subst (HasPlanned c.args.session.now c.args.desk.now) (sym w.walker-is) (planned_jump c.args.session.now c.args.desk.now c.in_ok-walker.walker new begun many jumps)
-      | else-count-gt-MOST_ORDERS+in_ok-walk_over w ↦
-          let test = w.if-count-gt-MOST_ORDERS.false in
-          let few : length (pending_at c.args.session.now c.args.desk.now) ≤ 256 = omega (arith, test, count, same, all, before) in
-          subst (HasPlanned c.args.session.now c.args.desk.now) (sym w.walker-is)
-          (planned_walk c.args.session.now c.args.desk.now c.in_ok-walker.walker w.walk_over.new.walker begun few w.in_ok-walk_over.ensures)
-    ]
+    let test = c.if-count-gt-MOST_ORDERS.true in
+    let many : 256 < length (pending_at c.args.session.now c.args.desk.now) = omega (arith, test, count, same, all, before) in
+    let new = c.jump_over.new.walker in
+    let jumps = subst (λ (n : ℕ). HasJumped c.in_ok-walker.walker (jumped s.head.size (walk_of c.in_ok-walker.walker) (pending_between s.head.size s.journal n (length s.journal))) new)
+    number c.in_ok-jump_over.ensures in
+    planned_jump s d c.in_ok-walker.walker new c.none.result begun many jumps c.none.ensures
+
+pub returns-in_ok-sent : goal.returns-in_ok-sent
+returns-in_ok-sent c =
+    let s = c.args.session.now in
+    let d = c.args.desk.now in
+    let number : c.desk.inside.number ≡ c.args.desk.now.number = ap (λ (d : DeskModel). d.number) c.desk.view_is in
+    let seen = c.requires in
+    let end = c.length.ensures in
+    let low : c.desk.inside.number ≤ c.length.result = omega (arith, number, seen, end) in
+    let count = pending_count s.head.size s.journal c.desk.inside.number c.length.result low in
+    let same : length (pending_between s.head.size s.journal c.desk.inside.number c.length.result) ≡ length (pending_at c.args.session.now c.args.desk.now) =
+    ap (λ n. length (pending_between s.head.size s.journal n c.length.result)) number
+    ∙ ap (λ n. length (pending_between s.head.size s.journal c.args.desk.now.number n)) end in
+    let all = c.drawings_before-all.ensures in
+    let before = c.drawings_before.ensures in
+    let begun : IsBegun c.in_ok-walker.walker (begun_at c.args.session.now c.args.desk.now) = search rules in
+    let test = c.if-count-gt-MOST_ORDERS.false in
+    let few : length (pending_at c.args.session.now c.args.desk.now) ≤ 256 = omega (arith, test, count, same, all, before) in
+    planned_walk s d c.in_ok-walker.walker c.walk_over.new.walker c.in_ok-sent.sent begun few c.in_ok-sent.ensures

@@ -1,8 +1,9 @@
-use Rattle.std.proofs.Common.{◌≡◌, subst, arith, w32, to_z, of_z}
+use Rattle.std.proofs.Common.{◌≡◌, refl, subst, arith, w32, to_z, of_z}
 use Rattle.std.proofs.lemmas.Int.{to_z-of_z}
 use Rattle.std.specs.Prelude.{ℤ}
 use Rattle.rle_enc.proofs.Pending.{on_ok_as}
 use Rattle.draw_ops.specs.declared.shape.Shape.TheVariants.{Copy, Blit, Blit3, Text}
+use Rattle.frame_rules.specs.Frame.{Sent}
 use Rattle.frame_rules.specs.FrameOrders.{sending_by}
 use Rattle.frame_write.specs.Writes.{Writes}
 use Rattle.viewer_sender.proofs.Loops.{arm}
@@ -12,15 +13,15 @@ pub returns-in-Copy : goal.returns-in-Copy
 returns-in-Copy c =
     let a = c.args.writer.now in
     let b = c.put_copy.new.writer in
-    let p = c.pending-pending.result.now in
+    let p = c.args.pending.now in
     let d = c.drawing-drawing.result.now in
-    let s = c.args.sent.now in
+    let s : Sent = record { pending = c.args.pending.now; position = c.args.position } in
     let r = c.in-Copy.rect in
     let k = c.in-Copy.rop in
     let x : to_z w32 (of_z w32 c.in-Copy.sx) ≡ c.in-Copy.sx = grind (arith, to_z-of_z) in
     let y : to_z w32 (of_z w32 c.in-Copy.sy) ≡ c.in-Copy.sy = grind (arith, to_z-of_z) in
     on_ok_as _ _ c.put_copy.result c.put_copy.ensures (λ h.
-    arm a b s p d (Copy r k c.in-Copy.sx c.in-Copy.sy) c.pending-pending.ensures c.drawing-drawing.ensures c.in-Copy.is
+    arm a b s p d (Copy r k c.in-Copy.sx c.in-Copy.sy) refl c.drawing-drawing.ensures c.in-Copy.is
     (subst (λ (z : ℤ). Writes a b (λ uses. sending_by a.confirmed uses (record { pending = p; position = s.position }) d.clip (Copy r k c.in-Copy.sx z))) y
     (subst (λ (z : ℤ). Writes a b (λ uses. sending_by a.confirmed uses (record { pending = p; position = s.position }) d.clip (Copy r k z (to_z w32 (of_z w32 c.in-Copy.sy))))) x h)))
 
@@ -28,15 +29,15 @@ pub returns-in-Blit : goal.returns-in-Blit
 returns-in-Blit c =
     let a = c.args.writer.now in
     let b = c.put_blit.new.writer in
-    let p = c.pending-pending.result.now in
+    let p = c.args.pending.now in
     let d = c.drawing-drawing.result.now in
-    let s = c.args.sent.now in
+    let s : Sent = record { pending = c.args.pending.now; position = c.args.position } in
     let r = c.in-Blit.rect in
     let k = c.in-Blit.rop in
     let x : to_z w32 (of_z w32 c.in-Blit.sx) ≡ c.in-Blit.sx = grind (arith, to_z-of_z) in
     let y : to_z w32 (of_z w32 c.in-Blit.sy) ≡ c.in-Blit.sy = grind (arith, to_z-of_z) in
     on_ok_as _ _ c.put_blit.result c.put_blit.ensures (λ h.
-    arm a b s p d (Blit r k _ c.in-Blit.sx c.in-Blit.sy) c.pending-pending.ensures c.drawing-drawing.ensures c.in-Blit.is
+    arm a b s p d (Blit r k _ c.in-Blit.sx c.in-Blit.sy) refl c.drawing-drawing.ensures c.in-Blit.is
     (subst (λ (z : ℤ). Writes a b (λ uses. sending_by a.confirmed uses (record { pending = p; position = s.position }) d.clip (Blit r k 0 c.in-Blit.sx z))) y
     (subst (λ (z : ℤ). Writes a b (λ uses. sending_by a.confirmed uses (record { pending = p; position = s.position }) d.clip (Blit r k 0 z (to_z w32 (of_z w32 c.in-Blit.sy))))) x h)))
 
@@ -44,15 +45,15 @@ pub returns-in-Blit3 : goal.returns-in-Blit3
 returns-in-Blit3 c =
     let a = c.args.writer.now in
     let b = c.put_blit3.new.writer in
-    let p = c.pending-pending.result.now in
+    let p = c.args.pending.now in
     let d = c.drawing-drawing.result.now in
-    let s = c.args.sent.now in
+    let s : Sent = record { pending = c.args.pending.now; position = c.args.position } in
     let r = c.in-Blit3.rect in
     let k = c.in-Blit3.rop in
     let x : to_z w32 (of_z w32 c.in-Blit3.sx) ≡ c.in-Blit3.sx = grind (arith, to_z-of_z) in
     let y : to_z w32 (of_z w32 c.in-Blit3.sy) ≡ c.in-Blit3.sy = grind (arith, to_z-of_z) in
     on_ok_as _ _ c.put_blit3.result c.put_blit3.ensures (λ h.
-    arm a b s p d (Blit3 r k _ c.in-Blit3.sx c.in-Blit3.sy _) c.pending-pending.ensures c.drawing-drawing.ensures c.in-Blit3.is
+    arm a b s p d (Blit3 r k _ c.in-Blit3.sx c.in-Blit3.sy _) refl c.drawing-drawing.ensures c.in-Blit3.is
     (subst (λ (z : ℤ). Writes a b (λ uses. sending_by a.confirmed uses (record { pending = p; position = s.position }) d.clip (Blit3 r k 0 c.in-Blit3.sx z 0))) y
     (subst (λ (z : ℤ). Writes a b (λ uses. sending_by a.confirmed uses (record { pending = p; position = s.position }) d.clip (Blit3 r k 0 z (to_z w32 (of_z w32 c.in-Blit3.sy)) 0))) x h)))
 
@@ -60,14 +61,14 @@ pub returns-in-Text : goal.returns-in-Text
 returns-in-Text c =
     let a = c.args.writer.now in
     let b = c.put_text.new.writer in
-    let p = c.pending-pending.result.now in
+    let p = c.args.pending.now in
     let d = c.drawing-drawing.result.now in
-    let s = c.args.sent.now in
+    let s : Sent = record { pending = c.args.pending.now; position = c.args.position } in
     let t = c.in-Text.run' in
     let k = c.in-Text.color in
     let x : to_z w32 (of_z w32 c.in-Text.x) ≡ c.in-Text.x = grind (arith, to_z-of_z) in
     let y : to_z w32 (of_z w32 c.in-Text.y) ≡ c.in-Text.y = grind (arith, to_z-of_z) in
     on_ok_as _ _ c.put_text.result c.put_text.ensures (λ h.
-    arm a b s p d (Text c.in-Text.x c.in-Text.y k _ t) c.pending-pending.ensures c.drawing-drawing.ensures c.in-Text.is
+    arm a b s p d (Text c.in-Text.x c.in-Text.y k _ t) refl c.drawing-drawing.ensures c.in-Text.is
     (subst (λ (z : ℤ). Writes a b (λ uses. sending_by a.confirmed uses (record { pending = p; position = s.position }) d.clip (Text c.in-Text.x z k 0 t))) y
     (subst (λ (z : ℤ). Writes a b (λ uses. sending_by a.confirmed uses (record { pending = p; position = s.position }) d.clip (Text z (to_z w32 (of_z w32 c.in-Text.y)) k 0 t))) x h)))
