@@ -1,5 +1,5 @@
 -- An order's fields have values that their type can hold.
-use Rattle.std.proofs.Common.{◌≡◌, ◌≤◌, ℕ, ℤ, length, Bool, true, false, List, [], ap, ◌∙◌, sym, subst, Some, None, arith}
+use Rattle.std.proofs.Common.{◌≡◌, ◌≤◌, ℕ, ℤ, length, Bool, true, false, List, ap, ◌∙◌, sym, subst, Some, None, arith}
 use Rattle.std.specs.Prelude.{Option, IfSome}
 use Rattle.order_fields.specs.OrderTable.{Row, row_of, FieldList, FitRow, FitsRow, FitKinds, BytesFit, IsFieldList}
 use Rattle.order_fields.specs.NamedDrawing.{drawing_of, drawing_of_values, drawing_in_row}

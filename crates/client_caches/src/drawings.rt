@@ -1,9 +1,10 @@
 //! The drawing that a primary order's fields say ([MS-RDPEGDI] 2.2.2.2.1.1.2).
 
-ghost use Rattle.std.specs.Prelude.{◌≡◌, ◌≤◌, ℕ, List, IfSome, length};
+ghost use Rattle.std.specs.Prelude.{◌≡◌, ◌≤◌, ℕ, List, Some, IfSome, length};
 ghost use Rattle.order_fields.specs.OrderTable.{FitKinds, dst_blt, pat_blt, scr_blt, opaque_rect, save_bitmap, mem_blt, mem3_blt, glyph_index};
 ghost use Rattle.order_fields.specs.OrderTable.OrderName.{DstBlt, PatBlt, ScrBlt, OpaqueRect, SaveBitmap, MemBlt, Mem3Blt, GlyphIndex};
 ghost use Rattle.order_fields.specs.NamedDrawing.{drawing_of, drawing_of_values};
+ghost use Rattle.order_fields.specs.NamedDrawing.NamedDrawing.{Opaque};
 ghost use Rattle.client_caches.specs.Named.{optional_drawing};
 
 use crate::Named;
@@ -11,7 +12,7 @@ use crate::values::{
     byte, closed_rect_at, coordinate, is_cached_brush, is_cached_run, number, rect_at, short,
 };
 use order_fields::Fields;
-use px_core::has_pixel;
+use px_core::{Rect, has_pixel};
 
 const DST_BLT: u8 = 0x00;
 
@@ -50,6 +51,19 @@ pub fn drawing_of(fields: &Fields) -> Option<Named>
         MEM_BLT => mem_of(values),
         MEM3_BLT => mem3_of(values),
         GLYPH_INDEX => glyphs_of(values),
+        _ => None,
+    }
+}
+
+/// The rectangle and the colour of an OpaqueRect order: a quick way to what most orders are. `None` says nothing.
+pub fn fill_of(fields: &Fields) -> Option<(Rect, u32)>
+    ensures { IfSome result (λ p. drawing_of fields.now ≡ Some (Opaque p.0 p.1)) }
+{
+    if fields.kind() != OPAQUE_RECT {
+        return None;
+    }
+    match opaque_of(fields.values()) {
+        Some(Named::Opaque { rect, color }) => Some((rect, color)),
         _ => None,
     }
 }

@@ -19,7 +19,7 @@ mod wire;
 pub use blocks::{ClientBlocks, KeptBlock, ends_before};
 pub use cached_bitmap::{CachedBitmap, is_bitmap};
 pub use caches::ClientCaches;
-pub use drawings::drawing_of;
+pub use drawings::{drawing_of, fill_of};
 pub use kept_image::KeptImage;
 pub use named::Named;
 pub use obey_fault::ObeyFault;

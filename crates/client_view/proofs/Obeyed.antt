@@ -8,7 +8,7 @@ use Rattle.px_core.specs.declared.surface.Size.{Size}
 use Rattle.px_core.specs.declared.rectangle.Rect.{Rect}
 use Rattle.byte_fields.specs.Field.{bind}
 use Rattle.caps_sets.specs.declared.confirmed.Confirmed.{Confirmed}
-use Rattle.order_fields.specs.OrderTable.{FieldList, Registers}
+use Rattle.order_fields.specs.OrderTable.{FieldList}
 use Rattle.order_fields.specs.Secondary.{Cached}
 use Rattle.order_fields.specs.NamedDrawing.{NamedDrawing, drawing_of}
 use Rattle.order_read.specs.declared.read.Read.{Read}
@@ -55,10 +55,10 @@ no_drawing f confirmed size v clip o d c s e r =
     ∙ ap (λ (y : ClientState). counted confirmed (Drawn o clip) v (client_after_clipped confirmed size clip y d)) s
     ∙ ap (counted confirmed (Drawn o clip) v) h) r
 
-pub drawn_stands : (v : View) (m : Viewer) (spare : Registers) (blocks : List Block) (pictures : Pictures) (orders : ℕ) → StandsFor v m → SamePlace m.pictures pictures → orders ≡ capped (v.orders + 1)
-    → StandsFor (view_drawn v (client_of m.regs m.caches blocks pictures)) (record m { spare = spare; blocks = blocks; pictures = pictures; orders = orders })
+pub drawn_stands : (v : View) (m : Viewer) (blocks : List Block) (pictures : Pictures) (orders : ℕ) → StandsFor v m → SamePlace m.pictures pictures → orders ≡ capped (v.orders + 1)
+    → StandsFor (view_drawn v (client_of m.regs m.caches blocks pictures)) (record m { blocks = blocks; pictures = pictures; orders = orders })
 unfolding view_drawn
-drawn_stands v m spare blocks pictures orders s place count = record {
+drawn_stands v m blocks pictures orders s place count = record {
   client = refl;
   marked = place.marked ∙ s.marked ∙ ap (λ (size : Size). last_picture (unknown_picture size) v.pictures) (sym place.size);
   marks = s.marks;

@@ -1,13 +1,14 @@
 //! The drawings of primary orders ([MS-RDPEGDI] 2.2.2.2.1.1.2).
 
-ghost use Rattle.std.specs.Prelude.{◌≡◌, ◌≤◌, List, length};
+ghost use Rattle.std.specs.Prelude.{◌≡◌, ◌≤◌, List, Ok, length};
 ghost use Rattle.order_means.specs.ClientState.{Block, source_rect};
-ghost use Rattle.order_fields.specs.NamedDrawing.NamedDrawing.{Pat, Scr, Mem, Mem3, Glyphs};
+ghost use Rattle.order_fields.specs.NamedDrawing.NamedDrawing.{Opaque, Pat, Scr, Mem, Mem3, Glyphs};
+ghost use Rattle.order_fields.specs.OrderTable.{Registers};
 ghost use Rattle.caps_sets.specs.declared.confirmed.Confirmed.{Confirmed};
 ghost use Rattle.client_caches.specs.Caches.{CachesOf};
 ghost use Rattle.client_caches.specs.Named.{drawing};
 ghost use Rattle.client_view.specs.Told.{client_after_clipped};
-ghost use Rattle.client_view.specs.Views.{Draws, SamePlace, IsSourceOf};
+ghost use Rattle.client_view.specs.Views.{client_of, Draws, SamePlace, IsSourceOf};
 
 use crate::saved::{restore, save};
 use caps_sets::Confirmed;
@@ -72,6 +73,15 @@ pub(crate) fn draw(
             draw_run(confirmed, caches, pictures, bounds, cache, x, y, color, run)
         }
     }
+}
+
+/// OpaqueRect.
+pub(crate) fn draw_fill(pictures: &mut ClientPicture, bounds: Option<Rect>, rect: Rect, color: u32)
+    ensures drawn { (confirmed : Confirmed) (caches : CachesOf) (blocks : List Block) (registers : Registers)
+        → client_after_clipped confirmed pictures.old.size bounds (client_of registers caches blocks pictures.old) (Opaque rect color) ≡ Ok (client_of registers caches blocks pictures.new) }
+    ensures place { SamePlace pictures.old pictures.new }
+{
+    pictures.fill(rect, bounds, color)
 }
 
 /// The rectangle of a source, as large as what is drawn.

@@ -1,16 +1,16 @@
 //! Orders, obeyed one by one.
 
-ghost use Rattle.std.specs.Prelude.{◌≡◌};
+ghost use Rattle.std.specs.Prelude.{◌≡◌, ◌+◌, ◌-◌, ◌^◌, min};
 ghost use Rattle.order_means.specs.FrameMarks.{View};
 ghost use Rattle.order_read.specs.Told.{told_read, told_reads};
 ghost use Rattle.order_read.specs.Told.Told.{Drawn};
 ghost use Rattle.client_view.specs.Told.{view_after_told, view_after_all_told};
 ghost use Rattle.client_view.specs.Views.{StandsFor, SameViewer, Obeys, IsMarked};
 
-use crate::draw::draw;
+use crate::draw::{draw, draw_fill};
 use crate::parts::part;
 use crate::viewer::Viewer;
-use client_caches::{CachedBitmap, ObeyFault, drawing_of};
+use client_caches::{CachedBitmap, ObeyFault, drawing_of, fill_of};
 use order_fields::Fields;
 use order_read::Read;
 use px_core::Rect;
@@ -24,11 +24,23 @@ pub(crate) fn mark(viewer: &mut Viewer)
     viewer.marks = viewer.marks.saturating_add(1);
 }
 
+/// A count and one more, as far as it goes.
+fn one_more(count: u64) -> u64
+    ensures { result ≡ min (count + 1) (2 ^ 64 - 1) }
+{
+    count.saturating_add(1)
+}
+
 /// Obeys a primary order and counts it.
 fn obey_drawing(viewer: &mut Viewer, fields: &Fields, bounds: Option<Rect>) -> Result<(), ObeyFault>
     ensures obeyed { (v : View) → StandsFor v viewer.old → Obeys result (view_after_told viewer.old.confirmed viewer.old.pictures.size v (Drawn fields.now bounds)) viewer.new }
     ensures same { SameViewer viewer.old viewer.new }
 {
+    if let Some((rect, color)) = fill_of(fields) {
+        draw_fill(&mut viewer.pictures, bounds, rect, color);
+        viewer.orders = one_more(viewer.orders);
+        return Ok(());
+    }
     let Some(named) = drawing_of(fields) else {
         return Err(ObeyFault::Broken);
     };
@@ -41,7 +53,7 @@ fn obey_drawing(viewer: &mut Viewer, fields: &Fields, bounds: Option<Rect>) -> R
         named,
         fields.bytes(),
     )?;
-    viewer.orders = viewer.orders.saturating_add(1);
+    viewer.orders = one_more(viewer.orders);
     Ok(())
 }
 

@@ -11,12 +11,11 @@ use out_of_memory::OutOfMemory;
 use px_core::Size;
 use std::alloc::Global;
 
-/// What a viewer confirmed; its registers, and spare ones; its caches, its saved blocks, its pictures; and the counts of its marks, of primary orders and of rectangles of Bitmap updates, which stand still at 2^64 - 1.
+/// What a viewer confirmed; its registers, its caches, its saved blocks, its pictures; and the counts of its marks, of primary orders and of rectangles of Bitmap updates, which stand still at 2^64 - 1.
 #[derive(Drop)]
 pub(crate) struct Viewer {
     pub confirmed: Confirmed,
     pub regs: Regs,
-    pub spare: Regs,
     pub caches: ClientCaches,
     pub blocks: ClientBlocks,
     pub pictures: ClientPicture,
@@ -39,7 +38,6 @@ impl Viewer {
         Ok(Viewer {
             confirmed,
             regs: Regs::new(),
-            spare: Regs::new(),
             caches,
             blocks: ClientBlocks::new(alloc),
             pictures,
