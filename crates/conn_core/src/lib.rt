@@ -24,8 +24,4 @@ pub use conn_rules::ConnStep;
 pub use out_of_memory::OutOfMemory;
 
 #[cfg(test)]
-mod real_clients;
-#[cfg(test)]
-mod real_streams;
-#[cfg(test)]
 mod tests;

@@ -31,4 +31,6 @@ fn main(rt: HostRuntime) -> ExitCode {
 }
 
 #[cfg(test)]
+mod real_streams;
+#[cfg(test)]
 mod tests;

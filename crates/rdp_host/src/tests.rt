@@ -1,12 +1,16 @@
-//! Worked scripts, and scripts that meet faults. The captures stand as they were worked out by hand from the standard's tables.
+//! Worked scripts, scripts that meet faults, and clients' streams. Captures and frames stand as they were worked out by hand from the
+//! standard's tables.
 ghost use Rattle.std.specs.Io.{WritesAtMost};
 
+use crate::real_streams::{RDESKTOP, RDESKTOP_4, XFREERDP, XFREERDP_CACHES};
 use crate::top;
 use crate::words::words as command_words;
 use edge_io::{Bytes, Keep, PlanGate, PlanSink, PlanSource};
 use std::alloc::Global;
 use std::env::{Env, FillError};
+use std::sync::Wait;
 use std::test::Fail;
+use std::thread::Threads;
 
 /// The line of a viewer that joins a picture of 64 by 48.
 const JOINED: &[u8] = b"1 joined 64 48 plain\n";
@@ -205,6 +209,79 @@ fn a_client_is_answered_by_its_stream(rt: HostRuntime) -> Result<(), Fail> {
         let answer = top(&rt, alloc, &words, &mut input, &mut output, &mut gate);
         assert_eq!(rt; answer, status);
         assert_eq!(rt; output.bytes(), wanted);
+    }
+    Ok(())
+}
+
+/// The last reply of a handshake, the Font Map.
+const FONT_MAP: [u8; 40] = [
+    3, 0, 0, 40, 2, 240, 128, 104, 0, 1, 3, 235, 112, 26, 26, 0, 23, 0, 234, 3, 234, 3, 1, 0, 0, 1,
+    12, 0, 40, 0, 0, 0, 0, 0, 0, 0, 3, 0, 4, 0,
+];
+
+/// The first frame of 512 by 384: an update of one order, OpaqueRect with both sides, and a Synchronize update as the mark.
+const BLACK: [u8; 83] = [
+    3, 0, 0, 47, 2, 240, 128, 104, 0, 1, 3, 235, 112, 33, 33, 0, 23, 0, 234, 3, 234, 3, 1, 0, 0, 1,
+    19, 0, 2, 0, 0, 0, 0, 0, 0, 0, 1, 0, 0, 0, 9, 10, 12, 0, 2, 128, 1, 3, 0, 0, 36, 2, 240, 128,
+    104, 0, 1, 3, 235, 112, 22, 22, 0, 23, 0, 234, 3, 234, 3, 1, 0, 0, 1, 8, 0, 2, 0, 0, 0, 3, 0,
+    0, 0,
+];
+
+/// The same for a client with frame markers: the start marker and OpaqueRect, and the end marker.
+const BLACK_IN_MARKERS: [u8; 97] = [
+    3, 0, 0, 52, 2, 240, 128, 104, 0, 1, 3, 235, 112, 38, 38, 0, 23, 0, 234, 3, 234, 3, 1, 0, 0, 1,
+    24, 0, 2, 0, 0, 0, 0, 0, 0, 0, 2, 0, 0, 0, 54, 0, 0, 0, 0, 9, 10, 12, 0, 2, 128, 1, 3, 0, 0,
+    45, 2, 240, 128, 104, 0, 1, 3, 235, 112, 31, 31, 0, 23, 0, 234, 3, 234, 3, 1, 0, 0, 1, 17, 0,
+    2, 0, 0, 0, 0, 0, 0, 0, 1, 0, 0, 0, 54, 1, 0, 0, 0,
+];
+
+/// A frame in which nothing was drawn: the start marker, and the end marker.
+const NOTHING_IN_MARKERS: [u8; 90] = [
+    3, 0, 0, 45, 2, 240, 128, 104, 0, 1, 3, 235, 112, 31, 31, 0, 23, 0, 234, 3, 234, 3, 1, 0, 0, 1,
+    17, 0, 2, 0, 0, 0, 0, 0, 0, 0, 1, 0, 0, 0, 54, 0, 0, 0, 0, 3, 0, 0, 45, 2, 240, 128, 104, 0, 1,
+    3, 235, 112, 31, 31, 0, 23, 0, 234, 3, 234, 3, 1, 0, 0, 1, 17, 0, 2, 0, 0, 0, 0, 0, 0, 0, 1, 0,
+    0, 0, 54, 1, 0, 0, 0,
+];
+
+/// Serves a client whose stream comes in pieces of one size: the status, and whether what is written ends with the Font Map, this first
+/// frame, and so many in which nothing was drawn.
+fn serve<R: Threads + Wait + Sync>(
+    rt: &R,
+    alloc: Global,
+    words: &[String],
+    stream: &[u8],
+    piece: usize,
+    first: &[u8],
+    more: usize,
+) -> Result<(u8, bool), Fail> {
+    let mut shown = FONT_MAP.to_vec(alloc)?;
+    shown.extend_from_slice(first)?;
+    for _ in 0..more {
+        shown.extend_from_slice(&NOTHING_IN_MARKERS)?;
+    }
+    let pieces = vec![in alloc; piece; stream.len()]?;
+    let mut input = Bytes::new(stream.to_vec(alloc)?, pieces);
+    let mut output = Keep::new(alloc);
+    let mut gate = PlanGate::new(alloc, Vec::new(alloc), Vec::new(alloc))?;
+    let status = top(rt, alloc, words, &mut input, &mut output, &mut gate);
+    Ok((status, output.bytes().ends_with(&shown)))
+}
+
+#[test]
+fn real_clients_are_shown_the_picture(rt: HostRuntime) -> Result<(), Fail> {
+    let words = words_of(rt.alloc(), &["answer", "512", "384", "ann"])?;
+    // the stream, its first frame, and how many more there are: one for each packet with an event behind the Font List
+    let streams: [(&[u8], &[u8], usize); 4] = [
+        (&RDESKTOP, &BLACK, 0),
+        (&RDESKTOP_4, &BLACK, 0),
+        (&XFREERDP, &BLACK_IN_MARKERS, 8),
+        (&XFREERDP_CACHES, &BLACK_IN_MARKERS, 8),
+    ];
+    for (stream, first, more) in streams {
+        for piece in [1, stream.len()] {
+            let served = serve(&rt, rt.alloc(), &words, stream, piece, first, more)?;
+            assert_eq!(rt; served, (0, true));
+        }
     }
     Ok(())
 }
