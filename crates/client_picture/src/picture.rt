@@ -11,9 +11,10 @@ ghost use Rattle.client_picture.specs.Pictures.{first_pictures, painted_within, 
 
 use crate::OutOfMemory;
 use crate::glyphs::{draw_glyph, touch_glyph};
+use crate::part::part_of;
 use crate::rects::{copy_rect, cut_rect, fill_rect, mix_rect, restore_rect, write_rect};
 use crate::source::Source;
-use crate::touched::{Columns, copy_touched, touch_rect};
+use crate::touched::{Columns, copy_touched, touch_found, touch_rect};
 use draw_ops::{Brush, Glyph};
 use px_core::{Rect, Size};
 use std::alloc::Global;
@@ -83,10 +84,11 @@ impl ClientPicture {
     pub fn fill(&mut self, rect: Rect, bounds: Option<Rect>, color: u32)
         ensures { self.new ≡ painted_within bounds (over_rect rect (solid client_colors color)) self.old }
     {
+        let part = part_of(self.size, rect, bounds);
         let pixels = self.picture.as_mut_slice();
-        fill_rect(pixels, self.size, rect, bounds, color);
+        fill_rect(pixels, self.size, rect, bounds, color, part);
         let touched = self.touched.as_mut_slice();
-        touch_rect(touched, &mut self.columns, self.size, rect, bounds);
+        touch_found(touched, &mut self.columns, self.size, rect, bounds, part);
     }
 
     /// A raster operation on a rectangle, with a brush as its pattern and an image as its source; one that is missing counts as 0.

@@ -1,11 +1,11 @@
 //! What becomes of rectangles of a picture, within bounds.
-ghost use Rattle.std.specs.Prelude.{◌≡◌, ℕ, ◌*◌, ◌≤◌, Some, None, pos, IfSome, IsTrue, length, option_copied};
+ghost use Rattle.std.specs.Prelude.{◌≡◌, ℕ, ◌*◌, ◌<◌, ◌≤◌, ◌&&◌, Some, None, pos, IfSome, IsTrue, length, option_copied};
 ghost use Rattle.px_core.specs.Picture.{rows_of};
-ghost use Rattle.px_core.specs.Rectangle.{is_inside, in_clip, cut_out};
+ghost use Rattle.px_core.specs.Rectangle.{is_inside, in_clip, in_rect, cut_out};
 ghost use Rattle.rop3_core.specs.Palette.{client_colors};
 ghost use Rattle.draw_ops.specs.Formulas.{solid, replaced, shifted, imaged, over_rect, picture_after};
 ghost use Rattle.order_means.specs.ClientState.{mixing, no_operand, source_rect};
-ghost use Rattle.client_picture.specs.Parts.{in_part, IsCanvas, IsOnSmall, IsWithinRect};
+ghost use Rattle.client_picture.specs.Parts.{in_part, in_optional_part, IsCanvas, IsInside, IsOnSmall, IsWithinRect};
 ghost use Rattle.client_picture.specs.Pictures.{brush_operand, source_operand, source_rows, HasSource};
 ghost use Rattle.client_picture.specs.Sources.{source_color, texture_color, CoversPart};
 
@@ -18,18 +18,21 @@ use crate::source::Source;
 use draw_ops::Brush;
 use px_core::{Rect, Size};
 
-/// Gives a rectangle one colour.
+/// Gives a rectangle one colour, of which this part lies on the picture and within the bounds.
 pub(crate) fn fill_rect(
     pixels: &mut [Option<u32>],
     size: Size,
     rect: Rect,
     bounds: Option<Rect>,
     color: u32,
+    part: Option<Part>,
 )
     requires canvas { IsCanvas size pixels.old }
+    requires inside { IfSome part (λ part. IsInside size part) }
+    requires seen { (x y : ℕ) → x < size.w → y < size.h → in_optional_part part x y ≡ (in_clip bounds (pos x) (pos y) && in_rect rect (pos x) (pos y)) }
     ensures { pixels.new ≡ picture_after size (in_clip bounds) (over_rect rect (solid client_colors color)) pixels.old }
 {
-    match part_of(size, rect, bounds) {
+    match part {
         None => {}
         Some(part) => fill_part(pixels, size, part, color),
     }

@@ -1,9 +1,9 @@
 //! The rows that were painted since the last mark.
-ghost use Rattle.std.specs.Prelude.{◌≡◌, ℕ, ◌+◌, ◌-◌, ◌≤◌, ◌<◌, ◌≤ℤ◌, pos, negsuc, Some, None, false, length, IfSome};
+ghost use Rattle.std.specs.Prelude.{◌≡◌, ℕ, ◌+◌, ◌-◌, ◌≤◌, ◌<◌, ◌≤ℤ◌, ◌&&◌, pos, negsuc, Some, None, false, length, IfSome};
 ghost use Rattle.px_core.specs.Picture.{both, pixel_at};
 ghost use Rattle.px_core.specs.Rectangle.{boxed, in_rect, in_clip};
 ghost use Rattle.client_picture.specs.Touched.{in_columns, AreTouched, AreSameBeside, AddsRows, AddsPart, AddsColumns};
-ghost use Rattle.client_picture.specs.Parts.{in_part, in_optional_part, part_at, IsCanvas, IsRepainted};
+ghost use Rattle.client_picture.specs.Parts.{in_part, in_optional_part, part_at, IsCanvas, IsInside, IsRepainted};
 
 use crate::part::{Part, earlier, later, part_at, part_of};
 use px_core::{Rect, Size};
@@ -28,6 +28,25 @@ pub(crate) fn touch_rect(
     ensures columns { AddsColumns size (both (in_clip bounds) (in_rect rect)) columns.old columns.new }
 {
     let part = part_of(size, rect, bounds);
+    touch_part(touched, part);
+    *columns = widened(*columns, part);
+}
+
+/// The same where the part that lies on the picture and within the bounds is known.
+pub(crate) fn touch_found(
+    touched: &mut [bool],
+    columns: &mut Columns,
+    size: Size,
+    rect: Rect,
+    bounds: Option<Rect>,
+    part: Option<Part>,
+)
+    requires flags { length touched.old ≡ size.h }
+    requires inside { IfSome part (λ part. IsInside size part) }
+    requires seen { (x y : ℕ) → x < size.w → y < size.h → in_optional_part part x y ≡ (in_clip bounds (pos x) (pos y) && in_rect rect (pos x) (pos y)) }
+    ensures rows { AddsRows size (both (in_clip bounds) (in_rect rect)) touched.old touched.new }
+    ensures columns { AddsColumns size (both (in_clip bounds) (in_rect rect)) columns.old columns.new }
+{
     touch_part(touched, part);
     *columns = widened(*columns, part);
 }

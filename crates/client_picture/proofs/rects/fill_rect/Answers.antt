@@ -9,8 +9,8 @@ use Rattle.client_picture.proofs.rects.fill_rect.Goals as goal
 
 pub returns-in-Some : goal.returns-in-Some
 returns-in-Some c = over_rect_is c.args.size (in_clip c.args.bounds) c.args.rect (solid client_colors c.args.color) c.args.pixels.now c.requires.canvas.sized
-    (in_part c.in-Some.part) (λ x y. Some c.args.color) c.fill_part.new.pixels c.fill_part.ensures (λ x y left above. c.in-Some.ensures.pixels x y left above) (λ x y left above h. refl)
+    (in_part c.in-Some.part) (λ x y. Some c.args.color) c.fill_part.new.pixels c.fill_part.ensures (λ x y left above. (rw c.in-Some.is at c.requires.seen) x y left above) (λ x y left above h. refl)
 
 pub returns-in-None : goal.returns-in-None
 returns-in-None c = unseen c.args.size (in_clip c.args.bounds) c.args.rect (solid client_colors c.args.color) c.args.pixels.now c.requires.canvas.sized
-    (λ x y left above. c.in-None.ensures.pixels x y left above)
+    (λ x y left above. (rw c.in-None.is at c.requires.seen) x y left above)
