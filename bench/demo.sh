@@ -1,5 +1,5 @@
 #!/bin/sh
-# Times the proved rdp_host on the demonstration load of N and of 4N steps, of three seeds that take turns, and prints the ratio of the
+# Times the proved rdp_host on the demonstration load of N and of 4N steps, five runs each, which take turns, and prints the ratio of the
 # times and the memory for each entry between the two; then the ten functions that take most instructions of the load of N steps.
 # Wanted: a ratio of at most 4.4, and at most 1,000 bytes for each entry.
 #
