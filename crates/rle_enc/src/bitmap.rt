@@ -30,7 +30,8 @@ pub fn pack(alloc: Global, pixels: &[u32], w: usize) -> Result<Packed, OutOfMemo
     ensures reads_back { IfOk result (ReadsBack w pixels.now) }
     ensures bound { IfOk result (IsBounded w pixels.now) }
 {
-    let mut out = Vec::new(alloc);
+    // What is packed finds room there; only pixels that go raw may ask for more.
+    let mut out = Vec::with_capacity(alloc, RAW_BYTES * pixels.len())?;
     let (first, rest) = pixels.split_at(w);
     pack_stretch(&mut out, first, None)?;
     pack_stretch(&mut out, rest, Some(pixels))?;
