@@ -2,10 +2,10 @@
 use Rattle.std.proofs.Common.{◌≡◌, ℕ, zero, suc, ◌+◌, ◌-◌, ◌*◌, ◌<◌, ◌≤◌, true, false, cond, List, [], ◌∷◌, ◌++◌, length, refl, ap, sym, ◌∙◌, arith, Some, None, Ok, append_assoc, ⊎_elim}
 use Rattle.std.specs.Prelude.{flat_map, map, nat_le, nat_lt, ◌&&◌}
 use Rattle.std.proofs.lemmas.Bool.Decides.{nat_tests}
-use Rattle.std.proofs.lemmas.Bool.{and_parts, cases_lt}
+use Rattle.std.proofs.lemmas.Bool.{cases_lt}
 use Rattle.px_core.specs.Colors.{is_color, are_colors}
 use Rattle.px_core.proofs.Colors.{color_below, colors_are_below}
-use Rattle.byte_fields.specs.Field.{Read, then_read, map_read, given, taken, bytes_at}
+use Rattle.byte_fields.specs.Field.{Read, then_read, map_read, given, bytes_at}
 use Rattle.byte_fields.specs.Pixels.{pixels_of, pixel_bytes}
 use Rattle.byte_fields.specs.Number.{little_value}
 use Rattle.byte_fields.proofs.Bytes.{taken_back}
