@@ -1,10 +1,10 @@
 -- The fields of an order from a place on.
-use Rattle.std.proofs.Common.{◌≡◌, ℕ, zero, suc, ◌<◌, ℤ, List, [], ◌∷◌, length, get_or, drop, refl, arith}
-use Rattle.std.specs.Prelude.{Bool, true, false, ◌&&◌}
-use Rattle.std.proofs.lemmas.Bool.{false≢true}
+use Rattle.std.proofs.Common.{◌≡◌, ℕ, zero, suc, ◌<◌, ℤ, ◌-ℤ◌, List, [], ◌∷◌, length, get_or, drop, refl, sym, subst, ◌∙◌, arith}
+use Rattle.std.specs.Prelude.{Bool, true, false, ◌&&◌, not}
+use Rattle.std.proofs.lemmas.Bool.{false≢true, or_right}
 use Rattle.order_fields.specs.declared.kind.FieldKind.{FieldKind}
 use Rattle.order_fields.specs.OrderTable.{FitKinds, FitsKind}
-use Rattle.order_fields.specs.OrderDelta.{fields_of, is_near, all_near}
+use Rattle.order_fields.specs.OrderDelta.{fields_of, is_coordinate, is_byte, is_near, all_near}
 use Rattle.order_fields.specs.Kept.{IsSized, AreSized}
 
 -- the first of the fields from place i on, and the others
@@ -53,3 +53,18 @@ near_at (suc i) (x ∷ ks) (l ∷ ls) (z ∷ zs) k d e near h p q =
     let b : length ls ≡ length ks = omega arith in
     let c : length zs ≡ length ks = omega arith in
     near_at i ks ls zs k d e (and_second (is_near (record { kind = x; last = l; value = z })) (all_near (fields_of ks ls zs)) near) a b c
+
+far_by : (i : ℕ) (ks : List FieldKind) (ls zs : List ℤ) (k : FieldKind) (d e : ℤ) (near : Bool) → all_near (fields_of ks ls zs) ≡ near →
+    is_near (record { kind = get_or ks i k; last = get_or ls i d; value = get_or zs i e }) ≡ false → i < length ks → length ls ≡ length ks → length zs ≡ length ks → near ≡ false
+far_by i ks ls zs k d e true all far h p q = absurd (false≢true (sym far ∙ near_at i ks ls zs k d e all h p q))
+far_by i ks ls zs k d e false all far h p q = refl
+
+-- where one field is far, not all are near
+pub far_at : (i : ℕ) (ks : List FieldKind) (ls zs : List ℤ) (k : FieldKind) (d e : ℤ) →
+    is_near (record { kind = get_or ks i k; last = get_or ls i d; value = get_or zs i e }) ≡ false → i < length ks → length ls ≡ length ks → length zs ≡ length ks →
+    all_near (fields_of ks ls zs) ≡ false
+far_at i ks ls zs k d e far h p q = far_by i ks ls zs k d e (all_near (fields_of ks ls zs)) refl far h p q
+
+-- an unchanged field is near
+pub near_same : (k : FieldKind) (l z : ℤ) → l ≡ z → is_near (record { kind = k; last = l; value = z }) ≡ true
+near_same k l z same = subst (λ (y : ℤ). is_near (record { kind = k; last = l; value = y }) ≡ true) same (or_right (not (is_coordinate k)) (is_byte (l -ℤ l)) (grind arith))

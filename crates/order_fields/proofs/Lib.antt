@@ -7,3 +7,4 @@ pub mod FieldsAt
 pub mod Sent
 pub mod Parts
 pub mod Named
+pub mod Present

@@ -5,16 +5,15 @@
 //! | 01, 02, 04, 08 | left, top, right, bottom | absolute, 2 bytes |
 //! | 10, 20, 40, 80 | left, top, right, bottom | one signed byte that is added to the last one |
 
-ghost use Rattle.std.specs.Prelude.{◌≡◌, ◌≤◌, ◌+◌, ◌*◌, ◌+ℤ◌, ◌-ℤ◌, pos, ◌++◌, ◌∷◌, [], OnOk, OnErr, true, Some, None};
-ghost use Rattle.wire_num.specs.Written.{AppendsFront};
+ghost use Rattle.std.specs.Prelude.{◌≡◌, ◌≤◌, ◌+◌, ◌*◌, ◌+ℤ◌, ◌-ℤ◌, pos, ◌++◌, ◌∷◌, length, true, Some, None};
 ghost use Rattle.order_fields.specs.OrderTable.{fits_coordinate, FitEdges, FitBounds, bounds_after as edges_after};
-ghost use Rattle.order_fields.specs.OrderDelta.{change, is_anew, is_moved, edge_bytes, edges_bytes, far_edges, later_edges, flags_between as flags_from, same_edges, keeps_bounds as keeps_edges, bounds_bytes, has_bounds, edges_of as edges_at, edges_of_optional};
+ghost use Rattle.order_fields.specs.OrderDelta.{change, is_anew, is_moved, edge_bytes, edges_bytes, far_edges, flags_between as flags_from, same_edges, keeps_bounds as keeps_edges, bounds_bytes, has_bounds, edges_of as edges_at, edges_of_optional};
 ghost use Rattle.order_fields.specs.Kept.{edges_in, optional_edges};
 
 use crate::change::{Change, change_of};
-use crate::number::{difference_byte, put_byte, put_low, signed_two_bytes};
+use crate::number::{difference_byte, signed_two_bytes};
+use crate::tail::Tail;
 use px_core::Rect;
-use wire_num::OutOfMemory;
 
 /// Bounds: inclusive edges, in pixels.
 #[derive(Clone, Copy, Drop)]
@@ -63,12 +62,12 @@ fn are_same(old: Bounds, new: Bounds) -> bool
 }
 
 /// Whether the bounds of an order needn't stand there.
-pub fn keeps_bounds(confirmed: bool, old: Bounds, new: Option<Bounds>) -> bool
-    ensures { result ≡ keeps_edges confirmed (edges_in old) (optional_edges new) }
+pub fn keeps_bounds(confirmed: bool, old: &Bounds, new: Option<Bounds>) -> bool
+    ensures { result ≡ keeps_edges confirmed (edges_in old.now) (optional_edges new) }
 {
     match new {
         None => false,
-        Some(new) => confirmed && are_same(old, new),
+        Some(new) => confirmed && are_same(*old, new),
     }
 }
 
@@ -100,79 +99,69 @@ fn flags_between(old: Bounds, new: Bounds) -> u8
     left + top + right + bottom
 }
 
-/// Writes an edge: nothing where it is equal, one byte where it differs by a signed byte, else two bytes.
-fn put_edge(out: &mut Vec<u8>, last: i64, value: i64) -> Result<(), OutOfMemory>
+/// Puts an edge before a tail: nothing where it is equal, one byte where it differs by a signed byte, else two bytes.
+fn put_edge(tail: &mut Tail, last: i64, value: i64)
     requires last { fits_coordinate last ≡ true }
     requires value { fits_coordinate value ≡ true }
-    ensures ok { OnOk result (out.new.items ≡ out.old.items ++ edge_bytes (change last value) last value) }
-    ensures memory { OnErr result (AppendsFront out.old.items (edge_bytes (change last value) last value) out.new.items) }
+    requires room { length tail.old ≤ 180 }
+    ensures bytes { tail.new ≡ edge_bytes (change last value) last value ++ tail.old }
+    ensures few { length tail.new ≤ 2 + length tail.old }
 {
     match change_of(last, value) {
-        Change::Same => Ok(()),
-        Change::Moved => put_low(out, 1, difference_byte(last, value)),
-        Change::Anew => put_low(out, 2, signed_two_bytes(value)),
+        Change::Same => {}
+        Change::Moved => tail.put_low(1, difference_byte(last, value)),
+        Change::Anew => tail.put_low(2, signed_two_bytes(value)),
     }
 }
 
-/// Writes the right and the bottom edge.
-fn put_far_edges(out: &mut Vec<u8>, old: Bounds, new: Bounds) -> Result<(), OutOfMemory>
+/// Puts the right and the bottom edge before a tail.
+fn put_far_edges(tail: &mut Tail, old: Bounds, new: Bounds)
     requires old { FitEdges (edges_in old) }
     requires new { FitEdges (edges_in new) }
-    ensures ok { OnOk result (out.new.items ≡ out.old.items ++ far_edges (edges_in old) (edges_in new)) }
-    ensures memory { OnErr result (AppendsFront out.old.items (far_edges (edges_in old) (edges_in new)) out.new.items) }
+    requires room { length tail.old ≤ 178 }
+    ensures bytes { tail.new ≡ far_edges (edges_in old) (edges_in new) ++ tail.old }
+    ensures few { length tail.new ≤ 4 + length tail.old }
 {
-    put_edge(out, old.right, new.right)?;
-    put_edge(out, old.bottom, new.bottom)
+    put_edge(tail, old.bottom, new.bottom);
+    put_edge(tail, old.right, new.right);
 }
 
-/// Writes the edges below the left one.
-fn put_later_edges(out: &mut Vec<u8>, old: Bounds, new: Bounds) -> Result<(), OutOfMemory>
+/// Puts the edges that differ before a tail.
+fn put_edges(tail: &mut Tail, old: Bounds, new: Bounds)
     requires old { FitEdges (edges_in old) }
     requires new { FitEdges (edges_in new) }
-    ensures ok { OnOk result (out.new.items ≡ out.old.items ++ later_edges (edges_in old) (edges_in new)) }
-    ensures memory { OnErr result (AppendsFront out.old.items (later_edges (edges_in old) (edges_in new)) out.new.items) }
+    requires room { length tail.old ≤ 174 }
+    ensures bytes { tail.new ≡ edges_bytes (edges_in old) (edges_in new) ++ tail.old }
+    ensures few { length tail.new ≤ 8 + length tail.old }
 {
-    put_edge(out, old.top, new.top)?;
-    put_far_edges(out, old, new)
+    put_far_edges(tail, old, new);
+    put_edge(tail, old.top, new.top);
+    put_edge(tail, old.left, new.left);
 }
 
-/// Writes the edges that differ.
-fn put_edges(out: &mut Vec<u8>, old: Bounds, new: Bounds) -> Result<(), OutOfMemory>
+/// Puts the flags of bounds and the edges that differ before a tail.
+fn put_changed(tail: &mut Tail, old: Bounds, new: Bounds)
     requires old { FitEdges (edges_in old) }
     requires new { FitEdges (edges_in new) }
-    ensures ok { OnOk result (out.new.items ≡ out.old.items ++ edges_bytes (edges_in old) (edges_in new)) }
-    ensures memory { OnErr result (AppendsFront out.old.items (edges_bytes (edges_in old) (edges_in new)) out.new.items) }
+    requires room { length tail.old ≤ 173 }
+    ensures bytes { tail.new ≡ (flags_from (edges_in old) (edges_in new) ∷ edges_bytes (edges_in old) (edges_in new)) ++ tail.old }
+    ensures few { length tail.new ≤ 9 + length tail.old }
 {
-    put_edge(out, old.left, new.left)?;
-    put_later_edges(out, old, new)
+    put_edges(tail, old, new);
+    tail.put(flags_between(old, new));
 }
 
-/// Writes the flags of bounds and the edges that differ.
-fn put_changed(out: &mut Vec<u8>, old: Bounds, new: Bounds) -> Result<(), OutOfMemory>
-    requires old { FitEdges (edges_in old) }
-    requires new { FitEdges (edges_in new) }
-    ensures ok { OnOk result (out.new.items ≡ out.old.items ++ (flags_from (edges_in old) (edges_in new) ∷ edges_bytes (edges_in old) (edges_in new))) }
-    ensures memory { OnErr result (AppendsFront out.old.items (flags_from (edges_in old) (edges_in new) ∷ edges_bytes (edges_in old) (edges_in new)) out.new.items) }
-{
-    put_byte(out, flags_between(old, new))?;
-    put_edges(out, old, new)
-}
-
-/// Writes the bounds of an order, where it has some and they must stand there.
-pub fn put_bounds(
-    out: &mut Vec<u8>,
-    keeps: bool,
-    old: Bounds,
-    new: Option<Bounds>,
-) -> Result<(), OutOfMemory>
-    requires old { FitEdges (edges_in old) }
+/// Puts the bounds of an order before a tail, where it has some and they must stand there.
+pub fn put_bounds(tail: &mut Tail, keeps: bool, old: &Bounds, new: Option<Bounds>)
+    requires old { FitEdges (edges_in old.now) }
     requires new { FitBounds (optional_edges new) }
-    ensures ok { OnOk result (out.new.items ≡ out.old.items ++ bounds_bytes keeps (edges_in old) (optional_edges new)) }
-    ensures memory { OnErr result (AppendsFront out.old.items (bounds_bytes keeps (edges_in old) (optional_edges new)) out.new.items) }
+    requires room { length tail.old ≤ 173 }
+    ensures bytes { tail.new ≡ bounds_bytes keeps (edges_in old.now) (optional_edges new) ++ tail.old }
+    ensures few { length tail.new ≤ 9 + length tail.old }
 {
     match new {
-        Some(new) if !keeps => put_changed(out, old, new),
-        Some(_) | None => Ok(()),
+        Some(new) if !keeps => put_changed(tail, *old, new),
+        Some(_) | None => {}
     }
 }
 
@@ -183,5 +172,14 @@ pub fn bounds_after(old: Bounds, new: Option<Bounds>) -> Bounds
     match new {
         None => old,
         Some(new) => new,
+    }
+}
+
+/// Keeps the bounds of an order, where it has some, as the last ones.
+pub fn keep_bounds(bounds: &mut Bounds, new: Option<Bounds>)
+    ensures { edges_in bounds.new ≡ edges_after (optional_edges new) (edges_in bounds.old) }
+{
+    if let Some(new) = new {
+        *bounds = new;
     }
 }

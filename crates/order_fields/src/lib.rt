@@ -16,6 +16,7 @@ mod order;
 mod reading;
 mod regs;
 mod table;
+mod tail;
 mod write;
 
 pub use bounds::Bounds;

@@ -4,8 +4,9 @@ ghost use Rattle.order_fields.specs.OrderTable.{FitBounds, FitEdges, registers_a
 ghost use Rattle.order_fields.specs.OrderStream.{order_at, bounds_at, seen_primary};
 ghost use Rattle.order_fields.specs.OrderDelta.{order_bytes, bounds_bytes, keeps_bounds as keeps_edges, edges_of, edges_of_optional};
 
-use crate::bounds::{bounds_after, bounds_of, keeps_bounds, optional_bounds_of, put_bounds};
-use crate::write::put_order;
+use crate::bounds::{bounds_of, keep_bounds, keeps_bounds, optional_bounds_of, put_bounds};
+use crate::tail::Tail;
+use crate::write::{put_bytes, put_order};
 use crate::{Fields, Regs};
 use px_core::Rect;
 use wire_num::OutOfMemory;
@@ -33,14 +34,14 @@ pub fn write_order(
         out,
         regs.last,
         &regs.lasts,
-        regs.bounds,
+        &regs.bounds,
         o,
         new,
         zero_bounds,
     )?;
     regs.last = o.kind();
     regs.lasts.keep(o.kind(), values, o.bytes());
-    regs.bounds = bounds_after(regs.bounds, new);
+    keep_bounds(&mut regs.bounds, new);
     Ok(())
 }
 
@@ -61,8 +62,10 @@ pub fn write_bounds(
         (bounds_bytes (keeps_edges zero_bounds regs.old.bounds (Some (edges_of r))) regs.old.bounds (Some (edges_of r)) ++ rest) ≡ Ok (Some (edges_of r), rest) }
 {
     let new = bounds_of(r);
-    let keeps = keeps_bounds(zero_bounds, regs.bounds, Some(new));
-    put_bounds(out, keeps, regs.bounds, Some(new))?;
+    let keeps = keeps_bounds(zero_bounds, &regs.bounds, Some(new));
+    let mut tail = Tail::new();
+    put_bounds(&mut tail, keeps, &regs.bounds, Some(new));
+    put_bytes(out, tail.bytes())?;
     regs.bounds = new;
     Ok(())
 }

@@ -1,28 +1,15 @@
-use Rattle.std.proofs.Common.{◌≡◌, rules, w64, of_z, to_z}
-use Rattle.std.proofs.lemmas.Result.{err_from_is_err_and}
-use Rattle.wire_num.proofs.Fronts.{front_before}
-use Rattle.order_fields.proofs.Sent.{both_sent, both_cut}
+use Rattle.std.proofs.Common.{◌≡◌, rules, w64, of_z, to_z, ap, sym, ◌∙◌, ◌++◌, append_assoc}
+use Rattle.order_fields.specs.OrderDelta.{change, edge_bytes}
 use Rattle.order_fields.proofs.bounds.put_far_edges.Goals as goal
 
-pub returns-in_err-put_edge-clause-memory : goal.returns-in_err-put_edge-clause-memory
-returns-in_err-put_edge-clause-memory c =
-    let a : to_z w64 (of_z w64 c.args.old.right) ≡ c.args.old.right = search rules in
-    let b : to_z w64 (of_z w64 c.args.new.right) ≡ c.args.new.right = search rules in
-    let p = err_from_is_err_and c.from_residual.result c.from_residual.ensures.1 in
-    rw p.1 (front_before _ _ _ _ (rw (a, b) at c.in_err-put_edge.ensures.memory))
-
-pub returns-clause-ok : goal.returns-clause-ok
-returns-clause-ok c =
+pub returns-clause-bytes : goal.returns-clause-bytes
+returns-clause-bytes c =
     let a : to_z w64 (of_z w64 c.args.old.right) ≡ c.args.old.right = search rules in
     let b : to_z w64 (of_z w64 c.args.new.right) ≡ c.args.new.right = search rules in
     let d : to_z w64 (of_z w64 c.args.old.bottom) ≡ c.args.old.bottom = search rules in
     let e : to_z w64 (of_z w64 c.args.new.bottom) ≡ c.args.new.bottom = search rules in
-    both_sent c.put_edge-2.result _ _ _ _ _ (rw (a, b) at c.in_ok-put_edge.ensures.ok) (rw (d, e) at c.put_edge-2.ensures.ok)
-
-pub returns-clause-memory : goal.returns-clause-memory
-returns-clause-memory c =
-    let a : to_z w64 (of_z w64 c.args.old.right) ≡ c.args.old.right = search rules in
-    let b : to_z w64 (of_z w64 c.args.new.right) ≡ c.args.new.right = search rules in
-    let d : to_z w64 (of_z w64 c.args.old.bottom) ≡ c.args.old.bottom = search rules in
-    let e : to_z w64 (of_z w64 c.args.new.bottom) ≡ c.args.new.bottom = search rules in
-    both_cut c.put_edge-2.result _ _ _ _ _ (rw (a, b) at c.in_ok-put_edge.ensures.ok) (rw (d, e) at c.put_edge-2.ensures.memory)
+    let right = edge_bytes (change c.args.old.right c.args.new.right) c.args.old.right c.args.new.right in
+    let bottom = edge_bytes (change c.args.old.bottom c.args.new.bottom) c.args.old.bottom c.args.new.bottom in
+    let first = rw (d, e) at c.put_edge.ensures.bytes in
+    let second = rw (a, b) at c.put_edge-2.ensures.bytes in
+    second ∙ ap (λ r. right ++ r) first ∙ sym (append_assoc right bottom c.args.tail.now)

@@ -21,4 +21,4 @@ invariant_of-regs c =
     let old = registers_of c.regs.inside.last c.regs.inside.lasts c.regs.inside.bounds in
     let edges : FitBounds (optional_edges c.optional_bounds_of-new.result) = rw c.optional_bounds_of-new.ensures c.requires in
     let kept = registers_kept old c.args.o.now (optional_edges c.optional_bounds_of-new.result) c.regs.invariant.0 c.values-values.ensures.fits edges in
-    (rw (c.keep.ensures.kept, c.bounds_after-regs-inside.ensures, c.kind-regs-inside.ensures, c.kind.ensures, c.values-values.ensures.value, c.bytes.ensures) kept, c.keep.ensures.count)
+    (rw (c.keep.ensures.kept, c.keep_bounds.ensures, c.kind-regs-inside.ensures, c.kind.ensures, c.values-values.ensures.value, c.bytes.ensures) kept, c.keep.ensures.count)

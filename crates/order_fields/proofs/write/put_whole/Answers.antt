@@ -4,24 +4,29 @@ use Rattle.std.proofs.lemmas.Int.{to_z-of_z}
 use Rattle.std.proofs.Math.Nat.{pow-suc}
 use Rattle.order_fields.specs.declared.kind.FieldKind.TheVariants.{Coordinate}
 use Rattle.order_fields.specs.OrderTable.{FitsKind}
-use Rattle.order_fields.proofs.FieldsAt.{fields_drop, fit_at}
-use Rattle.order_fields.proofs.delta.changes_of.Goals as goal
+use Rattle.order_fields.proofs.FieldsAt.{fields_drop, fit_at, sized_at}
+use Rattle.order_fields.proofs.write.put_whole.Goals as goal
 
-pub is_near-requires-clause-last : goal.is_near-requires-clause-last
-is_near-requires-clause-last c =
+pub put_field-requires-clause-last : goal.put_field-requires-clause-last
+put_field-requires-clause-last c =
     let here : c.loop-i.i - 1 < length c.args.kinds.now = omega arith in
     let fits = fit_at (c.loop-i.i - 1) c.args.kinds.now c.args.last.now Coordinate (pos 0) c.requires.last here in
     let z = get_or c.args.last.now (c.loop-i.i - 1) (pos 0) in
     let same : to_z w64 (of_z w64 z) ≡ z = search rules in
     subst (λ (y : ℤ). FitsKind (get_or c.args.kinds.now (c.loop-i.i - 1) Coordinate) y) (sym same) fits
 
-pub is_near-requires-clause-value : goal.is_near-requires-clause-value
-is_near-requires-clause-value c =
+pub put_field-requires-clause-value : goal.put_field-requires-clause-value
+put_field-requires-clause-value c =
     let here : c.loop-i.i - 1 < length c.args.kinds.now = omega arith in
     let fits = fit_at (c.loop-i.i - 1) c.args.kinds.now c.args.values.now Coordinate (pos 0) c.requires.values here in
     let z = get_or c.args.values.now (c.loop-i.i - 1) (pos 0) in
     let same : to_z w64 (of_z w64 z) ≡ z = search rules in
     subst (λ (y : ℤ). FitsKind (get_or c.args.kinds.now (c.loop-i.i - 1) Coordinate) y) (sym same) fits
+
+pub put_field-requires-clause-size : goal.put_field-requires-clause-size
+put_field-requires-clause-size c =
+    let here : c.loop-i.i - 1 < length c.args.kinds.now = omega arith in
+    sized_at (c.loop-i.i - 1) c.args.kinds.now Coordinate c.requires.sized here
 
 pub loop-i-preserved : goal.loop-i-preserved
 loop-i-preserved c =
@@ -33,6 +38,6 @@ loop-i-preserved c =
     record {
       flags = grind (arith, common_steps, to_z-of_z, step, next);
       bound = rw doubled (omega (arith, c.changed_flag.ensures.bit, c.loop-i.invariant.bound));
-      any = grind (arith, common_steps, to_z-of_z, step, next);
-      near = grind (arith, common_steps, to_z-of_z, step, next);
+      bytes = grind (arith, common_steps, to_z-of_z, step, next);
+      few = omega (arith, c.loop-i.invariant.few, c.put_field.ensures.few);
     }
