@@ -1,5 +1,5 @@
 -- The parts of a written order, by what its row says.
-use Rattle.std.proofs.Common.{◌≡◌, ◌≤◌, ◌<◌, ◌-◌, ◌^◌, ℕ, suc, ℤ, List, ◌∷◌, ◌++◌, length, refl, ap, sym, arith, Bool, true, false, Some, None}
+use Rattle.std.proofs.Common.{◌≡◌, ◌≤◌, ◌<◌, ◌-◌, ◌^◌, ◌/◌, ℕ, suc, ℤ, List, ◌∷◌, ◌++◌, length, refl, ap, sym, arith, Bool, true, false, Some, None}
 use Rattle.std.specs.Prelude.{Option, ◌==◌, not}
 use Rattle.order_fields.specs.declared.kind.FieldKind.{FieldKind}
 use Rattle.byteorder.specs.Endian.{little_bytes}
@@ -48,6 +48,7 @@ pub record IsReady (found : Option Row) (old new : Values) : Type 0 where
   pub values : FitKinds (row_kinds found) new.numbers
   pub sized : AreSized (row_kinds found)
   pub few : length (row_kinds found) ≤ 21
+  pub bits : row_flags found ≡ suc (length (row_kinds found) / 8)
   pub room : 2 ^ suc (length (row_kinds found)) ≤ 256 ^ row_flags found
   pub flags : row_flags found ≤ 3
   pub bytes : length new.bytes < 256
@@ -68,6 +69,7 @@ ready_by (Some r) regs o e are fits =
       values = fits.numbers;
       sized = sound.sized;
       few = sound.short;
+      bits = sound.bits;
       room = sound.room;
       flags = sound.flags;
       bytes = few_bytes r.counted o.values.bytes fits.bytes;

@@ -1,5 +1,5 @@
 -- What the rows of the order table have in common.
-use Rattle.std.proofs.Common.{◌≡◌, ◌≤◌, ◌^◌, ℕ, suc, ℤ, List, [], ◌∷◌, length, refl, ap, sym, subst, ◌∙◌, arith, Bool, true, false, Some, None}
+use Rattle.std.proofs.Common.{◌≡◌, ◌≤◌, ◌^◌, ◌/◌, ℕ, suc, ℤ, List, [], ◌∷◌, length, refl, ap, sym, subst, ◌∙◌, arith, Bool, true, false, Some, None}
 use Rattle.std.specs.Prelude.{Option, is_some, unwrap_or, ◌==◌, ◌&&◌, nat_le, ⊤}
 use Rattle.std.proofs.lemmas.Bool.{false≢true}
 use Rattle.std.proofs.lemmas.Bool.Decides.{nat_tests}
@@ -32,11 +32,12 @@ sized_all : (ks : List FieldKind) → are_sized ks ≡ true → AreSized ks
 sized_all [] h = tt
 sized_all (k ∷ ks) h = let p = and_both (is_sized k) (are_sized ks) h in (sized_one k p.0, sized_all ks p.1)
 
--- a type's flags have a bit for each field and one more, in at most three bytes
+-- a type's flags have a bit for each field and one more, in as few bytes as these need, which are at most three
 pub record IsSound (r : Row) : Type 0 where
   pub flags : r.flags ≤ 3
   pub room : 2 ^ suc (length r.kinds) ≤ 256 ^ r.flags
   pub short : length r.kinds ≤ 21
+  pub bits : r.flags ≡ suc (length r.kinds / 8)
   pub sized : AreSized r.kinds
 
 abbrev pub AreSound : List Row → Type 0
@@ -59,9 +60,9 @@ row_sound (x ∷ rows) code r h e = chosen_sound (x.code == code) x (row_in rows
 
 table_sound : AreSound table
 table_sound =
-    let sound : (r : Row) → r.flags ≤ 3 → 2 ^ suc (length r.kinds) ≤ 256 ^ r.flags → length r.kinds ≤ 21 → are_sized r.kinds ≡ true → IsSound r =
-    λ r a b c d. record { flags = a; room = b; short = c; sized = sized_all r.kinds d } in
-    (sound _ (omega arith) (omega arith) (omega arith) refl, (sound _ (omega arith) (omega arith) (omega arith) refl, (sound _ (omega arith) (omega arith) (omega arith) refl, (sound _ (omega arith) (omega arith) (omega arith) refl, (sound _ (omega arith) (omega arith) (omega arith) refl, (sound _ (omega arith) (omega arith) (omega arith) refl, (sound _ (omega arith) (omega arith) (omega arith) refl, (sound _ (omega arith) (omega arith) (omega arith) refl, tt))))))))
+    let sound : (r : Row) → r.flags ≤ 3 → 2 ^ suc (length r.kinds) ≤ 256 ^ r.flags → length r.kinds ≤ 21 → r.flags ≡ suc (length r.kinds / 8) → are_sized r.kinds ≡ true → IsSound r =
+    λ r a b c e d. record { flags = a; room = b; short = c; bits = e; sized = sized_all r.kinds d } in
+    (sound _ (omega arith) (omega arith) (omega arith) refl refl, (sound _ (omega arith) (omega arith) (omega arith) refl refl, (sound _ (omega arith) (omega arith) (omega arith) refl refl, (sound _ (omega arith) (omega arith) (omega arith) refl refl, (sound _ (omega arith) (omega arith) (omega arith) refl refl, (sound _ (omega arith) (omega arith) (omega arith) refl refl, (sound _ (omega arith) (omega arith) (omega arith) refl refl, (sound _ (omega arith) (omega arith) (omega arith) refl refl, tt))))))))
 
 pub sound_row : (code : ℕ) (r : Row) → row_of code ≡ Some r → IsSound r
 sound_row code r e = row_sound table code r table_sound e

@@ -1,7 +1,7 @@
 ghost use Rattle.std.specs.Prelude.{◌≡◌, ◌≤◌, ◌||◌, true, ◌-ℤ◌};
 ghost use Rattle.std.specs.Ordering.{int_eq};
 ghost use Rattle.order_fields.specs.OrderTable.{fits_coordinate};
-ghost use Rattle.order_fields.specs.OrderDelta.{is_byte as byte_difference, flag as flag_of, shown as shown_of, keeps_bytes};
+ghost use Rattle.order_fields.specs.OrderDelta.{is_byte as byte_difference, flag as flag_of, shown as shown_of, same_list};
 
 use crate::FieldKind;
 
@@ -51,9 +51,9 @@ pub fn shown(flags: u32) -> u8
     }
 }
 
-/// Whether the counted bytes needn't stand there.
-pub fn are_kept(counted: bool, last: &[u8], bytes: &[u8]) -> bool
-    ensures { result ≡ keeps_bytes counted last.now bytes.now }
+/// Whether two runs of bytes are equal.
+pub fn are_equal(last: &[u8], bytes: &[u8]) -> bool
+    ensures { result ≡ same_list last.now bytes.now }
 {
-    !counted || last == bytes
+    last == bytes
 }

@@ -8,18 +8,18 @@
 //! | 0 to 9 | bounds | where the order has some and they aren't the last ones |
 //! | | the fields | each where its value changed |
 
-ghost use Rattle.std.specs.Prelude.{◌≡◌, ◌≤◌, ◌<◌, ◌+◌, ◌^◌, suc, ◌++◌, ◌∷◌, [], length, not, ◌==◌, OnOk, OnErr, IfSome, None, true, false};
+ghost use Rattle.std.specs.Prelude.{◌≡◌, ◌≤◌, ◌<◌, ◌+◌, ◌/◌, ◌^◌, suc, ◌++◌, ◌∷◌, [], length, not, ◌==◌, OnOk, OnErr, IfSome, None, true, false};
 ghost use Rattle.wire_num.specs.Written.{AppendsFront};
 ghost use Rattle.byteorder.specs.Endian.{little_bytes, big_bytes};
-ghost use Rattle.order_fields.specs.Kept.{IsSized, AreSized, edges_in, optional_edges, registers_of};
-ghost use Rattle.order_fields.specs.OrderTable.{FitKinds, FitsKind, FitEdges, FitBounds, AreRegisters, IsFieldList};
-ghost use Rattle.order_fields.specs.OrderDelta.{Field, fields_of, is_coordinate, is_near as near_field, value_bytes, field_bytes, present_bytes, counted_bytes, any_coordinate, all_near, takes_deltas, flags_of, control_byte as control_of, has_bounds, order_bytes, type_bytes, shown as shown_of, bounds_bytes};
+ghost use Rattle.order_fields.specs.Kept.{IsSized, AreSized, edges_in, optional_edges, lasts_of, registers_of, is_row_counted};
+ghost use Rattle.order_fields.specs.OrderTable.{row_of, values_in, FitKinds, FitsKind, FitEdges, FitBounds, AreRegisters, IsFieldList};
+ghost use Rattle.order_fields.specs.OrderDelta.{Field, fields_of, is_coordinate, is_near as near_field, value_bytes, field_bytes, present_bytes, counted_bytes, any_coordinate, all_near, takes_deltas, flags_of, keeps_bytes, control_byte as control_of, has_bounds, order_bytes, type_bytes, shown as shown_of, bounds_bytes};
 
 use crate::bounds::{Bounds, keeps_bounds, put_bounds};
-use crate::delta::{Changes, are_kept, changed_flag, either, is_byte_apart, shown};
+use crate::delta::{Changes, are_equal, changed_flag, either, is_byte_apart, shown};
 use crate::lasts::Lasts;
 use crate::number::{difference_byte, signed_two_bytes};
-use crate::table::{flag_bytes_of, is_counted, kinds_of};
+use crate::table::{is_counted, kinds_of};
 use crate::tail::Tail;
 use crate::{FieldKind, Fields};
 use wire_num::OutOfMemory;
@@ -36,6 +36,9 @@ const DELTA_COORDINATES: u8 = 0x10;
 const ZERO_BOUNDS_DELTAS: u8 = 0x20;
 
 const ZERO_FIELD_BYTE: u8 = 0x40;
+
+/// How many flags a byte has.
+const FLAGS_IN_BYTE: usize = 8;
 
 /// Puts the value of a field before a tail.
 fn put_value(tail: &mut Tail, kind: FieldKind, delta: bool, last: i64, value: i64)
@@ -272,6 +275,34 @@ fn is_bounded(bounds: Option<Bounds>) -> bool
     }
 }
 
+/// How many flag bytes an order of so many fields has: a bit for each field, and one more.
+fn flag_bytes_for(fields: usize) -> u8
+    requires { fields ≤ 21 }
+    ensures { result ≡ suc (fields / 8) }
+{
+    (fields / FLAGS_IN_BYTE + 1) as u8
+}
+
+/// Puts the flags of an order's fields before a tail, without their zero bytes at the end.
+fn put_flags(tail: &mut Tail, flags: u32)
+    requires { length tail.old ≤ 179 }
+    ensures { tail.new ≡ little_bytes (shown_of flags) flags ++ tail.old }
+{
+    match flags {
+        0 => {}
+        0x1..=0xFF => tail.put_low(1, u64::from(flags)),
+        _ => tail.put_low(usize::from(shown(flags)), u64::from(flags)),
+    }
+}
+
+/// Whether the counted bytes of an order needn't stand there.
+fn keeps_counted(kind: u8, lasts: &Lasts, o: &Fields) -> bool
+    requires { lasts.now.glyph_count ≤ 255 }
+    ensures { result ≡ keeps_bytes (is_row_counted (row_of kind)) (values_in (lasts_of lasts.now) kind).bytes o.now.values.bytes }
+{
+    !is_counted(kind) || are_equal(lasts.bytes(kind), o.bytes())
+}
+
 /// Puts an order but its counted bytes into an empty tail, and answers whether these needn't stand there.
 fn put_uncounted(
     tail: &mut Tail,
@@ -293,17 +324,15 @@ fn put_uncounted(
     let kinds = kinds_of(kind);
     let last = lasts.values(kind);
     let values = o.values();
-    let counted = is_counted(kind);
-    let keeps = are_kept(counted, lasts.bytes(kind), o.bytes());
+    let keeps = keeps_counted(kind, lasts, o);
     let typed = is_typed(last_kind, kind);
     let keeps_edges = keeps_bounds(confirmed, old, new);
     let changes = put_fields(tail, kinds, last, values, keeps);
-    let all = flag_bytes_of(kind);
-    let some = shown(changes.flags);
+    let omitted = flag_bytes_for(kinds.len()) - shown(changes.flags);
     let bounded = is_bounded(new);
-    let control = control_byte(bounded, typed, changes.delta, keeps_edges, all - some);
+    let control = control_byte(bounded, typed, changes.delta, keeps_edges, omitted);
     put_bounds(tail, keeps_edges, old, new);
-    tail.put_low(usize::from(some), u64::from(changes.flags));
+    put_flags(tail, changes.flags);
     put_head(tail, control, typed, kind);
     keeps
 }

@@ -1,4 +1,4 @@
-use Rattle.std.proofs.Common.{◌≡◌, [], true, ◌∷◌, ◌++◌, sym, ◌∙◌}
+use Rattle.std.proofs.Common.{◌≡◌, [], true, ◌∷◌, sym, ◌∙◌}
 use Rattle.std.specs.Prelude.{◌-◌}
 use Rattle.byteorder.specs.Endian.{little_bytes}
 use Rattle.order_fields.specs.OrderTable.{row_of, last_values}
@@ -31,11 +31,13 @@ returns c =
     let delta = c.put_fields-changes.result.delta in
     let typed = c.is_typed-typed.result in
     let keeps_edges = c.keeps_bounds-keeps_edges.result in
-    let keeps = c.are_kept-keeps.result in
+    let keeps = c.keeps_counted-keeps.result in
     let control = c.control_byte-control.result in
-    let same_keeps : keeps ≡ keeps_bytes (is_row_counted (row_of kind)) (last_values regs kind).bytes bytes = rw (c.is_counted-counted.ensures, c.bytes.ensures, c.bytes-2.ensures) at c.are_kept-keeps.ensures in
+    let same_keeps : keeps ≡ keeps_bytes (is_row_counted (row_of kind)) (last_values regs kind).bytes bytes = c.keeps_counted-keeps.ensures in
+    let r = ready regs c.args.o.now c.requires.registers c.requires.fits in
+    let all : c.flag_bytes_for.result ≡ row_flags (row_of kind) = c.flag_bytes_for.ensures ∙ sym (rw (c.kinds_of-kinds.ensures, c.kind-kind.ensures) r.bits) in
     let same_control : control ≡ control_byte (has_bounds bounds) typed delta keeps_edges (row_flags (row_of kind) - shown flags) =
-    rw (c.is_bounded-bounded.ensures, c.flag_bytes_of-all.ensures, c.shown-some.ensures.shown) at c.control_byte-control.ensures in
+    rw (c.is_bounded-bounded.ensures, all, c.shown.ensures.shown) at c.control_byte-control.ensures in
     let whole = order_from_parts regs c.args.confirmed c.args.o.now bounds c.requires.fits control typed delta keeps_edges keeps kind flags kinds last values bytes
     c.kind-kind.ensures c.kinds_of-kinds.ensures c.values-last.ensures c.values-values.ensures.value (λ i. bytes) same_keeps c.put_fields-changes.ensures.flags c.put_fields-changes.ensures.delta
     c.is_typed-typed.ensures c.keeps_bounds-keeps_edges.ensures same_control in
@@ -43,6 +45,5 @@ returns c =
     let b = little_bytes (shown flags) flags in
     let d = bounds_bytes keeps_edges regs.bounds bounds in
     let fields : c.put_fields-changes.new.tail ≡ present_bytes (fields_of kinds last values) delta true [] = rw c.put_fields-changes.ensures.delta c.put_fields-changes.ensures.bytes in
-    let low : c.put_low.new.self ≡ b ++ c.put_bounds.new.tail = rw (c.from.ensures, c.from-2.ensures, c.shown-some.ensures.shown) at c.put_low.ensures in
-    let tail = whole_tail a b d (fields_of kinds last values) delta keeps bytes c.put_fields-changes.new.tail c.put_bounds.new.tail c.put_low.new.self c.put_head.new.tail fields c.put_bounds.ensures.bytes low c.put_head.ensures in
+    let tail = whole_tail a b d (fields_of kinds last values) delta keeps bytes c.put_fields-changes.new.tail c.put_bounds.new.tail c.put_flags.new.tail c.put_head.new.tail fields c.put_bounds.ensures.bytes c.put_flags.ensures c.put_head.ensures in
     sym whole ∙ sym tail
