@@ -1,5 +1,6 @@
 pub mod Apart
 pub mod FieldsFit
+pub mod Fills
 pub mod RunsUsed
 pub mod Stores
 pub mod TypesFit

@@ -1,5 +1,6 @@
 -- Drawings as the code names them.
 use Rattle.std.specs.Prelude.{◌≡◌, ℕ, ◌+◌, true, ℤ, List, Option, Some, None}
+use Rattle.px_core.specs.declared.rectangle.Rect.{Rect}
 use Rattle.order_fields.specs.OrderTable.{IsBelow, fits_coordinate}
 use Rattle.order_fields.specs.NamedDrawing.{NamedDrawing, value}
 use Rattle.order_fields.specs.NamedDrawing.NamedDrawing.{Dst, Pat, Scr, Opaque, SaveBlock, RestoreBlock, Mem, Mem3, Glyphs}
@@ -21,6 +22,27 @@ drawing run (named.Glyphs cache x y color) = Glyphs cache x y color run
 abbrev pub optional_drawing : List ℕ → Option Named → Option NamedDrawing
 optional_drawing run None = None
 optional_drawing run (Some n) = Some (drawing run n)
+
+-- a fill by its rectangle and its colour
+abbrev pub optional_fill : Option (Rect × ℕ) → Option NamedDrawing
+optional_fill None = None
+optional_fill (Some p) = Some (Opaque p.0 p.1)
+
+abbrev pub fill_of_drawing : NamedDrawing → Option (Rect × ℕ)
+fill_of_drawing (Dst rect code) = None
+fill_of_drawing (Pat rect code entry) = None
+fill_of_drawing (Scr rect code sx sy) = None
+fill_of_drawing (Opaque rect color) = Some (rect, color)
+fill_of_drawing (SaveBlock position rect) = None
+fill_of_drawing (RestoreBlock position rect) = None
+fill_of_drawing (Mem cache index rect code sx sy) = None
+fill_of_drawing (Mem3 cache index rect code sx sy entry) = None
+fill_of_drawing (Glyphs cache x y color run) = None
+
+-- the rectangle and the colour of a drawing, where there is one and it is a fill
+abbrev pub fill_in : Option NamedDrawing → Option (Rect × ℕ)
+fill_in None = None
+fill_in (Some d) = fill_of_drawing d
 
 -- the values at these places have two bytes, signed
 abbrev pub FitsAt : List ℤ → ℕ → Type 0

@@ -1,15 +1,15 @@
 //! The drawing that a primary order's fields say ([MS-RDPEGDI] 2.2.2.2.1.1.2).
 
-ghost use Rattle.std.specs.Prelude.{◌≡◌, ◌≤◌, ℕ, List, Some, IfSome, length};
+ghost use Rattle.std.specs.Prelude.{◌≡◌, ◌≤◌, ◌+◌, ◌*◌, ℕ, List, IfSome, length};
 ghost use Rattle.order_fields.specs.OrderTable.{FitKinds, dst_blt, pat_blt, scr_blt, opaque_rect, save_bitmap, mem_blt, mem3_blt, glyph_index};
 ghost use Rattle.order_fields.specs.OrderTable.OrderName.{DstBlt, PatBlt, ScrBlt, OpaqueRect, SaveBitmap, MemBlt, Mem3Blt, GlyphIndex};
 ghost use Rattle.order_fields.specs.NamedDrawing.{drawing_of, drawing_of_values};
-ghost use Rattle.order_fields.specs.NamedDrawing.NamedDrawing.{Opaque};
-ghost use Rattle.client_caches.specs.Named.{optional_drawing};
+ghost use Rattle.client_caches.specs.Named.{optional_drawing, optional_fill, fill_in};
 
 use crate::Named;
 use crate::values::{
     byte, closed_rect_at, coordinate, is_cached_brush, is_cached_run, number, rect_at, short,
+    side_of,
 };
 use order_fields::Fields;
 use px_core::{Rect, has_pixel};
@@ -55,17 +55,14 @@ pub fn drawing_of(fields: &Fields) -> Option<Named>
     }
 }
 
-/// The rectangle and the colour of an OpaqueRect order: a quick way to what most orders are. `None` says nothing.
+/// The rectangle and the colour of an OpaqueRect order, which most orders are; `None` where its rectangle has no pixel, and for any other order.
 pub fn fill_of(fields: &Fields) -> Option<(Rect, u32)>
-    ensures { IfSome result (λ p. drawing_of fields.now ≡ Some (Opaque p.0 p.1)) }
+    ensures { result ≡ fill_in (drawing_of fields.now) }
 {
     if fields.kind() != OPAQUE_RECT {
         return None;
     }
-    match opaque_of(fields.values()) {
-        Some(Named::Opaque { rect, color }) => Some((rect, color)),
-        _ => None,
-    }
+    fill_values(fields.values())
 }
 
 fn dst_of(values: &[i64]) -> Option<Named>
@@ -117,17 +114,37 @@ fn opaque_of(values: &[i64]) -> Option<Named>
     requires { FitKinds opaque_rect.kinds values.now }
     ensures { (run : List ℕ) → optional_drawing run result ≡ drawing_of_values OpaqueRect values.now run }
 {
-    let rect = rect_at(values, 0);
+    match fill_values(values) {
+        None => None,
+        Some((rect, color)) => Some(Named::Opaque { rect, color }),
+    }
+}
+
+/// The rectangle and the colour of an OpaqueRect order's values, where the rectangle has a pixel.
+fn fill_values(values: &[i64]) -> Option<(Rect, u32)>
+    requires { FitKinds opaque_rect.kinds values.now }
+    ensures { (run : List ℕ) → optional_fill result ≡ drawing_of_values OpaqueRect values.now run }
+{
+    let [left, top, width, height, red, green, blue] = values else {
+        return None;
+    };
+    let rect = Rect {
+        x: *left as i32,
+        y: *top as i32,
+        w: side_of(*width),
+        h: side_of(*height),
+    };
     if !has_pixel(rect) {
         return None;
     }
-    let red = u32::from(byte(values, 4));
-    let green = u32::from(byte(values, 5));
-    let blue = u32::from(byte(values, 6));
-    Some(Named::Opaque {
-        rect,
-        color: 65_536 * red + (256 * green + blue),
-    })
+    Some((rect, color_of(*red as u8, *green as u8, *blue as u8)))
+}
+
+/// The colour of these parts.
+fn color_of(red: u8, green: u8, blue: u8) -> u32
+    ensures { result ≡ 65536 * red + (256 * green + blue) }
+{
+    65_536 * u32::from(red) + (256 * u32::from(green) + u32::from(blue))
 }
 
 fn save_of(values: &[i64]) -> Option<Named>

@@ -2,6 +2,7 @@
 
 ghost use Rattle.std.specs.Prelude.{◌≡◌, ◌≤◌, true};
 ghost use Rattle.std.specs.Ordering.{int_eq};
+ghost use Rattle.px_core.specs.Picture.{nat_of};
 ghost use Rattle.order_fields.specs.OrderTable.{fits_coordinate};
 ghost use Rattle.order_fields.specs.NamedDrawing.{value, number, rect_at, closed_rect_at, side_between, is_cached_brush, is_cached_run, are_zero};
 ghost use Rattle.client_caches.specs.Named.{FitsAt, FitBox, IsNumberAt};
@@ -47,6 +48,14 @@ pub fn byte(values: &[i64], place: usize) -> u8
     ensures { IsNumberAt 256 values.now place → result ≡ number values.now place }
 {
     u8::try_from(value(values, place)).unwrap_or(0)
+}
+
+/// A side, which is 0 where its value is negative.
+pub fn side_of(value: i64) -> u32
+    requires { fits_coordinate value ≡ true }
+    ensures { result ≡ nat_of value }
+{
+    if value < 0 { 0 } else { value as u32 }
 }
 
 /// The side at a place, which is 0 where the value is negative.
