@@ -1,9 +1,10 @@
 -- What the code's registers and fields stand for.
-use Rattle.std.specs.Prelude.{⊤, ◌≤◌, ℕ, Bool, false, List, [], ◌∷◌, Option, Some, None, Vec, take}
+use Rattle.std.specs.Prelude.{◌≡◌, ⊤, ◌≤◌, ℕ, Bool, false, List, [], ◌∷◌, Option, Some, None, Vec, take}
 use Rattle.order_fields.specs.declared.bounds.Bounds.{Bounds}
 use Rattle.order_fields.specs.declared.kind.FieldKind.{FieldKind}
 use Rattle.order_fields.specs.declared.kind.FieldKind.TheVariants.{Coordinate, Number, Signed, Color}
 use Rattle.order_fields.specs.declared.lasts.Lasts.{Lasts}
+use Rattle.order_fields.specs.declared.table.Layout.{Layout}
 use Rattle.order_fields.specs.OrderTable.{Row, FieldList, field_list, Edges, edges, Registers}
 
 -- bytes that may be missing, which are none then
@@ -36,6 +37,12 @@ row_flags (Some r) = r.flags
 abbrev pub is_row_counted : Option Row → Bool
 is_row_counted None = false
 is_row_counted (Some r) = r.counted
+
+-- the code's layout of a row
+pub record IsLayoutOf (found : Option Row) (layout : Layout) : Type 0 where
+  pub kinds : layout.kinds.now ≡ row_kinds found
+  pub flags : layout.flag_bytes ≡ row_flags found
+  pub counted : layout.counted ≡ is_row_counted found
 
 -- a number of at most eight bytes
 abbrev pub IsSized : FieldKind → Type 0

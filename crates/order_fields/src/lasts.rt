@@ -1,4 +1,4 @@
-ghost use Rattle.std.specs.Prelude.{◌≡◌, ◌<◌, ◌≤◌, length, []};
+ghost use Rattle.std.specs.Prelude.{◌≡◌, ◌<◌, ◌≤◌, length, take, []};
 ghost use Rattle.order_fields.specs.OrderTable.{field_list, values_in, lasts_after, first_registers, IsFieldList};
 ghost use Rattle.order_fields.specs.Kept.{lasts_of};
 
@@ -72,6 +72,25 @@ impl Lasts {
         }
     }
 
+    /// Puts the last values of a type at the front of others; the result is how many they are.
+    pub fn put_front(&self, kind: u8, front: &mut [i64]) -> usize
+        requires { 21 ≤ length front.old }
+        ensures values { take result front.new ≡ (values_in (lasts_of self.now) kind).numbers }
+        ensures few { result ≤ 21 }
+    {
+        match kind {
+            DST_BLT => put_front(front, &self.dst_blt),
+            PAT_BLT => put_front(front, &self.pat_blt),
+            SCR_BLT => put_front(front, &self.scr_blt),
+            OPAQUE_RECT => put_front(front, &self.opaque_rect),
+            SAVE_BITMAP => put_front(front, &self.save_bitmap),
+            MEM_BLT => put_front(front, &self.mem_blt),
+            MEM3_BLT => put_front(front, &self.mem3_blt),
+            GLYPH_INDEX => put_front(front, &self.glyph_index),
+            _ => 0,
+        }
+    }
+
     /// Keeps the values of an order as the last ones of its type.
     pub fn keep(&mut self, kind: u8, values: &[i64], bytes: &[u8])
         requires fits { IsFieldList (field_list kind values.now bytes.now) }
@@ -80,19 +99,39 @@ impl Lasts {
         ensures count { self.new.glyph_count ≤ 255 }
     {
         match kind {
-            DST_BLT => self.dst_blt.copy_from_slice(values),
-            PAT_BLT => self.pat_blt.copy_from_slice(values),
-            SCR_BLT => self.scr_blt.copy_from_slice(values),
-            OPAQUE_RECT => self.opaque_rect.copy_from_slice(values),
-            SAVE_BITMAP => self.save_bitmap.copy_from_slice(values),
-            MEM_BLT => self.mem_blt.copy_from_slice(values),
-            MEM3_BLT => self.mem3_blt.copy_from_slice(values),
+            DST_BLT => put(&mut self.dst_blt, values),
+            PAT_BLT => put(&mut self.pat_blt, values),
+            SCR_BLT => put(&mut self.scr_blt, values),
+            OPAQUE_RECT => put(&mut self.opaque_rect, values),
+            SAVE_BITMAP => put(&mut self.save_bitmap, values),
+            MEM_BLT => put(&mut self.mem_blt, values),
+            MEM3_BLT => put(&mut self.mem3_blt, values),
             GLYPH_INDEX => {
-                self.glyph_index.copy_from_slice(values);
+                put(&mut self.glyph_index, values);
                 self.glyph_bytes[..bytes.len()].copy_from_slice(bytes);
                 self.glyph_count = bytes.len();
             }
             _ => {}
         }
     }
+}
+
+/// Puts values in the place of as many others.
+fn put(last: &mut [i64], values: &[i64])
+    requires { length values.now ≡ length last.old }
+    ensures { last.new ≡ values.now }
+{
+    let count = last.len();
+    last.copy_from_slice(&values[..count]);
+}
+
+/// Puts values at the front of others; the result is how many they are.
+fn put_front(front: &mut [i64], values: &[i64]) -> usize
+    requires { length values.now ≤ length front.old }
+    ensures count { result ≡ length values.now }
+    ensures values { take result front.new ≡ values.now }
+{
+    let count = values.len();
+    front[..count].copy_from_slice(values);
+    count
 }

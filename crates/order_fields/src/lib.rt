@@ -24,9 +24,8 @@ pub use fields::Fields;
 pub use kind::FieldKind;
 pub use laws::{fields_give_their_drawing_back, written_order_is_read_back};
 pub use order::{write_bounds, write_order};
-pub use reading::is_order_type;
 pub use regs::Regs;
-pub use table::{flag_bytes_of, is_counted, kinds_of};
+pub use table::{Layout, flag_bytes_of, is_counted, kinds_of, layout_of};
 pub use wire_num::OutOfMemory;
 
 #[cfg(test)]

@@ -1,31 +1,11 @@
 //! What a reader of orders takes from the registers, and keeps in them.
 
-ghost use Rattle.std.specs.Prelude.{◌≡◌, is_some};
-ghost use Rattle.order_fields.specs.OrderTable.{row_of, last_values, registers_after, AreRegisters, FitEdges, FitBounds, field_list, IsFieldList};
+ghost use Rattle.std.specs.Prelude.{◌≡◌, ◌≤◌, length, take};
+ghost use Rattle.order_fields.specs.OrderTable.{last_values, registers_after, bounds_after, AreRegisters, FitEdges, FitBounds, field_list, IsFieldList};
 ghost use Rattle.order_fields.specs.Kept.{edges_in, optional_edges};
 
-use crate::bounds::{Bounds, bounds_after};
-use crate::table::{
-    DST_BLT, GLYPH_INDEX, MEM_BLT, MEM3_BLT, OPAQUE_RECT, PAT_BLT, SAVE_BITMAP, SCR_BLT,
-};
+use crate::bounds::Bounds;
 use crate::{Fields, Regs};
-
-/// Whether there is an order of this type.
-pub fn is_order_type(kind: u8) -> bool
-    ensures { result ≡ is_some (row_of kind) }
-{
-    match kind {
-        DST_BLT
-        | PAT_BLT
-        | SCR_BLT
-        | OPAQUE_RECT
-        | SAVE_BITMAP
-        | MEM_BLT
-        | MEM3_BLT
-        | GLYPH_INDEX => true,
-        _ => false,
-    }
-}
 
 impl Regs {
     /// The type of the last order.
@@ -41,6 +21,16 @@ impl Regs {
         ensures sound { AreRegisters self.now }
     {
         self.lasts.values(kind)
+    }
+
+    /// Puts the last values of a type at the front of others; the result is how many they are.
+    pub fn put_last_values(&self, kind: u8, front: &mut [i64]) -> usize
+        requires { 21 ≤ length front.old }
+        ensures values { take result front.new ≡ (last_values self.now kind).numbers }
+        ensures few { result ≤ 21 }
+        ensures sound { AreRegisters self.now }
+    {
+        self.lasts.put_front(kind, front)
     }
 
     /// The last counted bytes of a type; none of a type without such a field.
@@ -75,6 +65,16 @@ impl Regs {
     {
         self.last = kind;
         self.lasts.keep(kind, values, bytes);
-        self.bounds = bounds_after(self.bounds, bounds);
+        keep_bounds(&mut self.bounds, bounds);
+    }
+}
+
+/// Keeps the bounds that an order has, where it has some, as the last ones.
+fn keep_bounds(last: &mut Bounds, bounds: Option<Bounds>)
+    ensures { edges_in last.new ≡ bounds_after (optional_edges bounds) (edges_in last.old) }
+{
+    match bounds {
+        None => {}
+        Some(new) => *last = new,
     }
 }

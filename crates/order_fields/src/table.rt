@@ -11,9 +11,9 @@
 //! | 0E | Mem3Blt | 3 | cacheId, box, bRop, nXSrc, nYSrc, backColor, foreColor, brush, cacheIndex | 2.2.2.2.1.1.2.10 |
 //! | 1B | GlyphIndex | 3 | cacheId, flAccel, ulCharInc, fOpRedundant, backColor, foreColor, edges bk, edges op, brush, x, y, counted bytes | 2.2.2.2.1.1.2.13 |
 
-ghost use Rattle.std.specs.Prelude.{◌≡◌, length};
+ghost use Rattle.std.specs.Prelude.{◌≡◌, false, is_some, length, IfSome};
 ghost use Rattle.order_fields.specs.OrderTable.{row_of};
-ghost use Rattle.order_fields.specs.Kept.{row_kinds, row_flags, is_row_counted};
+ghost use Rattle.order_fields.specs.Kept.{row_kinds, row_flags, is_row_counted, IsLayoutOf};
 
 use crate::FieldKind;
 use crate::FieldKind::{Color, Coordinate, Number, Signed};
@@ -149,6 +149,49 @@ pub fn kinds_of(kind: u8) -> &'static [FieldKind]
         MEM3_BLT => &MEM3_BLT_KINDS,
         GLYPH_INDEX => &GLYPH_INDEX_KINDS,
         _ => &[],
+    }
+}
+
+/// How an order of a type stands in bytes: the fields in their order, how many flag bytes it has, and whether a field of counted bytes stands last.
+#[derive(Clone, Copy)]
+pub struct Layout {
+    pub kinds: &'static [FieldKind],
+    pub flag_bytes: u8,
+    pub counted: bool,
+}
+
+/// The layout of a type, where there is an order of it.
+pub fn layout_of(kind: u8) -> Option<Layout>
+    ensures known { is_some result ≡ is_some (row_of kind) }
+    ensures layout { IfSome result (IsLayoutOf (row_of kind)) }
+{
+    match kind {
+        DST_BLT => Some(plain(&DST_BLT_KINDS, 1)),
+        PAT_BLT => Some(plain(&PAT_BLT_KINDS, 2)),
+        SCR_BLT => Some(plain(&SCR_BLT_KINDS, 1)),
+        OPAQUE_RECT => Some(plain(&OPAQUE_RECT_KINDS, 1)),
+        SAVE_BITMAP => Some(plain(&SAVE_BITMAP_KINDS, 1)),
+        MEM_BLT => Some(plain(&MEM_BLT_KINDS, 2)),
+        MEM3_BLT => Some(plain(&MEM3_BLT_KINDS, 3)),
+        GLYPH_INDEX => Some(Layout {
+            kinds: &GLYPH_INDEX_KINDS,
+            flag_bytes: 3,
+            counted: true,
+        }),
+        _ => None,
+    }
+}
+
+/// The layout of a type without counted bytes.
+fn plain(kinds: &'static [FieldKind], flag_bytes: u8) -> Layout
+    ensures kinds { result.kinds.now ≡ kinds.now }
+    ensures flags { result.flag_bytes ≡ flag_bytes }
+    ensures counted { result.counted ≡ false }
+{
+    Layout {
+        kinds,
+        flag_bytes,
+        counted: false,
     }
 }
 

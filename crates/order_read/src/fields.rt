@@ -3,14 +3,14 @@
 ghost use Rattle.std.specs.Prelude.{◌≡◌, ◌<◌, ◌≤◌, length, [], true, is_some, IfOk, OnOk};
 ghost use Rattle.wire_num.specs.Cursor.{ReadsField, ReadsFieldAs};
 ghost use Rattle.order_fields.specs.OrderTable.{FitsKind, FitKinds, row_of, last_values, AreRegisters, field_list, IsFieldList};
-ghost use Rattle.order_fields.specs.Kept.{optional_bytes};
+ghost use Rattle.order_fields.specs.Kept.{optional_bytes, IsLayoutOf};
 ghost use Rattle.order_fields.specs.OrderStream.{value_at, field_at, counted_at};
 ghost use Rattle.order_read.specs.Reading.{ReadsOr};
 ghost use Rattle.order_read.specs.Parts.{IsShort, AreShort, ReadsNumbers, fields_at};
 
 use crate::OrderFault;
 use crate::number::{read_byte, read_color, read_moved, read_short, read_signed};
-use order_fields::{FieldKind, Regs, is_counted, kinds_of};
+use order_fields::{FieldKind, Layout, Regs};
 use std::alloc::Global;
 use wire_num::{Cursor, OutOfMemory, Short};
 
@@ -107,19 +107,21 @@ pub fn read_fields(
     alloc: Global,
     cursor: &mut Cursor<'_>,
     kind: u8,
+    layout: Layout,
     flags: u32,
     delta: bool,
     regs: &Regs,
     values: &mut [i64],
 ) -> Result<Option<Vec<u8>>, OrderFault>
     requires kind { is_some (row_of kind) ≡ true }
+    requires layout { IsLayoutOf (row_of kind) layout }
     requires sound { AreRegisters regs.now }
     requires last { values.old ≡ (last_values regs.now kind).numbers }
     ensures read { ReadsOr (λ counted. field_list kind values.new (optional_bytes counted)) (fields_at kind flags delta regs.now) result cursor.old cursor.new }
     ensures fits { IfOk result (λ counted. IsFieldList (field_list kind values.new (optional_bytes counted))) }
 {
-    let left = read_values(cursor, kinds_of(kind), flags, delta, values)?;
-    if !is_counted(kind) {
+    let left = read_values(cursor, layout.kinds, flags, delta, values)?;
+    if !layout.counted {
         return Ok(None);
     }
     let bytes = if left % 2 == 1 {

@@ -94,6 +94,22 @@ fn signed_number(bytes: &[u8]) -> i64
     LittleEndian::read_int(bytes, bytes.len())
 }
 
+/// Reads a signed number of one byte.
+fn read_signed_byte(cursor: &mut Cursor<'_>) -> Result<i64, Short>
+    ensures read { ReadsField (little_signed_at 1) result cursor.old cursor.new }
+    ensures fits { IfOk result (λ z. fits_coordinate z ≡ true) }
+{
+    Ok(signed_byte(read_byte(cursor)?))
+}
+
+/// The signed number in one byte.
+fn signed_byte(byte: u8) -> i64
+    ensures value { result ≡ twos_complement 1 byte }
+    ensures fits { fits_coordinate result ≡ true }
+{
+    i64::from(byte.cast_signed())
+}
+
 /// Whether a signed number has two bytes.
 fn is_coordinate(number: i64) -> bool
     ensures { result ≡ fits_coordinate number }
@@ -108,7 +124,7 @@ pub fn read_moved(cursor: &mut Cursor<'_>, last: i64) -> Result<i64, Short>
     ensures fits { IfOk result (λ z. fits_coordinate z ≡ true) }
 {
     let at = cursor.at();
-    let moved = last + read_signed(cursor, 1)?;
+    let moved = last + read_signed_byte(cursor)?;
     if !is_coordinate(moved) {
         cursor.go_to(at);
         return Err(Short { at });

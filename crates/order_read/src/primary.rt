@@ -8,11 +8,11 @@
 //! | 0 to 9 | bounds | where the order has some and they aren't the last ones |
 //! | | the fields | each where its flag is set |
 
-ghost use Rattle.std.specs.Prelude.{◌≡◌, ◌≤◌, ◌∷◌, true, is_some, drop, take, length, IfOk, OnErr};
+ghost use Rattle.std.specs.Prelude.{◌≡◌, ◌≤◌, ◌∷◌, true, is_some, drop, length, IfOk, OnErr};
 ghost use Rattle.wire_num.specs.Cursor.{ReadsField, rest};
 ghost use Rattle.order_fields.specs.OrderTable.{row_of, last_values, field_list, IsFieldList, AreRegisters, FitBounds};
 ghost use Rattle.order_fields.specs.OrderStream.{type_at, primary_at};
-ghost use Rattle.order_fields.specs.Kept.{optional_bytes, optional_edges};
+ghost use Rattle.order_fields.specs.Kept.{optional_bytes, optional_edges, IsLayoutOf};
 ghost use Rattle.order_read.specs.Reading.{ReadsOr};
 ghost use Rattle.order_read.specs.Parts.{list_and_bounds_at};
 ghost use Rattle.order_read.specs.Primary.{ReadsPrimary, ReadsTyped};
@@ -22,7 +22,7 @@ use crate::edges::{optional_rect_of, read_bounds};
 use crate::fields::read_fields;
 use crate::number::{read_byte, read_number};
 use crate::{OrderFault, Read};
-use order_fields::{Bounds, Fields, Regs, flag_bytes_of, is_order_type};
+use order_fields::{Bounds, Fields, Layout, Regs, layout_of};
 use std::alloc::Global;
 use wire_num::{Cursor, Short};
 
@@ -52,12 +52,14 @@ fn read_list(
     alloc: Global,
     cursor: &mut Cursor<'_>,
     kind: u8,
+    layout: Layout,
     size: u8,
     control: u8,
     regs: &Regs,
     values: &mut [i64],
 ) -> Result<(Option<Vec<u8>>, Option<Bounds>), OrderFault>
     requires kind { is_some (row_of kind) ≡ true }
+    requires layout { IsLayoutOf (row_of kind) layout }
     requires size { size ≤ 3 }
     requires sound { AreRegisters regs.now }
     requires last { values.old ≡ (last_values regs.now kind).numbers }
@@ -69,16 +71,8 @@ fn read_list(
     let same = has_bit(control, ZERO_BOUNDS_DELTAS);
     let bounds = read_bounds(cursor, has_bit(control, BOUNDS), same, regs.last_bounds())?;
     let delta = has_bit(control, DELTA_COORDINATES);
-    let counted = read_fields(alloc, cursor, kind, flags, delta, regs, values)?;
+    let counted = read_fields(alloc, cursor, kind, layout, flags, delta, regs, values)?;
     Ok((counted, bounds))
-}
-
-/// Puts values at the front of others.
-fn put_front(all: &mut [i64], values: &[i64])
-    requires { length values.now ≤ length all.old }
-    ensures { take (length values.now) all.new ≡ values.now }
-{
-    all[..values.len()].copy_from_slice(values);
 }
 
 /// The counted bytes; none where there is no such field.
@@ -92,28 +86,28 @@ fn bytes_in(counted: &Option<Vec<u8>>) -> &[u8]
 }
 
 /// Reads an order of a type behind its type, and keeps it in the registers. An `Err` leaves them as they were.
-#[tactic(auto, using(crate::proofs::KnownTypes::few_last))]
 fn read_typed(
     alloc: Global,
     cursor: &mut Cursor<'_>,
     kind: u8,
+    layout: Layout,
     size: u8,
     control: u8,
     regs: &mut Regs,
 ) -> Result<Read, OrderFault>
     requires kind { is_some (row_of kind) ≡ true }
+    requires layout { IsLayoutOf (row_of kind) layout }
     requires size { size ≤ 3 }
     ensures read { ReadsTyped kind size control regs.old regs.new result cursor.old cursor.new }
     ensures unchanged { OnErr result (regs.new ≡ regs.old) }
 {
-    let last = regs.last_values(kind);
-    let count = last.len();
     let mut values = [0; MOST_VALUES];
-    put_front(&mut values, last);
+    let count = regs.put_last_values(kind, &mut values);
     let (counted, bounds) = read_list(
         alloc,
         cursor,
         kind,
+        layout,
         size,
         control,
         regs,
@@ -142,15 +136,15 @@ pub fn read_primary(
 {
     let typed = cursor.at();
     let kind = read_type(cursor, has_bit(control, TYPE_CHANGE), regs.last_kind())?;
-    if !is_order_type(kind) {
+    let Some(layout) = layout_of(kind) else {
         cursor.go_to(typed);
         return Err(OrderFault::BadOrder { at: typed });
-    }
+    };
     let omitted = control / ZERO_FIELD_BYTE;
-    let all = flag_bytes_of(kind);
-    if all < omitted {
+    if layout.flag_bytes < omitted {
         cursor.go_to(first);
         return Err(OrderFault::BadOrder { at: first });
     }
-    read_typed(alloc, cursor, kind, all - omitted, control, regs)
+    let size = layout.flag_bytes - omitted;
+    read_typed(alloc, cursor, kind, layout, size, control, regs)
 }

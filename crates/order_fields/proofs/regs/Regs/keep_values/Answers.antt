@@ -7,4 +7,4 @@ pub invariant_of-self : goal.invariant_of-self
 invariant_of-self c =
     let old = registers_of c.self.inside.last c.self.inside.lasts c.self.inside.bounds in
     let kept = registers_kept old (field_list c.args.kind c.args.values.now c.args.bytes.now) (optional_edges c.args.bounds) c.self.invariant.0 c.requires.fits c.requires.bounds in
-    (rw (c.keep.ensures.kept, c.bounds_after-self-inside.ensures) kept, c.keep.ensures.count)
+    (rw (c.keep.ensures.kept, c.keep_bounds.ensures) kept, c.keep.ensures.count)
