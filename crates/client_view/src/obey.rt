@@ -31,16 +31,26 @@ fn one_more(count: u64) -> u64
     count.saturating_add(1)
 }
 
-/// Obeys a primary order and counts it.
+/// Obeys a primary order and counts it. Most are fills, which need no cache.
 fn obey_drawing(viewer: &mut Viewer, fields: &Fields, bounds: Option<Rect>) -> Result<(), ObeyFault>
     ensures obeyed { (v : View) → StandsFor v viewer.old → Obeys result (view_after_told viewer.old.confirmed viewer.old.pictures.size v (Drawn fields.now bounds)) viewer.new }
     ensures same { SameViewer viewer.old viewer.new }
 {
-    if let Some((rect, color)) = fill_of(fields) {
-        draw_fill(&mut viewer.pictures, bounds, rect, color);
-        viewer.orders = one_more(viewer.orders);
-        return Ok(());
+    match fill_of(fields) {
+        Some((rect, color)) => {
+            draw_fill(&mut viewer.pictures, bounds, rect, color);
+            viewer.orders = one_more(viewer.orders);
+            Ok(())
+        }
+        None => obey_named(viewer, fields, bounds),
     }
+}
+
+/// Obeys a primary order by the drawing that it says, and counts it.
+fn obey_named(viewer: &mut Viewer, fields: &Fields, bounds: Option<Rect>) -> Result<(), ObeyFault>
+    ensures obeyed { (v : View) → StandsFor v viewer.old → Obeys result (view_after_told viewer.old.confirmed viewer.old.pictures.size v (Drawn fields.now bounds)) viewer.new }
+    ensures same { SameViewer viewer.old viewer.new }
+{
     let Some(named) = drawing_of(fields) else {
         return Err(ObeyFault::Broken);
     };

@@ -12,7 +12,7 @@ use Rattle.order_fields.specs.Kept.{row_flags}
 use Rattle.order_read.specs.declared.order_fault.OrderFault.{OrderFault}
 use Rattle.order_read.specs.declared.order_fault.OrderFault.TheVariants.{BadOrder, OutOfMemory}
 use Rattle.order_read.specs.declared.read.Read.{Read as Said}
-use Rattle.order_read.specs.Primary.{ReadsPrimary, ReadsTyped}
+use Rattle.order_read.specs.Primary.{DrawsPrimary, DrawsTyped, ReadsPrimary, ReadsTyped}
 use Rattle.order_read.specs.Parts.{list_at, list_and_bounds_at}
 
 pub flags_below : (n x : ℕ) → n ≤ 3 → x < 256 ^ n → x < 4294967296
@@ -82,3 +82,13 @@ primary_read kind all control (Ok said) before after old mid new t same some fla
 primary_read kind all control (Err (BadOrder at)) before after old mid new t same some flags few read =
     (primary_from kind before control (rest old) (rest mid) _ t some (omega (arith, flags, few)) (sym (ap (λ (n : ℕ). list_and_bounds_at kind (n - control / 64) control before (rest mid)) flags) ∙ read.0), read.1 ∙ same, read.2)
 primary_read kind all control (Err OutOfMemory) before after old mid new t same some flags few read = tt
+
+-- the same where it is appended
+pub primary_drawn : {X : Type 0} (kind all control : ℕ) (result : Result X OrderFault) (before after : Registers) (old mid new : CursorOf) (reads kept : List Said) →
+    type_at (has_bit control 8) before.last (rest old) ≡ Ok (kind, rest mid) → mid.bytes ≡ old.bytes → is_some (row_of kind) ≡ true → all ≡ row_flags (row_of kind) → control / 64 ≤ all →
+    DrawsTyped kind (all - control / 64) control before after result mid new reads kept → DrawsPrimary control before after result old new reads kept
+primary_drawn kind all control (Ok x) before after old mid new reads kept t same some flags few drawn =
+    (drawn.0, primary_read kind all control (Ok drawn.0) before after old mid new t same some flags few drawn.1, drawn.2)
+primary_drawn kind all control (Err (BadOrder at)) before after old mid new reads kept t same some flags few drawn =
+    (primary_read kind all control (Err (BadOrder at)) before after old mid new t same some flags few drawn.0, drawn.1)
+primary_drawn kind all control (Err OutOfMemory) before after old mid new reads kept t same some flags few drawn = tt

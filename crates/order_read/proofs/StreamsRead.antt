@@ -1,17 +1,19 @@
 -- The orders of a body, one after the other.
 use Rattle.std.proofs.Common.{◌≡◌, ◌≤◌, ◌<◌, ◌+◌, ◌*◌, ◌-◌, ◌%◌, ℕ, suc, List, [], ◌∷◌, ◌++◌, length, refl, ap, sym, subst, ◌∙◌, append_assoc, append-nil, arith, true, Some, None}
-use Rattle.std.specs.Prelude.{Ok, Err, ◌==◌, if◌then◌else◌}
+use Rattle.std.specs.Prelude.{Result, Ok, Err, ◌==◌, if◌then◌else◌}
 use Rattle.std.proofs.lemmas.Bool.Decides.{nat_tests}
 use Rattle.byte_fields.specs.Number.{little_at}
 use Rattle.wire_num.specs.Cursor.{CursorOf, rest}
 use Rattle.order_fields.specs.OrderTable.{Registers}
 use Rattle.order_fields.specs.OrderStream.{Order, Stream, seen, order_at, order_by, primary_at, form_of, orders_in, then_orders, with_orders, stream_end, Form}
 use Rattle.order_fields.specs.OrderStream.Form.{PrimaryForm}
+use Rattle.order_fields.specs.OrderStream.Order.{Primary}
 use Rattle.order_read.specs.declared.order_fault.OrderFault.{OrderFault}
 use Rattle.order_read.specs.declared.order_fault.OrderFault.TheVariants.{BadOrder, OutOfMemory}
 use Rattle.order_read.specs.declared.read.Read.{Read}
 use Rattle.order_read.specs.Reading.{Appends, ReadsOrder, ReadsAll}
-use Rattle.order_read.proofs.Appending.{appends_none, appends_more}
+use Rattle.order_read.specs.Primary.{DrawsPrimary}
+use Rattle.order_read.proofs.Appending.{appends_none, appends_more, pushed}
 
 -- a primary order by its control byte
 pub primary_first : (regs : Registers) (control : ℕ) (a b : List ℕ) → little_at 1 a ≡ Ok (control, b) → control % 4 ≡ 1 → order_at regs a ≡ primary_at regs control b
@@ -23,6 +25,21 @@ primary_first regs control (x ∷ xs) b e class =
     let test : (control % 4 == 1) ≡ true = grind (arith, nat_tests) in
     let form : form_of control ≡ PrimaryForm = ap (λ b. if b then PrimaryForm else (if control == 3 then Form.SecondaryForm else (if control == 54 then Form.MarkerForm else Form.NoForm))) test in
     ap (λ (n : ℕ). order_by (form_of n) regs n xs) same ∙ ap (λ f. order_by f regs control xs) form ∙ ap (primary_at regs control) (ap (λ p. p.1) pair)
+
+-- a primary order was read and appended
+pub order_drawn : (result : Result (Unit {0}) OrderFault) (control : ℕ) (regs kept : Registers) (old mid new : CursorOf) (reads after : List Read) → little_at 1 (rest old) ≡ Ok (control, rest mid) → mid.bytes ≡ old.bytes → control % 4 ≡ 1
+    → DrawsPrimary control regs kept result mid new reads after → ReadsOrder result regs kept old new reads after
+order_drawn (Ok x) control regs kept old mid new reads after e same class drawn =
+    let d = drawn.1 in
+    let o = Primary d.fields d.bounds in (
+      o ∷ [],
+      primary_first regs control (rest old) (rest mid) e class ∙ d.stands ∙ ap (λ r. Ok (seen (o ∷ []) r, rest new)) (sym d.kept),
+      d.bytes ∙ same,
+      pushed _ _ _ _ o drawn.2 (λ body front. d.told body),
+    )
+order_drawn (Err (BadOrder at)) control regs kept old mid new reads after e same class drawn =
+    (primary_first regs control (rest old) (rest mid) e class ∙ drawn.0.0, drawn.0.1 ∙ same, drawn.1)
+order_drawn (Err OutOfMemory) control regs kept old mid new reads after e same class drawn = tt
 
 -- ---- streams
 

@@ -1,5 +1,5 @@
 -- What the call says that reads a primary order.
-use Rattle.std.specs.Prelude.{◌≡◌, ℕ, List, Option, Result, Ok, Err, ⊤}
+use Rattle.std.specs.Prelude.{◌≡◌, ℕ, List, [], ◌∷◌, ◌++◌, Option, Result, Ok, Err, ⊤}
 use Rattle.wire_num.specs.Cursor.{CursorOf, rest}
 use Rattle.order_fields.specs.OrderTable.{FieldList, Edges, Registers}
 use Rattle.order_fields.specs.OrderStream.{primary_at, seen_primary}
@@ -38,3 +38,17 @@ abbrev pub ReadsPrimary : ℕ → Registers → Registers → Result Read OrderF
 ReadsPrimary control before after (Ok read) old new = IsDrawn control before after read old new
 ReadsPrimary control before after (Err (BadOrder at)) old new = (primary_at before control (rest old) ≡ Err (rest new)) × (new.bytes ≡ old.bytes) × (at ≡ new.at)
 ReadsPrimary control before after (Err OutOfMemory) old new = ⊤
+
+-- ---- appended
+
+-- The call read the drawing behind the type of an order, kept it and appended it; or it came to a field that is refused, and the registers are as they were; or no memory was left.
+abbrev pub DrawsTyped : {X : Type 0} → ℕ → ℕ → ℕ → Registers → Registers → Result X OrderFault → CursorOf → CursorOf → List Read → List Read → Type 0
+DrawsTyped kind size control before after (Ok _) old new reads kept = (read : Read) × IsTyped kind size control before after read old new × (kept ≡ reads ++ read ∷ [])
+DrawsTyped kind size control before after (Err (BadOrder at)) old new reads kept = ReadsTyped kind size control before after (Err (BadOrder at)) old new × (after ≡ before)
+DrawsTyped kind size control before after (Err OutOfMemory) old new reads kept = ⊤
+
+-- the same of an order behind its control byte
+abbrev pub DrawsPrimary : {X : Type 0} → ℕ → Registers → Registers → Result X OrderFault → CursorOf → CursorOf → List Read → List Read → Type 0
+DrawsPrimary control before after (Ok _) old new reads kept = (read : Read) × IsDrawn control before after read old new × (kept ≡ reads ++ read ∷ [])
+DrawsPrimary control before after (Err (BadOrder at)) old new reads kept = ReadsPrimary control before after (Err (BadOrder at)) old new × (after ≡ before)
+DrawsPrimary control before after (Err OutOfMemory) old new reads kept = ⊤

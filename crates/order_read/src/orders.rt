@@ -36,9 +36,7 @@ fn read_order(
     let first = cursor.at();
     let control = read_byte(cursor)?;
     if control % CLASS_COUNT == TS_STANDARD {
-        let read = read_primary(alloc, cursor, first, control, regs)?;
-        out.push(read)?;
-        return Ok(());
+        return read_primary(alloc, cursor, first, control, regs, out);
     }
     if control == STANDARD_SECONDARY {
         return read_secondary(alloc, cursor, out);

@@ -15,7 +15,7 @@ ghost use Rattle.order_fields.specs.OrderStream.{type_at, primary_at};
 ghost use Rattle.order_fields.specs.Kept.{optional_bytes, optional_edges, IsLayoutOf};
 ghost use Rattle.order_read.specs.Reading.{ReadsOr};
 ghost use Rattle.order_read.specs.Parts.{list_and_bounds_at};
-ghost use Rattle.order_read.specs.Primary.{ReadsPrimary, ReadsTyped};
+ghost use Rattle.order_read.specs.Primary.{DrawsPrimary, DrawsTyped};
 
 use crate::bits::has_bit;
 use crate::edges::{optional_rect_of, read_bounds};
@@ -85,7 +85,7 @@ fn bytes_in(counted: &Option<Vec<u8>>) -> &[u8]
     }
 }
 
-/// Reads an order of a type behind its type, and keeps it in the registers. An `Err` leaves them as they were.
+/// Reads an order of a type behind its type, keeps it in the registers and appends it. A refusal leaves the registers as they were.
 fn read_typed(
     alloc: Global,
     cursor: &mut Cursor<'_>,
@@ -94,12 +94,12 @@ fn read_typed(
     size: u8,
     control: u8,
     regs: &mut Regs,
-) -> Result<Read, OrderFault>
+    out: &mut Vec<Read>,
+) -> Result<(), OrderFault>
     requires kind { is_some (row_of kind) ≡ true }
     requires layout { IsLayoutOf (row_of kind) layout }
     requires size { size ≤ 3 }
-    ensures read { ReadsTyped kind size control regs.old regs.new result cursor.old cursor.new }
-    ensures unchanged { OnErr result (regs.new ≡ regs.old) }
+    ensures { DrawsTyped kind size control regs.old regs.new result cursor.old cursor.new out.old.items out.new.items }
 {
     let mut values = [0; MOST_VALUES];
     let count = regs.put_last_values(kind, &mut values);
@@ -113,26 +113,26 @@ fn read_typed(
         regs,
         &mut values[..count],
     )?;
-    let rect = optional_rect_of(bounds);
     regs.keep_values(kind, &values[..count], bytes_in(&counted), bounds);
-    Ok(Read::Primary {
+    out.push(Read::Primary {
         fields: Fields::of_front(kind, values, count, counted),
-        bounds: rect,
-    })
+        bounds: optional_rect_of(bounds),
+    })?;
+    Ok(())
 }
 
-/// Reads the order behind its control byte, which stands at `first`, and keeps it in the registers. An `Err` leaves them as they were.
+/// Reads the order behind its control byte, which stands at `first`, keeps it in the registers and appends it. A refusal leaves the registers as they were.
 pub fn read_primary(
     alloc: Global,
     cursor: &mut Cursor<'_>,
     first: usize,
     control: u8,
     regs: &mut Regs,
-) -> Result<Read, OrderFault>
+    out: &mut Vec<Read>,
+) -> Result<(), OrderFault>
     requires place { first ≤ length cursor.old.bytes }
     requires control { drop first cursor.old.bytes ≡ control ∷ rest cursor.old }
-    ensures read { ReadsPrimary control regs.old regs.new result cursor.old cursor.new }
-    ensures unchanged { OnErr result (regs.new ≡ regs.old) }
+    ensures { DrawsPrimary control regs.old regs.new result cursor.old cursor.new out.old.items out.new.items }
 {
     let typed = cursor.at();
     let kind = read_type(cursor, has_bit(control, TYPE_CHANGE), regs.last_kind())?;
@@ -146,5 +146,5 @@ pub fn read_primary(
         return Err(OrderFault::BadOrder { at: first });
     }
     let size = layout.flag_bytes - omitted;
-    read_typed(alloc, cursor, kind, layout, size, control, regs)
+    read_typed(alloc, cursor, kind, layout, size, control, regs, out)
 }
