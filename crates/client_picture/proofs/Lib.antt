@@ -1,4 +1,5 @@
 pub mod Clips
+pub mod CopyCode
 mod Cuts
 mod Flags
 mod Frames

@@ -1,5 +1,5 @@
 -- Pixels that are taken from an image, from saved pixels, or from the picture itself.
-use Rattle.std.specs.Prelude.{◌≡◌, ℕ, ◌+◌, ◌-◌, ◌*◌, ◌≤◌, ℤ, pos, ◌+ℤ◌, ◌-ℤ◌, List, length, get_or, Option, Some, None, option_copied}
+use Rattle.std.specs.Prelude.{◌≡◌, ℕ, ◌+◌, ◌-◌, ◌*◌, ◌%◌, ◌≤◌, ℤ, pos, ◌+ℤ◌, ◌-ℤ◌, List, length, get_or, Option, Some, None, option_copied}
 use Rattle.px_core.specs.declared.surface.Size.{Size}
 use Rattle.px_core.specs.declared.rectangle.Rect.{Rect}
 use Rattle.px_core.specs.Picture.{pixel_at}
@@ -56,3 +56,8 @@ copied_color size old part rop from x y =
 pub record IsSourceInside (size : Size) (part : Part) (from : Corner) : Type 0 where
   pub columns : from.x + part.w ≤ size.w
   pub rows : from.y + part.h ≤ size.h
+
+-- a colour that may be unknown, as the code CC copies it: bits from 24 on are dropped
+abbrev pub copied : Option ℕ → Option ℕ
+copied None = None
+copied (Some color) = Some (color % 16777216)

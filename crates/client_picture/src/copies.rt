@@ -2,11 +2,11 @@
 ghost use Rattle.std.specs.Prelude.{◌≡◌, ℕ, ◌+◌, ◌<◌, ◌≤◌, Some, None, length, get_or};
 ghost use Rattle.rop3_core.specs.Palette.{maybe_raster};
 ghost use Rattle.client_picture.specs.Parts.{in_part, part_at, IsCanvas, IsInside, IsRepainted};
-ghost use Rattle.client_picture.specs.Sources.{copied_color, IsSourceInside};
+ghost use Rattle.client_picture.specs.Sources.{copied, copied_color, IsSourceInside};
 
 use crate::corner::Corner;
 use crate::part::Part;
-use crate::pixel::mixed;
+use crate::pixel::{SOURCE_COPY, copied, mixed};
 use px_core::Size;
 
 /// Makes each pixel of a part what the operation of a code makes of it, with the picture itself as its source, from a corner on. The row is for the
@@ -111,6 +111,28 @@ fn copy_row(
 
 /// Makes each pixel of a row what the operation of a code makes of it and of the source at its place.
 fn mix_source(row: &mut [Option<u32>], source: &[Option<u32>], rop: u8)
+    requires { length source.now ≡ length row.old }
+    ensures { (k : ℕ) → k < length row.old → get_or row.new k None ≡ maybe_raster rop (Some 0) (get_or source.now k None) (get_or row.old k None) }
+{
+    if rop == SOURCE_COPY {
+        copy_pixels(row, source);
+    } else {
+        mix_pixels(row, source, rop);
+    }
+}
+
+/// Copies the source over a row.
+fn copy_pixels(row: &mut [Option<u32>], source: &[Option<u32>])
+    requires { length source.now ≡ length row.old }
+    ensures { (k : ℕ) → k < length row.old → get_or row.new k None ≡ copied (get_or source.now k None) }
+{
+    for k in 0..row.len() {
+        row[k] = copied(source[k]);
+    }
+}
+
+/// Mixes the source into a row, pixel by pixel.
+fn mix_pixels(row: &mut [Option<u32>], source: &[Option<u32>], rop: u8)
     requires { length source.now ≡ length row.old }
     ensures { (k : ℕ) → k < length row.old → get_or row.new k None ≡ maybe_raster rop (Some 0) (get_or source.now k None) (get_or row.old k None) }
 {

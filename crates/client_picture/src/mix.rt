@@ -3,11 +3,11 @@ ghost use Rattle.std.specs.Prelude.{◌≡◌, ℕ, ◌+◌, ◌<◌, ◌≤◌,
 ghost use Rattle.rop3_core.specs.Palette.{maybe_raster};
 ghost use Rattle.client_picture.specs.Parts.{in_part, IsCanvas, IsInside, IsRepainted};
 ghost use Rattle.client_picture.specs.Pictures.{brush_operand};
-ghost use Rattle.client_picture.specs.Sources.{source_color, mixed_color, CoversPart};
+ghost use Rattle.client_picture.specs.Sources.{copied, source_color, texture_color, mixed_color, CoversPart};
 
 use crate::corner::Corner;
 use crate::part::Part;
-use crate::pixel::over_source;
+use crate::pixel::{SOURCE_COPY, copied, over_source};
 use draw_ops::Brush;
 use px_core::Size;
 
@@ -46,6 +46,43 @@ pub(crate) fn mix_part(pixels: &mut [Option<u32>], size: Size, part: Part, mix: 
 
 /// Makes each pixel of row y of a part what a raster operation makes of it.
 fn mix_row(row: &mut [Option<u32>], part: Part, y: usize, mix: Mix)
+    requires wide { length row.old ≡ part.w }
+    requires columns { part.x + part.w ≤ 65535 }
+    requires above { part.y ≤ y }
+    requires below { y < part.y + part.h }
+    requires texture { IfSome mix.texture (CoversPart part) }
+    ensures { (k : ℕ) → k < length row.old → get_or row.new k None ≡ maybe_raster mix.entry.rop (brush_operand (option_copied mix.entry.brush) (pos (part.x + k)) (pos y)) (Some (source_color part mix.entry.texture (part.x + k) y)) (get_or row.old k None) }
+{
+    match mix.texture {
+        Some(texture) if mix.rop == SOURCE_COPY => copy_row(row, part, y, texture),
+        _ => mix_pixels(row, part, y, mix),
+    }
+}
+
+/// Copies an image over row y of a part.
+fn copy_row(row: &mut [Option<u32>], part: Part, y: usize, texture: Texture)
+    requires wide { length row.old ≡ part.w }
+    requires above { part.y ≤ y }
+    requires below { y < part.y + part.h }
+    requires texture { CoversPart part texture }
+    ensures { (k : ℕ) → k < length row.old → get_or row.new k None ≡ copied (Some (texture_color part texture.entry (part.x + k) y)) }
+{
+    let from = texture.w * (texture.from.y + (y - part.y)) + texture.from.x;
+    copy_colors(row, &texture.pixels[from..from + part.w]);
+}
+
+/// Copies colours over a row.
+fn copy_colors(row: &mut [Option<u32>], colors: &[u32])
+    requires { length colors.now ≡ length row.old }
+    ensures { (k : ℕ) → k < length row.old → get_or row.new k None ≡ copied (Some (get_or colors.now k 0)) }
+{
+    for k in 0..row.len() {
+        row[k] = copied(Some(colors[k]));
+    }
+}
+
+/// Mixes row y of a part, pixel by pixel.
+fn mix_pixels(row: &mut [Option<u32>], part: Part, y: usize, mix: Mix)
     requires wide { length row.old ≡ part.w }
     requires columns { part.x + part.w ≤ 65535 }
     requires above { part.y ≤ y }

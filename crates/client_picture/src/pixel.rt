@@ -1,8 +1,25 @@
 //! The raster operation of one pixel that may be unknown.
 ghost use Rattle.std.specs.Prelude.{◌≡◌, Some};
 ghost use Rattle.rop3_core.specs.Palette.{maybe_raster};
+ghost use Rattle.client_picture.specs.Sources.{copied};
 
 use rop3_core::{needs_destination, needs_source, rop3};
+
+/// The code that copies its source: SRCCOPY.
+pub(crate) const SOURCE_COPY: u8 = 0xCC;
+
+/// Colours are below this.
+const COLORS: u32 = 0x100_0000;
+
+/// What a copy makes of a source that may be unknown.
+pub(crate) fn copied(source: Option<u32>) -> Option<u32>
+    ensures { result ≡ copied source }
+{
+    match source {
+        Some(source) => Some(source % COLORS),
+        None => None,
+    }
+}
 
 /// What the operation of this code makes of a known pattern and a source and a destination that may be unknown: unknown where the code depends on
 /// an operand that is unknown.

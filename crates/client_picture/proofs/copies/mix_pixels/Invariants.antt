@@ -1,7 +1,7 @@
 use Rattle.std.proofs.Common.{◌≡◌, ℕ, ◌<◌, ◌≤◌, get_or}
 use Rattle.std.specs.Prelude.{Some, None}
 use Rattle.rop3_core.specs.Palette.{maybe_raster}
-use Rattle.client_picture.proofs.copies.mix_source.Given as goal
+use Rattle.client_picture.proofs.copies.mix_pixels.Given as goal
 
 -- the places so far are mixed, and the others as they were
 abbrev pub invariant-loop-k : goal.invariant-loop-k

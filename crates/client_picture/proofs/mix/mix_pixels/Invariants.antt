@@ -3,7 +3,7 @@ use Rattle.std.specs.Prelude.{Some, None, option_copied}
 use Rattle.rop3_core.specs.Palette.{maybe_raster}
 use Rattle.client_picture.specs.Pictures.{brush_operand}
 use Rattle.client_picture.specs.Sources.{source_color}
-use Rattle.client_picture.proofs.mix.mix_row.Given as goal
+use Rattle.client_picture.proofs.mix.mix_pixels.Given as goal
 
 -- the places so far are mixed, and the others as they were
 abbrev pub invariant-loop-k : goal.invariant-loop-k

@@ -1,0 +1,51 @@
+-- The code that copies its source.
+use Rattle.std.proofs.Common.{◌≡◌, ◌<◌, ◌+◌, ◌*◌, ◌/◌, ◌%◌, ◌^◌, ℕ, zero, suc, refl, ap, sym, ◌∙◌, arith, Some, None}
+use Rattle.std.specs.Prelude.{Option}
+use Rattle.std.proofs.Math.Arith.{mod-mul}
+use Rattle.std.proofs.lemmas.Nat.{pow_pos}
+use Rattle.rop3_core.specs.Rop3.{raster_bit, raster_bits, ternary_raster}
+use Rattle.rop3_core.specs.Palette.{maybe_raster}
+use Rattle.client_picture.specs.Sources.{copied}
+
+bit_copied : (p s d : ℕ) → p < 2 → s < 2 → d < 2 → raster_bit 204 p s d ≡ s
+bit_copied zero zero zero a b c = refl
+bit_copied zero zero (suc zero) a b c = refl
+bit_copied zero (suc zero) zero a b c = refl
+bit_copied zero (suc zero) (suc zero) a b c = refl
+bit_copied (suc zero) zero zero a b c = refl
+bit_copied (suc zero) zero (suc zero) a b c = refl
+bit_copied (suc zero) (suc zero) zero a b c = refl
+bit_copied (suc zero) (suc zero) (suc zero) a b c = refl
+bit_copied (suc (suc p)) s d a b c = absurd (omega arith)
+bit_copied zero (suc (suc s)) d a b c = absurd (omega arith)
+bit_copied (suc zero) (suc (suc s)) d a b c = absurd (omega arith)
+bit_copied zero zero (suc (suc d)) a b c = absurd (omega arith)
+bit_copied zero (suc zero) (suc (suc d)) a b c = absurd (omega arith)
+bit_copied (suc zero) zero (suc (suc d)) a b c = absurd (omega arith)
+bit_copied (suc zero) (suc zero) (suc (suc d)) a b c = absurd (omega arith)
+
+bits_copied : (n p s d : ℕ) → raster_bits n 204 p s d ≡ s % 2 ^ n
+bits_copied zero p s d = omega arith
+bits_copied (suc n) p s d =
+    let low : raster_bit 204 (p % 2) (s % 2) (d % 2) ≡ s % 2 = bit_copied (p % 2) (s % 2) (d % 2) (omega arith) (omega arith) (omega arith) in
+    let high : raster_bits n 204 (p / 2) (s / 2) (d / 2) ≡ s / 2 % 2 ^ n = bits_copied n (p / 2) (s / 2) (d / 2) in
+    let some : 0 < 2 ^ n = pow_pos n in
+    let whole : s % (2 ^ n * 2) ≡ (s / 2 % 2 ^ n) * 2 + s % 2 = mod-mul s some (omega arith) in
+    let power : 2 ^ suc n ≡ 2 ^ n * 2 = omega arith in
+    rw (low, high, power, whole) (omega arith)
+
+pub ternary_copied : (p s d : ℕ) → ternary_raster 204 p s d ≡ s % 16777216
+unfolding ternary_raster
+ternary_copied p s d = bits_copied 24 p s d
+
+-- whatever the pattern and the destination are, known or not
+pub copied_is : (p s d : Option ℕ) → copied s ≡ maybe_raster 204 p s d
+copied_is None None d = refl
+copied_is (Some p) None d = refl
+copied_is None (Some s) None = ap (λ n. Some n) (sym (ternary_copied 0 s 0))
+copied_is None (Some s) (Some d) = ap (λ n. Some n) (sym (ternary_copied 0 s d))
+copied_is (Some p) (Some s) None = ap (λ n. Some n) (sym (ternary_copied p s 0))
+copied_is (Some p) (Some s) (Some d) = ap (λ n. Some n) (sym (ternary_copied p s d))
+
+pub mixed_copied : (code : ℕ) (p s d : Option ℕ) → code ≡ 204 → copied s ≡ maybe_raster code p s d
+mixed_copied code p s d is = copied_is p s d ∙ ap (λ (n : ℕ). maybe_raster n p s d) (sym is)
