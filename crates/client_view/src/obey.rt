@@ -47,6 +47,7 @@ fn obey_drawing(viewer: &mut Viewer, fields: &Fields, bounds: Option<Rect>) -> R
 }
 
 /// Obeys a primary order by the drawing that it says, and counts it.
+#[inline(never)]
 fn obey_named(viewer: &mut Viewer, fields: &Fields, bounds: Option<Rect>) -> Result<(), ObeyFault>
     ensures obeyed { (v : View) → StandsFor v viewer.old → Obeys result (view_after_told viewer.old.confirmed viewer.old.pictures.size v (Drawn fields.now bounds)) viewer.new }
     ensures same { SameViewer viewer.old viewer.new }

@@ -17,7 +17,6 @@ pub record IsKnown (kind : ℕ) (regs : Registers) : Type 0 where
   pub fits : FitKinds (row_kinds (row_of kind)) (last_values regs kind).numbers
   pub bytes : BytesFit (is_row_counted (row_of kind)) (last_values regs kind).bytes
   pub short : AreShort (row_kinds (row_of kind))
-  pub few : length (last_values regs kind).numbers ≤ 21
   pub flags : row_flags (row_of kind) ≤ 3
 
 known_by : (kind : ℕ) (regs : Registers) (found : Option Row) → row_of kind ≡ found → is_some found ≡ true → AreRegisters regs → IsKnown kind regs
@@ -34,15 +33,11 @@ known_by kind regs (Some r) e some are =
       fits = subst (λ ks. FitKinds ks (last_values regs kind).numbers) kinds last.numbers;
       bytes = subst (λ b. BytesFit b (last_values regs kind).bytes) counted last.bytes;
       short = subst (λ ks. AreShort ks) kinds (short_row kind r e);
-      few = let most = sound.short in omega (arith, size, most);
       flags = subst (λ (n : ℕ). n ≤ 3) flags sound.flags;
     }
 
 pub known : (kind : ℕ) (regs : Registers) → is_some (row_of kind) ≡ true → AreRegisters regs → IsKnown kind regs
 known kind regs some are = known_by kind regs (row_of kind) refl some are
-
-pub few_last : (regs : Registers) (kind : ℕ) → is_some (row_of kind) ≡ true → AreRegisters regs → length (last_values regs kind).numbers ≤ 21
-few_last regs kind some are = (known kind regs some are).few
 
 -- ---- the field list of a type
 

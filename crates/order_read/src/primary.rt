@@ -8,7 +8,7 @@
 //! | 0 to 9 | bounds | where the order has some and they aren't the last ones |
 //! | | the fields | each where its flag is set |
 
-ghost use Rattle.std.specs.Prelude.{◌≡◌, ◌≤◌, ◌∷◌, true, is_some, drop, length, IfOk, OnErr};
+ghost use Rattle.std.specs.Prelude.{◌≡◌, ◌≤◌, ◌<◌, ◌∷◌, true, is_some, drop, length, vec_len, vec_capacity, IfOk, OnOk};
 ghost use Rattle.wire_num.specs.Cursor.{ReadsField, rest};
 ghost use Rattle.order_fields.specs.OrderTable.{row_of, last_values, field_list, IsFieldList, AreRegisters, FitBounds};
 ghost use Rattle.order_fields.specs.OrderStream.{type_at, primary_at};
@@ -24,7 +24,7 @@ use crate::number::{read_byte, read_number};
 use crate::{OrderFault, Read};
 use order_fields::{Bounds, Fields, Layout, Regs, layout_of};
 use std::alloc::Global;
-use wire_num::{Cursor, Short};
+use wire_num::{Cursor, OutOfMemory, Short};
 
 /// The most values that an order has: those of GlyphIndex.
 const MOST_VALUES: usize = 21;
@@ -85,6 +85,15 @@ fn bytes_in(counted: &Option<Vec<u8>>) -> &[u8]
     }
 }
 
+/// Makes room for one more order, which is then put in its place at once.
+fn make_room(out: &mut Vec<Read>) -> Result<(), OutOfMemory>
+    ensures same { out.new.items ≡ out.old.items }
+    ensures room { OnOk result (vec_len out.new < vec_capacity out.new) }
+{
+    out.reserve(1)?;
+    Ok(())
+}
+
 /// Reads an order of a type behind its type, keeps it in the registers and appends it. A refusal leaves the registers as they were.
 fn read_typed(
     alloc: Global,
@@ -101,6 +110,7 @@ fn read_typed(
     requires size { size ≤ 3 }
     ensures { DrawsTyped kind size control regs.old regs.new result cursor.old cursor.new out.old.items out.new.items }
 {
+    make_room(out)?;
     let mut values = [0; MOST_VALUES];
     let count = regs.put_last_values(kind, &mut values);
     let (counted, bounds) = read_list(
@@ -113,11 +123,12 @@ fn read_typed(
         regs,
         &mut values[..count],
     )?;
+    let rect = optional_rect_of(bounds);
     regs.keep_values(kind, &values[..count], bytes_in(&counted), bounds);
-    out.push(Read::Primary {
+    out.push_reserved(Read::Primary {
         fields: Fields::of_front(kind, values, count, counted),
-        bounds: optional_rect_of(bounds),
-    })?;
+        bounds: rect,
+    });
     Ok(())
 }
 
