@@ -237,7 +237,8 @@ impl Updates {
         self.count += 1;
     }
 
-    /// Ends the update that is begun, and moves the bytes behind it to the room of the next one's orders.
+    /// Ends the update that is begun, and moves the bytes behind it to the room of the next one's orders. That is rare, so it stands apart.
+    #[inline(never)]
     fn begin_next(&mut self) -> Result<(), OutOfMemory>
         ensures { OnOk result (self.new ≡ gathering (packets_of self.old) [] 0 self.old.tail) }
     {
