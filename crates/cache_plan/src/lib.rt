@@ -3,10 +3,7 @@
 #![tactic(auto)]
 
 mod cache;
-mod fault;
-#[cfg(test)]
-mod tests;
-mod uses;
+mod fault;mod uses;
 
 pub use cache::Cache;
 pub use fault::CacheFault;

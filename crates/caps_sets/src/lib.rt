@@ -23,6 +23,3 @@ pub use confirmed::Confirmed;
 pub use demand_active::write_demand;
 pub use preset_words::preset;
 pub use wire_num::OutOfMemory;
-
-#[cfg(test)]
-mod tests;

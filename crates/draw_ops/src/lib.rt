@@ -24,6 +24,3 @@ pub use rect_rule::keeps_rect_rule;
 pub use run::Run;
 pub use shape::{Drawing, Shape};
 pub use shared_brush::SharedBrush;
-
-#[cfg(test)]
-mod tests;

@@ -15,6 +15,3 @@ mod server_security;
 pub use client_data::{ClientData, read_client, requests_are_read_exactly};
 pub use gcc_fault::GccFault;
 pub use server_data::write_server;
-
-#[cfg(test)]
-mod tests;

@@ -16,6 +16,3 @@ pub use lock::GrowLock;
 pub use out_of_memory::OutOfMemory;
 pub use pass::Pass;
 pub use turn::Turn;
-
-#[cfg(test)]
-mod tests;

@@ -11,6 +11,3 @@ pub use client_info::{infos_are_read_exactly, read_info};
 pub use info_fault::InfoFault;
 pub use licence::{LICENCE, the_licence_is_valid};
 pub use name::Name;
-
-#[cfg(test)]
-mod tests;

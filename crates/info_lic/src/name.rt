@@ -55,17 +55,3 @@ impl Name {
         &self.stored[..self.count as usize]
     }
 }
-
-#[cfg(test)]
-mod tests {
-    use super::*;
-
-    #[test]
-    fn a_name_gives_back_its_bytes(rt: HostRuntime) {
-        let ann = Name::new(b"ann");
-        assert_eq!(rt; ann.bytes(), b"ann".as_slice());
-        assert!(rt; ann == Name::new(b"ann"));
-        assert!(rt; ann != Name::new(b"an"));
-        assert!(rt; Name::new(b"").bytes().is_empty());
-    }
-}

@@ -8,6 +8,3 @@ mod input_fault;
 pub use events::read_events;
 pub use input_events::Event;
 pub use input_fault::InputFault;
-
-#[cfg(test)]
-mod tests;

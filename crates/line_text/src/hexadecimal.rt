@@ -62,18 +62,3 @@ fn with_hexadecimal_digit(value: u32, digit: u8) -> Option<u32>
     let digit = char::from(digit).to_digit(SIXTEEN)?;
     Some(SIXTEEN * value + digit)
 }
-
-#[cfg(test)]
-mod tests {
-    use super::*;
-    use std::test::Fail;
-
-    #[test]
-    fn two_colours_are_read_from_a_word(rt: HostRuntime) -> Result<(), Fail> {
-        let colours = read_hexadecimals(rt.alloc(), b"000001FFffFF", 6)?.ok_or(
-            "the word is two colours",
-        )?;
-        assert_eq!(rt; colours.as_slice(), [1, 0xFF_FFFF].as_slice());
-        Ok(())
-    }
-}

@@ -73,17 +73,3 @@ fn signed(n: u64) -> i32
 {
     n as i32
 }
-
-#[cfg(test)]
-mod tests {
-    use super::*;
-    use std::test::Fail;
-
-    #[test]
-    fn the_largest_number_is_written_whole(rt: HostRuntime) -> Result<(), Fail> {
-        let mut out = Vec::new(rt.alloc());
-        write_decimal(rt.alloc(), &mut out, u64::MAX)?;
-        assert_eq!(rt; out.as_slice(), b"18446744073709551615".as_slice());
-        Ok(())
-    }
-}

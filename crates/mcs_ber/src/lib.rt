@@ -12,6 +12,3 @@ pub use bad_ber::BadBer;
 pub use connect_initial::read_initial;
 pub use connect_response::write_response;
 pub use laws::connect_initials_are_read_exactly;
-
-#[cfg(test)]
-mod tests;

@@ -19,6 +19,3 @@ pub use domain_pdu::{DomainPdu, read_domain};
 pub use laws::domain_pdus_are_read_exactly;
 pub use send_data::write_indication;
 pub use ultimatum::write_end;
-
-#[cfg(test)]
-mod tests;

@@ -12,6 +12,3 @@ mod tile_stretch;
 pub use rectangle::{Rect, has_pixel, is_inside, meet};
 pub use surface::{Size, is_session_size};
 pub use tile_set::TileSet;
-
-#[cfg(test)]
-mod tests;

@@ -5,9 +5,6 @@ mod masks;
 mod needs;
 mod raster;
 mod row;
-#[cfg(test)]
-mod tests;
-
 pub use needs::{needs_destination, needs_pattern, needs_source};
 pub use raster::rop3;
 pub use row::rop_row;

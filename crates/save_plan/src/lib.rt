@@ -4,8 +4,5 @@
 
 mod blocks;
 mod room;
-#[cfg(test)]
-mod tests;
-
 pub use blocks::{Blocks, PlaceFault};
 pub use out_of_memory::OutOfMemory;

@@ -19,6 +19,3 @@ pub use laws::share_is_read_from_its_bytes;
 pub use refresh::{find_areas, read_area, read_areas};
 pub use share_fault::ShareFault;
 pub use wire_num::OutOfMemory;
-
-#[cfg(test)]
-mod tests;

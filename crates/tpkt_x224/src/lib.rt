@@ -16,6 +16,3 @@ pub use laws::packets_are_read_exactly;
 pub use pieces::{heads_of_streams, packets_in_any_pieces};
 pub use request::{Request, read_request};
 pub use tpkt::{Packet, next_packet};
-
-#[cfg(test)]
-mod tests;

@@ -15,6 +15,3 @@ pub use number::{put_u16_be, put_u16_le, put_u32_le};
 pub use out_of_memory::OutOfMemory;
 pub use range::Range;
 pub use short::Short;
-
-#[cfg(test)]
-mod tests;

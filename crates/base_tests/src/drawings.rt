@@ -1,4 +1,6 @@
-use crate::{Brush, Drawing, Glyph, Image, OutOfMemory, Run, Shape, SharedBrush, valid};
+//! Drawings that keep each rule, and that break each.
+
+use draw_ops::{Brush, Drawing, Glyph, Image, OutOfMemory, Run, Shape, SharedBrush, valid};
 use px_core::{Rect, Size};
 use std::test::Fail;
 

@@ -1,4 +1,6 @@
-use crate::*;
+//! Client Info PDUs of real clients (MS-RDPBCGR, 2.2.1.11).
+
+use info_lic::{InfoFault, read_info};
 
 /// The Client Info PDUs of rdesktop, of rdesktop with the fields of RDP 4 alone, and of FreeRDP, each of a user `ann`.
 const RDESKTOP: [u8; 306] = [

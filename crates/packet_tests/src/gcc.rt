@@ -1,4 +1,6 @@
-use crate::*;
+//! GCC user data of the sample client, and what a host answers (MS-RDPBCGR, 2.2.1.3 and 2.2.1.4).
+
+use gcc_per::{ClientData, GccFault, read_client, write_server};
 use std::test::Fail;
 
 /// The sample client's user data: the request, a CS_CORE of 144 bytes, a CS_SECURITY, and a CS_NET of three channels.

@@ -1,6 +1,6 @@
 //! Uses whose answers were worked out by hand.
 
-use crate::{Cache, CacheFault, Use};
+use cache_plan::{Cache, CacheFault, Use};
 use std::test::Fail;
 
 #[test]

@@ -1,5 +1,7 @@
-use crate::*;
+//! Share PDUs that are read and written (MS-RDPBCGR, 2.2.8.1.1.1).
+
 use px_core::Rect;
+use share_pdu::{ClientPdu, Final, ShareFault, read_areas, read_share, write_data, write_final};
 use std::test::Fail;
 use wire_num::Range;
 

@@ -1,6 +1,6 @@
 //! Places that were worked out by hand.
 
-use crate::{Blocks, PlaceFault};
+use save_plan::{Blocks, PlaceFault};
 use saved_blocks::Place;
 use std::test::Fail;
 

@@ -1,6 +1,6 @@
 //! Well-known codes against results that were worked out by hand.
 
-use crate::{needs_pattern, needs_source, rop_row, rop3};
+use rop3_core::{needs_pattern, needs_source, rop_row, rop3};
 
 /// Red bytes F0, CC and AA list each case of the three bits once, so that red is the code itself.
 const PATTERN: u32 = 0xF000FF;

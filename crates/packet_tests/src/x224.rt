@@ -1,5 +1,7 @@
-use crate::*;
+//! Packets and Connection Requests that are read, and confirms that are written (MS-RDPBCGR, 2.2.1.1 and 2.2.1.2).
+
 use std::test::Fail;
+use tpkt_x224::{BadTpdu, Packet, Request, data_header, next_packet, read_request, write_confirm};
 
 /// The sample client's request: TPKT, X.224, negotiation request.
 const REQUEST: [u8; 19] = [

@@ -1,4 +1,6 @@
-use crate::{Rect, Size, TileSet, meet};
+//! Rectangles and sets of tiles, by hand.
+
+use px_core::{Rect, Size, TileSet, meet};
 
 const PICTURE: Rect = Rect {
     x: 0,

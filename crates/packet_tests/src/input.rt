@@ -1,4 +1,6 @@
-use crate::*;
+//! Input events of a client (MS-RDPBCGR, 2.2.8.1.1.3).
+
+use input_pdu::{Event, InputFault, read_events};
 use std::test::Fail;
 
 #[test]

@@ -1,5 +1,7 @@
-use crate::*;
+//! Numbers, fields and lengths that are read and written (X.690, 8.1.3; X.691, 10.9).
+
 use std::test::Fail;
+use wire_num::{Cursor, Short, put_ber_len, put_per_len, put_u16_be, put_u16_le, put_u32_le};
 
 #[test]
 fn fields_are_read_one_after_the_other(rt: HostRuntime) {

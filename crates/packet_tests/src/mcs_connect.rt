@@ -1,4 +1,6 @@
-use crate::*;
+//! The sample client's Connect-Initial, and the response (T.125, 7).
+
+use mcs_ber::{BadBer, read_initial, write_response};
 use std::test::Fail;
 use wire_num::Range;
 

@@ -3,7 +3,7 @@ ghost use Rattle.std.specs.Prelude.{◌≡◌, [], ◌∷◌, ◌++◌, Some, If
 ghost use Rattle.grow_lock.specs.Journal.{StartsWith};
 ghost use Rattle.grow_lock.specs.Passes.{IsPassOf};
 
-use crate::{GrowLock, Grows, Pass};
+use grow_lock::{GrowLock, Grows, Pass};
 use std::sync::Wait;
 use std::test::*;
 use std::thread;
