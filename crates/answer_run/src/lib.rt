@@ -14,6 +14,3 @@ mod visitor;
 pub use answer::run_answer;
 pub use ending::Ending;
 pub use fault::AnswerFault;
-
-#[cfg(test)]
-mod tests;

@@ -6,6 +6,3 @@ mod tile;
 
 pub use out_of_memory::OutOfMemory;
 pub use tile::{TileBody, write_tile};
-
-#[cfg(test)]
-mod tests;

@@ -13,6 +13,3 @@ mod writing;
 
 pub use board::{Board, Point};
 pub use draw_ops::OutOfMemory;
-
-#[cfg(test)]
-mod tests;

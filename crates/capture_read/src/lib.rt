@@ -10,6 +10,3 @@ mod said;
 
 pub use capture_reader::{CaptureReader, Told};
 pub use out_of_memory::OutOfMemory;
-
-#[cfg(test)]
-mod tests;

@@ -13,8 +13,3 @@ pub use out_of_memory::OutOfMemory;
 pub use show::show_capture;
 pub use show_fault::ShowFault;
 pub use writing::put;
-
-#[cfg(test)]
-mod tests;
-#[cfg(test)]
-mod worked;

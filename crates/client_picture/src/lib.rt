@@ -19,6 +19,3 @@ mod touched;
 pub use out_of_memory::OutOfMemory;
 pub use picture::ClientPicture;
 pub use source::Source;
-
-#[cfg(test)]
-mod tests;

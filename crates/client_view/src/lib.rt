@@ -16,6 +16,3 @@ mod viewer;
 pub use client::Client;
 pub use client_fault::ClientFault;
 pub use out_of_memory::OutOfMemory;
-
-#[cfg(test)]
-mod tests;

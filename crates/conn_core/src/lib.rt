@@ -22,6 +22,3 @@ pub use conn::Conn;
 pub use conn_fault::ConnFault;
 pub use conn_rules::ConnStep;
 pub use out_of_memory::OutOfMemory;
-
-#[cfg(test)]
-mod tests;

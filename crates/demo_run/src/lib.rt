@@ -18,6 +18,3 @@ pub use line::demo_line;
 pub use out_of_memory::OutOfMemory;
 pub use run::run_demo;
 pub use script_run::ScriptFault;
-
-#[cfg(test)]
-mod tests;

@@ -10,6 +10,3 @@ pub use caches::Caches;
 pub use out_of_memory::OutOfMemory;
 pub use updates::Updates;
 pub use writer::FrameWriter;
-
-#[cfg(test)]
-mod tests;

@@ -11,6 +11,3 @@ mod step;
 pub use cutter::Cutter;
 pub use step::Step;
 pub use wire_num::OutOfMemory;
-
-#[cfg(test)]
-mod tests;

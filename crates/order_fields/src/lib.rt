@@ -27,6 +27,3 @@ pub use order::{write_bounds, write_order};
 pub use regs::Regs;
 pub use table::{Layout, flag_bytes_of, is_counted, kinds_of, layout_of};
 pub use wire_num::OutOfMemory;
-
-#[cfg(test)]
-mod tests;

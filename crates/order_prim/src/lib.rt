@@ -14,6 +14,3 @@ pub use glyphs::{glyph_index, glyph_index_of};
 pub use saved::save_bitmap;
 pub use screen::{dst_blt, opaque_rect, scr_blt};
 pub use wire_num::OutOfMemory;
-
-#[cfg(test)]
-mod tests;

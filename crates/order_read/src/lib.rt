@@ -18,6 +18,3 @@ pub use order_fault::OrderFault;
 pub use orders::read_orders;
 pub use pixels::{pixels_of, turned_over};
 pub use read::Read;
-
-#[cfg(test)]
-mod tests;

@@ -11,6 +11,3 @@ pub use glyph::cache_glyph;
 pub use image::cache_bitmap;
 pub use marker::frame_marker;
 pub use out_of_memory::OutOfMemory;
-
-#[cfg(test)]
-mod tests;

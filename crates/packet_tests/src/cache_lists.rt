@@ -1,6 +1,6 @@
 //! Lists of caches of which one entry changes.
 
-use caps_sets::{BITMAP_CACHES, CacheSize, Caches10, Caches3, GLYPH_CACHES};
+use caps_sets::{BITMAP_CACHES, CacheSize, Caches3, Caches10, GLYPH_CACHES};
 
 /// A cache without an entry.
 const NONE: CacheSize = CacheSize {

@@ -1,6 +1,8 @@
 //! Confirm Active PDUs of real clients (MS-RDPBCGR, 2.2.1.13.2).
 
-use caps_sets::{BITMAP_CACHES, CacheSize, Caches, Caches10, Confirmed, GLYPH_CACHES, read_confirm};
+use caps_sets::{
+    BITMAP_CACHES, CacheSize, Caches, Caches10, Confirmed, GLYPH_CACHES, read_confirm,
+};
 
 /// What rdesktop with the fields of RDP 4 alone confirms, and what FreeRDP does, from behind the share control header on.
 const RDESKTOP_RDP4: [u8; 434] = [

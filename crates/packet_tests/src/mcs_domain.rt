@@ -1,6 +1,8 @@
 //! Domain PDUs that are read and written (T.125, 7).
 
-use mcs_dom::{BadDomain, DomainPdu, read_domain, write_attach, write_end, write_indication, write_join};
+use mcs_dom::{
+    BadDomain, DomainPdu, read_domain, write_attach, write_end, write_indication, write_join,
+};
 use std::test::Fail;
 use wire_num::Range;
 

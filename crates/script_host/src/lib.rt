@@ -9,6 +9,3 @@ mod seats;
 pub use answer::StepAnswer;
 pub use host::ScriptHost;
 pub use out_of_memory::OutOfMemory;
-
-#[cfg(test)]
-mod tests;

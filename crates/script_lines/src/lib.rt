@@ -26,6 +26,3 @@ pub use out_of_memory::OutOfMemory;
 pub use rule::LineRule;
 pub use step::ViewerStep;
 pub use words::is_text_line;
-
-#[cfg(test)]
-mod tests;

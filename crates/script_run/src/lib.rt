@@ -12,6 +12,3 @@ pub use fault::ScriptFault;
 pub use found::put;
 pub use out_of_memory::OutOfMemory;
 pub use script::run_script;
-
-#[cfg(test)]
-mod tests;

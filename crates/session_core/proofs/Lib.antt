@@ -18,4 +18,3 @@ pub mod Reacted
 pub mod ShownLemmas
 pub mod PutLemmas
 pub mod Opening
-pub mod ManyRows

@@ -14,4 +14,3 @@ pub mod Refusing
 pub mod Entered
 pub mod Reacting
 pub mod Putting
-pub mod ManyRows

@@ -28,6 +28,3 @@ pub use pending::Pending;
 pub use session::Session;
 pub use session_rules::{Entry, Event, Role};
 pub use surface_flat::{LoadedBrush, LoadedGlyph, LoadedImage, Surface};
-
-#[cfg(test)]
-mod tests;

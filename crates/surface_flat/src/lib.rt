@@ -29,6 +29,3 @@ pub use loaded_glyph::LoadedGlyph;
 pub use loaded_image::LoadedImage;
 pub use out_of_memory::OutOfMemory;
 pub use surface::Surface;
-
-#[cfg(test)]
-mod tests;

@@ -8,6 +8,3 @@ mod update;
 pub use fault::UpdateFault;
 pub use tile::Tile;
 pub use update::{Update, read_update};
-
-#[cfg(test)]
-mod tests;

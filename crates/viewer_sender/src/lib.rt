@@ -14,6 +14,3 @@ pub use fault::SendFault;
 pub use frame_plan::{Take, Taken};
 pub use out_of_memory::OutOfMemory;
 pub use sender::Sender;
-
-#[cfg(test)]
-mod tests;

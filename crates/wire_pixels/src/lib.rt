@@ -11,6 +11,3 @@ pub use data::{PixelBytes, packed_pixels, pixel_data, put_turned, raw_bytes};
 pub use front::put_both;
 pub use out_of_memory::OutOfMemory;
 pub use rows::{pad_rows, padded_width, turn_over};
-
-#[cfg(test)]
-mod tests;

@@ -1,5 +1,5 @@
 use Rattle.grow_lock.specs.Passes.{IsPassOf}
-use Rattle.grow_lock.proofs.tests.append_in_turns.Given as goal
+use Rattle.base_tests.proofs.turns.append_in_turns.Given as goal
 
 -- the pass stays one of this lock
 abbrev pub invariant-loop-line : goal.invariant-loop-line
