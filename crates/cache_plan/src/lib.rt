@@ -3,7 +3,8 @@
 #![tactic(auto)]
 
 mod cache;
-mod fault;mod uses;
+mod fault;
+mod uses;
 
 pub use cache::Cache;
 pub use fault::CacheFault;

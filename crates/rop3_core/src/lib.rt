@@ -5,6 +5,7 @@ mod masks;
 mod needs;
 mod raster;
 mod row;
+
 pub use needs::{needs_destination, needs_pattern, needs_source};
 pub use raster::rop3;
 pub use row::rop_row;

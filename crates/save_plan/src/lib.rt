@@ -4,5 +4,6 @@
 
 mod blocks;
 mod room;
+
 pub use blocks::{Blocks, PlaceFault};
 pub use out_of_memory::OutOfMemory;
