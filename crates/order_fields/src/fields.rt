@@ -12,10 +12,10 @@ const MOST_VALUES: usize = 21;
 /// The complete field list of a primary order: its type, the values of its fields in the table's order, and its counted bytes ([MS-RDPEGDI] 2.2.2.2.1.1.2).
 #[derive(Drop)]
 pub struct Fields {
-    kind: u8,
-    values: [i64; 21],
     count: usize,
+    values: [i64; 21],
     counted: Option<Vec<u8>>,
+    kind: u8,
 }
 
 impl Model for Fields {
