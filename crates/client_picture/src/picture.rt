@@ -81,6 +81,7 @@ impl ClientPicture {
     }
 
     /// Gives a rectangle one colour.
+    #[inline(always)]
     pub fn fill(&mut self, rect: Rect, bounds: Option<Rect>, color: u32)
         ensures { self.new ≡ painted_within bounds (over_rect rect (solid client_colors color)) self.old }
     {

@@ -1,6 +1,6 @@
 //! Stretches of rows, filled and copied.
-ghost use Rattle.std.specs.Prelude.{◌≡◌, ◌*◌, ◌<◌, ◌≤◌, ℕ, Some, None, length, get_or};
-ghost use Rattle.client_picture.specs.Parts.{in_part, IsCanvas, IsInside, IsRepainted};
+ghost use Rattle.std.specs.Prelude.{◌≡◌, ◌+◌, ◌*◌, ◌<◌, ◌≤◌, ℕ, Some, None, length, get_or};
+ghost use Rattle.client_picture.specs.Parts.{in_part, part_at, IsCanvas, IsInside, IsRepainted};
 ghost use Rattle.client_picture.specs.Sources.{pixel_from, texture_color, Covers, CoversPart};
 
 use crate::corner::Corner;
@@ -8,8 +8,32 @@ use crate::mix::Texture;
 use crate::part::Part;
 use px_core::Size;
 
-/// Gives every pixel of a part one colour.
+/// Gives every pixel of a part one colour. A part of one row, as a line or a point has, needs no loop.
 pub(crate) fn fill_part(pixels: &mut [Option<u32>], size: Size, part: Part, color: u32)
+    requires canvas { IsCanvas size pixels.old }
+    requires inside { IsInside size part }
+    ensures { IsRepainted size (in_part part) (λ x y. Some color) pixels.old pixels.new }
+{
+    if part.h == 1 {
+        fill_line(pixels, size, part.x, part.y, part.w, color)
+    } else {
+        fill_rows(pixels, size, part, color)
+    }
+}
+
+/// Gives so many pixels of a row one colour, from a column on.
+fn fill_line(pixels: &mut [Option<u32>], size: Size, x: usize, y: usize, w: usize, color: u32)
+    requires canvas { IsCanvas size pixels.old }
+    requires row { y < size.h }
+    requires columns { x + w ≤ size.w }
+    ensures { IsRepainted size (in_part (part_at x y w 1)) (λ u v. Some color) pixels.old pixels.new }
+{
+    let at = size.w as usize * y + x;
+    fill_row(&mut pixels[at..at + w], color);
+}
+
+/// Gives every pixel of a part one colour, row by row.
+fn fill_rows(pixels: &mut [Option<u32>], size: Size, part: Part, color: u32)
     requires canvas { IsCanvas size pixels.old }
     requires inside { IsInside size part }
     ensures { IsRepainted size (in_part part) (λ x y. Some color) pixels.old pixels.new }

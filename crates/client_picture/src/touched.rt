@@ -115,8 +115,20 @@ fn touch_part(touched: &mut [bool], part: Option<Part>)
     }
 }
 
-/// Remembers that the rows of a part may have been painted.
+/// Remembers that the rows of a part may have been painted. One row needs no loop.
 fn touch_rows(touched: &mut [bool], part: Part)
+    requires { part.y + part.h ≤ length touched.old }
+    ensures { AddsPart (Some part) touched.old touched.new }
+{
+    if part.h == 1 {
+        touched[part.y] = true;
+    } else {
+        touch_each(touched, part);
+    }
+}
+
+/// Remembers that the rows of a part may have been painted, one by one.
+fn touch_each(touched: &mut [bool], part: Part)
     requires { part.y + part.h ≤ length touched.old }
     ensures { AddsPart (Some part) touched.old touched.new }
 {

@@ -30,6 +30,7 @@ fn read_value(
     ensures fits { IfOk result (FitsKind kind) }
 {
     match kind {
+        FieldKind::Number(1) => Ok(i64::from(read_byte(cursor)?)),
         FieldKind::Coordinate if delta => read_moved(cursor, last),
         FieldKind::Coordinate | FieldKind::Signed => read_signed(cursor, SIGNED_SIZE),
         FieldKind::Number(size) => read_short(cursor, size),
@@ -37,24 +38,23 @@ fn read_value(
     }
 }
 
-/// Reads a field; one that doesn't stand there has its last value.
+/// Reads a field in the place of its last value, which stays where the field doesn't stand there.
 fn read_field(
     cursor: &mut Cursor<'_>,
     present: bool,
     kind: FieldKind,
     delta: bool,
-    last: i64,
-) -> Result<i64, Short>
+    value: &mut i64,
+) -> Result<(), Short>
     requires size { IsShort kind }
-    requires last { FitsKind kind last }
-    ensures read { ReadsField (field_at present kind delta last) result cursor.old cursor.new }
-    ensures fits { IfOk result (FitsKind kind) }
+    requires last { FitsKind kind value.old }
+    ensures read { ReadsFieldAs (λ _. value.new) (field_at present kind delta value.old) result cursor.old cursor.new }
+    ensures fits { OnOk result (FitsKind kind value.new) }
 {
     if present {
-        read_value(cursor, kind, delta, last)
-    } else {
-        Ok(last)
+        *value = read_value(cursor, kind, delta, *value)?;
     }
+    Ok(())
 }
 
 /// Reads the fields over their last values, and gives the flags that are left.
@@ -73,7 +73,7 @@ fn read_values(
 {
     let mut left = flags;
     for i in 0..kinds.len() {
-        values[i] = read_field(cursor, left % 2 == 1, kinds[i], delta, values[i])?;
+        read_field(cursor, left % 2 == 1, kinds[i], delta, &mut values[i])?;
         left /= 2;
     }
     Ok(left)

@@ -16,6 +16,7 @@ ghost use Rattle.order_fields.specs.Kept.{optional_bytes, optional_edges, IsLayo
 ghost use Rattle.order_read.specs.Reading.{ReadsOr};
 ghost use Rattle.order_read.specs.Parts.{list_and_bounds_at};
 ghost use Rattle.order_read.specs.Primary.{DrawsPrimary, DrawsTyped};
+ghost use Rattle.order_read.specs.Told.{optional_rect};
 
 use crate::bits::has_bit;
 use crate::edges::{optional_rect_of, read_bounds};
@@ -23,6 +24,7 @@ use crate::fields::read_fields;
 use crate::number::{read_byte, read_number};
 use crate::{OrderFault, Read};
 use order_fields::{Bounds, Fields, Layout, Regs, layout_of};
+use px_core::Rect;
 use std::alloc::Global;
 use wire_num::{Cursor, OutOfMemory, Short};
 
@@ -47,7 +49,7 @@ fn read_type(cursor: &mut Cursor<'_>, changed: bool, last: u8) -> Result<u8, Sho
     if changed { read_byte(cursor) } else { Ok(last) }
 }
 
-/// Reads an order's flags, so many bytes, its bounds, and its fields over their last values; the result is its counted bytes, where the type has such a field, and the bounds.
+/// Reads an order's flags, so many bytes, its bounds, and its fields over their last values; the result is its counted bytes, where the type has such a field, the bounds, and their rectangle.
 fn read_list(
     alloc: Global,
     cursor: &mut Cursor<'_>,
@@ -57,7 +59,7 @@ fn read_list(
     control: u8,
     regs: &Regs,
     values: &mut [i64],
-) -> Result<(Option<Vec<u8>>, Option<Bounds>), OrderFault>
+) -> Result<(Option<Vec<u8>>, Option<Bounds>, Option<Rect>), OrderFault>
     requires kind { is_some (row_of kind) ≡ true }
     requires layout { IsLayoutOf (row_of kind) layout }
     requires size { size ≤ 3 }
@@ -66,13 +68,15 @@ fn read_list(
     ensures read { ReadsOr (λ p. (field_list kind values.new (optional_bytes p.0), optional_edges p.1)) (list_and_bounds_at kind size control regs.now) result cursor.old cursor.new }
     ensures list { IfOk result (λ p. IsFieldList (field_list kind values.new (optional_bytes p.0))) }
     ensures fits { IfOk result (λ p. FitBounds (optional_edges p.1)) }
+    ensures rect { IfOk result (λ p. p.2 ≡ optional_rect (optional_edges p.1)) }
 {
     let flags = read_number(cursor, usize::from(size))? as u32;
     let same = has_bit(control, ZERO_BOUNDS_DELTAS);
     let bounds = read_bounds(cursor, has_bit(control, BOUNDS), same, regs.last_bounds())?;
+    let rect = optional_rect_of(bounds);
     let delta = has_bit(control, DELTA_COORDINATES);
     let counted = read_fields(alloc, cursor, kind, layout, flags, delta, regs, values)?;
-    Ok((counted, bounds))
+    Ok((counted, bounds, rect))
 }
 
 /// The counted bytes; none where there is no such field.
@@ -113,7 +117,7 @@ fn read_typed(
     make_room(out)?;
     let mut values = [0; MOST_VALUES];
     let count = regs.put_last_values(kind, &mut values);
-    let (counted, bounds) = read_list(
+    let (counted, bounds, rect) = read_list(
         alloc,
         cursor,
         kind,
@@ -123,7 +127,6 @@ fn read_typed(
         regs,
         &mut values[..count],
     )?;
-    let rect = optional_rect_of(bounds);
     regs.keep_values(kind, &values[..count], bytes_in(&counted), bounds);
     out.push_reserved(Read::Primary {
         fields: Fields::of_front(kind, values, count, counted),

@@ -15,38 +15,19 @@ loop-i-init c =
 pub read_field-requires-clause-size : goal.read_field-requires-clause-size
 read_field-requires-clause-size c = short_at c.loop-i.i c.args.kinds.now Coordinate c.requires.sized c.loop-i-test.true
 
-pub read_field-requires-clause-last : goal.read_field-requires-clause-last
-read_field-requires-clause-last c =
-    let fits = fit_at c.loop-i.i c.args.kinds.now c.loop-i.values Coordinate (pos 0) c.loop-i.invariant.2 c.loop-i-test.true in
-    let z = slice_index_or c.loop-i.values c.loop-i.i (pos 0) in
-    let same : to_z w64 (of_z w64 z) ≡ z = search rules in
-    subst (λ (y : ℤ). FitsKind (get_or c.args.kinds.now c.loop-i.i Coordinate) y) (sym same) fits
-
-pub returns-in_err-values-clause-read : goal.returns-in_err-values-clause-read
-returns-in_err-values-clause-read c =
-    let z = slice_index_or c.loop-i.values c.loop-i.i (pos 0) in
-    let old : to_z w64 (of_z w64 z) ≡ z = search rules in
-    let read = c.in_err-values.ensures.read in
-    let p = err_from_is_err_and c.from_residual.result c.from_residual.ensures.1 in
-    rw (p.1, p.2, read.1) (
-      λ counted bytes. c.loop-i.invariant.0 counted bytes ∙ one_refused c.loop-i.i c.args.kinds.now counted c.loop-i.left c.args.delta c.loop-i.values bytes _ _ c.loop-i-test.true c.loop-i.invariant.3 (rw old at read.0),
-      c.loop-i.invariant.1,
-      read.2,
-    )
-
-pub loop-i-preserved : goal.loop-i-preserved
-loop-i-preserved c =
-    let z = slice_index_or c.loop-i.values c.loop-i.i (pos 0) in
-    let old : to_z w64 (of_z w64 z) ≡ z = search rules in
-    let new : to_z w64 (of_z w64 c.in_ok-values.field-0) ≡ c.in_ok-values.field-0 = search rules in
-    let read = c.in_ok-values.ensures.read in
-    rw (add-one, new) (
-      λ counted bytes. c.loop-i.invariant.0 counted bytes ∙ one_read c.loop-i.i c.args.kinds.now counted c.loop-i.left c.args.delta c.loop-i.values bytes _ _ c.in_ok-values.field-0 c.loop-i-test.true c.loop-i.invariant.3 (rw old at read.0),
-      read.1 ∙ c.loop-i.invariant.1,
-      fit_set c.loop-i.i c.args.kinds.now c.loop-i.values Coordinate c.in_ok-values.field-0 c.loop-i.invariant.2 c.loop-i-test.true c.in_ok-values.ensures.fits,
-      length-set c.loop-i.values c.loop-i.i c.in_ok-values.field-0 ∙ c.loop-i.invariant.3,
-    )
-
 pub returns-clause-read : goal.returns-clause-read
 returns-clause-read c =
     (λ counted bytes. c.loop-i.invariant.0 counted bytes ∙ all_read c.loop-i.i c.args.kinds.now counted c.loop-i.left c.args.delta c.loop-i.values bytes (rest c.loop-i.cursor) c.loop-i-test.false c.loop-i.invariant.3, c.loop-i.invariant.1)
+
+pub read_field-requires-clause-last : goal.read_field-requires-clause-last
+read_field-requires-clause-last c = fit_at c.loop-i.i c.args.kinds.now c.loop-i.values Coordinate (pos 0) c.loop-i.invariant.2 c.loop-i-test.true
+
+pub loop-i-preserved : goal.loop-i-preserved
+loop-i-preserved c =
+    let read = c.in_ok-read_field.ensures.read in
+    rw add-one (
+      λ counted bytes. c.loop-i.invariant.0 counted bytes ∙ one_read c.loop-i.i c.args.kinds.now counted c.loop-i.left c.args.delta c.loop-i.values bytes _ _ c.read_field.new.value c.loop-i-test.true c.loop-i.invariant.3 read.0,
+      read.1 ∙ c.loop-i.invariant.1,
+      fit_set c.loop-i.i c.args.kinds.now c.loop-i.values Coordinate c.read_field.new.value c.loop-i.invariant.2 c.loop-i-test.true c.in_ok-read_field.ensures.fits,
+      length-set c.loop-i.values c.loop-i.i c.read_field.new.value ∙ c.loop-i.invariant.3,
+    )

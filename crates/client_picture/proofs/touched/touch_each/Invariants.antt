@@ -1,5 +1,5 @@
 use Rattle.std.proofs.Common.{◌≡◌, ℕ, ◌≤◌, ◌<◌, get_or, false}
-use Rattle.client_picture.proofs.touched.touch_rows.Given as goal
+use Rattle.client_picture.proofs.touched.touch_each.Given as goal
 
 -- the rows so far are touched
 abbrev pub invariant-loop-y : goal.invariant-loop-y

@@ -2,7 +2,7 @@ use Rattle.std.proofs.Common.{◌≡◌, ◌+◌, ◌*◌, ◌-◌, ◌<◌, len
 use Rattle.std.specs.Prelude.{Some}
 use borrow.Rule.Slice.PartMut.{mid_of}
 use Rattle.client_picture.proofs.Repaint.{stretch_fits, length_mid, no_rows, all_rows, next_row_down}
-use Rattle.client_picture.proofs.rows.fill_part.Goals as goal
+use Rattle.client_picture.proofs.rows.fill_rows.Goals as goal
 
 pub loop-y-init : goal.loop-y-init
 loop-y-init c = let p = c.args.part in no_rows c.args.size p.x p.y p.w (p.y - p.y) (λ x y. Some c.args.color) c.args.pixels.now (omega arith)

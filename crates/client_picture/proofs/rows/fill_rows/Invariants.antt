@@ -1,7 +1,7 @@
 use Rattle.std.proofs.Common.{◌-◌}
 use Rattle.std.specs.Prelude.{Some}
 use Rattle.client_picture.specs.Parts.{part_at, in_part, IsRepainted}
-use Rattle.client_picture.proofs.rows.fill_part.Given as goal
+use Rattle.client_picture.proofs.rows.fill_rows.Given as goal
 
 -- the rows so far have the colour
 abbrev pub invariant-loop-y : goal.invariant-loop-y

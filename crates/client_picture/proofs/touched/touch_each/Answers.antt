@@ -1,6 +1,6 @@
 use Rattle.std.proofs.Common.{arith}
 use Rattle.client_picture.proofs.Flags.{row_touched, no_pixel}
-use Rattle.client_picture.proofs.touched.touch_rows.Goals as goal
+use Rattle.client_picture.proofs.touched.touch_each.Goals as goal
 
 pub loop-y-init : goal.loop-y-init
 loop-y-init c = λ k h. (h, (λ low less. absurd (omega (arith, low, less))))
