@@ -1,4 +1,6 @@
 //! Tiles and what they pack into, by hand.
+ghost use Rattle.std.specs.Prelude.{IsTrue};
+ghost use Rattle.px_core.specs.Colors.{are_colors};
 
 use rle_enc::{Packed, pack};
 use std::test::Fail;
