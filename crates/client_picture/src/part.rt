@@ -48,7 +48,29 @@ pub(crate) fn part_at(
     ensures within { IfSome result (λ part. IsWithinRect (boxed x y w h) part) }
     ensures pixels { (u v : ℕ) → u < size.w → v < size.h → in_optional_part result u v ≡ (in_clip bounds (pos u) (pos v) && in_rect (boxed x y w h) (pos u) (pos v)) }
 {
-    common(bounded(size, bounds), frame_at(size, x, y, w, h))
+    let seen = frame_at(size, x, y, w, h);
+    match bounds {
+        // Most drawings have none, and then a frame lies on the picture as it is.
+        None => part_in(seen),
+        Some(_) => common(bounded(size, bounds), seen),
+    }
+}
+
+/// A frame as a part, where it has a pixel.
+fn part_in(frame: Frame) -> Option<Part>
+    ensures within { IfSome result (λ part. IsWithin frame part) }
+    ensures pixels { (x y : ℕ) → in_optional_part result x y ≡ in_frame frame x y }
+{
+    if frame.left < frame.right && frame.top < frame.bottom {
+        Some(Part {
+            x: frame.left,
+            y: frame.top,
+            w: frame.right - frame.left,
+            h: frame.bottom - frame.top,
+        })
+    } else {
+        None
+    }
 }
 
 /// The part that two frames have in common, where it has a pixel.

@@ -1,4 +1,4 @@
-use Rattle.std.proofs.Common.{◌≡◌, ◌+◌, ◌*◌, ◌-◌, ◌<◌, length, refl, ◌∙◌, arith}
+use Rattle.std.proofs.Common.{◌≡◌, ◌+◌, ◌*◌, ◌-◌, length, refl, ◌∙◌, arith}
 use Rattle.std.specs.Prelude.{Some}
 use borrow.Rule.Slice.PartMut.{mid_of}
 use Rattle.client_picture.proofs.Repaint.{stretch_fits, length_mid, row_stretch}
