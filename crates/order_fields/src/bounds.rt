@@ -57,8 +57,10 @@ pub fn optional_bounds_of(r: Option<Rect>) -> Option<Bounds>
 fn are_same(old: Bounds, new: Bounds) -> bool
     ensures { result ≡ same_edges (edges_in old) (edges_in new) }
 {
-    (old.left == new.left && old.top == new.top)
-        && (old.right == new.right && old.bottom == new.bottom)
+    (old.left == new.left)
+        & (old.top == new.top)
+        & (old.right == new.right)
+        & (old.bottom == new.bottom)
 }
 
 /// Whether the bounds of an order needn't stand there.

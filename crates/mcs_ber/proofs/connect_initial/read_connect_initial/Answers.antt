@@ -1,9 +1,10 @@
-use Rattle.std.proofs.Common.{ap, sym, ◌∙◌, arith}
+use Rattle.std.proofs.Common.{ap, sym, ◌∙◌, arith, rules}
 use Rattle.std.proofs.lemmas.Grind.{common_steps}
 use Rattle.wire_num.specs.Cursor.{rest}
 use Rattle.mcs_ber.proofs.Within.{refused_in_content}
 use Rattle.mcs_ber.proofs.Initial.{connect_ok, connect_err}
 use Rattle.mcs_ber.proofs.connect_initial.read_connect_initial.Goals as goal
+use Rattle.mcs_ber.specs.ConnectInitial.{connect_initial}
 
 pub returns-in_err-end-in-Ok-clause-fields : goal.returns-in_err-end-in-Ok-clause-fields
 returns-in_err-end-in-Ok-clause-fields c =
@@ -28,3 +29,15 @@ returns-in-Err-clause-fields c =
       ap (λ r. r.bytes) c.go_to.ensures ∙ content.field.1 ∙ count.1 ∙ tag.1,
       inner.2 ∙ sym c.at.ensures.place ∙ sym (ap (λ r. r.at) c.go_to.ensures),
     )
+
+pub returns-in_err-expect-clause-fields : goal.returns-in_err-expect-clause-fields
+unfolding connect_initial
+returns-in_err-expect-clause-fields c = search rules
+
+pub returns-in_err-length-clause-fields : goal.returns-in_err-length-clause-fields
+unfolding connect_initial
+returns-in_err-length-clause-fields c = search rules
+
+pub returns-in_err-content-clause-fields : goal.returns-in_err-content-clause-fields
+unfolding connect_initial
+returns-in_err-content-clause-fields c = search rules

@@ -1,4 +1,4 @@
-use Rattle.std.proofs.Common.{◌∙◌}
+use Rattle.std.proofs.Common.{◌∙◌, rules}
 use Rattle.mcs_ber.proofs.Within.{at_end}
 use Rattle.mcs_ber.proofs.Parameters.{one_integer}
 use Rattle.mcs_ber.proofs.domain_parameters.read_integers.Goals as goal
@@ -10,3 +10,6 @@ loop-preserved c =
 
 pub returns-clause-end : goal.returns-clause-end
 returns-clause-end c = at_end c.end.result c.loop.cursor c.end.ensures
+
+pub returns-clause-fields : goal.returns-clause-fields
+returns-clause-fields c = search rules

@@ -69,3 +69,6 @@ loop-i-preserved c =
       bytes = grind (arith, common_steps, to_z-of_z, step, next);
       few = omega (arith, c.loop-i.invariant.few);
     }
+
+pub returns-clause-coordinate : goal.returns-clause-coordinate
+returns-clause-coordinate c = search rules

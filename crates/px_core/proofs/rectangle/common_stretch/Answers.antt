@@ -1,4 +1,4 @@
-use Rattle.std.proofs.Common.{arith}
+use Rattle.std.proofs.Common.{arith, rules}
 use Rattle.std.proofs.lemmas.Int.{ints, clamps, to_z-of_z}
 use Rattle.px_core.proofs.Stretches.{within-both, within-neither, common_stretch_is, no_common_stretch}
 use Rattle.px_core.proofs.rectangle.common_stretch.Goals as goal
@@ -15,3 +15,6 @@ returns-then-from-end-clause-stretch c = common_stretch_is c.args.a c.args.a_len
 
 pub returns-else-from-end-clause-stretch : goal.returns-else-from-end-clause-stretch
 returns-else-from-end-clause-stretch c = no_common_stretch c.args.a c.args.a_length c.args.b c.args.b_length (grind (arith, ints, clamps, to_z-of_z))
+
+pub returns-then-from-end-clause-none_if_empty : goal.returns-then-from-end-clause-none_if_empty
+returns-then-from-end-clause-none_if_empty c = search rules

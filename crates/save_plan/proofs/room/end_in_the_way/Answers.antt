@@ -5,6 +5,7 @@ use Rattle.saved_blocks.specs.Blocks.{end_of}
 use Rattle.saved_blocks.proofs.LeastFree.{none_in_the_way, blocked_until}
 use Rattle.saved_blocks.proofs.Apart.{ends_within}
 use Rattle.save_plan.proofs.room.end_in_the_way.Goals as goal
+use Rattle.std.proofs.lemmas.Grind.{common_steps}
 
 abbrev none : ℕ × Place
 none = (0, record { position = 0; w = 0; h = 0 })
@@ -26,3 +27,6 @@ returns-then-max-min c =
 
 pub returns : goal.returns
 returns c = none_in_the_way c.args.count c.args.from c.args.blocks.now (λ k d short. c.loop-place.invariant k d (omega (arith, short, c.loop-place-test.false)))
+
+pub loop-place-preserved : goal.loop-place-preserved
+loop-place-preserved c = grind (arith, common_steps)

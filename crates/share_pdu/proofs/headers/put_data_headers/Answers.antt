@@ -1,4 +1,4 @@
-use Rattle.std.proofs.Common.{◌≡◌, ◌∙◌, List, ℕ, [], refl, sym, append-nil}
+use Rattle.std.proofs.Common.{◌≡◌, ◌∙◌, List, ℕ, [], refl, sym, append-nil, rules}
 use Rattle.std.proofs.lemmas.Result.{err_from_is_err_and}
 use Rattle.wire_num.specs.Written.{AppendsFront}
 use Rattle.share_pdu.specs.Data.{data_headers}
@@ -11,3 +11,6 @@ pub returns-in_err-extend_from_slice-clause-memory : goal.returns-in_err-extend_
 returns-in_err-extend_from_slice-clause-memory c =
     let p = err_from_is_err_and c.from_residual.result c.from_residual.ensures.1 in
     rw p.1 (nothing_written c.args.out.now.items (data_headers c.args.kind c.args.length) c.extend_from_slice.new.self.items c.in_err-extend_from_slice.ensures.items)
+
+pub returns-clause-ok : goal.returns-clause-ok
+returns-clause-ok c = search rules

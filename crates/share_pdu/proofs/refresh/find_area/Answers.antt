@@ -1,4 +1,4 @@
-use Rattle.std.proofs.Common.{◌+◌, ◌-◌, ap, ◌∙◌, arith}
+use Rattle.std.proofs.Common.{◌+◌, ◌-◌, ap, ◌∙◌, arith, rules}
 use Rattle.std.specs.Prelude.{slice_get}
 use Rattle.wire_num.specs.Cursor.{rest}
 use Rattle.share_pdu.specs.Bodies.{areas_at, areas_by}
@@ -16,3 +16,6 @@ loop-preserved c =
       ],
       areas_left _ _ _ _ _ c.loop-test.true read before.1,
     )
+
+pub overflow_sub-left : goal.overflow_sub-left
+overflow_sub-left c = search rules

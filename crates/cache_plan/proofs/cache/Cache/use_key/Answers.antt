@@ -1,5 +1,5 @@
 -- The list of recency follows the history of uses, by the steps of a hit and of a miss.
-use Rattle.std.proofs.Common.{◌≡◌, ℕ, List, ◌∷◌, ◌<◌, ◌≤◌, true, sym, ◌∙◌, subst, Some, eqb, length, IsOk}
+use Rattle.std.proofs.Common.{◌≡◌, ℕ, List, ◌∷◌, ◌<◌, ◌≤◌, true, sym, ◌∙◌, subst, Some, eqb, length, IsOk, rules}
 use Rattle.lru.specs.LruCache.{LruCache, last_entry, lru_cache, put_entries}
 use Rattle.cache_use.specs.CacheUse.{misses, IsMiss}
 use Rattle.cache_plan.specs.Answers.{use_of, IsAfterUses}
@@ -48,3 +48,12 @@ returns-clause-after c = elim c.match-put.branch [
 pub returns-clause-hit : goal.returns-clause-hit
 returns-clause-hit c = subst (λ s. (past : List ℕ) → IsAfterUses s past → (IsMiss s.entries past c.args.key → ⊥) → IsOk c.match-put.result) c.self.view_is
     (λ past leads hit. absurd (hit (missed c past leads).0))
+
+pub returns-in-Some-clause-hit : goal.returns-in-Some-clause-hit
+returns-in-Some-clause-hit c = search rules
+
+pub returns-in-Some-clause-unchanged : goal.returns-in-Some-clause-unchanged
+returns-in-Some-clause-unchanged c = search rules
+
+pub returns-clause-unchanged : goal.returns-clause-unchanged
+returns-clause-unchanged c = search rules

@@ -21,3 +21,9 @@ returns-in-Some-clause-after c =
     let handed : take (c.self.inside.given + 1) links ≡ take c.self.inside.given links ++ c.in-Some.link ∷ [] = rw add-one next.handed in
     rw (← c.self.view_is)
     (after_link _ _ _ _ _ _ c.fails_now.ensures.after fails ended count (sym c.has_room.ensures ∙ c.if-has_room.true) c.in-Some.ensures.items handed)
+
+pub returns-clause-ended : goal.returns-clause-ended
+returns-clause-ended c = search rules
+
+pub returns-clause-after : goal.returns-clause-after
+returns-clause-after c = search rules

@@ -11,3 +11,9 @@ compare_exchange-requires g c = (
   search rules,
   takes_turn g.T.Grows.head g.T.Grows.list _ _ _ _ _ (ap (λ p. p.head) c.loop.invariant.0 ∙ c.requires.1) c.loop.invariant.1,
 )
+
+pub begin-requires-clause-taken : goal.begin-requires-clause-taken
+begin-requires-clause-taken g c = search rules
+
+pub loop-preserved : goal.loop-preserved
+loop-preserved g c = search rules

@@ -15,3 +15,12 @@ store-requires-2 g c = let x = c.turn.inside.value in let notes = c.turn.inside.
     let home = c.exchange.ensures.3 ∙ ap (λ l. (notes, (0, Some x) ∷ rest l)) c.turn.invariant.0 in
     let known = subst (λ t. t.pass.head ≡ Some (g.T.Grows.head t.value)) (sym c.turn.view_is) (c.requires.lock.1 ∙ ap Some (sym c.requires.head)) in
     (search rules, search rules, frees g.T.Grows.head g.T.Grows.list _ _ _ _ _ notes x home c.store.ensures.2 known)
+
+pub invariant_of-result : goal.invariant_of-result
+invariant_of-result c = search rules
+
+pub returns-clause-seen : goal.returns-clause-seen
+returns-clause-seen c = search rules
+
+pub returns-clause-mine : goal.returns-clause-mine
+returns-clause-mine c = search rules

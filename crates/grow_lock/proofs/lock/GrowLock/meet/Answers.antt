@@ -27,3 +27,12 @@ returns-clause-mine g c = let joined = c.join_seat.ensures.2 in let sound = subs
   ap (λ v. v.mine) c.load.ensures.2.0 ∙ ap (λ m. m.0.mine) joined ∙ (λ i. (c.into.view_is i).mine ++ (c.from.view_is i).mine),
   subst (λ (z : List ℕ × List ℕ). IsDisjoint z.0 z.1) (λ i. ((c.into.view_is i).mine, (c.from.view_is i).mine)) sound.2,
 )
+
+pub invariant_of-result : goal.invariant_of-result
+invariant_of-result g c = search rules
+
+pub returns-clause-seen : goal.returns-clause-seen
+returns-clause-seen g c = search rules
+
+pub returns-clause-found : goal.returns-clause-found
+returns-clause-found g c = search rules

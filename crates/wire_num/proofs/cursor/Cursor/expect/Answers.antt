@@ -1,4 +1,4 @@
-use Rattle.std.proofs.Common.{arith}
+use Rattle.std.proofs.Common.{arith, rules}
 use Rattle.std.proofs.lemmas.Grind.{common_steps}
 use Rattle.byte_fields.proofs.Bytes.{wanted_is}
 use Rattle.wire_num.specs.Cursor.{rest}
@@ -9,3 +9,6 @@ returns-then-not-starts_with c = let read = wanted_is c.args.wanted.now (rest c.
 
 pub returns : goal.returns
 returns c = let read = wanted_is c.args.wanted.now (rest c.args.self.now) in grind (arith, common_steps, read)
+
+pub invariant_of-self : goal.invariant_of-self
+invariant_of-self c = search rules

@@ -1,4 +1,4 @@
-use Rattle.std.proofs.Common.{arith}
+use Rattle.std.proofs.Common.{arith, rules}
 use Rattle.std.proofs.lemmas.Grind.{common_steps}
 use Rattle.std.proofs.lemmas.List.{drop-take}
 use Rattle.byte_fields.proofs.Bytes.{bytes_at_is}
@@ -13,3 +13,6 @@ returns-clause-field c =
 
 pub returns-then-self-n-clause-field : goal.returns-then-self-n-clause-field
 returns-then-self-n-clause-field c = let read = bytes_at_is c.args.n (rest c.args.self.now) in grind (arith, common_steps, read)
+
+pub returns-clause-offsets : goal.returns-clause-offsets
+returns-clause-offsets c = search rules

@@ -1,0 +1,5 @@
+use Rattle.std.proofs.Common.{rules}
+use Rattle.draw_ops.proofs.image.Image.share.Goals as goal
+
+pub returns : goal.returns
+returns c = search rules

@@ -1,0 +1,6 @@
+use Rattle.std.proofs.Common.{arith}
+use Rattle.std.proofs.lemmas.Grind.{common_steps}
+use Rattle.rop3_core.proofs.masks.mask.Goals as goal
+
+pub returns-then-code-place-eq1 : goal.returns-then-code-place-eq1
+returns-then-code-place-eq1 c = grind (arith, common_steps)
