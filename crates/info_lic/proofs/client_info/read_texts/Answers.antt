@@ -1,4 +1,4 @@
-use Rattle.std.proofs.Common.{◌∙◌, arith}
+use Rattle.std.proofs.Common.{◌∙◌, arith, rules}
 use Rattle.std.proofs.lemmas.Grind.{common_steps}
 use Rattle.info_lic.specs.ClientInfo.{other_texts, info_texts}
 use Rattle.info_lic.proofs.Texts.{after_domain}
@@ -31,3 +31,7 @@ returns-clause-fields c = (
       ∙ c.in_ok-read_other_texts.ensures.0,
   c.in_ok-read_other_texts.ensures.1 ∙ c.in_ok-user.ensures.rows.1 ∙ c.in_ok-read_text.ensures.rows.1,
 )
+
+pub returns-clause-user : goal.returns-clause-user
+unfolding info_texts
+returns-clause-user c = search rules

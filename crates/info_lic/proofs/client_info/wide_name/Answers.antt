@@ -1,4 +1,4 @@
-use Rattle.std.proofs.Common.{◌≤◌, ◌<◌, length, take, ◌∙◌, sym, arith, length-set}
+use Rattle.std.proofs.Common.{◌≤◌, ◌<◌, length, take, ◌∙◌, sym, arith, length-set, rules}
 use Rattle.std.proofs.lemmas.List.{take_more_set, length-take-le}
 use Rattle.info_lic.proofs.Names.{unit_read, other_next, too_long, all_read, half_left, ascii_more, large_unit, small_unit, none_left, one_left}
 use Rattle.info_lic.proofs.client_info.wide_name.Goals as goal
@@ -44,3 +44,6 @@ pub returns-else-is_empty : goal.returns-else-is_empty
 returns-else-is_empty c =
     let front = take c.loop-left.count c.loop-left.name in
     c.new-else-is_empty.ensures ∙ sym (half_left front c.loop-left.left.now (one_left _ (sym c.is_empty.ensures ∙ c.if-is_empty.false) c.loop-left-test.false)) ∙ c.loop-left.invariant.same
+
+pub bounds-name-count : goal.bounds-name-count
+bounds-name-count c = search rules

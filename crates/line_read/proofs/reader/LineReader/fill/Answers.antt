@@ -5,6 +5,7 @@ use Rattle.std.specs.Io.KnownBytes.{Keeps, prepend_known}
 use Rattle.std.proofs.lemmas.List.{with_items_is}
 use Rattle.line_read.proofs.BufferLemmas.{part_and_read, keeps_read}
 use Rattle.line_read.proofs.reader.LineReader.fill.Goals as goal
+use Rattle.std.proofs.lemmas.Grind.{common_steps}
 
 pub returns-in-Bytes-clause-ahead : goal.returns-in-Bytes-clause-ahead
 returns-in-Bytes-clause-ahead g c =
@@ -26,3 +27,6 @@ returns-in-Bytes-clause-ahead g c =
     ap (λ b. slice_range b 0 (to - from + c.in-Bytes.count)) read_is ∙ grown in
     let P : List ℕ → Type 0 = λ h. Keeps (prepend_known held (g.S.Source.left c.args.input.now)) (prepend_known h (g.S.Source.left c.read_behind.new.input)) in
     rw (← c.self.view_is) (subst P (sym all) (keeps_read held piece (g.S.Source.left c.args.input.now) (g.S.Source.left c.read_behind.new.input) c.in-Bytes.ensures.bytes))
+
+pub returns-in-Bytes-clause-held : goal.returns-in-Bytes-clause-held
+returns-in-Bytes-clause-held g c = grind (arith, common_steps)

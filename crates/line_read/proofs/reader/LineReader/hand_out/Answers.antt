@@ -4,6 +4,7 @@ use Rattle.std.proofs.lemmas.List.{length-take}
 use Rattle.line_text.specs.Lines.{Line, line_bytes}
 use Rattle.line_read.proofs.BufferLemmas.{part_front, part_rest, length-part, length-line_bytes, is_within}
 use Rattle.line_read.proofs.reader.LineReader.hand_out.Goals as goal
+use Rattle.std.proofs.lemmas.Grind.{common_steps}
 
 pub returns : goal.returns
 returns c =
@@ -27,3 +28,6 @@ returns c =
       is_within c.self.inside.at c.args.count whole text c.args.ended text_len c.line_size-whole.ensures (omega arith) (omega arith),
       part_rest items from to whole (omega (arith, fits, c.self.invariant)) ∙ ap (λ n. drop n held) (sym size),
     )
+
+pub invariant_of-self : goal.invariant_of-self
+invariant_of-self c = grind (arith, common_steps)

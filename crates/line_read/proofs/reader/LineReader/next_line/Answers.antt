@@ -1,9 +1,10 @@
-use Rattle.std.proofs.Common.{◌≡◌, ◌<◌, length, None, position, ◌∙◌, arith}
+use Rattle.std.proofs.Common.{◌≡◌, ◌<◌, length, None, position, ◌∙◌, arith, rules}
 use Rattle.std.specs.Io.KnownBytes.{Keeps}
 use Rattle.line_read.specs.Reading.{ahead}
 use Rattle.line_read.proofs.LineLemmas.{is_feed}
 use Rattle.line_read.proofs.FindLemmas.{finds_ended, finds_last, finds_long, finds_kept}
 use Rattle.line_read.proofs.reader.LineReader.next_line.Goals as goal
+use Rattle.std.proofs.lemmas.Grind.{common_steps}
 
 pub returns-in-Some-clause-found : goal.returns-in-Some-clause-found
 returns-in-Some-clause-found g c =
@@ -27,3 +28,12 @@ returns-in_default-held-clause-found g c =
     finds_kept c.hand_out-in_default-held.result c.args.self.now c.hand_out-in_default-held.new.self before left (g.S.Source.left c.fill.new.input) c.in-End.ensures.end.1
     (finds_last c.hand_out-in_default-held.result c.args.self.now now c.hand_out-in_default-held.new.self before left c.held-2.result keeps at c.in-End.ensures.text none
     c.in-End.ensures.end.0 c.held-2.ensures some c.hand_out-in_default-held.ensures)
+
+pub returns-in-Failed-clause-found : goal.returns-in-Failed-clause-found
+returns-in-Failed-clause-found g c = search rules
+
+pub returns-in-Failed-clause-cause : goal.returns-in-Failed-clause-cause
+returns-in-Failed-clause-cause g c = search rules
+
+pub returns-in-0-clause-found : goal.returns-in-0-clause-found
+returns-in-0-clause-found g c = grind (arith, common_steps)

@@ -1,0 +1,6 @@
+use Rattle.std.proofs.Common.{arith}
+use Rattle.std.proofs.lemmas.Grind.{common_steps}
+use Rattle.line_text.proofs.number.read_coordinate.Goals as goal
+
+pub returns-in_ok-read_number-in-45 : goal.returns-in_ok-read_number-in-45
+returns-in_ok-read_number-in-45 c = grind (arith, common_steps)
