@@ -69,9 +69,16 @@ fn read_size(cursor: &mut Cursor<'_>) -> Result<u16, Short>
 {
     let at = cursor.at();
     let size = cursor.ber_len()?;
-    if size < 1 || size > MOST_BYTES {
+    if !is_integer_size(size) {
         cursor.go_to(at);
         return Err(Short { at });
     }
     Ok(size)
+}
+
+/// Whether an integer may have so many bytes.
+fn is_integer_size(size: u16) -> bool
+    ensures { result ≡ is_integer_size size }
+{
+    (1..=MOST_BYTES).contains(&size)
 }

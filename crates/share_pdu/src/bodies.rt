@@ -77,11 +77,18 @@ fn read_action(cursor: &mut Cursor<'_>) -> Result<u16, Short>
 {
     let at = cursor.at();
     let action = cursor.u16_le()?;
-    if action != CTRLACTION_REQUEST_CONTROL && action != CTRLACTION_COOPERATE {
+    if !is_client_action(action) {
         cursor.go_to(at);
         return Err(Short { at });
     }
     Ok(action)
+}
+
+/// Whether a client sends this action.
+fn is_client_action(action: u16) -> bool
+    ensures { result ≡ is_client_action action }
+{
+    action == CTRLACTION_REQUEST_CONTROL || action == CTRLACTION_COOPERATE
 }
 
 /// Reads a Suppress Output.

@@ -6,6 +6,6 @@ pub returns : goal.returns
 unfolding passing_at
 returns c = search rules
 
-pub returns-then-size-lt1 : goal.returns-then-size-lt1
+pub returns-then-not-is_integer_size : goal.returns-then-not-is_integer_size
 unfolding passing_at
-returns-then-size-lt1 c = search rules
+returns-then-not-is_integer_size c = search rules

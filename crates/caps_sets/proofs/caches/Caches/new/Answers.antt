@@ -1,0 +1,5 @@
+use Rattle.std.proofs.Common.{rules}
+use Rattle.caps_sets.proofs.caches.Caches.new.Goals as goal
+
+pub returns : goal.returns
+returns g c = search rules
