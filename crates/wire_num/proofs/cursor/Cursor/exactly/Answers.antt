@@ -10,3 +10,7 @@ returns-clause-field c = grind (arith, common_steps)
 pub returns-clause-fits : goal.returns-clause-fits
 unfolding exactly_at
 returns-clause-fits c = search rules
+
+pub returns-then-left-n-clause-field : goal.returns-then-left-n-clause-field
+unfolding exactly_at
+returns-then-left-n-clause-field c = grind (arith, common_steps)
