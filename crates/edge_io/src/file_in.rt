@@ -43,6 +43,7 @@ impl<I: Read + Drop> Source for FileIn<I> {
 #[cfg(test)]
 mod tests {
     use super::*;
+    use crate::checks::must_be;
     use std::io;
     use std::io::ErrorKind;
 
@@ -78,14 +79,14 @@ mod tests {
             faults: 0,
         };
         let mut buf = [0u8; 4];
-        assert_eq!(rt; input.read(&mut buf), Got::Bytes(1));
-        assert_eq!(rt; buf[0], b'a');
-        assert_eq!(rt; input.faults, 0);
-        assert_eq!(rt; input.read(&mut buf), Got::Failed);
-        assert_eq!(rt; input.faults, 1);
-        assert_eq!(rt; input.read(&mut buf), Got::Bytes(2));
-        assert_eq!(rt; (buf[0], buf[1]), (b'b', b'c'));
-        assert_eq!(rt; input.read(&mut buf), Got::End);
-        assert_eq!(rt; input.faults, 1);
+        must_be(&rt, &input.read(&mut buf), &Got::Bytes(1));
+        must_be(&rt, &buf[0], &b'a');
+        must_be(&rt, &input.faults, &0);
+        must_be(&rt, &input.read(&mut buf), &Got::Failed);
+        must_be(&rt, &input.faults, &1);
+        must_be(&rt, &input.read(&mut buf), &Got::Bytes(2));
+        must_be(&rt, &(buf[0], buf[1]), &(b'b', b'c'));
+        must_be(&rt, &input.read(&mut buf), &Got::End);
+        must_be(&rt, &input.faults, &1);
     }
 }

@@ -43,6 +43,7 @@ impl<O: Write + Drop> Sink for FileOut<O> {
 #[cfg(test)]
 mod tests {
     use super::*;
+    use crate::checks::must_be;
     use std::io::ErrorKind;
 
     /// A writer that takes a byte at a time, and nothing after the third.
@@ -77,16 +78,16 @@ mod tests {
             file: Full { taken: 0 },
             faults: 0,
         };
-        assert_eq!(rt; output.write_all(b"ab"), Wrote::All);
-        assert_eq!(rt; output.faults, 0);
-        assert_eq!(rt; output.write_all(b"cd"), Wrote::Failed);
-        assert_eq!(rt; output.file.taken, 3);
-        assert_eq!(rt; output.faults, 1);
+        must_be(&rt, &output.write_all(b"ab"), &Wrote::All);
+        must_be(&rt, &output.faults, &0);
+        must_be(&rt, &output.write_all(b"cd"), &Wrote::Failed);
+        must_be(&rt, &output.file.taken, &3);
+        must_be(&rt, &output.faults, &1);
     }
 
     #[test]
     fn standard_output_takes_nothing_at_all(rt: HostRuntime) {
         let mut output = FileOut::new(&rt);
-        assert_eq!(rt; output.write_all(b""), Wrote::All);
+        must_be(&rt, &output.write_all(b""), &Wrote::All);
     }
 }

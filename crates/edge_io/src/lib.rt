@@ -2,6 +2,8 @@
 #![tactic(auto)]
 
 mod bytes;
+#[cfg(test)]
+mod checks;
 mod file_in;
 mod file_out;
 mod gate;

@@ -15,3 +15,9 @@ returns-clause-value c = grind (arith, common_steps)
 
 pub returns-clause-bound : goal.returns-clause-bound
 returns-clause-bound c = search rules
+
+pub returns-in_err-value-clause-value : goal.returns-in_err-value-clause-value
+returns-in_err-value-clause-value c = grind (arith, common_steps)
+
+pub loop-digit-preserved : goal.loop-digit-preserved
+loop-digit-preserved c = grind (arith, common_steps)

@@ -1,8 +1,9 @@
-use Rattle.std.proofs.Common.{◌≡◌, take, drop, Some, None, sym, ◌∙◌}
+use Rattle.std.proofs.Common.{◌≡◌, take, drop, Some, None, sym, ◌∙◌, arith}
 use Rattle.std.proofs.lemmas.List.{length-drop}
 use Rattle.line_text.specs.Hexadecimal.{hexadecimal_of, hexadecimals, hexadecimals_of, with_first}
 use Rattle.line_text.proofs.HexadecimalLemmas.{hexadecimals_first, hexadecimals_none, numbers_more}
 use Rattle.line_text.proofs.hexadecimal.read_hexadecimals.Goals as goal
+use Rattle.std.proofs.lemmas.Grind.{common_steps}
 
 pub returns-in-None : goal.returns-in-None
 returns-in-None c =
@@ -27,3 +28,6 @@ pub returns-else-is_empty : goal.returns-else-is_empty
 returns-else-is_empty c =
     let none : hexadecimals_of c.args.digits c.loop-rest.rest.now ≡ hexadecimals 0 c.args.digits c.loop-rest.rest.now = hexadecimals_none c.args.digits c.loop-rest.rest.now c.loop-rest-test.false in
     rw (none, sym c.is_empty.ensures ∙ c.if-is_empty.false) at c.loop-rest.invariant.numbers
+
+pub returns-then-is_empty : goal.returns-then-is_empty
+returns-then-is_empty c = grind (arith, common_steps)

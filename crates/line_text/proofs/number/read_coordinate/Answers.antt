@@ -4,3 +4,6 @@ use Rattle.line_text.proofs.number.read_coordinate.Goals as goal
 
 pub returns-in_ok-read_number-in-45 : goal.returns-in_ok-read_number-in-45
 returns-in_ok-read_number-in-45 c = grind (arith, common_steps)
+
+pub returns-in_err-read_number-in-45 : goal.returns-in_err-read_number-in-45
+returns-in_err-read_number-in-45 c = grind (arith, common_steps)

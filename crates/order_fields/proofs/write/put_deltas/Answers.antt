@@ -72,3 +72,6 @@ loop-i-preserved c =
 
 pub returns-clause-coordinate : goal.returns-clause-coordinate
 returns-clause-coordinate c = search rules
+
+pub loop-i-init : goal.loop-i-init
+loop-i-init c = grind (arith, common_steps)

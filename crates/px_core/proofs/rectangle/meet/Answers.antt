@@ -1,9 +1,10 @@
-use Rattle.std.proofs.Common.{rules, ◌≡◌, w32, to_z, of_z, sym, ◌∙◌, ap}
+use Rattle.std.proofs.Common.{rules, ◌≡◌, w32, to_z, of_z, sym, ◌∙◌, ap, arith}
 use Rattle.std.specs.Prelude.{◌&&◌}
 use Rattle.std.proofs.lemmas.Int.{to_z-of_z}
 use Rattle.px_core.specs.Rectangle.{within, in_optional_stretch}
 use Rattle.px_core.proofs.Stretches.{by_rectangle, no_column, no_row}
 use Rattle.px_core.proofs.rectangle.meet.Goals as goal
+use Rattle.std.proofs.lemmas.Grind.{common_steps}
 
 pub returns-in-Some-Some-clause-pixels : goal.returns-in-Some-Some-clause-pixels
 returns-in-Some-Some-clause-pixels c x y =
@@ -24,3 +25,6 @@ pub returns-in_default-2-clause-pixels : goal.returns-in_default-2-clause-pixels
 returns-in_default-2-clause-pixels c x y =
     no_column (within c.args.a.x c.args.a.w x) (within c.args.b.x c.args.b.w x) (within c.args.a.y c.args.a.h y) (within c.args.b.y c.args.b.h y)
     (ap (λ o. in_optional_stretch o x) (sym c.in_default.is-0) ∙ c.common_columns.ensures.columns x)
+
+pub returns-in-Some-Some-clause-rectangle : goal.returns-in-Some-Some-clause-rectangle
+returns-in-Some-Some-clause-rectangle c = grind (arith, common_steps)

@@ -7,3 +7,9 @@ returns-then-pixels-lt2-clause-no_background c = grind (arith, common_steps)
 
 pub returns-else-pixels-lt2-clause-no_background : goal.returns-else-pixels-lt2-clause-no_background
 returns-else-pixels-lt2-clause-no_background c = grind (arith, common_steps)
+
+pub returns-then-pixels-lt2-clause-own_color : goal.returns-then-pixels-lt2-clause-own_color
+returns-then-pixels-lt2-clause-own_color c = grind (arith, common_steps)
+
+pub returns-else-pixels-lt2-clause-own_color : goal.returns-else-pixels-lt2-clause-own_color
+returns-else-pixels-lt2-clause-own_color c = grind (arith, common_steps)

@@ -4,3 +4,6 @@ use Rattle.rop3_core.proofs.masks.mask.Goals as goal
 
 pub returns-then-code-place-eq1 : goal.returns-then-code-place-eq1
 returns-then-code-place-eq1 c = grind (arith, common_steps)
+
+pub returns-else-code-place-eq1 : goal.returns-else-code-place-eq1
+returns-else-code-place-eq1 c = grind (arith, common_steps)

@@ -3,6 +3,7 @@ use Rattle.std.proofs.lemmas.List.{length-take}
 use Rattle.edge_io.specs.Plan.{next_fails}
 use Rattle.edge_io.proofs.Gates.{IsNext, first_is_next, after_link}
 use Rattle.edge_io.proofs.plan_gate.PlanGateGate.next.Goals as goal
+use Rattle.std.proofs.lemmas.Grind.{common_steps}
 
 pub invariant_of-self-in-Some : goal.invariant_of-self-in-Some
 invariant_of-self-in-Some c =
@@ -27,3 +28,6 @@ returns-clause-ended c = search rules
 
 pub returns-clause-after : goal.returns-clause-after
 returns-clause-after c = search rules
+
+pub returns-in-Some-clause-given : goal.returns-in-Some-clause-given
+returns-in-Some-clause-given c = grind (arith, common_steps)

@@ -30,3 +30,15 @@ returns-in-Bytes-clause-ahead g c =
 
 pub returns-in-Bytes-clause-held : goal.returns-in-Bytes-clause-held
 returns-in-Bytes-clause-held g c = grind (arith, common_steps)
+
+pub returns-in-End-clause-ahead : goal.returns-in-End-clause-ahead
+returns-in-End-clause-ahead g c = grind (arith, common_steps)
+
+pub returns-in-End-clause-held : goal.returns-in-End-clause-held
+returns-in-End-clause-held g c = grind (arith, common_steps)
+
+pub returns-in-Failed-clause-ahead : goal.returns-in-Failed-clause-ahead
+returns-in-Failed-clause-ahead g c = grind (arith, common_steps)
+
+pub returns-in-Failed-clause-held : goal.returns-in-Failed-clause-held
+returns-in-Failed-clause-held g c = grind (arith, common_steps)

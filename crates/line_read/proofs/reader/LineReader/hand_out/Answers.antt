@@ -31,3 +31,6 @@ returns c =
 
 pub invariant_of-self : goal.invariant_of-self
 invariant_of-self c = grind (arith, common_steps)
+
+pub returns-then-self-whole-gt-SCRIPT_LIMIT : goal.returns-then-self-whole-gt-SCRIPT_LIMIT
+returns-then-self-whole-gt-SCRIPT_LIMIT c = grind (arith, common_steps)
