@@ -2,32 +2,92 @@
 
 use save_plan::{Blocks, PlaceFault};
 use saved_blocks::Place;
+use std::process::Abort;
 use std::test::Fail;
+
+/// Gives a slot that has no block one of these sides, and answers where it stands.
+fn place(
+    rt: &impl Abort,
+    blocks: &mut Blocks,
+    slot: u8,
+    w: u32,
+    h: u32,
+) -> Result<u32, PlaceFault> {
+    assert!(rt; blocks.get(slot).is_none());
+    blocks.place(slot, w, h)
+}
+
+/// Asserts where a block of these sides stands.
+fn stands_at(
+    rt: &impl Abort,
+    blocks: &mut Blocks,
+    slot: u8,
+    w: u32,
+    h: u32,
+    wanted: u32,
+) -> Result<(), Fail> {
+    let position = place(rt, blocks, slot, w, h)?;
+    assert_eq!(rt; position, wanted, "slot {slot}");
+    Ok(())
+}
+
+/// Asserts that a block of these sides finds no room.
+fn has_no_room(rt: &impl Abort, blocks: &mut Blocks, slot: u8, w: u32, h: u32) {
+    assert_eq!(rt;
+        place(rt, blocks, slot, w, h),
+        Err(PlaceFault::NoRoom),
+        "{w} by {h}"
+    );
+}
+
+/// Asserts where blocks stand that are taken, given up and taken.
+fn stand_at_the_least(rt: &impl Abort, blocks: &mut Blocks) -> Result<(), Fail> {
+    stands_at(rt, blocks, 0, 10, 10, 0)?;
+    // 10 by 10 takes 10 * 20 positions, 10 by 21 then 10 * 40.
+    stands_at(rt, blocks, 1, 10, 21, 200)?;
+    has_no_room(rt, blocks, 2, 240, 240);
+    blocks.free(0);
+    blocks.free(1);
+    stands_at(rt, blocks, 2, 240, 240, 0)
+}
 
 #[test]
 fn blocks_stand_at_the_least_free_position(rt: HostRuntime) -> Result<(), Fail> {
     let mut blocks = Blocks::new(rt.alloc());
-    assert_eq!(rt; blocks.place(0, 10, 10)?, 0);
-    // 10 by 10 takes 10 * 20 positions, 10 by 21 then 10 * 40.
-    assert_eq!(rt; blocks.place(1, 10, 21)?, 200);
-    assert_eq!(rt; blocks.place(2, 240, 240), Err(PlaceFault::NoRoom));
-    blocks.free(0);
-    blocks.free(1);
-    assert_eq!(rt; blocks.place(2, 240, 240)?, 0);
-    Ok(())
+    stand_at_the_least(&rt, &mut blocks)
+}
+
+/// Asserts what sides take whose positions pass what a number holds, and sides that take none.
+fn have_no_overflow(rt: &impl Abort, blocks: &mut Blocks) -> Result<(), Fail> {
+    has_no_room(rt, blocks, 0, u32::MAX, u32::MAX);
+    has_no_room(rt, blocks, 0, 57_600, 21);
+    // A side of 0 takes no positions.
+    stands_at(rt, blocks, 0, 0, u32::MAX, 0)?;
+    stands_at(rt, blocks, 1, 2_880, 20, 0)
 }
 
 #[test]
 fn sides_are_reckoned_without_overflow(rt: HostRuntime) -> Result<(), Fail> {
     let mut blocks = Blocks::new(rt.alloc());
-    assert_eq!(rt;
-        blocks.place(0, u32::MAX, u32::MAX),
-        Err(PlaceFault::NoRoom)
-    );
-    assert_eq!(rt; blocks.place(0, 57_600, 21), Err(PlaceFault::NoRoom));
-    // A side of 0 takes no positions.
-    assert_eq!(rt; blocks.place(0, 0, u32::MAX)?, 0);
-    assert_eq!(rt; blocks.place(1, 2_880, 20)?, 0);
+    have_no_overflow(&rt, &mut blocks)
+}
+
+/// Gives up a slot's block, and asserts where one of 60 by 60 then stands: at as many sixteenths of all positions.
+fn take_a_sixteenth(rt: &impl Abort, blocks: &mut Blocks, slot: u8) -> Result<(), Fail> {
+    blocks.free(slot);
+    stands_at(rt, blocks, slot, 60, 60, 3_600 * u32::from(slot))
+}
+
+/// Asserts that sixteen slots take all positions, and that each can be taken again.
+fn share_all_positions(rt: &impl Abort, blocks: &mut Blocks) -> Result<(), Fail> {
+    for slot in 0..16u8 {
+        take_a_sixteenth(rt, blocks, slot)?;
+    }
+    blocks.free(16);
+    has_no_room(rt, blocks, 16, 1, 1);
+    for slot in [15u8, 0, 7] {
+        take_a_sixteenth(rt, blocks, slot)?;
+    }
     Ok(())
 }
 
@@ -35,28 +95,18 @@ fn sides_are_reckoned_without_overflow(rt: HostRuntime) -> Result<(), Fail> {
 fn sixteen_slots_share_all_positions(rt: HostRuntime) -> Result<(), Fail> {
     // 60 by 60 takes 3,600 positions, a sixteenth of them all.
     let mut blocks = Blocks::new(rt.alloc());
-    for slot in 0..16u8 {
-        blocks.free(slot);
-        let position = blocks.place(slot, 60, 60)?;
-        assert_eq!(rt; position, 3_600 * u32::from(slot), "slot {slot}");
-    }
-    blocks.free(16);
-    assert_eq!(rt; blocks.place(16, 1, 1), Err(PlaceFault::NoRoom));
-    for slot in [15u8, 0, 7] {
-        blocks.free(slot);
-        let position = blocks.place(slot, 60, 60)?;
-        assert_eq!(rt; position, 3_600 * u32::from(slot), "slot {slot}");
-    }
+    share_all_positions(&rt, &mut blocks)
+}
+
+/// Takes two blocks.
+fn take_two(rt: &impl Abort, blocks: &mut Blocks) -> Result<(), Fail> {
+    place(rt, blocks, 3, 10, 10)?;
+    place(rt, blocks, 5, 4, 20)?;
     Ok(())
 }
 
-#[test]
-fn a_copy_keeps_its_blocks_where_they_stand(rt: HostRuntime) -> Result<(), Fail> {
-    let mut blocks = Blocks::new(rt.alloc());
-    blocks.place(3, 10, 10)?;
-    blocks.place(5, 4, 20)?;
-    let copy = blocks.copy(rt.alloc())?;
-    blocks.free(5);
+/// Asserts that a copy alone has the second of two blocks.
+fn has_the_second(rt: &impl Abort, copy: &Blocks, blocks: &Blocks) {
     // 10 by 10 takes 10 * 20 positions, so the second block stands at 200.
     let second = Place {
         position: 200,
@@ -66,5 +116,14 @@ fn a_copy_keeps_its_blocks_where_they_stand(rt: HostRuntime) -> Result<(), Fail>
     assert!(rt; copy.get(5) == Some(second));
     assert!(rt; blocks.get(5).is_none());
     assert!(rt; copy.get(4).is_none());
+}
+
+#[test]
+fn a_copy_keeps_its_blocks_where_they_stand(rt: HostRuntime) -> Result<(), Fail> {
+    let mut blocks = Blocks::new(rt.alloc());
+    take_two(&rt, &mut blocks)?;
+    let copy = blocks.copy(rt.alloc())?;
+    blocks.free(5);
+    has_the_second(&rt, &copy, &blocks);
     Ok(())
 }

@@ -4,6 +4,7 @@ ghost use Rattle.grow_lock.specs.Journal.{StartsWith};
 ghost use Rattle.grow_lock.specs.Passes.{IsPassOf};
 
 use grow_lock::{GrowLock, Grows, Pass};
+use std::process::Abort;
 use std::sync::Wait;
 use std::test::*;
 use std::thread;
@@ -96,26 +97,53 @@ fn two_threads_append_a_thousand_entries_each(rt: HostRuntime) -> Result<(), Fai
     Ok(())
 }
 
+/// Asserts how many entries a pass has seen.
+fn has_seen(rt: &impl Abort, pass: &Pass<Log>, wanted: u64) {
+    assert_eq!(rt; pass.seen(), wanted);
+}
+
+/// Enters, and asserts that there is an entry.
+fn find_an_entry<R: Abort + Wait>(rt: &R, lock: &GrowLock<Log>, pass: Pass<Log>) -> Pass<Log>
+    requires { IsPassOf lock.now pass }
+    ensures { IsPassOf lock.now result }
+{
+    let mut turn = lock.enter(rt, pass);
+    assert!(rt; turn.value().lines.len() >= 1);
+    lock.leave(turn)
+}
+
+/// Appends an entry with the first pass, finds it with the second, and has the two meet.
+fn append_find_and_meet<R: Abort + Wait>(
+    rt: &R,
+    lock: &GrowLock<Log>,
+    mut first: Pass<Log>,
+) -> Pass<Log>
+    requires { IsPassOf lock.now first }
+    ensures { IsPassOf lock.now result }
+{
+    let second = lock.split(&mut first);
+    has_seen(rt, &first, 0);
+    has_seen(rt, &second, 0);
+
+    let (first, place) = append(rt, lock, first, 1);
+    assert_eq!(rt; place, Some(0));
+    has_seen(rt, &first, 1);
+    has_seen(rt, &second, 0);
+
+    let second = find_an_entry(rt, lock, second);
+    let both = lock.meet(first, second);
+    assert!(rt; both.seen() >= 1);
+    both
+}
+
 #[test]
 fn a_pass_finds_what_another_appended_and_the_two_meet(rt: HostRuntime) -> Result<(), Fail> {
     let log = Log {
         owner: OWNER,
         lines: Vec::new(rt.alloc()),
     };
-    let (lock, mut first) = GrowLock::new(rt.alloc(), log)?;
-    let second = lock.split(&mut first);
-    assert_eq!(rt; (first.seen(), second.seen()), (0, 0));
-
-    let (first, place) = append(&rt, &lock, first, 1);
-    assert_eq!(rt; place, Some(0));
-    assert_eq!(rt; (first.seen(), second.seen()), (1, 0));
-
-    let mut turn = lock.enter(&rt, second);
-    assert!(rt; turn.value().lines.len() >= 1);
-    let second = lock.leave(turn);
-
-    let both = lock.meet(first, second);
-    assert!(rt; both.seen() >= 1);
+    let (lock, first) = GrowLock::new(rt.alloc(), log)?;
+    let both = append_find_and_meet(&rt, &lock, first);
     let log = lock.close(&rt, both);
     assert_eq!(rt; log.lines.as_slice(), [1].as_slice());
     Ok(())
