@@ -1,6 +1,8 @@
 //! Lists of caches of which one entry changes.
 
+use crate::checks::must_be;
 use caps_sets::{BITMAP_CACHES, CacheSize, Caches3, Caches10, GLYPH_CACHES};
+use std::process::Abort;
 
 /// A cache without an entry.
 const NONE: CacheSize = CacheSize {
@@ -14,13 +16,23 @@ const SOME: CacheSize = CacheSize {
     cell: 12287,
 };
 
-#[test]
-fn one_cache_gets_another_size(rt: HostRuntime) {
+/// The last of three bitmap caches gets a size.
+fn set_bitmap_cache(rt: &impl Abort) {
     let mut bitmaps = Caches3::new([NONE; BITMAP_CACHES]);
     bitmaps.set(2, SOME);
-    assert_eq!(rt; bitmaps.sizes(), [NONE, NONE, SOME].as_slice());
+    must_be(rt, &bitmaps.sizes(), &[NONE, NONE, SOME].as_slice());
+}
+
+/// The first of ten glyph caches loses its size.
+fn set_glyph_cache(rt: &impl Abort) {
     let mut glyphs = Caches10::new([SOME; GLYPH_CACHES]);
     glyphs.set(0, NONE);
-    assert_eq!(rt; glyphs.sizes()[0], NONE);
-    assert_eq!(rt; glyphs.sizes()[9], SOME);
+    must_be(rt, &glyphs.sizes()[0], &NONE);
+    must_be(rt, &glyphs.sizes()[9], &SOME);
+}
+
+#[test]
+fn one_cache_gets_another_size(rt: HostRuntime) {
+    set_bitmap_cache(&rt);
+    set_glyph_cache(&rt);
 }

@@ -1,6 +1,8 @@
 //! Client Info PDUs of real clients (MS-RDPBCGR, 2.2.1.11).
 
+use crate::checks::{must_be, must_hold};
 use info_lic::{InfoFault, read_info};
+use std::process::Abort;
 
 /// The Client Info PDUs of rdesktop, of rdesktop with the fields of RDP 4 alone, and of FreeRDP, each of a user `ann`.
 const RDESKTOP: [u8; 306] = [
@@ -41,6 +43,14 @@ const FREERDP: [u8; 310] = [
     0,
 ];
 
+/// The packet gives the user name `ann`.
+fn is_of_ann(rt: &impl Abort, packet: &[u8]) {
+    match read_info(packet) {
+        Ok(name) => must_hold(rt, name.bytes(), b"ann"),
+        Err(_) => assert!(rt; false),
+    }
+}
+
 #[test]
 fn real_clients_log_on_by_their_user_name(rt: HostRuntime) {
     // FreeRDP without its options for caches sends other performanceFlags
@@ -49,10 +59,29 @@ fn real_clients_log_on_by_their_user_name(rt: HostRuntime) {
     other[305] = 1;
     let packets: [&[u8]; 4] = [&RDESKTOP, &RDESKTOP_RDP4, &FREERDP, &other];
     for packet in packets {
-        match read_info(packet) {
-            Ok(name) => assert_eq!(rt; name.bytes(), b"ann".as_slice()),
-            Err(_) => assert!(rt; false),
-        }
+        is_of_ann(&rt, packet);
+    }
+}
+
+/// The place of the first field that a front of so many bytes hasn't.
+fn first_missing(length: usize) -> usize {
+    match length {
+        0 | 1 => 0,
+        2 | 3 => 2,
+        4..=7 => 4,
+        8..=11 => 8,
+        12..=21 => length / 2 * 2,
+        22 | 23 => 22,
+        24..=29 => 24,
+        _ => length / 2 * 2,
+    }
+}
+
+/// The packet is refused at this place.
+fn is_refused(rt: &impl Abort, packet: &[u8], at: usize) {
+    match read_info(packet) {
+        Ok(_) => assert!(rt; false),
+        Err(fault) => must_be(rt, &fault, &InfoFault::BadInfo { at }),
     }
 }
 
@@ -60,19 +89,6 @@ fn real_clients_log_on_by_their_user_name(rt: HostRuntime) {
 #[test]
 fn a_cut_packet_is_refused_at_its_first_field_that_does_not_fit(rt: HostRuntime) {
     for length in 0..RDESKTOP_RDP4.len() {
-        let at = match length {
-            0 | 1 => 0,
-            2 | 3 => 2,
-            4..=7 => 4,
-            8..=11 => 8,
-            12..=21 => length / 2 * 2,
-            22 | 23 => 22,
-            24..=29 => 24,
-            _ => length / 2 * 2,
-        };
-        match read_info(&RDESKTOP_RDP4[..length]) {
-            Ok(_) => assert!(rt; false),
-            Err(fault) => assert_eq!(rt; fault, InfoFault::BadInfo { at }),
-        }
+        is_refused(&rt, &RDESKTOP_RDP4[..length], first_missing(length));
     }
 }

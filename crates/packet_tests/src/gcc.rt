@@ -1,7 +1,11 @@
 //! GCC user data of the sample client, and what a host answers (MS-RDPBCGR, 2.2.1.3 and 2.2.1.4).
 
+use crate::checks::{must_be, must_begin, must_count, must_hold};
 use gcc_per::{ClientData, GccFault, read_client, write_server};
+use std::alloc::AllocError;
+use std::process::Abort;
 use std::test::Fail;
+use wire_num::OutOfMemory;
 
 /// The sample client's user data: the request, a CS_CORE of 144 bytes, a CS_SECURITY, and a CS_NET of three channels.
 const WHOLE: usize = 223;
@@ -56,7 +60,7 @@ fn data(channels: u16) -> Result<ClientData, GccFault> {
 
 #[test]
 fn the_sample_client_is_read(rt: HostRuntime) {
-    assert_eq!(rt; read_client(&sample()), data(3));
+    must_be(&rt, &read_client(&sample()), &data(3));
 }
 
 /// A front of less than the whole lacks bytes of the user data, so it is refused at their first byte, or at the first field
@@ -73,7 +77,7 @@ fn a_cut_request_is_refused(rt: HostRuntime) {
             21 | 22 => 21,
             _ => CORE,
         };
-        assert_eq!(rt; read_client(&bytes[..length]), bad(at));
+        must_be(&rt, &read_client(&bytes[..length]), &bad(at));
     }
 }
 
@@ -94,7 +98,7 @@ fn cut_blocks_are_read_or_refused_at_the_first_field_that_does_not_fit(rt: HostR
             158..=199 => bad(NETWORK + 2),
             _ => data(3),
         };
-        assert_eq!(rt; read_client(&bytes[..CORE + size]), answer);
+        must_be(&rt, &read_client(&bytes[..CORE + size]), &answer);
     }
 }
 
@@ -141,7 +145,7 @@ fn a_bad_field_is_refused_at_its_first_byte(rt: HostRuntime) {
         assert!(rt; place < WHOLE);
         let mut bytes = sample();
         bytes[place] = value;
-        assert_eq!(rt; read_client(&bytes), answer);
+        must_be(&rt, &read_client(&bytes), &answer);
     }
 }
 
@@ -149,10 +153,23 @@ fn a_bad_field_is_refused_at_its_first_byte(rt: HostRuntime) {
 fn bytes_left_over_are_refused_behind_the_blocks(rt: HostRuntime) {
     let mut longer = [0; 224];
     longer[..WHOLE].copy_from_slice(&sample());
-    assert_eq!(rt; read_client(&longer), bad(WHOLE));
+    must_be(&rt, &read_client(&longer), &bad(WHOLE));
 }
 
-/// A client whose only block is a CS_CORE of so many bytes, with postBeta2ColorDepth, highColorDepth and supportedColorDepths.
+/// Reads a client whose only block is a CS_CORE of so many bytes, with postBeta2ColorDepth, highColorDepth and
+/// supportedColorDepths.
+fn read_depths(size: u8, post: u16, high: u8, supported: u8) -> Result<ClientData, GccFault> {
+    let mut bytes = [0; 300];
+    bytes[..WHOLE].copy_from_slice(&sample());
+    bytes[22] = size;
+    bytes[25] = size;
+    bytes[155] = (post & 0xFF) as u8;
+    bytes[156] = (post >> 8) as u8;
+    bytes[163] = high;
+    bytes[165] = supported;
+    read_client(&bytes[..CORE + size as usize])
+}
+
 #[test]
 fn the_last_depth_that_is_there_counts(rt: HostRuntime) {
     let cases: [(u8, u16, u8, u8, Result<ClientData, GccFault>); 14] = [
@@ -172,30 +189,34 @@ fn the_last_depth_that_is_there_counts(rt: HostRuntime) {
         (131, 0xCA04, 24, 1, bad(CORE + 2)),
     ];
     for (size, post, high, supported, answer) in cases {
-        let mut bytes = [0; 300];
-        bytes[..WHOLE].copy_from_slice(&sample());
-        bytes[22] = size;
-        bytes[25] = size;
-        bytes[155] = (post & 0xFF) as u8;
-        bytes[156] = (post >> 8) as u8;
-        bytes[163] = high;
-        bytes[165] = supported;
-        assert_eq!(rt; read_client(&bytes[..CORE + size as usize]), answer);
+        let found = read_depths(size, post, high, supported);
+        must_be(&rt, &found, &answer);
     }
+}
+
+/// Appends the sample's blocks in another order.
+fn put_in_another_order(out: &mut Vec<u8>) -> Result<(), AllocError> {
+    let sample = sample();
+    let parts: [&[u8]; 6] = [
+        &sample[..22],
+        &[206, 5, 0xC0, 4, 0, 3, 0xC0, 46, 0],
+        &sample[NETWORK + 4..],
+        &[0, 0],
+        &sample[CORE..SECURITY],
+        &sample[SECURITY..NETWORK],
+    ];
+    for part in parts {
+        out.extend_from_slice(part)?;
+    }
+    Ok(())
 }
 
 /// The sample's blocks in another order, with an unknown one of only a header, and a CS_NET with bytes behind its channels.
 #[test]
 fn blocks_stand_in_any_order(rt: HostRuntime) -> Result<(), Fail> {
-    let sample = sample();
     let mut bytes = Vec::new(rt.alloc());
-    bytes.extend_from_slice(&sample[..22])?;
-    bytes.extend_from_slice(&[206, 5, 0xC0, 4, 0, 3, 0xC0, 46, 0])?;
-    bytes.extend_from_slice(&sample[NETWORK + 4..])?;
-    bytes.extend_from_slice(&[0, 0])?;
-    bytes.extend_from_slice(&sample[CORE..SECURITY])?;
-    bytes.extend_from_slice(&sample[SECURITY..NETWORK])?;
-    assert_eq!(rt; read_client(bytes.as_slice()), data(3));
+    put_in_another_order(&mut bytes)?;
+    must_be(&rt, &read_client(&bytes), &data(3));
     Ok(())
 }
 
@@ -207,7 +228,7 @@ fn a_length_of_one_byte_is_read(rt: HostRuntime) {
     bytes[..7].copy_from_slice(&sample[..7]);
     bytes[7] = 1;
     bytes[8..].copy_from_slice(&sample[9..]);
-    assert_eq!(rt; read_client(&bytes), data(3));
+    must_be(&rt, &read_client(&bytes), &data(3));
 }
 
 /// The host's answer to the sample client, by the tables of T.124 and MS-RDPBCGR.
@@ -223,24 +244,42 @@ fn the_sample_client_is_answered(rt: HostRuntime) -> Result<(), Fail> {
         3, 0x0C, 0x10, 0, 0xEB, 3, 3, 0, 0xEC, 3, 0xED, 3, 0xEE, 3, 0, 0, // SC_NET
         2, 0x0C, 0x0C, 0, 0, 0, 0, 0, 0, 0, 0, 0, // SC_SECURITY
     ];
-    assert_eq!(rt; out.as_slice(), answer.as_slice());
+    must_hold(&rt, &out, &answer);
     Ok(())
+}
+
+/// Answers a client that asked for protocols, and for no channels.
+fn answer_protocols(rt: &impl Abort, out: &mut Vec<u8>) -> Result<(), OutOfMemory> {
+    write_server(out, 0, 3)?;
+    must_count(rt, out, 54);
+    must_be(rt, &out[7], &0x2E);
+    must_be(rt, &out[21], &0x20);
+    let last = [3, 0, 0, 0, 3, 0x0C, 8, 0, 0xEB, 3, 0, 0, 2, 0x0C];
+    must_begin(rt, &out[30..], &last);
+    Ok(())
+}
+
+/// Answers a client that asked for 31 channels.
+fn answer_channels(rt: &impl Abort, out: &mut Vec<u8>) -> Result<(), OutOfMemory> {
+    write_server(out, 31, 0)?;
+    must_count(rt, out, 118);
+    must_be(rt, &out[7], &0x6E);
+    must_be(rt, &out[21], &0x60);
+    must_begin(rt, &out[34..], &[3, 0x0C, 0x48, 0, 0xEB, 3, 31, 0, 0xEC, 3]);
+    must_begin(rt, &out[102..], &[0x0A, 4, 0, 0, 2, 0x0C]);
+    Ok(())
+}
+
+/// Answers both clients.
+fn write_answers(rt: &impl Abort, out: &mut Vec<u8>) -> Result<(), OutOfMemory> {
+    answer_protocols(rt, out)?;
+    out.clear();
+    answer_channels(rt, out)
 }
 
 #[test]
 fn asked_protocols_and_channels_are_answered(rt: HostRuntime) -> Result<(), Fail> {
     let mut out = Vec::new(rt.alloc());
-    write_server(&mut out, 0, 3)?;
-    assert_eq!(rt; out.len(), 54);
-    assert_eq!(rt; out[7], 0x2E);
-    assert_eq!(rt; out[21], 0x20);
-    assert!(rt; out[30..].starts_with(&[3, 0, 0, 0, 3, 0x0C, 8, 0, 0xEB, 3, 0, 0, 2, 0x0C]));
-    out.clear();
-    write_server(&mut out, 31, 0)?;
-    assert_eq!(rt; out.len(), 118);
-    assert_eq!(rt; out[7], 0x6E);
-    assert_eq!(rt; out[21], 0x60);
-    assert!(rt; out[34..].starts_with(&[3, 0x0C, 0x48, 0, 0xEB, 3, 31, 0, 0xEC, 3]));
-    assert!(rt; out[102..].starts_with(&[0x0A, 4, 0, 0, 2, 0x0C]));
+    write_answers(&rt, &mut out)?;
     Ok(())
 }

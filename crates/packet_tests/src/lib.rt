@@ -6,6 +6,8 @@
 #[cfg(test)]
 mod cache_lists;
 #[cfg(test)]
+mod checks;
+#[cfg(test)]
 mod client_info;
 #[cfg(test)]
 mod confirm_active;

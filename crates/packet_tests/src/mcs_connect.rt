@@ -1,8 +1,10 @@
 //! The sample client's Connect-Initial, and the response (T.125, 7).
 
+use crate::checks::{must_be, must_begin, must_count, must_hold};
 use mcs_ber::{BadBer, read_initial, write_response};
+use std::process::Abort;
 use std::test::Fail;
-use wire_num::Range;
+use wire_num::{OutOfMemory, Range};
 
 /// The sample client's Connect-Initial up to its user data: the tag, a length of 324, both selectors, the flag and three
 /// domain parameters.
@@ -29,12 +31,13 @@ fn sample() -> [u8; 329] {
 
 #[test]
 fn the_sample_client_says_where_its_user_data_are(rt: HostRuntime) {
-    assert_eq!(rt;
-        read_initial(&sample()),
-        Ok(Range {
+    must_be(
+        &rt,
+        &read_initial(&sample()),
+        &Ok(Range {
             from: WHOLE - USER,
-            to: WHOLE
-        })
+            to: WHOLE,
+        }),
     );
 }
 
@@ -49,7 +52,7 @@ fn a_cut_packet_is_refused(rt: HostRuntime) {
             2..=4 => 2,
             _ => 5,
         };
-        assert_eq!(rt; read_initial(&bytes[..length]), Err(BadBer { at }));
+        must_be(&rt, &read_initial(&bytes[..length]), &Err(BadBer { at }));
     }
 }
 
@@ -89,30 +92,46 @@ fn a_bad_field_is_refused_at_its_first_byte(rt: HostRuntime) {
     for (place, value, at) in cases {
         let mut bytes = sample();
         bytes[place as usize] = value;
-        assert_eq!(rt; read_initial(&bytes), Err(BadBer { at }));
+        must_be(&rt, &read_initial(&bytes), &Err(BadBer { at }));
     }
     let mut longer = [0; 330];
     longer[..WHOLE].copy_from_slice(&sample());
-    assert_eq!(rt; read_initial(&longer), Err(BadBer { at: WHOLE }));
+    must_be(&rt, &read_initial(&longer), &Err(BadBer { at: WHOLE }));
+}
+
+/// Writes an answer with two bytes of user data.
+fn write_short(rt: &impl Abort, out: &mut Vec<u8>) -> Result<(), OutOfMemory> {
+    write_response(out, &[7, 8])?;
+    let packet = [
+        3, 0, 0, 48, 2, 0xF0, 0x80, 0x7F, 0x66, 38, 0x0A, 1, 0, 2, 1, 0, 0x30, 0x1A, 2, 1, 34, 2,
+        1, 3, 2, 1, 0, 2, 1, 1, 2, 1, 0, 2, 1, 1, 2, 3, 0, 0xFF, 0xF8, 2, 1, 2, 4, 2, 7, 8,
+    ];
+    must_hold(rt, out, &packet);
+    Ok(())
+}
+
+/// Writes an answer with 300 bytes of user data.
+fn write_long(rt: &impl Abort, out: &mut Vec<u8>) -> Result<(), OutOfMemory> {
+    write_response(out, &[7; 300])?;
+    let front = [
+        3, 0, 1, 0x5E, 2, 0xF0, 0x80, 0x7F, 0x66, 0x82, 1, 0x52, 0x0A,
+    ];
+    must_begin(rt, out, &front);
+    must_count(rt, out, 350);
+    Ok(())
+}
+
+/// Writes both answers.
+fn write_responses(rt: &impl Abort, out: &mut Vec<u8>) -> Result<(), OutOfMemory> {
+    write_short(rt, out)?;
+    out.clear();
+    write_long(rt, out)
 }
 
 /// The host's answer, by the tables of T.125 and X.690.
 #[test]
 fn the_host_writes_a_whole_packet(rt: HostRuntime) -> Result<(), Fail> {
     let mut out = Vec::new(rt.alloc());
-    write_response(&mut out, &[7, 8])?;
-    let packet = [
-        3, 0, 0, 48, 2, 0xF0, 0x80, 0x7F, 0x66, 38, 0x0A, 1, 0, 2, 1, 0, 0x30, 0x1A, 2, 1, 34, 2,
-        1, 3, 2, 1, 0, 2, 1, 1, 2, 1, 0, 2, 1, 1, 2, 3, 0, 0xFF, 0xF8, 2, 1, 2, 4, 2, 7, 8,
-    ];
-    assert_eq!(rt; out.as_slice(), packet.as_slice());
-    out.clear();
-    write_response(&mut out, &[7; 300])?;
-    assert!(rt;
-        out.starts_with(&[
-            3, 0, 1, 0x5E, 2, 0xF0, 0x80, 0x7F, 0x66, 0x82, 1, 0x52, 0x0A
-        ])
-    );
-    assert_eq!(rt; out.len(), 350);
+    write_responses(&rt, &mut out)?;
     Ok(())
 }
