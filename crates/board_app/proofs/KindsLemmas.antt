@@ -1,9 +1,9 @@
 -- A list of codes without repetition has room for one more that isn't in it.
-use Rattle.std.proofs.Common.{◌≡◌, ℕ, zero, suc, ◌+◌, ◌-◌, ◌<◌, ◌≤◌, List, [], ◌∷◌, length, drop, set, refl, ap, sym, subst, ◌∙◌, arith, length-drop}
+use Rattle.std.proofs.Common.{◌≡◌, ℕ, zero, suc, ◌+◌, ◌-◌, ◌<◌, ◌≤◌, List, ◌∷◌, length, drop, set, refl, ap, sym, subst, ◌∙◌, arith, length-drop}
 use Rattle.std.specs.Prelude.{Bool, true, false, ◌==◌, ◌||◌, if◌then◌else◌}
 use Rattle.std.proofs.lemmas.List.{drop-set}
 use Rattle.std.proofs.lemmas.Bool.Decides.{nat_tests}
-use Rattle.session_rules.specs.Board.{is_member, with_member}
+use Rattle.session_rules.specs.Board.{is_member}
 use Rattle.board_app.specs.Kinds.{kinds, OneOfEach}
 
 kinds_above : (n m : ℕ) (ms : List ℕ) → n ≤ m → kinds n (m ∷ ms) ≡ kinds n ms

@@ -1,5 +1,5 @@
 -- What the board is seen as: the record of its definitions; and what a row of its table makes.
-use Rattle.std.specs.Prelude.{◌≡◌, ℕ, Option, option_map}
+use Rattle.std.specs.Prelude.{◌≡◌, option_map}
 use Rattle.px_core.specs.declared.surface.Size.{Size}
 use Rattle.session_rules.specs.Board.{Board as BoardState, Point as PointState, Reaction}
 use Rattle.board_app.specs.declared.board.Board.{Board}

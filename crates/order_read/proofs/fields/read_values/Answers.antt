@@ -1,11 +1,9 @@
-use Rattle.std.proofs.lemmas.Result.{err_from_is_err_and}
 use Rattle.wire_num.specs.Cursor.{rest}
-use Rattle.std.proofs.Common.{refl, ◌≡◌, ◌∙◌, ℤ, pos, get_or, rules, w64, of_z, to_z, sym, subst, slice_index_or, add-one}
+use Rattle.std.proofs.Common.{refl, ◌∙◌, pos, add-one}
 use Rattle.std.proofs.lemmas.List.{length-set}
 use Rattle.order_fields.specs.declared.kind.FieldKind.TheVariants.{Coordinate}
-use Rattle.order_fields.specs.OrderTable.{FitsKind}
 use Rattle.order_fields.proofs.FieldsAt.{fit_at}
-use Rattle.order_read.proofs.ValuesRead.{short_at, fit_set, one_read, one_refused, all_read, from_first}
+use Rattle.order_read.proofs.ValuesRead.{short_at, fit_set, one_read, all_read, from_first}
 use Rattle.order_read.proofs.fields.read_values.Goals as goal
 
 pub loop-i-init : goal.loop-i-init

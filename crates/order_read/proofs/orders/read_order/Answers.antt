@@ -1,4 +1,3 @@
-use Rattle.std.proofs.Common.{[]}
 use Rattle.order_read.proofs.StreamsRead.{order_drawn}
 use Rattle.order_read.proofs.orders.read_order.Goals as goal
 
