@@ -1,9 +1,6 @@
 -- Each packet of the sample client is read, and its Connect-Initial is answered.
 use Rattle.std.proofs.Common.{◌≡◌, [], ◌∷◌, refl}
-use Rattle.wire_num.specs.Field.{passing_at, end_at, at_least, rest_count_at}
-use Rattle.byte_fields.specs.Field.{bytes_at, wanted}
-use Rattle.byte_fields.specs.Number.{big_at, little_at}
-use Rattle.wire_num.specs.Length.{per_len_at, ber_len_at}
+use Rattle.wire_num.specs.Field.{passing_at, at_least, rest_count_at}
 use Rattle.wire_num.specs.Layout.{exactly_at}
 use Rattle.tpkt_x224.specs.Request.{references, request_header, after_cookie, asked_protocols}
 use Rattle.mcs_ber.specs.ConnectInitial.{user_data, three_parameters, upward_flag, initial_fields, connect_initial}

@@ -1,8 +1,6 @@
 -- The definitions on bodies worked out by hand.
 use Rattle.std.proofs.Common.{◌≡◌, [], ◌∷◌, refl}
 use Rattle.std.specs.Prelude.{Ok, Err, true, false}
-use Rattle.byte_fields.specs.Field.{bytes_at}
-use Rattle.byte_fields.specs.Number.{little_at}
 use Rattle.input_events.specs.declared.event.Event.TheVariants.{Sync, Scan, Unicode, Mouse, MouseX}
 use Rattle.input_pdu.specs.Events.{event_at, event_count_at, events_of}
 
