@@ -1,4 +1,5 @@
 //! Captures by hand, and captures kept from outside.
+use crate::checks::must_hold;
 use capture_read::{CaptureReader, Told};
 use edge_io::PlanSource;
 use std::alloc::Global;
@@ -42,11 +43,12 @@ const TWO: &[u8] =
 #[test]
 fn the_bytes_of_one_viewer_are_handed_out_in_order(rt: HostRuntime) -> Result<(), Fail> {
     let (marks, bytes) = told(rt.alloc(), TWO, &[])?;
-    assert_eq!(rt;
+    must_hold(
+        &rt,
         marks.as_slice(),
-        [101, 103, 103, 102, 103, 103, 103, 102, 103, 103, 104].as_slice()
+        [101, 103, 103, 102, 103, 103, 103, 102, 103, 103, 104].as_slice(),
     );
-    assert_eq!(rt; bytes.as_slice(), [10, 11, 255, 0].as_slice());
+    must_hold(&rt, bytes.as_slice(), [10, 11, 255, 0].as_slice());
     Ok(())
 }
 
@@ -72,7 +74,7 @@ const BROKEN: [&[u8]; 14] = [
 fn a_line_that_breaks_the_rules_is_named(rt: HostRuntime) -> Result<(), Fail> {
     for capture in BROKEN.as_slice() {
         let (marks, _) = told(rt.alloc(), capture, &[])?;
-        assert_eq!(rt; marks.as_slice(), [101, 2, 104].as_slice());
+        must_hold(&rt, marks.as_slice(), [101, 2, 104].as_slice());
     }
     Ok(())
 }
@@ -80,6 +82,6 @@ fn a_line_that_breaks_the_rules_is_named(rt: HostRuntime) -> Result<(), Fail> {
 #[test]
 fn a_failed_read_is_told(rt: HostRuntime) -> Result<(), Fail> {
     let (marks, _) = told(rt.alloc(), TWO, &[5])?;
-    assert_eq!(rt; marks.as_slice(), [101, 105].as_slice());
+    must_hold(&rt, marks.as_slice(), [101, 105].as_slice());
     Ok(())
 }

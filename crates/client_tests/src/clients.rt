@@ -1,5 +1,6 @@
 ghost use Rattle.std.specs.Prelude.{◌≡◌};
 
+use crate::checks::must_be;
 use caps_sets::{CacheSize, Caches3, Caches10, Confirmed};
 use client_view::{Client, ClientFault};
 use px_core::Size;
@@ -118,16 +119,17 @@ const FIRST_FRAME: [u8; 81] = [
 fn the_first_frame_is_black_at_one_mark(rt: HostRuntime) -> Result<(), Fail> {
     for cut in 0..FIRST_FRAME.len() {
         let mut client = Client::new(rt.alloc(), plain(), Size { w: 64, h: 48 })?;
-        assert_eq!(rt; client.marked(0, 0), None);
-        assert_eq!(rt; client.feed(&FIRST_FRAME[..cut]), Ok(()));
-        assert_eq!(rt; client.marks(), 0);
-        assert_eq!(rt; client.feed(&FIRST_FRAME[cut..]), Ok(()));
-        assert_eq!(rt;
-            (client.marks(), client.orders(), client.tiles()),
-            (1, 1, 0)
+        must_be(&rt, &client.marked(0, 0), &None);
+        must_be(&rt, &client.feed(&FIRST_FRAME[..cut]), &Ok(()));
+        must_be(&rt, &client.marks(), &0);
+        must_be(&rt, &client.feed(&FIRST_FRAME[cut..]), &Ok(()));
+        must_be(
+            &rt,
+            &(client.marks(), client.orders(), client.tiles()),
+            &(1, 1, 0),
         );
-        assert_eq!(rt; client.marked(0, 0), Some(0));
-        assert_eq!(rt; client.marked(63, 47), Some(0));
+        must_be(&rt, &client.marked(0, 0), &Some(0));
+        must_be(&rt, &client.marked(63, 47), &Some(0));
     }
     Ok(())
 }
@@ -227,9 +229,9 @@ fn streams_are_refused(rt: HostRuntime) -> Result<(), Fail> {
     ];
     for (brush, bytes, fault) in streams.iter() {
         let mut client = Client::new(rt.alloc(), small(false, *brush), SIZE)?;
-        assert_eq!(rt; client.feed(bytes), Err(*fault));
-        assert_eq!(rt; client.feed(&[3]), Err(*fault));
-        assert_eq!(rt; client.marks(), 0);
+        must_be(&rt, &client.feed(bytes), &Err(*fault));
+        must_be(&rt, &client.feed(&[3]), &Err(*fault));
+        must_be(&rt, &client.marks(), &0);
     }
     Ok(())
 }
@@ -389,8 +391,12 @@ fn streams_are_shown(rt: HostRuntime) -> Result<(), Fail> {
     ];
     for (marker, bytes, counts, pixels) in streams.iter() {
         let mut client = Client::new(rt.alloc(), small(*marker, true), SIZE)?;
-        assert_eq!(rt; client.feed(bytes), Ok(()));
-        assert_eq!(rt; (client.marks(), client.orders(), client.tiles()), *counts);
+        must_be(&rt, &client.feed(bytes), &Ok(()));
+        must_be(
+            &rt,
+            &(client.marks(), client.orders(), client.tiles()),
+            counts,
+        );
         assert!(rt; has_picture(&client, pixels));
     }
     Ok(())
@@ -421,9 +427,9 @@ fn an_image_past_the_cell_is_named(rt: HostRuntime) -> Result<(), Fail> {
         },
     );
     let mut client = Client::new(rt.alloc(), full, Size { w: 64, h: 64 })?;
-    assert_eq!(rt; client.feed(&FIRST_FRAME), Ok(()));
-    assert_eq!(rt; client.feed(&bytes), Err(named));
-    assert_eq!(rt; client.feed(&FIRST_FRAME), Err(named));
-    assert_eq!(rt; (client.marks(), client.orders()), (1, 1));
+    must_be(&rt, &client.feed(&FIRST_FRAME), &Ok(()));
+    must_be(&rt, &client.feed(&bytes), &Err(named));
+    must_be(&rt, &client.feed(&FIRST_FRAME), &Err(named));
+    must_be(&rt, &(client.marks(), client.orders()), &(1, 1));
     Ok(())
 }

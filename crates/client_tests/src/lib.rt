@@ -6,6 +6,8 @@
 #[cfg(test)]
 mod captures;
 #[cfg(test)]
+mod checks;
+#[cfg(test)]
 mod clients;
 #[cfg(test)]
 mod pictures;

@@ -2,6 +2,7 @@
 ghost use Rattle.std.specs.Prelude.{◌≡◌};
 ghost use Rattle.px_core.specs.Rectangle.{boxed};
 
+use crate::checks::must_be;
 use client_picture::{ClientPicture, Source};
 use draw_ops::Glyph;
 use px_core::{Rect, Size};
@@ -91,7 +92,7 @@ fn a_saved_block_is_restored_with_its_unknown_pixels(rt: HostRuntime) -> Result<
     let saved = picture.save(rect(1, 0, 2, 2))?;
     picture.fill(rect(0, 0, 8, 4), None, 0x070707);
     picture.mark();
-    assert_eq!(rt; saved.len(), 4);
+    must_be(&rt, &saved.len(), &4);
     picture.restore(rect(1, 0, 2, 2), None, saved.as_slice());
     let restored = [
         0x070707, 0x010203, 0, 0x070707, 0x070707, 0x070707, 0x070707, 0x070707,

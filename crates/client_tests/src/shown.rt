@@ -1,5 +1,6 @@
 //! Captures by hand, captures that are cut, and faults.
 
+use crate::checks::must_be;
 use crate::worked::{CONTROL, Capture, ONE_FILL, POPUP};
 use capture_show::{ShowFault, show_capture};
 use edge_io::{Keep, PlanSink, PlanSource};
@@ -62,7 +63,7 @@ const CAPTURES: [(&[u8], bool, &[u8]); 8] = [
 fn what_is_shown_is_said(rt: HostRuntime) -> Result<(), Fail> {
     for (capture, accepted, text) in CAPTURES {
         let (answer, written) = look(&rt, rt.alloc(), 1, capture)?;
-        assert_eq!(rt; (answer, written.as_slice()), (Ok(accepted), text));
+        must_be(&rt, &(answer, written.as_slice()), &(Ok(accepted), text));
     }
     Ok(())
 }
@@ -82,7 +83,7 @@ fn a_picture_is_written_byte_for_byte(rt: HostRuntime) -> Result<(), Fail> {
     }
     repeat(&mut wanted, &[0x12, 0x34, 0x56], 5)?;
     repeat(&mut wanted, &[0, 0, 0], 64 * 24 - 15)?;
-    assert_eq!(rt; look(&rt, alloc, 1, SQUARE)?, (Ok(true), wanted));
+    must_be(&rt, &look(&rt, alloc, 1, SQUARE)?, &(Ok(true), wanted));
     Ok(())
 }
 
@@ -113,7 +114,7 @@ fn a_capture_shows_the_same_wherever_it_is_cut_into_pieces(rt: HostRuntime) -> R
         let capture = joined(alloc, parts)?;
         let (_, whole) = look(&rt, alloc, 1, &capture)?;
         for piece in 1..capture.len() {
-            assert_eq!(rt; look_in_pieces(&rt, alloc, &capture, piece)?, whole);
+            must_be(&rt, &look_in_pieces(&rt, alloc, &capture, piece)?, &whole);
         }
     }
     Ok(())
@@ -137,10 +138,14 @@ fn a_capture_that_ends_within_a_line_breaks_the_rules_there(rt: HostRuntime) -> 
         for (cut, byte) in capture.iter().enumerate() {
             let (answer, text) = look(&rt, alloc, 1, &capture[..cut])?;
             if before != b'\n' {
-                assert_eq!(rt; (answer, text), (Ok(false), broken_line(alloc, line)?));
+                must_be(
+                    &rt,
+                    &(answer, text),
+                    &(Ok(false), broken_line(alloc, line)?),
+                );
             } else {
                 // Between lines all is right but that nobody has joined at first.
-                assert_eq!(rt; answer, Ok(cut > 0));
+                must_be(&rt, &answer, &Ok(cut > 0));
             }
             before = *byte;
             if before == b'\n' {
@@ -167,12 +172,12 @@ fn each_failing_read_is_answered_with_nothing_written(rt: HostRuntime) -> Result
         let answer = show_capture(&rt, alloc, 1, &mut input, &mut output);
         if answer.is_err() {
             reads = call;
-            assert_eq!(rt; answer, Err(ShowFault::ReadFault));
+            must_be(&rt, &answer, &Err(ShowFault::ReadFault));
             assert!(rt; output.bytes().is_empty());
         }
     }
     // Two reads give the capture, and the third tells the end.
-    assert_eq!(rt; reads, 3);
+    must_be(&rt, &reads, &3);
     Ok(())
 }
 
@@ -188,11 +193,11 @@ fn each_failing_write_leaves_a_front_of_the_text(rt: HostRuntime) -> Result<(), 
         let answer = show_capture(&rt, alloc, 1, &mut input, &mut output);
         if answer.is_err() {
             writes = call;
-            assert_eq!(rt; answer, Err(ShowFault::WriteFault));
+            must_be(&rt, &answer, &Err(ShowFault::WriteFault));
             assert!(rt; whole.starts_with(output.bytes()));
         }
     }
     // One write for the head, and one for each of the 48 rows.
-    assert_eq!(rt; writes, 49);
+    must_be(&rt, &writes, &49);
     Ok(())
 }

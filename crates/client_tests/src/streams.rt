@@ -1,3 +1,4 @@
+use crate::checks::{must_be, must_hold};
 use host_updates::{Cutter, Step};
 use std::test::Fail;
 
@@ -28,16 +29,18 @@ fn first_step(cutter: &mut Cutter, bytes: &[u8]) -> (Step, usize) {
 #[test]
 fn bodies_stand_at_their_places(rt: HostRuntime) -> Result<(), Fail> {
     let mut cutter = Cutter::new(rt.alloc())?;
-    assert_eq!(rt;
-        first_step(&mut cutter, &FILL),
-        (Step::Update { at: 32 }, 45)
+    must_be(
+        &rt,
+        &first_step(&mut cutter, &FILL),
+        &(Step::Update { at: 32 }, 45),
     );
-    assert_eq!(rt; cutter.body(), &FILL[32..]);
-    assert_eq!(rt;
-        first_step(&mut cutter, &MARK),
-        (Step::Update { at: 77 }, 36)
+    must_hold(&rt, cutter.body(), &FILL[32..]);
+    must_be(
+        &rt,
+        &first_step(&mut cutter, &MARK),
+        &(Step::Update { at: 77 }, 36),
     );
-    assert_eq!(rt; cutter.body(), &MARK[32..]);
+    must_hold(&rt, cutter.body(), &MARK[32..]);
     Ok(())
 }
 
@@ -65,8 +68,8 @@ fn each_field_is_refused_at_its_first_byte(rt: HostRuntime) -> Result<(), Fail> 
         let mut cutter = Cutter::new(rt.alloc())?;
         first_step(&mut cutter, &FILL);
         let (step, _) = first_step(&mut cutter, &bytes);
-        assert_eq!(rt; step, Step::Refused { at: *at });
-        assert_eq!(rt; cutter.push(3), Step::Refused { at: *at });
+        must_be(&rt, &step, &Step::Refused { at: *at });
+        must_be(&rt, &cutter.push(3), &Step::Refused { at: *at });
     }
     for place in [1usize, 18, 22, 26, 27, 30].iter() {
         let mut bytes = MARK;
@@ -74,9 +77,10 @@ fn each_field_is_refused_at_its_first_byte(rt: HostRuntime) -> Result<(), Fail> 
             *byte = 0x55;
         }
         let mut cutter = Cutter::new(rt.alloc())?;
-        assert_eq!(rt;
-            first_step(&mut cutter, &bytes),
-            (Step::Update { at: 32 }, 36)
+        must_be(
+            &rt,
+            &first_step(&mut cutter, &bytes),
+            &(Step::Update { at: 32 }, 36),
         );
     }
     Ok(())
@@ -86,13 +90,13 @@ fn each_field_is_refused_at_its_first_byte(rt: HostRuntime) -> Result<(), Fail> 
 #[test]
 fn headers_are_refused_as_soon_as_they_are_there(rt: HostRuntime) -> Result<(), Fail> {
     let mut cutter = Cutter::new(rt.alloc())?;
-    assert_eq!(rt; cutter.push(4), Step::Refused { at: 0 });
+    must_be(&rt, &cutter.push(4), &Step::Refused { at: 0 });
     let mut cutter = Cutter::new(rt.alloc())?;
     let short = first_step(&mut cutter, &[3, 0, 0, 6]);
-    assert_eq!(rt; short, (Step::Refused { at: 2 }, 4));
+    must_be(&rt, &short, &(Step::Refused { at: 2 }, 4));
     let mut cutter = Cutter::new(rt.alloc())?;
     let least = first_step(&mut cutter, &[3, 0, 0, 7, 2, 0xF0, 0x80]);
-    assert_eq!(rt; least, (Step::Refused { at: 7 }, 7));
+    must_be(&rt, &least, &(Step::Refused { at: 7 }, 7));
     Ok(())
 }
 
@@ -103,18 +107,20 @@ fn totals_are_tested(rt: HostRuntime) -> Result<(), Fail> {
         let mut bytes = MARK;
         bytes[14] = *total;
         let mut cutter = Cutter::new(rt.alloc())?;
-        assert_eq!(rt;
-            first_step(&mut cutter, &bytes),
-            (Step::Refused { at: *at }, 36)
+        must_be(
+            &rt,
+            &first_step(&mut cutter, &bytes),
+            &(Step::Refused { at: *at }, 36),
         );
     }
     let mut bytes = MARK;
     bytes[14] = 0x14;
     let mut cutter = Cutter::new(rt.alloc())?;
-    assert_eq!(rt;
-        first_step(&mut cutter, &bytes),
-        (Step::Update { at: 32 }, 36)
+    must_be(
+        &rt,
+        &first_step(&mut cutter, &bytes),
+        &(Step::Update { at: 32 }, 36),
     );
-    assert_eq!(rt; cutter.body(), [3, 0].as_slice());
+    must_hold(&rt, cutter.body(), [3, 0].as_slice());
     Ok(())
 }

@@ -1,3 +1,4 @@
+use crate::checks::must_be;
 use std::test::Fail;
 use update_read::{Tile, Update, UpdateFault, read_update};
 use wire_num::Range;
@@ -8,7 +9,7 @@ fn orders_are_the_rest_of_the_body(rt: HostRuntime) -> Result<(), Fail> {
     let body = [0, 0, 9, 9, 1, 0, 9, 9, 0x19, 0x0A, 0x0C, 0x40, 0x30];
     match read_update(rt.alloc(), &body)? {
         Update::Orders { count, from } => {
-            assert_eq!(rt; (count, from), (1, 8));
+            must_be(&rt, &(count, from), &(1, 8));
         }
         _ => assert!(rt; false),
     }
@@ -25,7 +26,7 @@ fn rectangles_fill_the_body(rt: HostRuntime) -> Result<(), Fail> {
     ];
     match read_update(rt.alloc(), &body)? {
         Update::Tiles(tiles) => {
-            assert_eq!(rt; tiles.len(), 2);
+            must_be(&rt, &tiles.len(), &2);
             let first = Tile {
                 left: 4,
                 top: 5,
@@ -37,10 +38,11 @@ fn rectangles_fill_the_body(rt: HostRuntime) -> Result<(), Fail> {
                 flags: 0x0401,
                 at: Range { from: 22, to: 24 },
             };
-            assert_eq!(rt; tiles.first(), Some(&first));
-            assert_eq!(rt;
-                tiles.get(1).map(|t| t.at),
-                Some(Range { from: 42, to: 42 })
+            must_be(&rt, &tiles.first(), &Some(&first));
+            must_be(
+                &rt,
+                &tiles.get(1).map(|t| t.at),
+                &Some(Range { from: 42, to: 42 }),
             );
         }
         _ => assert!(rt; false),
@@ -81,7 +83,7 @@ fn refusals_stand_at_their_fields(rt: HostRuntime) -> Result<(), Fail> {
     for (body, at) in cases.iter() {
         match read_update(rt.alloc(), body) {
             Ok(_) => assert!(rt; false),
-            Err(fault) => assert_eq!(rt; fault, UpdateFault::BadUpdate { at: *at }),
+            Err(fault) => must_be(&rt, &fault, &UpdateFault::BadUpdate { at: *at }),
         }
     }
     Ok(())

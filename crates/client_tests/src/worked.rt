@@ -1,6 +1,7 @@
 //! What the viewers of worked scripts are shown by the scripts' captures. The pictures are those of a model of the scripts' drawings, which
 //! reads no byte of a capture; the counts are those of a walk over its packets. Both were made apart from this program.
 
+use crate::checks::must_be;
 use crate::shown::{joined, look, repeat};
 use std::test::Fail;
 
@@ -315,7 +316,7 @@ fn each_viewer_is_shown_the_picture_of_its_last_take(rt: HostRuntime) -> Result<
     for rows in [FILLS.as_slice(), DRAWINGS.as_slice(), VIEWERS.as_slice()] {
         for (capture, viewer, head, sum) in rows {
             let (answer, text) = look(&rt, alloc, *viewer, &joined(alloc, capture)?)?;
-            assert_eq!(rt; answer, Ok(true));
+            must_be(&rt, &answer, &Ok(true));
             assert!(rt; is_picture(&text, head, *sum));
         }
     }
@@ -386,16 +387,18 @@ fn who_never_took_is_shown_no_mark(rt: HostRuntime) -> Result<(), Fail> {
     let alloc = rt.alloc();
     for viewer in 1..=17 {
         let (answer, text) = look(&rt, alloc, viewer, ROOM)?;
-        assert_eq!(rt;
-            (answer, text.as_slice()),
-            (Ok(true), b"no mark\n".as_slice())
+        must_be(
+            &rt,
+            &(answer, text.as_slice()),
+            &(Ok(true), b"no mark\n".as_slice()),
         );
     }
     for (capture, viewer) in [(CONTROL, 1), (CONTROL, 3), (POPUP, 3)] {
         let (answer, text) = look(&rt, alloc, viewer, &joined(alloc, capture)?)?;
-        assert_eq!(rt;
-            (answer, text.as_slice()),
-            (Ok(true), b"no mark\n".as_slice())
+        must_be(
+            &rt,
+            &(answer, text.as_slice()),
+            &(Ok(true), b"no mark\n".as_slice()),
         );
     }
     Ok(())

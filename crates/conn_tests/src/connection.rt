@@ -1,3 +1,4 @@
+use crate::checks::{must_be, must_count, must_hold};
 use caps_sets::preset;
 use conn_core::{Conn, ConnFault, ConnStep};
 use info_lic::Name;
@@ -94,15 +95,15 @@ fn the_sample_client_becomes_ready(rt: HostRuntime) -> Result<(), Fail> {
     let mut out = Vec::new(rt.alloc());
     let mut steps = Vec::new(rt.alloc());
     let mut conn = Conn::new(rt.alloc(), SIZE)?;
-    assert_eq!(rt; conn.feed(&SAMPLE, &mut out, &mut steps), Ok(()));
-    assert_eq!(rt; out.as_slice(), REPLIES.as_slice());
-    assert_eq!(rt; steps.len(), 2);
+    must_be(&rt, &conn.feed(&SAMPLE, &mut out, &mut steps), &Ok(()));
+    must_hold(&rt, out.as_slice(), REPLIES.as_slice());
+    must_count(&rt, steps.as_slice(), 2);
     assert!(rt; steps[0] == ConnStep::Named(Name::new(b"ann")));
     match preset(b"plain") {
         Some(confirmed) => assert!(rt; steps[1] == ConnStep::Ready(confirmed)),
         None => assert!(rt; false),
     }
-    assert_eq!(rt; conn.part(), 0);
+    must_be(&rt, &conn.part(), &0);
     Ok(())
 }
 
@@ -112,19 +113,27 @@ fn it_makes_no_difference_where_the_stream_is_cut(rt: HostRuntime) -> Result<(),
         let mut out = Vec::new(rt.alloc());
         let mut steps = Vec::new(rt.alloc());
         let mut conn = Conn::new(rt.alloc(), SIZE)?;
-        assert_eq!(rt; conn.feed(&SAMPLE[..cut], &mut out, &mut steps), Ok(()));
-        assert_eq!(rt; conn.feed(&SAMPLE[cut..], &mut out, &mut steps), Ok(()));
-        assert_eq!(rt; out.as_slice(), REPLIES.as_slice());
-        assert_eq!(rt; steps.len(), 2);
+        must_be(
+            &rt,
+            &conn.feed(&SAMPLE[..cut], &mut out, &mut steps),
+            &Ok(()),
+        );
+        must_be(
+            &rt,
+            &conn.feed(&SAMPLE[cut..], &mut out, &mut steps),
+            &Ok(()),
+        );
+        must_hold(&rt, out.as_slice(), REPLIES.as_slice());
+        must_count(&rt, steps.as_slice(), 2);
     }
     let mut out = Vec::new(rt.alloc());
     let mut steps = Vec::new(rt.alloc());
     let mut conn = Conn::new(rt.alloc(), SIZE)?;
     for byte in SAMPLE {
-        assert_eq!(rt; conn.feed(&[byte], &mut out, &mut steps), Ok(()));
+        must_be(&rt, &conn.feed(&[byte], &mut out, &mut steps), &Ok(()));
     }
-    assert_eq!(rt; out.as_slice(), REPLIES.as_slice());
-    assert_eq!(rt; steps.len(), 2);
+    must_hold(&rt, out.as_slice(), REPLIES.as_slice());
+    must_count(&rt, steps.as_slice(), 2);
     Ok(())
 }
 
@@ -155,10 +164,10 @@ fn a_changed_byte_is_refused_at_its_field_for_ever(rt: HostRuntime) -> Result<()
         let mut steps = Vec::new(rt.alloc());
         let mut conn = Conn::new(rt.alloc(), SIZE)?;
         let refused = Err(ConnFault::Refused { k, at });
-        assert_eq!(rt; conn.feed(&bytes, &mut out, &mut steps), refused);
+        must_be(&rt, &conn.feed(&bytes, &mut out, &mut steps), &refused);
         let length = out.len();
-        assert_eq!(rt; conn.feed(&SAMPLE, &mut out, &mut steps), refused);
-        assert_eq!(rt; out.len(), length);
+        must_be(&rt, &conn.feed(&SAMPLE, &mut out, &mut steps), &refused);
+        must_be(&rt, &out.len(), &length);
     }
     Ok(())
 }
@@ -168,9 +177,9 @@ fn a_refused_input_gives_no_event(rt: HostRuntime) -> Result<(), Fail> {
     let mut out = Vec::new(rt.alloc());
     let mut steps = Vec::new(rt.alloc());
     let mut conn = Conn::new(rt.alloc(), SIZE)?;
-    assert_eq!(rt; conn.feed(&SAMPLE, &mut out, &mut steps), Ok(()));
-    assert_eq!(rt; conn.feed(&CLICK, &mut out, &mut steps), Ok(()));
-    assert_eq!(rt; steps.len(), 4);
+    must_be(&rt, &conn.feed(&SAMPLE, &mut out, &mut steps), &Ok(()));
+    must_be(&rt, &conn.feed(&CLICK, &mut out, &mut steps), &Ok(()));
+    must_count(&rt, steps.as_slice(), 4);
     assert!(rt;
         steps[2]
             == ConnStep::Event(Event::Mouse {
@@ -181,9 +190,13 @@ fn a_refused_input_gives_no_event(rt: HostRuntime) -> Result<(), Fail> {
     );
     assert!(rt; steps[3] == ConnStep::Packet);
     let refused = Err(ConnFault::Refused { k: 14, at: 1000 });
-    assert_eq!(rt; conn.feed(&HALF_AN_INPUT, &mut out, &mut steps), refused);
-    assert_eq!(rt; steps.len(), 4);
-    assert_eq!(rt; out.as_slice(), REPLIES.as_slice());
+    must_be(
+        &rt,
+        &conn.feed(&HALF_AN_INPUT, &mut out, &mut steps),
+        &refused,
+    );
+    must_count(&rt, steps.as_slice(), 4);
+    must_hold(&rt, out.as_slice(), REPLIES.as_slice());
     Ok(())
 }
 
@@ -192,15 +205,15 @@ fn bytes_after_a_bye_are_dropped(rt: HostRuntime) -> Result<(), Fail> {
     let mut out = Vec::new(rt.alloc());
     let mut steps = Vec::new(rt.alloc());
     let mut conn = Conn::new(rt.alloc(), SIZE)?;
-    assert_eq!(rt; conn.feed(&SAMPLE, &mut out, &mut steps), Ok(()));
+    must_be(&rt, &conn.feed(&SAMPLE, &mut out, &mut steps), &Ok(()));
     // Disconnect Provider Ultimatum, and what is no packet
     let bye = [3, 0, 0, 9, 2, 0xF0, 0x80, 0x21, 0x80, 4, 4, 4];
-    assert_eq!(rt; conn.feed(&bye, &mut out, &mut steps), Ok(()));
-    assert_eq!(rt; conn.feed(&[9], &mut out, &mut steps), Ok(()));
-    assert_eq!(rt; steps.len(), 4);
+    must_be(&rt, &conn.feed(&bye, &mut out, &mut steps), &Ok(()));
+    must_be(&rt, &conn.feed(&[9], &mut out, &mut steps), &Ok(()));
+    must_count(&rt, steps.as_slice(), 4);
     assert!(rt; steps[2] == ConnStep::Bye);
     assert!(rt; steps[3] == ConnStep::Packet);
-    assert_eq!(rt; conn.part(), 0);
+    must_be(&rt, &conn.part(), &0);
     Ok(())
 }
 
@@ -210,8 +223,12 @@ fn first_packets_that_break_a_rule_are_refused(rt: HostRuntime) -> Result<(), Fa
     let mut steps = Vec::new(rt.alloc());
     let mut conn = Conn::new(rt.alloc(), SIZE)?;
     // a front of a packet is none yet
-    assert_eq!(rt; conn.feed(&[3, 0, 0, 19, 14], &mut out, &mut steps), Ok(()));
-    assert_eq!(rt; conn.part(), 5);
+    must_be(
+        &rt,
+        &conn.feed(&[3, 0, 0, 19, 14], &mut out, &mut steps),
+        &Ok(()),
+    );
+    must_be(&rt, &conn.part(), &5);
     // another version; a length below 7; no Connection Request
     let streams: [(&[u8], u8, u64); 3] = [
         (&[4], 1, 0),
@@ -221,10 +238,10 @@ fn first_packets_that_break_a_rule_are_refused(rt: HostRuntime) -> Result<(), Fa
     for (bytes, k, at) in streams {
         let mut conn = Conn::new(rt.alloc(), SIZE)?;
         let refused = Err(ConnFault::Refused { k, at });
-        assert_eq!(rt; conn.feed(bytes, &mut out, &mut steps), refused);
+        must_be(&rt, &conn.feed(bytes, &mut out, &mut steps), &refused);
     }
-    assert_eq!(rt; out.len(), 0);
-    assert_eq!(rt; steps.len(), 0);
+    must_be(&rt, &out.len(), &0);
+    must_count(&rt, steps.as_slice(), 0);
     Ok(())
 }
 
@@ -237,8 +254,8 @@ fn the_asked_protocols_are_echoed_and_none_is_selected(rt: HostRuntime) -> Resul
     let mut out = Vec::new(rt.alloc());
     let mut steps = Vec::new(rt.alloc());
     let mut conn = Conn::new(rt.alloc(), SIZE)?;
-    assert_eq!(rt; conn.feed(&bytes, &mut out, &mut steps), Ok(()));
-    assert_eq!(rt; out.as_slice(), replies.as_slice());
+    must_be(&rt, &conn.feed(&bytes, &mut out, &mut steps), &Ok(()));
+    must_hold(&rt, out.as_slice(), replies.as_slice());
     Ok(())
 }
 
@@ -251,6 +268,6 @@ fn a_depth_of_32_bits_alone_is_refused(rt: HostRuntime) -> Result<(), Fail> {
     let mut steps = Vec::new(rt.alloc());
     let mut conn = Conn::new(rt.alloc(), SIZE)?;
     let refused = Err(ConnFault::Refused { k: 8, at: 155 });
-    assert_eq!(rt; conn.feed(&bytes, &mut out, &mut steps), refused);
+    must_be(&rt, &conn.feed(&bytes, &mut out, &mut steps), &refused);
     Ok(())
 }

@@ -1,5 +1,6 @@
 ghost use Rattle.std.specs.Prelude.{◌≢◌, []};
 
+use crate::checks::must_be;
 use answer_run::{AnswerFault, run_answer};
 use edge_io::{PlanSink, PlanSource};
 use info_lic::Name;
@@ -138,7 +139,7 @@ fn the_sample_client_is_shown_the_picture(rt: HostRuntime) -> Result<(), Fail> {
     for piece in [1, 7, 904] {
         let texts: [&[u8]; 3] = [&REPLIES, &BLACK, &[]];
         let (answer, same) = serve(rt.alloc(), &ann, [&SAMPLE, &[], &[]], piece, texts)?;
-        assert_eq!(rt; answer, Ok(()));
+        must_be(&rt, &answer, &Ok(()));
         assert!(rt; same);
     }
     Ok(())
@@ -182,7 +183,7 @@ fn services_end_as_their_streams_do(rt: HostRuntime) -> Result<(), Fail> {
     ];
     for (bytes, wanted, texts) in streams {
         let (answer, same) = serve(rt.alloc(), &ann, bytes, 64, texts)?;
-        assert_eq!(rt; answer, wanted);
+        must_be(&rt, &answer, &wanted);
         assert!(rt; same);
     }
     Ok(())
@@ -214,12 +215,12 @@ fn fourteen_changes_of_the_sample_are_refused(rt: HostRuntime) -> Result<(), Fai
         }
         let texts: [&[u8]; 3] = [replies, &[], &REFUSED];
         let (answer, same) = serve(rt.alloc(), &ann, [&bytes, &[], &[]], 64, texts)?;
-        assert_eq!(rt; answer, refused(k, at));
+        must_be(&rt, &answer, &refused(k, at));
         assert!(rt; same);
     }
     let texts: [&[u8]; 3] = [&REPLIES, &BLACK, &REFUSED];
     let (answer, same) = serve(rt.alloc(), &ann, [&SAMPLE, &HALF_AN_INPUT, &[]], 64, texts)?;
-    assert_eq!(rt; answer, refused(14, 952));
+    must_be(&rt, &answer, &refused(14, 952));
     assert!(rt; same);
     Ok(())
 }
@@ -229,7 +230,7 @@ fn a_stranger_is_not_let_in(rt: HostRuntime) -> Result<(), Fail> {
     let bob = Name::new(b"bob");
     let texts: [&[u8]; 3] = [&REPLIES, &[], &REFUSED];
     let (answer, same) = serve(rt.alloc(), &bob, [&SAMPLE, &[4], &[]], 64, texts)?;
-    assert_eq!(rt; answer, Err(AnswerFault::NotInvited));
+    must_be(&rt, &answer, &Err(AnswerFault::NotInvited));
     assert!(rt; same);
     Ok(())
 }
@@ -255,7 +256,7 @@ fn each_read_and_each_write_may_fail(rt: HostRuntime) -> Result<(), Fail> {
                 (false, 1..=4) => Err(AnswerFault::WriteFault),
                 _ => Ok(()),
             };
-            assert_eq!(rt; answer, wanted);
+            must_be(&rt, &answer, &wanted);
         }
     }
     Ok(())

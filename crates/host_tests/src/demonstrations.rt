@@ -1,4 +1,5 @@
 //! Lines that an independent model of the whole session gave.
+use crate::checks::{must_be, must_hold};
 use demo_run::{ScriptFault, run_demo};
 use edge_io::{Keep, PlanSink};
 use std::alloc::Global;
@@ -14,9 +15,10 @@ fn line_of(alloc: Global, seed: u64, steps: u32) -> Result<Keep, Fail> {
 #[test]
 fn no_step_leaves_a_take_of_each_viewer(rt: HostRuntime) -> Result<(), Fail> {
     let output = line_of(rt.alloc(), 1, 0)?;
-    assert_eq!(rt;
+    must_hold(
+        &rt,
         output.bytes(),
-        b"steps 0 entries 36 takes 16 marks 16 orders 16 tiles 0 bytes 1384 refused 0\n".as_slice()
+        b"steps 0 entries 36 takes 16 marks 16 orders 16 tiles 0 bytes 1384 refused 0\n".as_slice(),
     );
     Ok(())
 }
@@ -24,9 +26,10 @@ fn no_step_leaves_a_take_of_each_viewer(rt: HostRuntime) -> Result<(), Fail> {
 #[test]
 fn a_thousand_steps_have_their_counts(rt: HostRuntime) -> Result<(), Fail> {
     let output = line_of(rt.alloc(), 0, 1_000)?;
-    assert_eq!(rt;
+    must_hold(
+        &rt,
         output.bytes(),
-        b"steps 1000 entries 841 takes 204 marks 204 orders 5861 tiles 1865 bytes 8488788 refused 5\n".as_slice()
+        b"steps 1000 entries 841 takes 204 marks 204 orders 5861 tiles 1865 bytes 8488788 refused 5\n".as_slice(),
     );
     Ok(())
 }
@@ -36,7 +39,7 @@ fn a_first_write_that_fails_is_answered(rt: HostRuntime) -> Result<(), Fail> {
     let alloc = rt.alloc();
     let mut output = PlanSink::new(alloc, vec![in alloc; 1; 1]?);
     let answer = run_demo(alloc, 1, 0, &mut output);
-    assert_eq!(rt; answer, Err(ScriptFault::WriteFault));
-    assert_eq!(rt; output.bytes(), b"".as_slice());
+    must_be(&rt, &answer, &Err(ScriptFault::WriteFault));
+    must_hold(&rt, output.bytes(), b"".as_slice());
     Ok(())
 }

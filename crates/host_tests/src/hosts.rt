@@ -2,6 +2,7 @@ ghost use Rattle.std.specs.Prelude.{OnOk, IsTrue};
 ghost use Rattle.px_core.specs.Rectangle.{is_session_size};
 ghost use Rattle.script_host.specs.Runs.{IsInCourse};
 
+use crate::checks::must_hold;
 use caps_sets::preset;
 use px_core::Size;
 use script_host::ScriptHost;
@@ -86,7 +87,8 @@ fn steps_of_several_viewers_have_their_lines(rt: HostRuntime) -> Result<(), Fail
         b"join dan full",
     ];
     let out = lines_of(rt.alloc(), Size { w: 64, h: 48 }, &lines)?;
-    assert_eq!(rt;
+    must_hold(
+        &rt,
         out.as_slice(),
         b"1 joined 64 48 full\n\
 2 joined 64 48 full\n\
@@ -96,7 +98,7 @@ fn steps_of_several_viewers_have_their_lines(rt: HostRuntime) -> Result<(), Fail
 3 left\n\
 1 0300005502f08068000103eb704747001700ea03ea03010000013900020000000000000008000000190a0c4030117f1212c5d5ffffff190b183f0f190a0feeee0b0b116110000011311000ff11611000ff090b20010300002402f08068000103eb701616001700ea03ea030100000108000200000003000000\n\
 0 refused not-invited\n"
-            .as_slice()
+            .as_slice(),
     );
     Ok(())
 }
@@ -127,7 +129,8 @@ fn a_suppressed_viewer_is_sent_nothing(rt: HostRuntime) -> Result<(), Fail> {
         b"take",
     ];
     let out = lines_of(rt.alloc(), Size { w: 64, h: 64 }, &lines)?;
-    assert_eq!(rt;
+    must_hold(
+        &rt,
         out.as_slice(),
         b"1 joined 64 64 full\n\
 1 0300003002f08068000103eb702222001700ea03ea03010000011400020000000000000002000000190a0c40400110ff0300002402f08068000103eb701616001700ea03ea030100000108000200000003000000\n\
@@ -135,7 +138,7 @@ fn a_suppressed_viewer_is_sent_nothing(rt: HostRuntime) -> Result<(), Fail> {
 1 0300003202f08068000103eb702424001700ea03ea0301000001160002000000000000000a000000414141414141414141410300002402f08068000103eb701616001700ea03ea030100000108000200000003000000\n\
 1 0300003e02f08068000103eb703030001700ea03ea030100000122000200000001000100000000003f003f004000400018000104080060200000fff0c00f0300002402f08068000103eb701616001700ea03ea030100000108000200000003000000\n\
 1 nothing\n"
-            .as_slice()
+            .as_slice(),
     );
     Ok(())
 }

@@ -1,3 +1,4 @@
+use crate::checks::{must_be, must_hold};
 use draw_ops::{Drawing, Shape};
 use px_core::{Rect, Size};
 use script_lines::{
@@ -24,7 +25,7 @@ fn drawing_of(alloc: Global, text: &[u8]) -> Result<(u32, Drawing), Fail> {
 fn a_viewers_blit_is_read_with_its_clip(rt: HostRuntime) -> Result<(), Fail> {
     let line = b"@3 blit -2 -1 10 9 cC 7 3 -4 clip 0 1 6 5";
     let (viewer, drawing) = drawing_of(rt.alloc(), line)?;
-    assert_eq!(rt; viewer, 3);
+    must_be(&rt, &viewer, &3);
     let Shape::Blit {
         rect,
         rop,
@@ -35,24 +36,26 @@ fn a_viewers_blit_is_read_with_its_clip(rt: HostRuntime) -> Result<(), Fail> {
     else {
         return Err("it is a blit")?;
     };
-    assert_eq!(rt;
-        rect,
-        Rect {
+    must_be(
+        &rt,
+        &rect,
+        &Rect {
             x: -2,
             y: -1,
             w: 10,
-            h: 9
-        }
+            h: 9,
+        },
     );
-    assert_eq!(rt; (rop, image, sx, sy), (0xCC, 7, 3, -4));
-    assert_eq!(rt;
-        drawing.clip,
-        Some(Rect {
+    must_be(&rt, &(rop, image, sx, sy), &(0xCC, 7, 3, -4));
+    must_be(
+        &rt,
+        &drawing.clip,
+        &Some(Rect {
             x: 0,
             y: 1,
             w: 6,
-            h: 5
-        })
+            h: 5,
+        }),
     );
     Ok(())
 }
@@ -61,7 +64,7 @@ fn a_viewers_blit_is_read_with_its_clip(rt: HostRuntime) -> Result<(), Fail> {
 fn a_text_has_its_glyphs_and_its_clip(rt: HostRuntime) -> Result<(), Fail> {
     let line = b"text 4 5 123456 2 65:0 66:127 clip 0 0 8 8";
     let (viewer, Drawing { shape, clip }) = drawing_of(rt.alloc(), line)?;
-    assert_eq!(rt; viewer, 1);
+    must_be(&rt, &viewer, &1);
     let Shape::Text {
         x,
         y,
@@ -72,17 +75,18 @@ fn a_text_has_its_glyphs_and_its_clip(rt: HostRuntime) -> Result<(), Fail> {
     else {
         return Err("it is a text")?;
     };
-    assert_eq!(rt; (x, y, color, font), (4, 5, 0x12_34_56, 2));
+    must_be(&rt, &(x, y, color, font), &(4, 5, 0x12_34_56, 2));
     assert!(rt; run.pairs().len() == 2);
-    assert_eq!(rt; run.pairs()[1], (66, 127));
-    assert_eq!(rt;
-        clip,
-        Some(Rect {
+    must_be(&rt, &run.pairs()[1], &(66, 127));
+    must_be(
+        &rt,
+        &clip,
+        &Some(Rect {
             x: 0,
             y: 0,
             w: 8,
-            h: 8
-        })
+            h: 8,
+        }),
     );
     Ok(())
 }
@@ -93,8 +97,8 @@ fn one_colour_stands_for_each_pixel_of_an_image(rt: HostRuntime) -> Result<(), F
     let Shape::LoadImage { slot, image } = drawing.shape else {
         return Err("it is an image")?;
     };
-    assert_eq!(rt; (slot, image.w(), image.h()), (5, 2, 3));
-    assert_eq!(rt; image.pixels(), [0x0A_0B_0C; 6].as_slice());
+    must_be(&rt, &(slot, image.w(), image.h()), &(5, 2, 3));
+    must_hold(&rt, image.pixels(), [0x0A_0B_0C; 6].as_slice());
     Ok(())
 }
 
@@ -104,8 +108,8 @@ fn the_rows_of_a_glyph_are_bytes(rt: HostRuntime) -> Result<(), Fail> {
     let Shape::LoadGlyph { font, code, glyph } = drawing.shape else {
         return Err("it is a glyph")?;
     };
-    assert_eq!(rt; (font, code, glyph.x(), glyph.y()), (1, 65, -1, 2));
-    assert_eq!(rt; glyph.bits(), [0xFF, 0x80].as_slice());
+    must_be(&rt, &(font, code, glyph.x(), glyph.y()), &(1, 65, -1, 2));
+    must_hold(&rt, glyph.bits(), [0xFF, 0x80].as_slice());
     Ok(())
 }
 
@@ -115,8 +119,8 @@ fn a_join_keeps_its_preset_words(rt: HostRuntime) -> Result<(), Fail> {
     else {
         return Err("it is a join")?;
     };
-    assert_eq!(rt; name, b"ann".as_slice());
-    assert_eq!(rt; preset, b"full bc2=3,9".as_slice());
+    must_be(&rt, &name, &b"ann".as_slice());
+    must_be(&rt, &preset, &b"full bc2=3,9".as_slice());
     Ok(())
 }
 
@@ -128,13 +132,14 @@ fn a_mouse_event_has_its_flags_first(rt: HostRuntime) -> Result<(), Fail> {
     let ViewerStep::Input { event } = step else {
         return Err("it is an event")?;
     };
-    assert_eq!(rt;
-        event,
-        Event::Mouse {
+    must_be(
+        &rt,
+        &event,
+        &Event::Mouse {
             flags: 0x9000,
             x: 7,
-            y: 8
-        }
+            y: 8,
+        },
     );
     Ok(())
 }
@@ -192,9 +197,10 @@ fn answers_are_written_one_after_the_other(rt: HostRuntime) -> Result<(), Fail> 
         write_answer(rt.alloc(), &mut out, answer)?;
     }
     write_broken(rt.alloc(), &mut out, 12, LineRule::Presence)?;
-    assert_eq!(rt;
+    must_hold(
+        &rt,
         out.as_slice(),
-        b"2 joined 64 48 full cautious\n12 03eb\n1 nothing\n0 refused not-invited\n3 refused not-holder 65535\n1 left\nline 12 rule 7\n".as_slice()
+        b"2 joined 64 48 full cautious\n12 03eb\n1 nothing\n0 refused not-invited\n3 refused not-holder 65535\n1 left\nline 12 rule 7\n".as_slice(),
     );
     Ok(())
 }

@@ -1,5 +1,6 @@
 //! Worked scripts with their captures, which were made apart from this program, and scripts that meet faults.
 
+use crate::checks::{must_be, must_hold};
 use edge_io::{Bytes, Keep, PlanSink, PlanSource};
 use script_run::{ScriptFault, run_script};
 use std::alloc::Global;
@@ -325,8 +326,8 @@ fn run(alloc: Global, script: &[u8]) -> Result<(Result<(), ScriptFault>, Vec<u8>
 fn scripts_of_fills_give_their_captures(rt: HostRuntime) -> Result<(), Fail> {
     for (script, parts, wanted) in FILLS {
         let (answer, capture) = run(rt.alloc(), script)?;
-        assert_eq!(rt; answer, wanted);
-        assert_eq!(rt; capture, joined(rt.alloc(), parts)?);
+        must_be(&rt, &answer, &wanted);
+        must_be(&rt, &capture, &joined(rt.alloc(), parts)?);
     }
     Ok(())
 }
@@ -335,8 +336,8 @@ fn scripts_of_fills_give_their_captures(rt: HostRuntime) -> Result<(), Fail> {
 fn scripts_of_drawings_give_their_captures(rt: HostRuntime) -> Result<(), Fail> {
     for (script, parts, wanted) in DRAWINGS {
         let (answer, capture) = run(rt.alloc(), script)?;
-        assert_eq!(rt; answer, wanted);
-        assert_eq!(rt; capture, joined(rt.alloc(), parts)?);
+        must_be(&rt, &answer, &wanted);
+        must_be(&rt, &capture, &joined(rt.alloc(), parts)?);
     }
     Ok(())
 }
@@ -345,8 +346,8 @@ fn scripts_of_drawings_give_their_captures(rt: HostRuntime) -> Result<(), Fail> 
 fn scripts_of_several_viewers_give_their_captures(rt: HostRuntime) -> Result<(), Fail> {
     for (script, parts, wanted) in VIEWERS {
         let (answer, capture) = run(rt.alloc(), script)?;
-        assert_eq!(rt; answer, wanted);
-        assert_eq!(rt; capture, joined(rt.alloc(), parts)?);
+        must_be(&rt, &answer, &wanted);
+        must_be(&rt, &capture, &joined(rt.alloc(), parts)?);
     }
     Ok(())
 }
@@ -371,7 +372,7 @@ fn past_256_fills_a_take_sends_the_tile(rt: HostRuntime) -> Result<(), Fail> {
     let mut wanted = joined(alloc, &[JOINED, FIRST, MANY_HEAD])?;
     repeat(&mut wanted, b"41", 255)?;
     wanted.extend_from_slice(MARK)?;
-    assert_eq!(rt; run(alloc, &script)?, (Ok(()), wanted.clone()?));
+    must_be(&rt, &run(alloc, &script)?, &(Ok(()), wanted.clone()?));
     repeat(&mut script, PIXEL, 257)?;
     script.extend_from_slice(b"take\n")?;
     wanted.extend_from_slice(TILE_HEAD)?;
@@ -379,7 +380,7 @@ fn past_256_fills_a_take_sends_the_tile(rt: HostRuntime) -> Result<(), Fail> {
     wanted.extend_from_slice(b"010000")?;
     repeat(&mut wanted, b"000000", 63)?;
     wanted.extend_from_slice(MARK)?;
-    assert_eq!(rt; run(alloc, &script)?, (Ok(()), wanted));
+    must_be(&rt, &run(alloc, &script)?, &(Ok(()), wanted));
     Ok(())
 }
 
@@ -399,7 +400,7 @@ fn a_restore_after_a_jump_sends_the_tile(rt: HostRuntime) -> Result<(), Fail> {
     repeat(&mut script, PIXEL, 257)?;
     script.extend_from_slice(b"take\nrestore 0 0 0\ntake\n")?;
     let wanted = joined(alloc, &[JOINED_FULL, FIRST, JUMPED, MARK, RESTORED, MARK])?;
-    assert_eq!(rt; run(alloc, &script)?, (Ok(()), wanted));
+    must_be(&rt, &run(alloc, &script)?, &(Ok(()), wanted));
     Ok(())
 }
 
@@ -430,22 +431,22 @@ fn each_failing_read_leaves_the_capture_of_the_lines_before_it(
         );
         let mut output = Keep::new(alloc);
         match run_script(alloc, &mut input, &mut output) {
-            Ok(()) => assert_eq!(rt; output.bytes(), whole.as_slice()),
+            Ok(()) => must_hold(&rt, output.bytes(), whole.as_slice()),
             fault => {
                 reads = call;
-                assert_eq!(rt; fault, Err(ScriptFault::ReadFault));
+                must_be(&rt, &fault, &Err(ScriptFault::ReadFault));
                 // The first two lines are the first 16 bytes, which six reads give, and the whole script fifteen.
                 let wanted = match call {
                     1..7 => b"".as_slice(),
                     7..16 => first.as_slice(),
                     _ => whole.as_slice(),
                 };
-                assert_eq!(rt; output.bytes(), wanted);
+                must_hold(&rt, output.bytes(), wanted);
             }
         }
     }
     // Sixteen reads give 44 bytes in pieces of 3, and the last one tells the end.
-    assert_eq!(rt; reads, 16);
+    must_be(&rt, &reads, &16);
     Ok(())
 }
 
@@ -458,16 +459,16 @@ fn each_failing_write_leaves_a_front_of_the_capture(rt: HostRuntime) -> Result<(
         let mut input = Bytes::new(TWO_FRAMES.to_vec(alloc)?, Vec::new(alloc));
         let mut output = PlanSink::new(alloc, vec![in alloc; call; 1]?);
         match run_script(alloc, &mut input, &mut output) {
-            Ok(()) => assert_eq!(rt; output.bytes(), whole.as_slice()),
+            Ok(()) => must_hold(&rt, output.bytes(), whole.as_slice()),
             fault => {
                 writes = call;
-                assert_eq!(rt; fault, Err(ScriptFault::WriteFault));
+                must_be(&rt, &fault, &Err(ScriptFault::WriteFault));
                 assert!(rt; whole.starts_with(output.bytes()));
             }
         }
     }
     // One write for each line of the capture.
-    assert_eq!(rt; writes, 3);
+    must_be(&rt, &writes, &3);
     Ok(())
 }
 
@@ -480,7 +481,7 @@ fn each_fault_has_its_text(rt: HostRuntime) -> Result<(), Fail> {
         (ScriptFault::OutOfMemory, "out of memory"),
     ];
     for (fault, text) in texts {
-        assert_eq!(rt; fault.to_string(rt.alloc())?.as_str(), text);
+        must_be(&rt, &fault.to_string(rt.alloc())?.as_str(), &text);
     }
     Ok(())
 }
@@ -509,7 +510,7 @@ const BROKEN: [(&[u8], u32, u8); 8] = [
 fn a_broken_line_is_named_with_its_least_rule(rt: HostRuntime) -> Result<(), Fail> {
     for (script, k, rule) in BROKEN {
         let (answer, _) = run(rt.alloc(), script)?;
-        assert_eq!(rt; answer, Err(ScriptFault::Line { k, rule }));
+        must_be(&rt, &answer, &Err(ScriptFault::Line { k, rule }));
     }
     Ok(())
 }

@@ -1,4 +1,5 @@
 //! Cache orders as they stand in captures, and a brush by its layout.
+use crate::checks::{must_be, must_hold};
 use draw_ops::{Brush, Glyph, Image};
 use order_second::{cache_bitmap, cache_brush, cache_glyph, frame_marker};
 use std::test::Fail;
@@ -14,7 +15,7 @@ fn an_image_of_three_columns_goes_with_a_fourth(rt: HostRuntime) -> Result<(), F
         0x0C, 0x00, 0x05, 0x00, // length, cacheIndex
         0x01, 0x00, 0x00, 0x00, 0x02, 0x00, 0x00, 0x00, 0x03, 0x00, 0x00, 0x03, // blue, green, red of each
     ];
-    assert_eq!(rt; out.as_slice(), wanted);
+    must_hold(&rt, out.as_slice(), wanted);
     Ok(())
 }
 
@@ -29,7 +30,7 @@ fn a_glyph_is_padded_to_four_bytes(rt: HostRuntime) -> Result<(), Fail> {
         0x00, 0x00, 0x00, 0x00, 0x08, 0x00, 0x01, 0x00, // x, y, cx, cy
         0xFF, 0x00, 0x00, 0x00, // the bits
     ];
-    assert_eq!(rt; out.as_slice(), wanted);
+    must_hold(&rt, out.as_slice(), wanted);
     Ok(())
 }
 
@@ -45,9 +46,13 @@ fn a_brush_has_its_lowest_row_first(rt: HostRuntime) -> Result<(), Fail> {
         0x02, 0x05, 0x08, 0x08, 0x00, 0xC0, // cacheEntry, iBitmapFormat, cx, cy, style, iBytes
     ];
     assert!(rt; out.as_slice().starts_with(head));
-    assert_eq!(rt; out.len(), 204);
+    must_be(&rt, &out.len(), &204);
     // The first pixel of the top row begins the last row: 12 bytes of head and seven rows of 24 bytes before it.
-    assert_eq!(rt; out.get(180..183), Some([0x03, 0x02, 0x01].as_slice()));
+    must_be(
+        &rt,
+        &out.get(180..183),
+        &Some([0x03, 0x02, 0x01].as_slice()),
+    );
     Ok(())
 }
 
@@ -57,6 +62,6 @@ fn a_frame_begins_and_ends_with_a_marker(rt: HostRuntime) -> Result<(), Fail> {
     frame_marker(&mut out, false)?;
     frame_marker(&mut out, true)?;
     let wanted: &[u8] = &[0x36, 0x00, 0x00, 0x00, 0x00, 0x36, 0x01, 0x00, 0x00, 0x00];
-    assert_eq!(rt; out.as_slice(), wanted);
+    must_hold(&rt, out.as_slice(), wanted);
     Ok(())
 }

@@ -1,4 +1,5 @@
 //! Each order's bytes as a host writes them, against registers that a black surface left, or that are zero.
+use crate::checks::must_hold;
 use order_fields::{Regs, write_order};
 use order_prim::{
     dst_blt, glyph_index, mem_blt, mem3_blt, opaque_rect, pat_blt, save_bitmap, scr_blt,
@@ -52,7 +53,7 @@ fn a_copy_has_its_source_behind_its_operation(rt: HostRuntime) -> Result<(), Fai
         0x1D, 0x02, 0x1E, 0xF0, 0x08, 0x08, 0x17, 0x17, // ScrBlt, its flags, and four edges as deltas
         0x01, 0x40, 0x2F, 0xCC, // top, width, height, rop
     ];
-    assert_eq!(rt; out.as_slice(), wanted);
+    must_hold(&rt, out.as_slice(), wanted);
     Ok(())
 }
 
@@ -85,7 +86,7 @@ fn a_saved_rectangle_has_its_last_column_and_row(rt: HostRuntime) -> Result<(), 
         0x19, 0x0B, 0x18, 0x09, 0x09, // right and bottom as deltas
         0x01, 0x20, 0x01, // the operation alone
     ];
-    assert_eq!(rt; out.as_slice(), wanted);
+    must_hold(&rt, out.as_slice(), wanted);
     Ok(())
 }
 
@@ -108,7 +109,7 @@ fn a_cached_image_has_its_cache_first_and_its_entry_last(rt: HostRuntime) -> Res
         true,
     )?;
     let wanted: &[u8] = &[0x59, 0x0D, 0x39, 0x02, 0x00, 0x40, 0x40, 0xCC];
-    assert_eq!(rt; out.as_slice(), wanted);
+    must_hold(&rt, out.as_slice(), wanted);
     Ok(())
 }
 
@@ -140,7 +141,7 @@ fn a_run_of_glyphs_has_its_area_and_its_pairs(rt: HostRuntime) -> Result<(), Fai
         0x04, 0x00, 0x05, 0x00, // the pen
         0x06, 0x00, 0x00, 0x01, 0x08, 0x02, 0x08, // the pairs behind their count
     ];
-    assert_eq!(rt; out.as_slice(), wanted);
+    must_hold(&rt, out.as_slice(), wanted);
     Ok(())
 }
 
@@ -164,6 +165,6 @@ fn a_brush_is_its_style_and_its_entry(rt: HostRuntime) -> Result<(), Fail> {
         0x59, 0x0E, 0x79, 0xB0, 0x01, 0x00, 0x10, 0x08, 0xCA, 0x02, // Mem3Blt: cacheId, width, height, rop, nXSrc
         0x85, 0x03, 0x07, 0x00, // style, hatch, cacheIndex
     ];
-    assert_eq!(rt; out.as_slice(), wanted);
+    must_hold(&rt, out.as_slice(), wanted);
     Ok(())
 }

@@ -1,3 +1,4 @@
+use crate::checks::{must_be, must_hold};
 use order_fields::{Fields, Regs, write_bounds, write_order};
 use px_core::Rect;
 use std::test::Fail;
@@ -23,7 +24,7 @@ fn fills_say_only_what_changed(rt: HostRuntime) -> Result<(), Fail> {
         0x41, // nothing changed
         0x01, 0x03, 0x8A, 0x00, 0x15, 0x00, // left and top absolute
     ];
-    assert_eq!(rt; out.as_slice(), wanted);
+    must_hold(&rt, out.as_slice(), wanted);
     Ok(())
 }
 
@@ -50,7 +51,7 @@ fn bounds_are_omitted_where_they_are_the_last_ones(rt: HostRuntime) -> Result<()
         0x65, // the last bounds
         0x45, 0x00, // the same for a viewer without zero bounds deltas
     ];
-    assert_eq!(rt; out.as_slice(), wanted);
+    must_hold(&rt, out.as_slice(), wanted);
     Ok(())
 }
 
@@ -78,11 +79,11 @@ fn a_run_has_its_counted_bytes(rt: HostRuntime) -> Result<(), Fail> {
         0x04, 0x00, 0x05, 0x00, // x, y
         0x06, 0x00, 0x00, 0x01, 0x08, 0x02, 0x08, // the counted bytes
     ];
-    assert_eq!(rt; out.as_slice(), wanted);
-    assert_eq!(rt; run.kind(), 0x1B);
-    assert_eq!(rt; run.value(4), 0xFFFFFF);
+    must_hold(&rt, out.as_slice(), wanted);
+    must_be(&rt, &run.kind(), &0x1B);
+    must_be(&rt, &run.value(4), &0xFFFFFF);
     let counted: &[u8] = &[0, 0, 1, 8, 2, 8];
-    assert_eq!(rt; run.bytes(), counted);
+    must_hold(&rt, run.bytes(), counted);
     Ok(())
 }
 
@@ -100,6 +101,6 @@ fn bounds_are_written_by_themselves(rt: HostRuntime) -> Result<(), Fail> {
     write_bounds(&mut out, &mut regs, clip, true)?;
     // left and right moved, top and bottom absolute; then nothing
     let wanted: &[u8] = &[0x5A, 0x08, 0xC8, 0x00, 0x17, 0xF3, 0x01];
-    assert_eq!(rt; out.as_slice(), wanted);
+    must_hold(&rt, out.as_slice(), wanted);
     Ok(())
 }

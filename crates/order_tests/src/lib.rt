@@ -6,6 +6,8 @@
 #[cfg(test)]
 mod cache_orders;
 #[cfg(test)]
+mod checks;
+#[cfg(test)]
 mod drawing_orders;
 #[cfg(test)]
 mod last_values;

@@ -1,3 +1,4 @@
+use crate::checks::{must_be, must_hold};
 use order_fields::Regs;
 use order_read::{OrderFault, Read, read_orders};
 use px_core::Rect;
@@ -23,15 +24,15 @@ fn fills_are_read_over_the_last_ones(rt: HostRuntime) -> Result<(), Fail> {
     ];
     for (body, values) in updates.iter() {
         let reads = read_orders(rt.alloc(), body, 1, &mut regs)?;
-        assert_eq!(rt; reads.len(), 1);
+        must_be(&rt, &reads.len(), &1);
         match reads.first() {
             Some(Read::Primary { fields, bounds }) => {
-                assert_eq!(rt; fields.kind(), 0x0A);
-                assert_eq!(rt; *bounds, None);
+                must_be(&rt, &fields.kind(), &0x0A);
+                must_be(&rt, bounds, &None);
             }
             _ => assert!(rt; false),
         }
-        assert_eq!(rt; regs.last_values(0x0A), values.as_slice());
+        must_hold(&rt, regs.last_values(0x0A), values.as_slice());
     }
     Ok(())
 }
@@ -53,19 +54,20 @@ fn bounds_are_rectangles(rt: HostRuntime) -> Result<(), Fail> {
         0x45, 0x00,
     ];
     let reads = read_orders(rt.alloc(), &body, 3, &mut regs)?;
-    assert_eq!(rt; reads.len(), 3);
+    must_be(&rt, &reads.len(), &3);
     for read in &reads {
         match read {
             Read::Primary { fields, bounds } => {
-                assert_eq!(rt; fields.kind(), 0x02);
-                assert_eq!(rt; *bounds, clip);
+                must_be(&rt, &fields.kind(), &0x02);
+                must_be(&rt, bounds, &clip);
             }
             _ => assert!(rt; false),
         }
     }
-    assert_eq!(rt;
+    must_hold(
+        &rt,
         regs.last_values(0x02),
-        [0, 0, 64, 47, 0xCC, 0, 1].as_slice()
+        [0, 0, 64, 47, 0xCC, 0, 1].as_slice(),
     );
     Ok(())
 }
@@ -85,7 +87,7 @@ fn bounds_in_the_wrong_order_are_an_empty_rectangle(rt: HostRuntime) -> Result<(
                 w: 0,
                 h: 1,
             });
-            assert_eq!(rt; *bounds, empty);
+            must_be(&rt, bounds, &empty);
         }
         _ => assert!(rt; false),
     }
@@ -108,7 +110,7 @@ fn cache_orders_and_markers_are_told(rt: HostRuntime) -> Result<(), Fail> {
         0x36, 0x01, 0x00, 0x00, 0x00,
     ];
     let reads = read_orders(rt.alloc(), &body, 4, &mut regs)?;
-    assert_eq!(rt; reads.len(), 5);
+    must_be(&rt, &reads.len(), &5);
     match reads.first() {
         Some(
             Read::Glyph {
@@ -117,10 +119,10 @@ fn cache_orders_and_markers_are_told(rt: HostRuntime) -> Result<(), Fail> {
                 glyph,
             },
         ) => {
-            assert_eq!(rt; (*cache, *index), (1, 5));
-            assert_eq!(rt; (glyph.x(), glyph.y()), (-1, 2));
-            assert_eq!(rt; (glyph.cx(), glyph.cy()), (8, 1));
-            assert_eq!(rt; glyph.bits(), [0xF0, 0, 0, 0].as_slice());
+            must_be(&rt, &(*cache, *index), &(1, 5));
+            must_be(&rt, &(glyph.x(), glyph.y()), &(-1, 2));
+            must_be(&rt, &(glyph.cx(), glyph.cy()), &(8, 1));
+            must_hold(&rt, glyph.bits(), [0xF0, 0, 0, 0].as_slice());
         }
         _ => assert!(rt; false),
     }
@@ -137,16 +139,16 @@ fn cache_orders_and_markers_are_told(rt: HostRuntime) -> Result<(), Fail> {
                 at,
             },
         ) => {
-            assert_eq!(rt; (*cache, *index), (2, 7));
-            assert_eq!(rt; (*w, *h, *depth), (4, 1, 24));
-            assert_eq!(rt; (*flags, *packed), (0x0400, true));
-            assert_eq!(rt; *at, Range { from: 51, to: 53 });
+            must_be(&rt, &(*cache, *index), &(2, 7));
+            must_be(&rt, &(*w, *h, *depth), &(4, 1, 24));
+            must_be(&rt, &(*flags, *packed), &(0x0400, true));
+            must_be(&rt, at, &Range { from: 51, to: 53 });
         }
         _ => assert!(rt; false),
     }
     match (reads.get(3), reads.get(4)) {
         (Some(Read::Marker { end: begins }), Some(Read::Marker { end: ends })) => {
-            assert_eq!(rt; (*begins, *ends), (false, true));
+            must_be(&rt, &(*begins, *ends), &(false, true));
         }
         _ => assert!(rt; false),
     }
@@ -170,9 +172,9 @@ fn brush_has_its_rows_from_the_top(rt: HostRuntime) -> Result<(), Fail> {
     let reads = read_orders(rt.alloc(), &body, 1, &mut regs)?;
     match reads.first() {
         Some(Read::Brush { entry, brush }) => {
-            assert_eq!(rt; *entry, 63);
-            assert_eq!(rt; brush.pixels()[56], 0x123456);
-            assert_eq!(rt; brush.pixels()[0], 0);
+            must_be(&rt, entry, &63);
+            must_be(&rt, &brush.pixels()[56], &0x123456);
+            must_be(&rt, &brush.pixels()[0], &0);
         }
         _ => assert!(rt; false),
     }
@@ -216,7 +218,7 @@ fn refusals_stand_at_their_fields(rt: HostRuntime) -> Result<(), Fail> {
         let mut regs = Regs::new();
         match read_orders(rt.alloc(), body, *count, &mut regs) {
             Ok(_) => assert!(rt; false),
-            Err(fault) => assert_eq!(rt; fault, OrderFault::BadOrder { at: *at }),
+            Err(fault) => must_be(&rt, &fault, &OrderFault::BadOrder { at: *at }),
         }
     }
     Ok(())
@@ -229,9 +231,13 @@ fn registers_are_those_after_the_last_whole_order(rt: HostRuntime) -> Result<(),
     let body = [0x19, 0x0A, 0x0C, 0x40, 0x30, 0x01, 0x01, 0x05];
     match read_orders(rt.alloc(), &body, 2, &mut regs) {
         Ok(_) => assert!(rt; false),
-        Err(fault) => assert_eq!(rt; fault, OrderFault::BadOrder { at: 7 }),
+        Err(fault) => must_be(&rt, &fault, &OrderFault::BadOrder { at: 7 }),
     }
-    assert_eq!(rt; regs.last_kind(), 0x0A);
-    assert_eq!(rt; regs.last_values(0x0A), [0, 0, 64, 48, 0, 0, 0].as_slice());
+    must_be(&rt, &regs.last_kind(), &0x0A);
+    must_hold(
+        &rt,
+        regs.last_values(0x0A),
+        [0, 0, 64, 48, 0, 0, 0].as_slice(),
+    );
     Ok(())
 }

@@ -1,3 +1,4 @@
+use crate::checks::{must_be, must_hold};
 use bitmap_upd::{TileBody, write_tile};
 use px_core::Rect;
 use std::test::Fail;
@@ -22,7 +23,7 @@ fn a_tile_of_one_colour_is_packed(rt: HostRuntime) -> Result<(), Fail> {
         0x01, 0x04, 0x08, 0x00, // flags, bitmapLength
         0x60, 0x20, 0x00, 0x00, 0xFF, 0xF0, 0xC0, 0x0F, // the packed pixels
     ];
-    assert_eq!(rt; out.as_slice(), wanted);
+    must_hold(&rt, out.as_slice(), wanted);
     Ok(())
 }
 
@@ -47,7 +48,7 @@ fn raw_pixels_go_from_the_bottom_row_up(rt: HostRuntime) -> Result<(), Fail> {
         0xC0, 0xB0, 0xA0, 0, 0, 0, 0, 0, 0, 0xFF, 0, 0, // the bottom row
         0x03, 0x02, 0x01, 0, 0, 0, 0, 0, 0, 0, 0, 0, // the top row
     ];
-    assert_eq!(rt; out.as_slice(), wanted);
-    assert_eq!(rt; body.size(), 46);
+    must_hold(&rt, out.as_slice(), wanted);
+    must_be(&rt, &body.size(), &46);
     Ok(())
 }

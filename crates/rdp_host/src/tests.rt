@@ -8,6 +8,7 @@ use crate::words::words as command_words;
 use edge_io::{Bytes, Keep, PlanGate, PlanSink, PlanSource};
 use std::alloc::Global;
 use std::env::{Env, FillError};
+use std::process::Abort;
 use std::sync::Wait;
 use std::test::Fail;
 use std::thread::Threads;
@@ -50,17 +51,65 @@ fn words(alloc: Global, mode: &str) -> Result<Vec<String>, Fail> {
     words_of(alloc, &[mode])
 }
 
+/// The status of a command whose input comes as it is asked for, and what it writes.
+fn run<R: Threads + Wait + Sync>(
+    rt: &R,
+    alloc: Global,
+    words: &[String],
+    bytes: &[u8],
+) -> Result<(u8, Vec<u8>), Fail> {
+    let mut input = Bytes::new(bytes.to_vec(alloc)?, Vec::new(alloc));
+    let mut output = Keep::new(alloc);
+    let mut gate = PlanGate::new(alloc, Vec::new(alloc), Vec::new(alloc))?;
+    let status = top(rt, alloc, words, &mut input, &mut output, &mut gate);
+    Ok((status, output.bytes().to_vec(alloc)?))
+}
+
+/// The status of a command whose first write fails.
+fn run_unwritten<R: Threads + Wait + Sync>(
+    rt: &R,
+    alloc: Global,
+    words: &[String],
+    bytes: &[u8],
+) -> Result<u8, Fail> {
+    let mut input = Bytes::new(bytes.to_vec(alloc)?, Vec::new(alloc));
+    let mut output = PlanSink::new(alloc, vec![in alloc; 1; 1]?);
+    let mut gate = PlanGate::new(alloc, Vec::new(alloc), Vec::new(alloc))?;
+    Ok(top(rt, alloc, words, &mut input, &mut output, &mut gate))
+}
+
+/// The status of a command whose first read fails.
+fn run_unread<R: Threads + Wait + Sync>(
+    rt: &R,
+    alloc: Global,
+    words: &[String],
+    bytes: &[u8],
+) -> Result<u8, Fail> {
+    let first = vec![in alloc; 1; 1]?;
+    let mut input = PlanSource::new(bytes.to_vec(alloc)?, Vec::new(alloc), first);
+    let mut output = Keep::new(alloc);
+    let mut gate = PlanGate::new(alloc, Vec::new(alloc), Vec::new(alloc))?;
+    Ok(top(rt, alloc, words, &mut input, &mut output, &mut gate))
+}
+
+/// A command ended with this status, and wrote this.
+fn must_end(rt: &impl Abort, ended: &(u8, Vec<u8>), status: u8, written: &[u8]) {
+    assert_eq!(rt; ended.0, status);
+    assert_eq!(rt; ended.1.as_slice(), written);
+}
+
+/// A command ended with this status.
+fn must_answer(rt: &impl Abort, found: u8, status: u8) {
+    assert_eq!(rt; found, status);
+}
+
 #[test]
 fn worked_scripts_give_their_captures_and_statuses(rt: HostRuntime) -> Result<(), Fail> {
     let alloc = rt.alloc();
     let words = words(alloc, "script")?;
     for (script, parts, status) in WORKED {
-        let mut input = Bytes::new(script.to_vec(alloc)?, Vec::new(alloc));
-        let mut output = Keep::new(alloc);
-        let mut gate = PlanGate::new(alloc, Vec::new(alloc), Vec::new(alloc))?;
-        let answer = top(&rt, alloc, &words, &mut input, &mut output, &mut gate);
-        assert_eq!(rt; answer, status);
-        assert_eq!(rt; output.bytes(), joined(alloc, parts)?.as_slice());
+        let ended = run(&rt, alloc, &words, script)?;
+        must_end(&rt, &ended, status, &joined(alloc, parts)?);
     }
     Ok(())
 }
@@ -72,17 +121,8 @@ const ONE_FRAME: &[u8] = b"size 64 48\ntake\n";
 fn a_first_read_or_write_that_fails_gives_its_status(rt: HostRuntime) -> Result<(), Fail> {
     let alloc = rt.alloc();
     let words = words(alloc, "script")?;
-    let first = vec![in alloc; 1; 1]?;
-    let mut input = PlanSource::new(ONE_FRAME.to_vec(alloc)?, Vec::new(alloc), first);
-    let mut output = Keep::new(alloc);
-    let mut gate = PlanGate::new(alloc, Vec::new(alloc), Vec::new(alloc))?;
-    let answer = top(&rt, alloc, &words, &mut input, &mut output, &mut gate);
-    assert_eq!(rt; answer, 4);
-    let mut input = Bytes::new(ONE_FRAME.to_vec(alloc)?, Vec::new(alloc));
-    let mut output = PlanSink::new(alloc, vec![in alloc; 1; 1]?);
-    let mut gate = PlanGate::new(alloc, Vec::new(alloc), Vec::new(alloc))?;
-    let answer = top(&rt, alloc, &words, &mut input, &mut output, &mut gate);
-    assert_eq!(rt; answer, 5);
+    must_answer(&rt, run_unread(&rt, alloc, &words, ONE_FRAME)?, 4);
+    must_answer(&rt, run_unwritten(&rt, alloc, &words, ONE_FRAME)?, 5);
     Ok(())
 }
 
@@ -94,15 +134,8 @@ const NO_STEPS: &[u8] =
 fn a_demonstration_gives_the_line_of_its_counts(rt: HostRuntime) -> Result<(), Fail> {
     let alloc = rt.alloc();
     let words = words_of(alloc, &["demo", "1", "0"])?;
-    let mut input = Bytes::new(ONE_FRAME.to_vec(alloc)?, Vec::new(alloc));
-    let mut output = Keep::new(alloc);
-    let mut gate = PlanGate::new(alloc, Vec::new(alloc), Vec::new(alloc))?;
-    let answer = top(&rt, alloc, &words, &mut input, &mut output, &mut gate);
-    assert_eq!(rt; answer, 0);
-    assert_eq!(rt; output.bytes(), NO_STEPS);
-    let mut output = PlanSink::new(alloc, vec![in alloc; 1; 1]?);
-    let answer = top(&rt, alloc, &words, &mut input, &mut output, &mut gate);
-    assert_eq!(rt; answer, 5);
+    must_end(&rt, &run(&rt, alloc, &words, &[])?, 0, NO_STEPS);
+    must_answer(&rt, run_unwritten(&rt, alloc, &words, &[])?, 5);
     Ok(())
 }
 
@@ -121,12 +154,7 @@ fn other_words_give_the_usage_line(rt: HostRuntime) -> Result<(), Fail> {
     ];
     for list in lists {
         let words = words_of(alloc, list)?;
-        let mut input = Bytes::new(ONE_FRAME.to_vec(alloc)?, Vec::new(alloc));
-        let mut output = Keep::new(alloc);
-        let mut gate = PlanGate::new(alloc, Vec::new(alloc), Vec::new(alloc))?;
-        let answer = top(&rt, alloc, &words, &mut input, &mut output, &mut gate);
-        assert_eq!(rt; answer, 2);
-        assert_eq!(rt; output.bytes(), USAGE);
+        must_end(&rt, &run(&rt, alloc, &words, ONE_FRAME)?, 2, USAGE);
     }
     Ok(())
 }
@@ -134,12 +162,7 @@ fn other_words_give_the_usage_line(rt: HostRuntime) -> Result<(), Fail> {
 #[test]
 fn no_words_at_all_give_the_usage_line(rt: HostRuntime) -> Result<(), Fail> {
     let alloc = rt.alloc();
-    let mut input = Bytes::new(ONE_FRAME.to_vec(alloc)?, Vec::new(alloc));
-    let mut output = Keep::new(alloc);
-    let mut gate = PlanGate::new(alloc, Vec::new(alloc), Vec::new(alloc))?;
-    let answer = top(&rt, alloc, &[], &mut input, &mut output, &mut gate);
-    assert_eq!(rt; answer, 2);
-    assert_eq!(rt; output.bytes(), USAGE);
+    must_end(&rt, &run(&rt, alloc, &[], ONE_FRAME)?, 2, USAGE);
     Ok(())
 }
 
@@ -203,12 +226,7 @@ fn a_client_is_answered_by_its_stream(rt: HostRuntime) -> Result<(), Fail> {
         ),
     ];
     for (bytes, wanted, status) in streams {
-        let mut input = Bytes::new(bytes.to_vec(alloc)?, Vec::new(alloc));
-        let mut output = Keep::new(alloc);
-        let mut gate = PlanGate::new(alloc, Vec::new(alloc), Vec::new(alloc))?;
-        let answer = top(&rt, alloc, &words, &mut input, &mut output, &mut gate);
-        assert_eq!(rt; answer, status);
-        assert_eq!(rt; output.bytes(), wanted);
+        must_end(&rt, &run(&rt, alloc, &words, bytes)?, status, wanted);
     }
     Ok(())
 }
@@ -267,6 +285,11 @@ fn serve<R: Threads + Wait + Sync>(
     Ok((status, output.bytes().ends_with(&shown)))
 }
 
+/// A client was served to the end of its stream, and was shown what it should be.
+fn must_be_served(rt: &impl Abort, served: (u8, bool)) {
+    assert_eq!(rt; served, (0, true));
+}
+
 #[test]
 fn real_clients_are_shown_the_picture(rt: HostRuntime) -> Result<(), Fail> {
     let words = words_of(rt.alloc(), &["answer", "512", "384", "ann"])?;
@@ -280,7 +303,7 @@ fn real_clients_are_shown_the_picture(rt: HostRuntime) -> Result<(), Fail> {
     for (stream, first, more) in streams {
         for piece in [1, stream.len()] {
             let served = serve(&rt, rt.alloc(), &words, stream, piece, first, more)?;
-            assert_eq!(rt; served, (0, true));
+            must_be_served(&rt, served);
         }
     }
     Ok(())

@@ -1,4 +1,5 @@
 //! Packets as they stand in captures, and uses of caches that were worked out by hand.
+use super::checks::must_hold;
 use cache_plan::Use;
 use caps_sets::{CacheSize, Caches3, Caches10, Confirmed};
 use frame_write::{Caches, FrameWriter, Updates};
@@ -55,7 +56,7 @@ fn two_orders_go_in_one_update_and_the_mark_in_its_own(rt: HostRuntime) -> Resul
         0x08, 0x00, 0x02, 0x00, 0x00, 0x00, // share data
         0x03, 0x00, 0x00, 0x00, // synchronize
     ];
-    assert_eq!(rt; packets.as_slice(), wanted);
+    must_hold(&rt, packets.as_slice(), wanted);
     Ok(())
 }
 
@@ -80,7 +81,7 @@ fn a_red_tile_is_one_packet(rt: HostRuntime) -> Result<(), Fail> {
         0x40, 0x00, 0x40, 0x00, 0x18, 0x00, 0x01, 0x04, 0x08, 0x00, // sides, depth, flags, length
         0x60, 0x20, 0x00, 0x00, 0xFF, 0xF0, 0xC0, 0x0F, // the packed pixels
     ];
-    assert_eq!(rt; packets.as_slice(), wanted);
+    must_hold(&rt, packets.as_slice(), wanted);
     Ok(())
 }
 
@@ -119,6 +120,6 @@ fn a_frame_marker_is_an_order_of_the_frame(rt: HostRuntime) -> Result<(), Fail> 
         0x00, 0x00, 0x00, 0x00, 0x01, 0x00, 0x00, 0x00, // orders, one
         0x36, 0x01, 0x00, 0x00, 0x00, // the marker
     ];
-    assert_eq!(rt; packets.as_slice(), wanted);
+    must_hold(&rt, packets.as_slice(), wanted);
     Ok(())
 }

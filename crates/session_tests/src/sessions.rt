@@ -8,6 +8,7 @@ ghost use Rattle.session_core.specs.Heads.{rows_of};
 ghost use Rattle.session_tests.specs.ManyRows.{numbered_rows};
 ghost use Rattle.session_core.specs.SessionModel.{AreInvited};
 
+use super::checks::must_be;
 use draw_ops::{Drawing, Image, Shape};
 use info_lic::Name;
 use input_events::Event;
@@ -72,8 +73,8 @@ fn opened(alloc: Global) -> Result<Session, OutOfMemory> {
 /// A session that ann has joined as viewer 1, and ben as viewer 2. Ann holds control.
 fn with_two(rt: &impl Abort, alloc: Global) -> Result<Session, OutOfMemory> {
     let mut session = opened(alloc)?;
-    assert!(rt; join(&mut session, &Name::new(b"ann")) == Ok(1));
-    assert!(rt; join(&mut session, &Name::new(b"ben")) == Ok(2));
+    must_join(rt, &mut session, &Name::new(b"ann"), 1);
+    must_join(rt, &mut session, &Name::new(b"ben"), 2);
     Ok(session)
 }
 
@@ -98,6 +99,45 @@ fn draw(rt: &impl Abort, session: &mut Session, v: u32, shape: Shape) -> Result<
     session.draw(v, Drawing { shape, clip: None })
 }
 
+/// Someone joins as viewer v.
+fn must_join(rt: &impl Abort, session: &mut Session, name: &Name, v: u32) {
+    assert!(rt; join(session, name) == Ok(v));
+}
+
+/// Someone may not join.
+fn must_stay_out(rt: &impl Abort, session: &mut Session, name: &Name, fault: JoinFault) {
+    assert!(rt; join(session, name) == Err(fault));
+}
+
+/// A viewer's drawing is drawn.
+fn must_draw(rt: &impl Abort, session: &mut Session, v: u32, shape: Shape)
+    requires { are_colors (colors_of shape) ≡ true }
+{
+    assert!(rt; draw(rt, session, v, shape) == Ok(()));
+}
+
+/// A viewer's drawing is refused so.
+fn must_refuse(rt: &impl Abort, session: &mut Session, v: u32, shape: Shape, why: DrawRefusal)
+    requires { are_colors (colors_of shape) ≡ true }
+{
+    assert!(rt; draw(rt, session, v, shape) == Err(why));
+}
+
+/// A viewer's input is taken.
+fn must_take(rt: &impl Abort, session: &mut Session, v: u32, e: Event) {
+    assert!(rt; input(rt, session, v, e) == Ok(()));
+}
+
+/// A viewer's input is refused so.
+fn must_drop(rt: &impl Abort, session: &mut Session, v: u32, e: Event, why: InputRefusal) {
+    assert!(rt; input(rt, session, v, e) == Err(why));
+}
+
+/// The pixel at (x, y) has this colour.
+fn must_show(rt: &impl Abort, session: &Session, x: u32, y: u32, color: u32) {
+    assert_eq!(rt; pixel(rt, session, x, y), color);
+}
+
 /// The colour of a pixel as the whole journal leaves it.
 fn pixel(rt: &impl Abort, session: &Session, x: u32, y: u32) -> u32 {
     let surface = session.look();
@@ -117,6 +157,12 @@ fn pending(
     let mut out = Vec::new(alloc);
     session.put_pending(k, &mut out)?;
     Ok(out)
+}
+
+/// A take finds one drawing, in this rectangle.
+fn must_paint(rt: &impl Abort, found: &[Pending], place: Rect) {
+    assert_eq!(rt; found.len(), 1);
+    assert!(rt; found[0].rect() == place);
 }
 
 /// How many drawings the first k entries made.
@@ -185,9 +231,9 @@ fn with_sixty_four_rows(alloc: Global) -> Result<Session, OutOfMemory> {
 #[test]
 fn the_last_of_sixty_four_rows_joins(rt: HostRuntime) -> Result<(), Fail> {
     let mut session = with_sixty_four_rows(rt.alloc())?;
-    assert!(rt; join(&mut session, &Name::new(b"o")) == Ok(1));
-    assert!(rt; join(&mut session, &Name::new(b"p")) == Err(JoinFault::NotInvited));
-    assert_eq!(rt; session.holder(), 0);
+    must_join(&rt, &mut session, &Name::new(b"o"), 1);
+    must_stay_out(&rt, &mut session, &Name::new(b"p"), JoinFault::NotInvited);
+    must_be(&rt, &session.holder(), &0);
     Ok(())
 }
 
@@ -195,92 +241,126 @@ fn the_last_of_sixty_four_rows_joins(rt: HostRuntime) -> Result<(), Fail> {
 fn the_seventeenth_viewer_finds_the_room_full(rt: HostRuntime) -> Result<(), Fail> {
     let mut session = opened(rt.alloc())?;
     for v in 1..17 {
-        assert!(rt; join(&mut session, &Name::new(b"eve")) == Ok(v));
+        must_join(&rt, &mut session, &Name::new(b"eve"), v);
     }
-    assert!(rt; join(&mut session, &Name::new(b"eve")) == Err(JoinFault::RoomFull));
-    assert!(rt; join(&mut session, &Name::new(b"bob")) == Err(JoinFault::NotInvited));
+    must_stay_out(&rt, &mut session, &Name::new(b"eve"), JoinFault::RoomFull);
+    must_stay_out(&rt, &mut session, &Name::new(b"bob"), JoinFault::NotInvited);
     leave(&rt, &mut session, 3);
-    assert!(rt; join(&mut session, &Name::new(b"ann")) == Ok(17));
-    assert_eq!(rt; session.holder(), 17);
-    assert_eq!(rt; session.length(), 18);
+    must_join(&rt, &mut session, &Name::new(b"ann"), 17);
+    must_be(&rt, &session.holder(), &17);
+    must_be(&rt, &session.length(), &18);
     Ok(())
 }
 
 #[test]
 fn the_first_refusal_that_applies_is_given(rt: HostRuntime) -> Result<(), Fail> {
     let mut session = with_two(&rt, rt.alloc())?;
-    let other = Err(DrawRefusal::NotHolder { holder: 1 });
-    assert!(rt; draw(&rt, &mut session, 2, square(0, 255)) == other);
-    let sides = Err(DrawRefusal::BadDrawing { rule: 1 });
-    assert!(rt; draw(&rt, &mut session, 1, square(0, 255)) == sides);
-    let board = Err(DrawRefusal::BadDrawing { rule: 5 });
-    assert!(rt; draw(&rt, &mut session, 1, square(2, 255)) == board);
-    let empty = Err(DrawRefusal::EmptySlot { slot: 7 });
-    assert!(rt; draw(&rt, &mut session, 1, square(3, 7)) == empty);
+    must_refuse(
+        &rt,
+        &mut session,
+        2,
+        square(0, 255),
+        DrawRefusal::NotHolder { holder: 1 },
+    );
+    must_refuse(
+        &rt,
+        &mut session,
+        1,
+        square(0, 255),
+        DrawRefusal::BadDrawing { rule: 1 },
+    );
+    must_refuse(
+        &rt,
+        &mut session,
+        1,
+        square(2, 255),
+        DrawRefusal::BadDrawing { rule: 5 },
+    );
+    must_refuse(
+        &rt,
+        &mut session,
+        1,
+        square(3, 7),
+        DrawRefusal::EmptySlot { slot: 7 },
+    );
     let image = Image::new(rt.alloc(), 2, 2, &[1, 2, 3, 4])?;
-    assert!(rt; draw(&rt, &mut session, 1, Shape::LoadImage { slot: 7, image }) == Ok(()));
-    let small = Err(DrawRefusal::SlotSize { slot: 7 });
-    assert!(rt; draw(&rt, &mut session, 1, square(3, 7)) == small);
-    assert!(rt; draw(&rt, &mut session, 1, square(2, 7)) == Ok(()));
-    assert_eq!(rt; pixel(&rt, &session, 1, 1), 4);
-    assert_eq!(rt; session.length(), 4);
+    must_draw(&rt, &mut session, 1, Shape::LoadImage { slot: 7, image });
+    must_refuse(
+        &rt,
+        &mut session,
+        1,
+        square(3, 7),
+        DrawRefusal::SlotSize { slot: 7 },
+    );
+    must_draw(&rt, &mut session, 1, square(2, 7));
+    must_show(&rt, &session, 1, 1, 4);
+    must_be(&rt, &session.length(), &4);
     Ok(())
 }
 
 #[test]
 fn a_take_finds_the_drawings_of_an_entry(rt: HostRuntime) -> Result<(), Fail> {
     let mut session = with_two(&rt, rt.alloc())?;
-    assert!(rt; draw(&rt, &mut session, 1, red(rect(10, 20, 5, 5))) == Ok(()));
+    must_draw(&rt, &mut session, 1, red(rect(10, 20, 5, 5)));
     let copy = Shape::Copy {
         rect: rect(12, 22, 5, 5),
         rop: SRCCOPY,
         sx: 10,
         sy: 20,
     };
-    assert!(rt; draw(&rt, &mut session, 1, copy) == Ok(()));
-    assert_eq!(rt; pixel(&rt, &session, 16, 26), RED);
-    assert_eq!(rt; pixel(&rt, &session, 15, 21), 0);
-    assert_eq!(rt; drawings_before(&rt, &session, 2), 0);
-    assert_eq!(rt; drawings_before(&rt, &session, 4), 2);
+    must_draw(&rt, &mut session, 1, copy);
+    must_show(&rt, &session, 16, 26, RED);
+    must_show(&rt, &session, 15, 21, 0);
+    must_be(&rt, &drawings_before(&rt, &session, 2), &0);
+    must_be(&rt, &drawings_before(&rt, &session, 4), &2);
     let joined = pending(&rt, rt.alloc(), &session, 1)?;
-    assert_eq!(rt; joined.len(), 0);
+    must_be(&rt, &joined.len(), &0);
     let copied = pending(&rt, rt.alloc(), &session, 3)?;
-    assert_eq!(rt; copied.len(), 1);
-    assert!(rt; copied[0].rect() == rect(12, 22, 5, 5));
+    must_paint(&rt, copied.as_slice(), rect(12, 22, 5, 5));
     Ok(())
 }
 
 #[test]
 fn the_board_draws_for_the_holder_alone(rt: HostRuntime) -> Result<(), Fail> {
     let mut session = with_two(&rt, rt.alloc())?;
-    let other = Err(InputRefusal::NotHolder { holder: 1 });
-    assert!(rt; input(&rt, &mut session, 2, CLICK) == other);
-    assert_eq!(rt; pixel(&rt, &session, 22, 22), 0);
-    assert!(rt; input(&rt, &mut session, 1, CLICK) == Ok(()));
-    assert_eq!(rt; pixel(&rt, &session, 22, 22), WHITE);
+    must_drop(
+        &rt,
+        &mut session,
+        2,
+        CLICK,
+        InputRefusal::NotHolder { holder: 1 },
+    );
+    must_show(&rt, &session, 22, 22, 0);
+    must_take(&rt, &mut session, 1, CLICK);
+    must_show(&rt, &session, 22, 22, WHITE);
     let dot = pending(&rt, rt.alloc(), &session, 2)?;
-    assert_eq!(rt; dot.len(), 1);
-    assert!(rt; dot[0].rect() == rect(18, 18, 5, 5));
+    must_paint(&rt, dot.as_slice(), rect(18, 18, 5, 5));
     Ok(())
 }
 
 #[test]
 fn f12_hands_control_on(rt: HostRuntime) -> Result<(), Fail> {
     let mut session = with_two(&rt, rt.alloc())?;
-    assert!(rt; join(&mut session, &Name::new(b"eve")) == Ok(3));
-    let other = Err(InputRefusal::NotHolder { holder: 1 });
-    assert!(rt; input(&rt, &mut session, 2, F12) == other);
-    assert!(rt; input(&rt, &mut session, 1, F12) == Ok(()));
-    assert_eq!(rt; session.holder(), 2);
+    must_join(&rt, &mut session, &Name::new(b"eve"), 3);
+    must_drop(
+        &rt,
+        &mut session,
+        2,
+        F12,
+        InputRefusal::NotHolder { holder: 1 },
+    );
+    must_take(&rt, &mut session, 1, F12);
+    must_be(&rt, &session.holder(), &2);
     let released = Event::Scan {
         code: 0x58,
         up: true,
     };
-    assert!(rt; input(&rt, &mut session, 2, released) == Ok(()));
-    assert_eq!(rt; (session.holder(), session.length()), (2, 4));
-    assert!(rt; input(&rt, &mut session, 2, F12) == Ok(()));
-    assert_eq!(rt; session.holder(), 1);
+    must_take(&rt, &mut session, 2, released);
+    must_be(&rt, &session.holder(), &2);
+    must_be(&rt, &session.length(), &4);
+    must_take(&rt, &mut session, 2, F12);
+    must_be(&rt, &session.holder(), &1);
     leave(&rt, &mut session, 1);
-    assert_eq!(rt; session.holder(), 2);
+    must_be(&rt, &session.holder(), &2);
     Ok(())
 }

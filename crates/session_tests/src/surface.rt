@@ -3,6 +3,7 @@ ghost use Rattle.px_core.specs.Colors.{are_colors};
 ghost use Rattle.px_core.specs.Rectangle.{boxed};
 ghost use Rattle.draw_ops.specs.Ranges.{colors_of};
 
+use super::checks::must_be;
 use draw_ops::{Brush, Drawing, Glyph, Image, Run, Shape, SharedBrush, valid};
 use px_core::{Rect, Size};
 use std::alloc::Global;
@@ -35,6 +36,28 @@ fn draw(
     surface.draw(&d)
 }
 
+/// A shape that keeps all rules is drawn.
+fn must_draw(rt: &impl Abort, surface: &mut Surface, shape: Shape, clip: Option<Rect>)
+    requires { IsTrue (are_colors (colors_of shape)) }
+    ensures { surface.new.size ≡ surface.old.size }
+{
+    assert!(rt; draw(rt, surface, shape, clip) == Ok(()));
+}
+
+/// A shape that keeps all rules is refused so.
+fn must_refuse(rt: &impl Abort, surface: &mut Surface, shape: Shape, fault: DrawFault)
+    requires { IsTrue (are_colors (colors_of shape)) }
+{
+    assert!(rt; draw(rt, surface, shape, None) == Err(fault));
+}
+
+/// The pixel at (x, y) has this colour.
+fn must_show(rt: &impl Abort, surface: &Surface, x: u32, y: u32, color: u32) {
+    let size = surface.size();
+    assert!(rt; x < size.w && y < size.h);
+    assert_eq!(rt; surface.pixel(x, y), color);
+}
+
 fn rect(x: i32, y: i32, w: u32, h: u32) -> Rect
     ensures { result ≡ boxed x y w h }
 {
@@ -44,9 +67,9 @@ fn rect(x: i32, y: i32, w: u32, h: u32) -> Rect
 #[test]
 fn the_greatest_surface_is_black(rt: HostRuntime) -> Result<(), Fail> {
     let surface = Surface::new(rt.alloc(), GREATEST)?;
-    assert_eq!(rt; surface.pixel(0, 0), 0);
-    assert_eq!(rt; surface.pixel(2_047, 2_047), 0);
-    assert_eq!(rt; surface.count(), 0);
+    must_show(&rt, &surface, 0, 0, 0);
+    must_show(&rt, &surface, 2_047, 2_047, 0);
+    must_be(&rt, &surface.count(), &0);
     Ok(())
 }
 
@@ -58,12 +81,12 @@ fn a_fill_stays_in_its_rectangle_and_its_clip(rt: HostRuntime) -> Result<(), Fai
         color: 0xFF0000,
     };
     let clip = Some(rect(0, 0, 12, 48));
-    assert!(rt; draw(&rt, &mut surface, fill, clip) == Ok(()));
-    assert_eq!(rt; surface.pixel(10, 20), 0xFF0000);
-    assert_eq!(rt; surface.pixel(11, 24), 0xFF0000);
-    assert_eq!(rt; surface.pixel(12, 20), 0);
-    assert_eq!(rt; surface.pixel(10, 25), 0);
-    assert_eq!(rt; surface.count(), 1);
+    must_draw(&rt, &mut surface, fill, clip);
+    must_show(&rt, &surface, 10, 20, 0xFF0000);
+    must_show(&rt, &surface, 11, 24, 0xFF0000);
+    must_show(&rt, &surface, 12, 20, 0);
+    must_show(&rt, &surface, 10, 25, 0);
+    must_be(&rt, &surface.count(), &1);
     Ok(())
 }
 
@@ -85,14 +108,14 @@ fn an_overlapping_copy_reads_the_old_rows(rt: HostRuntime) -> Result<(), Fail> {
         sy: 0,
     };
     let clip = Some(rect(8, 8, 16, 16));
-    assert!(rt; draw(&rt, &mut surface, red, None) == Ok(()));
-    assert!(rt; draw(&rt, &mut surface, green, None) == Ok(()));
-    assert!(rt; draw(&rt, &mut surface, copy, clip) == Ok(()));
-    assert_eq!(rt; surface.pixel(9, 8), 0);
-    assert_eq!(rt; surface.pixel(9, 9), 0xFF0000);
-    assert_eq!(rt; surface.pixel(9, 10), 0x00FF00);
-    assert_eq!(rt; surface.pixel(9, 11), 0);
-    assert_eq!(rt; surface.pixel(7, 9), 0x00FF00);
+    must_draw(&rt, &mut surface, red, None);
+    must_draw(&rt, &mut surface, green, None);
+    must_draw(&rt, &mut surface, copy, clip);
+    must_show(&rt, &surface, 9, 8, 0);
+    must_show(&rt, &surface, 9, 9, 0xFF0000);
+    must_show(&rt, &surface, 9, 10, 0x00FF00);
+    must_show(&rt, &surface, 9, 11, 0);
+    must_show(&rt, &surface, 7, 9, 0x00FF00);
     Ok(())
 }
 
@@ -107,13 +130,13 @@ fn a_line_has_one_pixel_for_each_step_of_its_longer_side(rt: HostRuntime) -> Res
         y1: 10,
         color: 0x00FF00,
     };
-    assert!(rt; draw(&rt, &mut surface, line, None) == Ok(()));
-    assert_eq!(rt; surface.pixel(0, 0), 0x00FF00);
-    assert_eq!(rt; surface.pixel(3, 0), 0x00FF00);
-    assert_eq!(rt; surface.pixel(4, 0), 0);
-    assert_eq!(rt; surface.pixel(4, 1), 0x00FF00);
-    assert_eq!(rt; surface.pixel(31, 5), 0x00FF00);
-    assert_eq!(rt; surface.pixel(63, 10), 0x00FF00);
+    must_draw(&rt, &mut surface, line, None);
+    must_show(&rt, &surface, 0, 0, 0x00FF00);
+    must_show(&rt, &surface, 3, 0, 0x00FF00);
+    must_show(&rt, &surface, 4, 0, 0);
+    must_show(&rt, &surface, 4, 1, 0x00FF00);
+    must_show(&rt, &surface, 31, 5, 0x00FF00);
+    must_show(&rt, &surface, 63, 10, 0x00FF00);
     Ok(())
 }
 
@@ -135,9 +158,9 @@ fn a_text_has_the_one_bits_of_its_glyphs(rt: HostRuntime) -> Result<(), Fail> {
     let all = sign(rt.alloc(), 65, 0xFF)?;
     let right = sign(rt.alloc(), 66, 0x0F)?;
     let left = sign(rt.alloc(), 67, 0xF0)?;
-    assert!(rt; draw(&rt, &mut surface, all, None) == Ok(()));
-    assert!(rt; draw(&rt, &mut surface, right, None) == Ok(()));
-    assert!(rt; draw(&rt, &mut surface, left, None) == Ok(()));
+    must_draw(&rt, &mut surface, all, None);
+    must_draw(&rt, &mut surface, right, None);
+    must_draw(&rt, &mut surface, left, None);
     let run = Run::new(rt.alloc(), &[(65, 0), (66, 8), (67, 8)])?;
     let text = Shape::Text {
         x: 4,
@@ -146,7 +169,7 @@ fn a_text_has_the_one_bits_of_its_glyphs(rt: HostRuntime) -> Result<(), Fail> {
         font: 0,
         run,
     };
-    assert!(rt; draw(&rt, &mut surface, text, None) == Ok(()));
+    must_draw(&rt, &mut surface, text, None);
     let stretch = Rect {
         x: 4,
         y: 5,
@@ -177,12 +200,12 @@ fn a_saved_block_comes_back(rt: HostRuntime) -> Result<(), Fail> {
         x: 40,
         y: 30,
     };
-    assert!(rt; draw(&rt, &mut surface, red, None) == Ok(()));
-    assert!(rt; draw(&rt, &mut surface, save, None) == Ok(()));
-    assert!(rt; draw(&rt, &mut surface, restore, None) == Ok(()));
-    assert_eq!(rt; surface.pixel(40, 30), 0xFF0000);
-    assert_eq!(rt; surface.pixel(44, 34), 0xFF0000);
-    assert_eq!(rt; surface.pixel(45, 34), 0);
+    must_draw(&rt, &mut surface, red, None);
+    must_draw(&rt, &mut surface, save, None);
+    must_draw(&rt, &mut surface, restore, None);
+    must_show(&rt, &surface, 40, 30, 0xFF0000);
+    must_show(&rt, &surface, 44, 34, 0xFF0000);
+    must_show(&rt, &surface, 45, 34, 0);
     assert!(rt; surface.block_sides(3) == Some(Size { w: 10, h: 10 }));
     Ok(())
 }
@@ -195,11 +218,10 @@ fn a_slot_without_content_or_of_another_size_is_refused(rt: HostRuntime) -> Resu
         x: 0,
         y: 0,
     };
-    let empty = Err(DrawFault::EmptySlot { slot: 3 });
-    assert!(rt; draw(&rt, &mut surface, restore, None) == empty);
+    must_refuse(&rt, &mut surface, restore, DrawFault::EmptySlot { slot: 3 });
     let image = Image::new(rt.alloc(), 2, 2, &[1, 2, 3, 4])?;
     let load = Shape::LoadImage { slot: 0, image };
-    assert!(rt; draw(&rt, &mut surface, load, None) == Ok(()));
+    must_draw(&rt, &mut surface, load, None);
     let blit = Shape::Blit {
         rect: rect(0, 0, 2, 2),
         rop: SRCCOPY,
@@ -207,10 +229,9 @@ fn a_slot_without_content_or_of_another_size_is_refused(rt: HostRuntime) -> Resu
         sx: 1,
         sy: 0,
     };
-    let small = Err(DrawFault::SlotSize { slot: 0 });
-    assert!(rt; draw(&rt, &mut surface, blit, None) == small);
-    assert_eq!(rt; surface.pixel(0, 0), 0);
-    assert_eq!(rt; surface.count(), 1);
+    must_refuse(&rt, &mut surface, blit, DrawFault::SlotSize { slot: 0 });
+    must_show(&rt, &surface, 0, 0, 0);
+    must_be(&rt, &surface.count(), &1);
     Ok(())
 }
 
@@ -219,10 +240,10 @@ fn an_image_is_mixed_with_a_brush(rt: HostRuntime) -> Result<(), Fail> {
     let mut surface = Surface::new(rt.alloc(), SMALL)?;
     let image = Image::new(rt.alloc(), 2, 2, &[0xFF0000, 0x00FF00, 0x0000FF, 0xFFFFFF])?;
     let load = Shape::LoadImage { slot: 255, image };
-    assert!(rt; draw(&rt, &mut surface, load, None) == Ok(()));
+    must_draw(&rt, &mut surface, load, None);
     let brush = SharedBrush::new(rt.alloc(), Brush::new(&[0xFF00FF; 64]))?;
     let load = Shape::LoadBrush { slot: 63, brush };
-    assert!(rt; draw(&rt, &mut surface, load, None) == Ok(()));
+    must_draw(&rt, &mut surface, load, None);
     // C0: pattern and source.
     let blit = Shape::Blit3 {
         rect: rect(-1, 7, 2, 2),
@@ -232,9 +253,9 @@ fn an_image_is_mixed_with_a_brush(rt: HostRuntime) -> Result<(), Fail> {
         sy: 0,
         brush: 63,
     };
-    assert!(rt; draw(&rt, &mut surface, blit, None) == Ok(()));
-    assert_eq!(rt; surface.pixel(0, 7), 0);
-    assert_eq!(rt; surface.pixel(0, 8), 0xFF00FF);
+    must_draw(&rt, &mut surface, blit, None);
+    must_show(&rt, &surface, 0, 7, 0);
+    must_show(&rt, &surface, 0, 8, 0xFF00FF);
     let invert = Shape::Blit {
         rect: rect(0, 8, 1, 1),
         rop: SRCINVERT,
@@ -242,8 +263,8 @@ fn an_image_is_mixed_with_a_brush(rt: HostRuntime) -> Result<(), Fail> {
         sx: 0,
         sy: 0,
     };
-    assert!(rt; draw(&rt, &mut surface, invert, None) == Ok(()));
-    assert_eq!(rt; surface.pixel(0, 8), 0x0000FF);
+    must_draw(&rt, &mut surface, invert, None);
+    must_show(&rt, &surface, 0, 8, 0x0000FF);
     Ok(())
 }
 
@@ -266,6 +287,6 @@ fn drawings_are_drawn_in_their_order(rt: HostRuntime) -> Result<(), Fail> {
     };
     surface.draw_all(&[fill, save])?;
     assert!(rt; surface.block_sides(0) == Some(Size { w: 4, h: 4 }));
-    assert_eq!(rt; surface.count(), 2);
+    must_be(&rt, &surface.count(), &2);
     Ok(())
 }

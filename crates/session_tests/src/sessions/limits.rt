@@ -3,7 +3,10 @@ ghost use Rattle.std.specs.Prelude.{◌≡◌, true};
 ghost use Rattle.px_core.specs.Colors.{are_colors};
 ghost use Rattle.draw_ops.specs.Ranges.{colors_of};
 
-use super::{CLICK, draw, input, join, leave, rect, red, square, with_two};
+use super::{
+    CLICK, draw, leave, must_draw, must_drop, must_join, must_refuse, rect, red, square, with_two,
+};
+use crate::checks::must_be;
 use draw_ops::{Image, Shape};
 use info_lic::Name;
 use session_core::{DrawRefusal, InputRefusal, OutOfMemory, Session};
@@ -58,14 +61,24 @@ fn load(
 fn the_entry_past_the_last_is_refused(rt: HostRuntime) -> Result<(), Fail> {
     let mut session = with_two(&rt, rt.alloc())?;
     assert!(rt; fill_often(&rt, &mut session, MOST_ENTRIES));
-    let full = Err(DrawRefusal::JournalFull);
-    assert!(rt; draw(&rt, &mut session, 1, red(rect(0, 0, 1, 1))) == full);
-    let empty = Err(DrawRefusal::EmptySlot { slot: 7 });
-    assert!(rt; draw(&rt, &mut session, 1, square(1, 7)) == empty);
-    assert!(rt; input(&rt, &mut session, 1, CLICK) == Err(InputRefusal::JournalFull));
-    assert!(rt; join(&mut session, &Name::new(b"eve")) == Ok(3));
+    must_refuse(
+        &rt,
+        &mut session,
+        1,
+        red(rect(0, 0, 1, 1)),
+        DrawRefusal::JournalFull,
+    );
+    must_refuse(
+        &rt,
+        &mut session,
+        1,
+        square(1, 7),
+        DrawRefusal::EmptySlot { slot: 7 },
+    );
+    must_drop(&rt, &mut session, 1, CLICK, InputRefusal::JournalFull);
+    must_join(&rt, &mut session, &Name::new(b"eve"), 3);
     leave(&rt, &mut session, 2);
-    assert_eq!(rt; session.length(), 1_048_580);
+    must_be(&rt, &session.length(), &1_048_580);
     Ok(())
 }
 
@@ -79,6 +92,6 @@ fn the_image_past_the_last_pixel_is_refused(rt: HostRuntime) -> Result<(), Fail>
     assert!(rt; load(&rt, &mut session, &image)? == Err(DrawRefusal::JournalFull));
     let one = Image::new(rt.alloc(), 1, 1, &[7])?;
     assert!(rt; load(&rt, &mut session, &one)? == Err(DrawRefusal::JournalFull));
-    assert!(rt; draw(&rt, &mut session, 1, square(64, 0)) == Ok(()));
+    must_draw(&rt, &mut session, 1, square(64, 0));
     Ok(())
 }

@@ -3,7 +3,8 @@ ghost use Rattle.std.specs.Prelude.{◌≡◌};
 ghost use Rattle.grow_lock.specs.Journal.{StartsWith};
 ghost use Rattle.grow_lock.specs.Passes.{IsPassOf};
 
-use super::{CLICK, pixel, with_two};
+use super::{CLICK, must_show, with_two};
+use crate::checks::must_be;
 use grow_lock::{GrowLock, Pass};
 use session_core::Session;
 use std::sync::Wait;
@@ -65,9 +66,9 @@ fn two_threads_click_in_turns(rt: HostRuntime) -> Result<(), Fail> {
         { click_in_turns(&rt, &lock, second, TURNS) },
     );
     let both = lock.meet(second, first);
-    assert_eq!(rt; both.seen(), 1_002);
+    must_be(&rt, &both.seen(), &1_002);
     let session = lock.close(&rt, both);
-    assert_eq!(rt; session.length(), 1_002);
-    assert_eq!(rt; pixel(&rt, &session, 20, 20), 0xFFFFFF);
+    must_be(&rt, &session.length(), &1_002);
+    must_show(&rt, &session, 20, 20, 0xFFFFFF);
     Ok(())
 }
