@@ -5,6 +5,7 @@ use Rattle.answer_run.specs.Asking.{client}
 use Rattle.answer_run.specs.Seats.{IsSettled}
 use Rattle.answer_run.proofs.Seated.{settled_journal, input_seated, input_done}
 use Rattle.answer_run.proofs.seat.input.Goals as goal
+use Rattle.std.proofs.Common.{rules}
 
 pub returns-clause-seated : goal.returns-clause-seated
 returns-clause-seated c =
@@ -21,3 +22,6 @@ returns-clause-done c =
     input_done old c.input.new.self c.args.seat.now.sender c.args.event c.input.ensures.head
     (settled_journal c.input.result (entry_of_step old.head (reached_by old) (InputStep client c.args.event)) old.journal c.input.new.self.journal settled c.input.ensures.journal)
     c.input.ensures.asked c.input.ensures.suppressed
+
+pub input-requires : goal.input-requires
+input-requires c = search rules

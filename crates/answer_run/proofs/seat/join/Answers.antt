@@ -1,5 +1,6 @@
 use Rattle.answer_run.proofs.Joined.{joined}
 use Rattle.answer_run.proofs.seat.join.Goals as goal
+use Rattle.std.proofs.Common.{rules}
 
 pub returns-in-Ok : goal.returns-in-Ok
 returns-in-Ok c =
@@ -20,3 +21,9 @@ returns-in-Ok c =
       sound = idle.2;
       stands = c.in_ok-sender-in-Ok.ensures.stands;
     })
+
+pub new-requires-clause-rows : goal.new-requires-clause-rows
+new-requires-clause-rows c = search rules
+
+pub returns : goal.returns
+returns c = search rules

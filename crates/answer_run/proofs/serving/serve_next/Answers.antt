@@ -1,4 +1,4 @@
-use Rattle.std.proofs.Common.{take}
+use Rattle.std.proofs.Common.{take, rules}
 use Rattle.answer_run.specs.Asking.{owners_head}
 use Rattle.answer_run.proofs.Served.{next_served}
 use Rattle.answer_run.proofs.serving.serve_next.Goals as goal
@@ -8,3 +8,9 @@ returns-in-Bytes-clause-done g c =
     next_served c.serve_piece.result (owners_head c.args.size c.args.owner.now) c.args.serving.now c.serve_piece.new.serving (take c.in-Bytes.n c.read.new.buf)
     (g.S.Source.left c.args.input.now) (g.S.Source.left c.read.new.self) (g.K.Sink.told c.args.output.now) (g.K.Sink.told c.serve_piece.new.output)
     c.in-Bytes.ensures.bytes c.serve_piece.ensures.done
+
+pub returns-in-Failed-clause-done : goal.returns-in-Failed-clause-done
+returns-in-Failed-clause-done g c = search rules
+
+pub returns-in-Failed-clause-read : goal.returns-in-Failed-clause-read
+returns-in-Failed-clause-read g c = search rules

@@ -1,4 +1,4 @@
-use Rattle.std.proofs.Common.{sym, subst, Ok}
+use Rattle.std.proofs.Common.{sym, subst, Ok, rules}
 use Rattle.answer_run.specs.Visits.{Asks}
 use Rattle.answer_run.proofs.Visiting.{area_asked, stop_asked}
 use Rattle.answer_run.proofs.visitor.ask.Goals as goal
@@ -12,3 +12,6 @@ pub returns-in-Suppress-clause-done : goal.returns-in-Suppress-clause-done
 returns-in-Suppress-clause-done g c =
     subst (λ one. Asks (Ok tt) one c.args.seat.now c.suppress.new.seat (g.K.Sink.told c.args.output.now) (g.K.Sink.told c.args.output.now)) (sym c.in-Suppress.is)
     (stop_asked c.in-Suppress.stop c.args.seat.now c.suppress.new.seat (g.K.Sink.told c.args.output.now) c.suppress.ensures.done)
+
+pub returns-in-Packet-clause-done : goal.returns-in-Packet-clause-done
+returns-in-Packet-clause-done g c = search rules

@@ -1,4 +1,4 @@
-use Rattle.std.proofs.Common.{◌∙◌, ap, sym, subst, true}
+use Rattle.std.proofs.Common.{◌∙◌, ap, sym, subst, true, rules}
 use Rattle.std.proofs.lemmas.Result.{err_from_is_err_and}
 use Rattle.std.specs.Prelude.{Ok, Err}
 use Rattle.script_run.specs.Reading.{moment, of_rest}
@@ -66,3 +66,6 @@ loop-goes_on-preserved g c =
       read = c.in_ok-goes_on-2.ensures.read ∙ c.loop-goes_on.invariant.read;
       write = c.in_ok-goes_on-2.ensures.write ∙ c.loop-goes_on.invariant.write;
     }
+
+pub returns-clause-done : goal.returns-clause-done
+returns-clause-done g c = search rules

@@ -1,4 +1,4 @@
-use Rattle.std.proofs.Common.{subst, sym}
+use Rattle.std.proofs.Common.{subst, sym, rules}
 use Rattle.std.proofs.lemmas.Result.{err_from_is_err_and}
 use Rattle.std.specs.Prelude.{Err}
 use Rattle.script_run.specs.Run.{RunsScript}
@@ -34,3 +34,6 @@ pub do_lines-requires : goal.do_lines-requires
 do_lines-requires g c = (subst (λ a. Opens a (moment c.in_ok-reader.reader (g.S.Source.left c.args.input.now) (g.K.Sink.told c.args.output.now))
     (moment c.first_line.new.reader (g.S.Source.left c.first_line.new.input) (g.K.Sink.told c.args.output.now))) c.in-Sized.is
     (c.first_line.ensures.opens (g.K.Sink.told c.args.output.now))).0
+
+pub returns-clause-read : goal.returns-clause-read
+returns-clause-read g c = search rules

@@ -1,0 +1,8 @@
+use Rattle.std.proofs.Common.{rules}
+use Rattle.script_run.proofs.line.do_step.Goals as goal
+
+pub returns : goal.returns
+returns c = search rules
+
+pub step-requires-clause-present : goal.step-requires-clause-present
+step-requires-clause-present c = search rules
