@@ -134,8 +134,8 @@ const NO_STEPS: &[u8] =
 fn a_demonstration_gives_the_line_of_its_counts(rt: HostRuntime) -> Result<(), Fail> {
     let alloc = rt.alloc();
     let words = words_of(alloc, &["demo", "1", "0"])?;
-    must_end(&rt, &run(&rt, alloc, &words, &[])?, 0, NO_STEPS);
-    must_answer(&rt, run_unwritten(&rt, alloc, &words, &[])?, 5);
+    must_end(&rt, &run(&rt, alloc, &words, ONE_FRAME)?, 0, NO_STEPS);
+    must_answer(&rt, run_unwritten(&rt, alloc, &words, ONE_FRAME)?, 5);
     Ok(())
 }
 

@@ -1,4 +1,5 @@
 //! What the tests assert, in one function of each kind, so that the proof of an assertion is made once.
+
 use std::fmt::Debug;
 use std::process::Abort;
 
@@ -7,7 +8,7 @@ pub fn must_be<T: PartialEq + Debug>(rt: &impl Abort, found: &T, expected: &T) {
     assert_eq!(rt; *found, *expected);
 }
 
-/// The bytes that were found are the expected ones.
-pub fn must_hold(rt: &impl Abort, found: &[u8], expected: &[u8]) {
+/// The values that were found are the expected ones.
+pub fn must_hold<T: PartialEq + Debug>(rt: &impl Abort, found: &[T], expected: &[T]) {
     assert_eq!(rt; found, expected);
 }

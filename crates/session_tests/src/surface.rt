@@ -3,7 +3,7 @@ ghost use Rattle.px_core.specs.Colors.{are_colors};
 ghost use Rattle.px_core.specs.Rectangle.{boxed};
 ghost use Rattle.draw_ops.specs.Ranges.{colors_of};
 
-use super::checks::must_be;
+use super::checks::{must_be, must_hold};
 use draw_ops::{Brush, Drawing, Glyph, Image, Run, Shape, SharedBrush, valid};
 use px_core::{Rect, Size};
 use std::alloc::Global;
@@ -180,7 +180,7 @@ fn a_text_has_the_one_bits_of_its_glyphs(rt: HostRuntime) -> Result<(), Fail> {
     let mut wanted = [0xFFFFFFu32; 24];
     wanted[8..12].fill(0);
     wanted[20..24].fill(0);
-    assert_eq!(rt; row.as_slice(), wanted.as_slice());
+    must_hold(&rt, row.as_slice(), wanted.as_slice());
     Ok(())
 }
 
