@@ -5,3 +5,4 @@ pub mod LastSets
 pub mod ConfirmText
 pub mod SampleClient
 pub mod Demand
+mod Lengths

@@ -1,3 +1,4 @@
 mod Sample
 mod Handshake
 mod Changes
+mod Meanings

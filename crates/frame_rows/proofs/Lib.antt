@@ -5,3 +5,4 @@ pub mod CacheRows
 pub mod TileRows
 pub mod OrderRows
 pub mod CautiousRows
+mod Meanings

@@ -2,3 +2,4 @@ mod Rows
 pub mod ReadBack
 pub mod FormsOfViewers
 pub mod StepsOfScripts
+mod Meanings

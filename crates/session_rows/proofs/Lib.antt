@@ -2,3 +2,5 @@ mod Scripts
 mod Drawings
 mod Sessions
 mod Premises
+mod Limits
+mod Meanings

@@ -1,2 +1,0 @@
-pub mod Often
-pub mod SampleClient
