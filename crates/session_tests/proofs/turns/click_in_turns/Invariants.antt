@@ -1,5 +1,5 @@
 use Rattle.grow_lock.specs.Passes.{IsPassOf}
-use Rattle.session_tests.proofs.sessions.turns.click_in_turns.Given as goal
+use Rattle.session_tests.proofs.turns.click_in_turns.Given as goal
 
 -- the pass stays one of this lock
 abbrev pub invariant-loop : goal.invariant-loop

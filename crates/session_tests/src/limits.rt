@@ -3,10 +3,10 @@ ghost use Rattle.std.specs.Prelude.{◌≡◌, true};
 ghost use Rattle.px_core.specs.Colors.{are_colors};
 ghost use Rattle.draw_ops.specs.Ranges.{colors_of};
 
-use super::{
-    CLICK, draw, leave, must_draw, must_drop, must_join, must_refuse, rect, red, square, with_two,
+use crate::room::{
+    CLICK, draw, leave, must_count, must_draw, must_drop, must_join, must_refuse, red_pixel,
+    square, with_two,
 };
-use crate::checks::must_be;
 use draw_ops::{Image, Shape};
 use info_lic::Name;
 use session_core::{DrawRefusal, InputRefusal, OutOfMemory, Session};
@@ -22,7 +22,7 @@ const MOST_IMAGES: u32 = 16_384;
 /// One pixel is filled so many times; whether each time was accepted.
 fn fill_often(rt: &impl Abort, session: &mut Session, count: u32) -> bool {
     for _ in 0..count {
-        if draw(rt, session, 1, red(rect(0, 0, 1, 1))) != Ok(()) {
+        if draw(rt, session, 1, red_pixel()) != Ok(()) {
             return false;
         }
     }
@@ -61,13 +61,7 @@ fn load(
 fn the_entry_past_the_last_is_refused(rt: HostRuntime) -> Result<(), Fail> {
     let mut session = with_two(&rt, rt.alloc())?;
     assert!(rt; fill_often(&rt, &mut session, MOST_ENTRIES));
-    must_refuse(
-        &rt,
-        &mut session,
-        1,
-        red(rect(0, 0, 1, 1)),
-        DrawRefusal::JournalFull,
-    );
+    must_refuse(&rt, &mut session, 1, red_pixel(), DrawRefusal::JournalFull);
     must_refuse(
         &rt,
         &mut session,
@@ -78,7 +72,7 @@ fn the_entry_past_the_last_is_refused(rt: HostRuntime) -> Result<(), Fail> {
     must_drop(&rt, &mut session, 1, CLICK, InputRefusal::JournalFull);
     must_join(&rt, &mut session, &Name::new(b"eve"), 3);
     leave(&rt, &mut session, 2);
-    must_be(&rt, &session.length(), &1_048_580);
+    must_count(&rt, &session, 1_048_580);
     Ok(())
 }
 

@@ -3,8 +3,7 @@ ghost use Rattle.std.specs.Prelude.{◌≡◌};
 ghost use Rattle.grow_lock.specs.Journal.{StartsWith};
 ghost use Rattle.grow_lock.specs.Passes.{IsPassOf};
 
-use super::{CLICK, must_show, with_two};
-use crate::checks::must_be;
+use crate::room::{CLICK, must_count, must_show, with_two};
 use grow_lock::{GrowLock, Pass};
 use session_core::Session;
 use std::sync::Wait;
@@ -66,9 +65,9 @@ fn two_threads_click_in_turns(rt: HostRuntime) -> Result<(), Fail> {
         { click_in_turns(&rt, &lock, second, TURNS) },
     );
     let both = lock.meet(second, first);
-    must_be(&rt, &both.seen(), &1_002);
+    assert_eq!(rt; both.seen(), 1_002);
     let session = lock.close(&rt, both);
-    must_be(&rt, &session.length(), &1_002);
+    must_count(&rt, &session, 1_002);
     must_show(&rt, &session, 20, 20, 0xFFFFFF);
     Ok(())
 }
