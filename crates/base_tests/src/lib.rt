@@ -1,4 +1,4 @@
-//! Tests of the crates that stand on no packet: words and lines, pictures and drawings, run lengths, caches, blocks, the lock.
+//! Tests of single calls on worked values: run lengths, entries of caches, saved blocks, orders against what the registers hold, calls that no program makes, and threads at the lock.
 //!
 //! They use public calls alone, so they stand apart: a crate with tests of its own is proved a second time for them.
 #![tactic(auto)]
@@ -6,15 +6,11 @@
 #[cfg(test)]
 mod cached_entries;
 #[cfg(test)]
-mod drawings;
+mod checks;
 #[cfg(test)]
-mod lines;
+mod last_values;
 #[cfg(test)]
 mod packing;
-#[cfg(test)]
-mod raster_operations;
-#[cfg(test)]
-mod rectangles;
 #[cfg(test)]
 mod saved_places;
 #[cfg(test)]
@@ -22,4 +18,4 @@ mod turns;
 #[cfg(test)]
 mod unpacking;
 #[cfg(test)]
-mod words;
+mod written;

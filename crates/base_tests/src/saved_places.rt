@@ -57,47 +57,6 @@ fn blocks_stand_at_the_least_free_position(rt: HostRuntime) -> Result<(), Fail> 
     stand_at_the_least(&rt, &mut blocks)
 }
 
-/// Asserts what sides take whose positions pass what a number holds, and sides that take none.
-fn have_no_overflow(rt: &impl Abort, blocks: &mut Blocks) -> Result<(), Fail> {
-    has_no_room(rt, blocks, 0, u32::MAX, u32::MAX);
-    has_no_room(rt, blocks, 0, 57_600, 21);
-    // A side of 0 takes no positions.
-    stands_at(rt, blocks, 0, 0, u32::MAX, 0)?;
-    stands_at(rt, blocks, 1, 2_880, 20, 0)
-}
-
-#[test]
-fn sides_are_reckoned_without_overflow(rt: HostRuntime) -> Result<(), Fail> {
-    let mut blocks = Blocks::new(rt.alloc());
-    have_no_overflow(&rt, &mut blocks)
-}
-
-/// Gives up a slot's block, and asserts where one of 60 by 60 then stands: at as many sixteenths of all positions.
-fn take_a_sixteenth(rt: &impl Abort, blocks: &mut Blocks, slot: u8) -> Result<(), Fail> {
-    blocks.free(slot);
-    stands_at(rt, blocks, slot, 60, 60, 3_600 * u32::from(slot))
-}
-
-/// Asserts that sixteen slots take all positions, and that each can be taken again.
-fn share_all_positions(rt: &impl Abort, blocks: &mut Blocks) -> Result<(), Fail> {
-    for slot in 0..16u8 {
-        take_a_sixteenth(rt, blocks, slot)?;
-    }
-    blocks.free(16);
-    has_no_room(rt, blocks, 16, 1, 1);
-    for slot in [15u8, 0, 7] {
-        take_a_sixteenth(rt, blocks, slot)?;
-    }
-    Ok(())
-}
-
-#[test]
-fn sixteen_slots_share_all_positions(rt: HostRuntime) -> Result<(), Fail> {
-    // 60 by 60 takes 3,600 positions, a sixteenth of them all.
-    let mut blocks = Blocks::new(rt.alloc());
-    share_all_positions(&rt, &mut blocks)
-}
-
 /// Takes two blocks.
 fn take_two(rt: &impl Abort, blocks: &mut Blocks) -> Result<(), Fail> {
     place(rt, blocks, 3, 10, 10)?;

@@ -221,14 +221,6 @@ fn pixels_are_read(
     Ok(())
 }
 
-#[test]
-fn a_tile_of_one_color_is_read(rt: HostRuntime) -> Result<(), Fail> {
-    // A colour run of one row, then background below it.
-    let stream = [0x60, 0x20, 0x00, 0x00, 0xFF, 0xF0, 0xC0, 0x0F];
-    let wanted = vec![in rt.alloc(); 0xFF0000u32; 4096]?;
-    pixels_are_read(&rt, rt.alloc(), &stream, 64, 64, wanted.as_slice())
-}
-
 /// Asserts the pixels of streams.
 fn rows_are_read(rt: &impl Abort, alloc: Global, rows: &[Good]) -> Result<(), Fail> {
     for (stream, w, h, wanted) in rows {
@@ -244,21 +236,6 @@ fn each_row_of_the_table_is_read_in_each_form_of_its_length(rt: HostRuntime) -> 
     rows_are_read(&rt, rt.alloc(), &COLOR_IMAGES)?;
     rows_are_read(&rt, rt.alloc(), &NEW_FOREGROUNDS)?;
     rows_are_read(&rt, rt.alloc(), &PAIRS_AND_MARKS)
-}
-
-#[test]
-fn background_after_background_begins_with_a_foreground_pixel_but_not_after_the_first_row(
-    rt: HostRuntime,
-) -> Result<(), Fail> {
-    let wanted = [0, 0, 0, 0, 0, 0, 0xFFFFFF, 0];
-    pixels_are_read(&rt, rt.alloc(), &[0x04, 0x02, 0x02], 4, 2, &wanted)
-}
-
-#[test]
-fn a_new_foreground_is_kept(rt: HostRuntime) -> Result<(), Fail> {
-    // Three pixels in a new foreground, then three crossed with the row before.
-    let stream = [0xC3, 0x01, 0x00, 0x00, 0x23];
-    pixels_are_read(&rt, rt.alloc(), &stream, 2, 3, &[1, 1, 1, 0, 0, 1])
 }
 
 /// Asserts that a stream is refused at its first bad field.

@@ -1,17 +1,11 @@
-//! Tests of a session: the surface, the whiteboard, its calls and limits, and the frames that its viewers are sent.
+//! Tests of a session at its real limits, and of two threads that share one by the lock.
 //!
 //! They use public calls alone, so they stand apart: a crate with tests of its own is proved a second time for them.
 #![tactic(auto)]
 
 #[cfg(test)]
-mod checks;
+mod limits;
 #[cfg(test)]
-mod frames;
+mod room;
 #[cfg(test)]
-mod senders;
-#[cfg(test)]
-mod sessions;
-#[cfg(test)]
-mod surface;
-#[cfg(test)]
-mod whiteboard;
+mod turns;

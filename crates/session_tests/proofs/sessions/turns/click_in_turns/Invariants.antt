@@ -1,6 +1,0 @@
-use Rattle.grow_lock.specs.Passes.{IsPassOf}
-use Rattle.session_tests.proofs.sessions.turns.click_in_turns.Given as goal
-
--- the pass stays one of this lock
-abbrev pub invariant-loop : goal.invariant-loop
-invariant-loop g l = IsPassOf l.lock l.pass
