@@ -5,6 +5,3 @@ mod request;
 
 pub use out_of_memory::OutOfMemory;
 pub use request::viewer_of_words;
-
-#[cfg(test)]
-mod tests;

@@ -31,6 +31,4 @@ fn main(rt: HostRuntime) -> ExitCode {
 }
 
 #[cfg(test)]
-mod real_streams;
-#[cfg(test)]
 mod tests;

@@ -1,8 +1,7 @@
-//! Worked scripts, scripts that meet faults, and clients' streams. Captures and frames stand as they were worked out by hand from the
+//! Statuses: worked scripts, scripts that meet faults, and words that ask for no mode. Captures stand as they were worked out by hand from the
 //! standard's tables.
 ghost use Rattle.std.specs.Io.{WritesAtMost};
 
-use crate::real_streams::{RDESKTOP, RDESKTOP_4, XFREERDP, XFREERDP_CACHES};
 use crate::top;
 use crate::words::words as command_words;
 use edge_io::{Bytes, Keep, PlanGate, PlanSink, PlanSource};
@@ -126,19 +125,6 @@ fn a_first_read_or_write_that_fails_gives_its_status(rt: HostRuntime) -> Result<
     Ok(())
 }
 
-/// What a load of no steps from seed 1 comes to: joins, loads and last takes.
-const NO_STEPS: &[u8] =
-    b"steps 0 entries 36 takes 16 marks 16 orders 16 tiles 0 bytes 1384 refused 0\n";
-
-#[test]
-fn a_demonstration_gives_the_line_of_its_counts(rt: HostRuntime) -> Result<(), Fail> {
-    let alloc = rt.alloc();
-    let words = words_of(alloc, &["demo", "1", "0"])?;
-    must_end(&rt, &run(&rt, alloc, &words, ONE_FRAME)?, 0, NO_STEPS);
-    must_answer(&rt, run_unwritten(&rt, alloc, &words, ONE_FRAME)?, 5);
-    Ok(())
-}
-
 /// The line of words that ask for no mode.
 const USAGE: &[u8] = b"usage: rdp_host MODE ARGS\n";
 
@@ -206,105 +192,6 @@ fn a_word_that_is_not_text_leaves_no_words(rt: HostRuntime) -> Result<(), Fail> 
     match command_words(&(OddWord, rt.alloc()), rt.alloc()) {
         Some(words) => assert!(rt; words.is_empty()),
         None => assert!(rt; false),
-    }
-    Ok(())
-}
-
-#[test]
-fn a_client_is_answered_by_its_stream(rt: HostRuntime) -> Result<(), Fail> {
-    let alloc = rt.alloc();
-    let words = words_of(alloc, &["answer", "64", "48", "ann"])?;
-    // the stream, what is written, and the status: an ultimatum, or nothing
-    let streams: [(&[u8], &[u8], u8); 4] = [
-        (&[3, 0, 0, 19, 14], &[], 35),
-        (&[4], &[3, 0, 0, 9, 2, 0xF0, 0x80, 0x20, 0x80], 21),
-        (&[3, 0, 0, 6], &[3, 0, 0, 9, 2, 0xF0, 0x80, 0x20, 0x80], 22),
-        (
-            &[3, 0, 0, 11, 6, 0xD0, 0, 0, 0, 0, 0],
-            &[3, 0, 0, 9, 2, 0xF0, 0x80, 0x20, 0x80],
-            23,
-        ),
-    ];
-    for (bytes, wanted, status) in streams {
-        must_end(&rt, &run(&rt, alloc, &words, bytes)?, status, wanted);
-    }
-    Ok(())
-}
-
-/// The last reply of a handshake, the Font Map.
-const FONT_MAP: [u8; 40] = [
-    3, 0, 0, 40, 2, 240, 128, 104, 0, 1, 3, 235, 112, 26, 26, 0, 23, 0, 234, 3, 234, 3, 1, 0, 0, 1,
-    12, 0, 40, 0, 0, 0, 0, 0, 0, 0, 3, 0, 4, 0,
-];
-
-/// The first frame of 512 by 384: an update of one order, OpaqueRect with both sides, and a Synchronize update as the mark.
-const BLACK: [u8; 83] = [
-    3, 0, 0, 47, 2, 240, 128, 104, 0, 1, 3, 235, 112, 33, 33, 0, 23, 0, 234, 3, 234, 3, 1, 0, 0, 1,
-    19, 0, 2, 0, 0, 0, 0, 0, 0, 0, 1, 0, 0, 0, 9, 10, 12, 0, 2, 128, 1, 3, 0, 0, 36, 2, 240, 128,
-    104, 0, 1, 3, 235, 112, 22, 22, 0, 23, 0, 234, 3, 234, 3, 1, 0, 0, 1, 8, 0, 2, 0, 0, 0, 3, 0,
-    0, 0,
-];
-
-/// The same for a client with frame markers: the start marker and OpaqueRect, and the end marker.
-const BLACK_IN_MARKERS: [u8; 97] = [
-    3, 0, 0, 52, 2, 240, 128, 104, 0, 1, 3, 235, 112, 38, 38, 0, 23, 0, 234, 3, 234, 3, 1, 0, 0, 1,
-    24, 0, 2, 0, 0, 0, 0, 0, 0, 0, 2, 0, 0, 0, 54, 0, 0, 0, 0, 9, 10, 12, 0, 2, 128, 1, 3, 0, 0,
-    45, 2, 240, 128, 104, 0, 1, 3, 235, 112, 31, 31, 0, 23, 0, 234, 3, 234, 3, 1, 0, 0, 1, 17, 0,
-    2, 0, 0, 0, 0, 0, 0, 0, 1, 0, 0, 0, 54, 1, 0, 0, 0,
-];
-
-/// A frame in which nothing was drawn: the start marker, and the end marker.
-const NOTHING_IN_MARKERS: [u8; 90] = [
-    3, 0, 0, 45, 2, 240, 128, 104, 0, 1, 3, 235, 112, 31, 31, 0, 23, 0, 234, 3, 234, 3, 1, 0, 0, 1,
-    17, 0, 2, 0, 0, 0, 0, 0, 0, 0, 1, 0, 0, 0, 54, 0, 0, 0, 0, 3, 0, 0, 45, 2, 240, 128, 104, 0, 1,
-    3, 235, 112, 31, 31, 0, 23, 0, 234, 3, 234, 3, 1, 0, 0, 1, 17, 0, 2, 0, 0, 0, 0, 0, 0, 0, 1, 0,
-    0, 0, 54, 1, 0, 0, 0,
-];
-
-/// Serves a client whose stream comes in pieces of one size: the status, and whether what is written ends with the Font Map, this first
-/// frame, and so many in which nothing was drawn.
-fn serve<R: Threads + Wait + Sync>(
-    rt: &R,
-    alloc: Global,
-    words: &[String],
-    stream: &[u8],
-    piece: usize,
-    first: &[u8],
-    more: usize,
-) -> Result<(u8, bool), Fail> {
-    let mut shown = FONT_MAP.to_vec(alloc)?;
-    shown.extend_from_slice(first)?;
-    for _ in 0..more {
-        shown.extend_from_slice(&NOTHING_IN_MARKERS)?;
-    }
-    let pieces = vec![in alloc; piece; stream.len()]?;
-    let mut input = Bytes::new(stream.to_vec(alloc)?, pieces);
-    let mut output = Keep::new(alloc);
-    let mut gate = PlanGate::new(alloc, Vec::new(alloc), Vec::new(alloc))?;
-    let status = top(rt, alloc, words, &mut input, &mut output, &mut gate);
-    Ok((status, output.bytes().ends_with(&shown)))
-}
-
-/// A client was served to the end of its stream, and was shown what it should be.
-fn must_be_served(rt: &impl Abort, served: (u8, bool)) {
-    assert_eq!(rt; served, (0, true));
-}
-
-#[test]
-fn real_clients_are_shown_the_picture(rt: HostRuntime) -> Result<(), Fail> {
-    let words = words_of(rt.alloc(), &["answer", "512", "384", "ann"])?;
-    // the stream, its first frame, and how many more there are: one for each packet with an event behind the Font List
-    let streams: [(&[u8], &[u8], usize); 4] = [
-        (&RDESKTOP, &BLACK, 0),
-        (&RDESKTOP_4, &BLACK, 0),
-        (&XFREERDP, &BLACK_IN_MARKERS, 8),
-        (&XFREERDP_CACHES, &BLACK_IN_MARKERS, 8),
-    ];
-    for (stream, first, more) in streams {
-        for piece in [1, stream.len()] {
-            let served = serve(&rt, rt.alloc(), &words, stream, piece, first, more)?;
-            must_be_served(&rt, served);
-        }
     }
     Ok(())
 }

@@ -59,13 +59,3 @@ fn each_run_has_its_status_and_its_text(rt: HostRuntime) -> Result<(), Fail> {
     }
     Ok(())
 }
-
-#[test]
-fn no_words_at_all_give_the_usage_line(rt: HostRuntime) -> Result<(), Fail> {
-    let (status, written) = run(&rt, rt.alloc(), &[], JOINED, &[], &[])?;
-    assert_eq!(rt;
-        (status, written.as_slice()),
-        (2, b"usage: rdp_look V\n".as_slice())
-    );
-    Ok(())
-}

@@ -1,0 +1,57 @@
+//! What a row runs.
+
+use crate::ending::{Ending, answer_ending, script_ending, show_ending};
+use answer_run::run_answer;
+use capture_show::show_capture;
+use demo_run::run_demo;
+use edge_io::{PlanSink, PlanSource};
+use info_lic::Name;
+use px_core::{Size, is_session_size};
+use script_lines::is_name;
+use script_run::run_script;
+use std::alloc::Global;
+use std::sync::Wait;
+
+/// What a row runs.
+#[derive(Clone, Copy, Drop)]
+pub enum Job<'a> {
+    /// A script.
+    Script,
+    /// The service of a client, in a session with a picture of this size and this owner.
+    Stream { size: Size, owner: &'a str },
+    /// The showing of a capture to a viewer.
+    Look { viewer: u16 },
+    /// The demonstration load.
+    Demo { seed: u64, steps: u32 },
+}
+
+/// Does a job.
+pub fn run<R: Wait>(
+    rt: &R,
+    alloc: Global,
+    job: &Job<'_>,
+    input: &mut PlanSource,
+    output: &mut PlanSink,
+) -> Ending {
+    match *job {
+        Job::Script => script_ending(run_script(alloc, input, output)),
+        Job::Stream { size, owner } => serve(alloc, size, owner, input, output),
+        Job::Look { viewer } => show_ending(show_capture(rt, alloc, viewer, input, output)),
+        Job::Demo { seed, steps } => script_ending(run_demo(alloc, seed, steps, output)),
+    }
+}
+
+/// Serves a client.
+fn serve(
+    alloc: Global,
+    size: Size,
+    owner: &str,
+    input: &mut PlanSource,
+    output: &mut PlanSink,
+) -> Ending {
+    let owner = owner.as_bytes();
+    if !is_session_size(size.w, size.h) || !is_name(owner) {
+        return Ending::NoSession;
+    }
+    answer_ending(run_answer(alloc, size, &Name::new(owner), input, output))
+}

@@ -1,0 +1,66 @@
+//! The lines of a manifest.
+
+use crate::streams::Known;
+use crate::verdict::Trouble;
+use crate::{demos, handshake, joins, looks, scripts, streams, words};
+use line_text::read_number;
+use std::rt::Files;
+use std::sync::Wait;
+
+/// Runs the row of a line: its kind, and its words.
+pub fn run<R: Files + AllocGlobal + Wait>(rt: &R, line: &str) -> Result<(), Trouble> {
+    let words = line.split(' ').collect::<Vec<&str>>(rt.alloc())?;
+    let Some((kind, words)) = words.as_slice().split_first() else {
+        return Err(Trouble::NoForm);
+    };
+    match *kind {
+        "script" => scripts::run_row(rt, words),
+        "joins" => joins::run_row(rt, words),
+        "stream" => streams::run_row(rt, words, Known::Whole),
+        "tail" => streams::run_row(rt, words, Known::Tail),
+        "change" => streams::run_change(rt, words),
+        "changes" => handshake::run_row(rt, words),
+        "look" => looks::run_row(rt, words),
+        "fronts" => looks::run_fronts(rt, words),
+        "demo" => demos::run_row(rt, words),
+        "request" => words::run_request(rt.alloc(), words),
+        "viewer" => words::run_viewer(rt.alloc(), words),
+        "no-words" => words::run_none(rt.alloc(), words),
+        _ => Err(Trouble::NoForm),
+    }
+}
+
+/// How many words of a row of this kind are its title.
+fn title_words(kind: &str) -> usize {
+    match kind {
+        "look" | "demo" => 3,
+        "request" | "viewer" => usize::MAX,
+        _ => 2,
+    }
+}
+
+/// The front of a row by which it is known.
+pub fn title(line: &str) -> &str {
+    let kind = match line.split_once(' ') {
+        Some((kind, _)) => kind,
+        None => line,
+    };
+    let mut words = title_words(kind);
+    for (at, byte) in line.bytes().enumerate() {
+        if byte == b' ' {
+            words = words.saturating_sub(1);
+            if words == 0 {
+                return line.get(..at).unwrap_or(line);
+            }
+        }
+    }
+    line
+}
+
+/// The number of a word, up to a greatest one.
+pub fn number(word: &str, most: u64) -> Result<u64, Trouble> {
+    match read_number(word.as_bytes(), most) {
+        Some(number) => Ok(number),
+        None => Err(Trouble::NoForm),
+    }
+}
