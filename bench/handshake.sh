@@ -1,29 +1,26 @@
 #!/bin/sh
-# Counts the instructions that a whole handshake takes, from a sample client's Connection Request to its Font List, in one piece and
-# byte by byte, and those of reading an Input PDU's event, by valgrind's callgrind; a figure is the difference of two runs over that of
-# their counts. Then answers the sample with each byte set to each other value, and compares the digest of the 230,520 answers with the
-# one that is kept in bench/answers.sha256. That one is of what bench/sample_answers.py prints, a model that shares nothing with the crates.
+# Counts, by valgrind's callgrind, what rdp_host takes to hear a sample client from its Connection Request to its Font List, in one piece
+# and byte by byte, and what an Input packet takes that enters one event and draws nothing, with its take and the frame of a mark alone.
+# Wanted: at most 60,000 in one piece and 200,000 byte by byte.
 #
-# Run at the top of the repository: sh bench/handshake.sh. It needs valgrind and rt, and writes a table.
-bench=bench_answers
-. "$(dirname "$0")/instructions.sh"
+# usage: sh bench/handshake.sh      (it needs valgrind and python3)
+bench=handshake
+. "$(dirname "$0")/programs.sh"
+needs "$rdp_host"
 
-few=100
-many=1100
+# The sample client with so many Input packets behind it.
+sample() { python3 "$here/bench/sample_answers.py" sample "$1"; }
 
-printf '| job | instructions |\n'
+row job instructions
 printf '|---|---:|\n'
-for job in whole bytes events; do
-    a=$(count "$job $few")
-    b=$(count "$job $many")
-    tenths=$(((b - a) * 10 / (many - few)))
-    printf '| %s | %d.%d |\n' "$job" $((tenths / 10)) $((tenths % 10))
-done
-
-echo 'changes 0 904' | "$program" | sha256sum | cut -d ' ' -f 1 >"$scratch/answers"
-if cmp -s "$scratch/answers" "$here/bench/answers.sha256"; then
-    echo '230,520 answers: as they are kept'
-else
-    echo '230,520 answers: other than they are kept' >&2
-    exit 1
-fi
+sample 0 >"$work/sample"
+instructions "$work/sample" "$rdp_host" answer 64 48 ann >"$work/whole"
+row 'the handshake, in one piece' "$(inclusive 'conn_core::conn::Conn::feed')"
+row 'the whole run, with its session and first frame' "$(cat "$work/whole")"
+python3 "$here/bench/feed.py" "$work/sample" valgrind --tool=callgrind --callgrind-out-file="$work/profile" "$rdp_host" answer 64 48 ann >"$work/output" 2>"$work/said"
+row 'the handshake, byte by byte' "$(inclusive 'conn_core::conn::Conn::feed')"
+sample 100 >"$work/few"
+sample 200 >"$work/many"
+a=$(instructions "$work/few" "$rdp_host" answer 64 48 ann)
+b=$(instructions "$work/many" "$rdp_host" answer 64 48 ann)
+row 'an Input packet of one event, with its take' $(((b - a) / 100))

@@ -1,32 +1,15 @@
 #!/bin/sh
-# Counts the instructions that drawing on a client's picture of 2,048 by 2,048 takes, and that a client takes to read a host's bytes, by
-# valgrind's callgrind. Each figure is the difference of two runs that differ in how often they do the job, over that difference: so what
-# a process takes to start, and to make its picture, isn't in it. Then, where the proved rdp_look is there, it reads a capture of 100 MB.
-# Wanted: an order at most 600 beside its pixels, a packed tile at most 30,000 beside unpacking it, a mark after a small fill at most 20,000.
+# Counts, by valgrind's callgrind, what rdp_look takes for what a viewer is sent: an order, a mark, a tile. A count is the difference of two
+# runs that differ in how often it stands in the capture, over that difference. So what the process takes to start, to make its picture of
+# 2,048 by 2,048 and to write it isn't in it; reading the capture's digits is, and the second column has what the client alone takes.
+# Then it times a capture of 100 MB.
+# Wanted of the client: an order at most 600 beside its pixels, a packed tile at most 30,000 beside unpacking it, a mark after a small fill
+# at most 20,000.
 #
-# Run at the top of the repository: sh bench/look.sh. It needs valgrind and rt, and writes a table.
-bench=bench_look
-. "$(dirname "$0")/instructions.sh"
-
-few=1
-many=11
-
-# The instructions that one repetition of a job takes.
-each() {
-    a=$(count "$1 $few")
-    b=$(count "$1 $many")
-    echo $(((b - a) / (many - few)))
-}
-
-fill=$(each fill)
-mark=$(each mark)
-printf '| %-38s | %12s |\n' job instructions
-printf '|---|---:|\n'
-printf '| %-38s | %12d |\n' "a fill of 10 by 10 pixels" "$fill"
-printf '| %-38s | %12d |\n' "a mark after it" $((mark - fill))
-printf '| %-38s | %12d |\n' "a bitmap of 64 by 64" "$(each write)"
-printf '| %-38s | %12d |\n' "an image of 64 by 64 by code CC" "$(each blit)"
-printf '| %-38s | %12d |\n' "a copy of 64 by 64 by code CC" "$(each copy)"
+# usage: sh bench/look.sh      (it needs valgrind)
+bench=look
+. "$(dirname "$0")/programs.sh"
+needs "$rdp_look"
 
 # The digits of a number of two bytes, the lowest first.
 little() { printf '%02x%02x' $(($1 % 256)) $(($1 / 256)); }
@@ -53,38 +36,58 @@ fills() {
 # The digits of the packet of a packed tile.
 tile() { packet "0100010000000000""3f003f0040004000""18000104$(little $((${#1} / 2)))$1"; }
 
-# The instructions that a client takes to read these bytes once more.
+# A capture in which these bytes stand so many times, for a viewer.
+capture() {
+    echo "1 joined 2048 2048 full"
+    for i in $(seq "$2"); do echo "1 $1"; done
+}
+
+# Counts what these bytes take once more: all instructions, those of the client, and those of unpacking.
 fed() {
-    a=$(count "feed $few $1")
-    b=$(count "feed $many $1")
-    echo $(((b - a) / (many - few)))
+    capture "$1" 1 >"$work/capture"
+    a=$(instructions "$work/capture" "$rdp_look" 1)
+    client_a=$(inclusive 'client_view::client::Client::feed')
+    unpack_a=$(inclusive 'rle_dec::unpack')
+    capture "$1" 11 >"$work/capture"
+    b=$(instructions "$work/capture" "$rdp_look" 1)
+    all=$(((b - a) / 10))
+    client=$((($(inclusive 'client_view::client::Client::feed') - client_a) / 10))
+    unpack=$((($(inclusive 'rle_dec::unpack') - unpack_a) / 10))
 }
 
-# The instructions that one more fill of this side takes in a packet.
-order() { echo $((($(fed "$(fills 201 "$1")") - $(fed "$(fills 101 "$1")")) / 100)); }
+# A row: what, all instructions, those of the client.
+counted() { printf '| %-42s | %12s | %12s |\n' "$1" "$2" "$3"; }
 
-# The instructions that reading a packed tile takes beside unpacking it.
-beside() {
-    a=$(count "unpack $few $1")
-    b=$(count "unpack $many $1")
-    echo $(($(fed "$(tile "$1")") - (b - a) / (many - few)))
+# The row of one more fill of a side in a packet.
+order() {
+    fed "$(fills 101 "$1")"
+    few_all=$all
+    few_client=$client
+    fed "$(fills 201 "$1")"
+    counted "an OpaqueRect order of $1 by $1" $(((all - few_all) / 100)) $(((client - few_client) / 100))
 }
 
-one_fill=$(fills 1 10)
-mark=$(packet 03000000)
-flat=60200000fff0c00f
+counted 'one more' instructions 'the client'
+printf '|---|---:|---:|\n'
+order 1
+order 10
+small=$(fills 1 10)
+fed "$small"
+fill_all=$all
+fill_client=$client
+fed "$small$(packet 03000000)"
+counted 'a mark after a fill of 10 by 10' $((all - fill_all)) $((client - fill_client))
+fed "$(tile 60200000fff0c00f)"
+counted 'a packed tile of one colour, 8 bytes' "$all" "$client"
+counted 'the same, beside unpacking' $((all - unpack)) $((client - unpack))
 pixels=$(awk 'BEGIN { for (i = 0; i < 3072; i++) printf "%02x", i * 37 % 256 }')
-printf '| %-38s | %12d |\n' "an OpaqueRect order of one pixel" "$(order 1)"
-printf '| %-38s | %12d |\n' "an OpaqueRect order of 10 by 10" "$(order 10)"
-printf '| %-38s | %12d |\n' "a mark after a small fill, read" $(($(fed "$one_fill$mark") - $(fed "$one_fill")))
-printf '| %-38s | %12d |\n' "a flat tile beside unpacking" "$(beside $flat)"
-printf '| %-38s | %12d |\n' "a tile of 3,081 bytes, the same" "$(beside "f40004${pixels}f3000c010203")"
+fed "$(tile "f40004${pixels}f3000c010203")"
+counted 'a packed tile of 3,081 bytes' "$all" "$client"
+counted 'the same, beside unpacking' $((all - unpack)) $((client - unpack))
 
-look=$here/crates/rdp_look/out/rdp_look
-if [ -x "$look" ]; then
-    {
-        echo "1 joined 2048 2048 full"
-        yes "1 $one_fill$mark" | head -n 534759
-    } >"$scratch/capture"
-    /usr/bin/time -f '%U s, %M KB' "$look" 1 <"$scratch/capture" 2>&1 >"$scratch/picture" | sed 's/^/a capture of 100 MB: /'
-fi
+capture "$small$(packet 03000000)" 1 >"$work/line"
+{
+    echo "1 joined 2048 2048 full"
+    yes "$(tail -n 1 "$work/line")" | head -n 534759
+} >"$work/capture"
+/usr/bin/time -f '%U s of processor time, %M KiB' "$rdp_look" 1 <"$work/capture" 2>&1 >"$work/output" | sed "s/^/a capture of $(wc -c <"$work/capture") bytes: /"

@@ -2,9 +2,14 @@
 """A model of the connection sequence apart from the crates: it was written from the tables that docs/protocol.md tells, and shares
 nothing with their code or definitions. It prints, for each place of a sample client's stream from FROM up to TO, which is left out, and
 each other value of the byte there: the place, the value, and the number and place of the refusal; or 0 and how many bytes are there of a
-packet that isn't whole. That is what bench_answers prints for `changes FROM TO`.
+packet that isn't whole. With the word `sample` it writes the sample client's stream, whole, and so many Input packets behind it, each
+with one key that is released.
 
 python3 bench/sample_answers.py 0 904 | sha256sum
+python3 bench/sample_answers.py sample 0 > FILE
+
+The first command made bench/answers.sha256, the digest of 230,520 lines. It is what `worked_runs` must find in its row `changes`: there the
+same lines are made of what `Conn` answers.
 """
 import sys
 
@@ -401,6 +406,10 @@ def answer(b):
 
 if __name__ == '__main__':
     whole = sample()
+    if sys.argv[1] == 'sample':
+        released = sharedata(0x1C, bytes.fromhex('01000000 00000000 0400 0080 1e00 0000'.replace(' ', '')))
+        sys.stdout.buffer.write(whole + int(sys.argv[2]) * released)
+        sys.exit()
     for place in range(int(sys.argv[1]), min(int(sys.argv[2]), len(whole))):
         for value in range(256):
             if value != whole[place]:

@@ -1,0 +1,60 @@
+# What the benches share. To be sourced with the bench's name in `bench`: it has where the two programs stand, the folder $work for what
+# a run reads and writes, and the functions below. A program is that of another place where RDP_HOST or RDP_LOOK names one.
+set -eu
+LC_ALL=C
+export LC_ALL
+here=$(CDPATH= cd -- "$(dirname -- "$0")/.." && pwd)
+rdp_host=${RDP_HOST:-$here/crates/rdp_host/out/rdp_host}
+rdp_look=${RDP_LOOK:-$here/crates/rdp_look/out/rdp_look}
+work=$(mktemp -d)
+trap 'rm -rf "$work"' EXIT
+
+# Ends the bench where one of these programs isn't there.
+needs() {
+    for program in "$@"; do
+        [ -x "$program" ] || { echo "$bench: no $program; 'rt run' in its crate proves and builds it" >&2; exit 1; }
+    done
+}
+
+# The instructions of a program's run over an input, by valgrind's callgrind. Its profile stands in $work/profile then, and in
+# $work/output what it wrote. A run that doesn't end well ends the bench.
+instructions() {
+    input=$1
+    shift
+    valgrind --tool=callgrind --callgrind-out-file="$work/profile" "$@" <"$input" >"$work/output" 2>"$work/said" || {
+        tail -n 3 "$work/output" "$work/said" >&2
+        exit 1
+    }
+    sed -n 's/^.*Collected : \([0-9]*\).*$/\1/p' "$work/said"
+}
+
+# The instructions of the last profile in functions whose name has this word, with all that they call. It is 0 where there is none,
+# as where each was compiled into its callers.
+inclusive() {
+    callgrind_annotate --inclusive=yes --threshold=100 "$work/profile" 2>/dev/null |
+        awk -v word="$1" '/^ *[0-9]/ && index($0, word) { gsub(",", "", $1); print $1; found = 1; exit } END { if (!found) print 0 }'
+}
+
+# The processor time of a program's run over an input, in milliseconds. What else the machine does is hardly in it.
+milliseconds() {
+    input=$1
+    shift
+    /usr/bin/time -f '%U %S' -o "$work/time" "$@" <"$input" >"$work/output"
+    awk '{ printf "%.0f\n", 1000 * ($1 + $2) }' "$work/time"
+}
+
+# The most memory of a program's run over an input, in bytes.
+memory() {
+    input=$1
+    shift
+    /usr/bin/time -f %M -o "$work/memory" "$@" <"$input" >"$work/output"
+    echo $(($(cat "$work/memory") * 1024))
+}
+
+# The lesser of two numbers.
+least() {
+    if [ "$1" -lt "$2" ]; then echo "$1"; else echo "$2"; fi
+}
+
+# A row of a table: a text and a number.
+row() { printf '| %-52s | %12s |\n' "$1" "$2"; }
