@@ -4,6 +4,7 @@ ghost use Rattle.edge_io.specs.Supply.{Supply, next_piece, read_count, answer_of
 ghost use Rattle.edge_io.specs.Source.{FitsRoom, Takes, ReadCause};
 
 use crate::{Got, Source};
+use std::alloc::AllocError;
 use std::collections::VecDeque;
 use std::marker::Model;
 
@@ -50,6 +51,18 @@ impl Bytes {
         } else {
             Got::Bytes(count)
         }
+    }
+}
+
+impl Clone for Bytes {
+    ghost is_clone = { λ bytes copy. copy ≡ bytes };
+
+    fn clone(&self) -> Result<Bytes, AllocError> {
+        Ok(Bytes {
+            bytes: self.bytes.clone()?,
+            at: self.at,
+            pieces: self.pieces.clone()?,
+        })
     }
 }
 

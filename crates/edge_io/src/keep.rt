@@ -4,7 +4,7 @@ ghost use Rattle.edge_io.specs.Sink.{Appends, WriteCause};
 ghost use Rattle.edge_io.specs.PlannedSink.{told_after_write};
 
 use crate::{Sink, Wrote};
-use std::alloc::Global;
+use std::alloc::{AllocError, Global};
 use std::marker::Model;
 
 /// A sink in memory, which never fails. It is seen as the bytes that it was told.
@@ -33,6 +33,16 @@ impl Keep {
         ensures { result.now ≡ self.now }
     {
         &self.bytes
+    }
+}
+
+impl Clone for Keep {
+    ghost is_clone = { λ sink copy. copy ≡ sink };
+
+    fn clone(&self) -> Result<Keep, AllocError> {
+        Ok(Keep {
+            bytes: self.bytes.clone()?,
+        })
     }
 }
 

@@ -1,6 +1,7 @@
 ghost use Rattle.std.specs.Prelude.{◌≡◌};
 
 use crate::{Link, PlanSink, PlanSource, Sink, Source};
+use std::alloc::AllocError;
 
 /// A link in memory, which is its own remainder.
 #[derive(Drop)]
@@ -9,6 +10,17 @@ pub struct MemLink {
     pub reader: PlanSource,
     /// What goes out.
     pub writer: PlanSink,
+}
+
+impl Clone for MemLink {
+    ghost is_clone = { λ link copy. copy ≡ link };
+
+    fn clone(&self) -> Result<MemLink, AllocError> {
+        Ok(MemLink {
+            reader: self.reader.clone()?,
+            writer: self.writer.clone()?,
+        })
+    }
 }
 
 impl Link for MemLink {

@@ -4,6 +4,7 @@ ghost use Rattle.std.specs.List.{list_any};
 ghost use Rattle.edge_io.specs.Faults.{Rose};
 ghost use Rattle.edge_io.specs.Plan.{CallPlan, new_plan, next_fails, plan_after_call};
 
+use std::alloc::AllocError;
 use std::marker::Model;
 
 /// Which calls of a fake are to fail, counted from 1, how many were made, and how many of these failed.
@@ -43,6 +44,18 @@ impl Plan {
             self.faults = self.faults.saturating_add(1);
         }
         fails
+    }
+}
+
+impl Clone for Plan {
+    ghost is_clone = { λ plan copy. copy ≡ plan };
+
+    fn clone(&self) -> Result<Plan, AllocError> {
+        Ok(Plan {
+            fails: self.fails.clone()?,
+            calls: self.calls,
+            faults: self.faults,
+        })
     }
 }
 

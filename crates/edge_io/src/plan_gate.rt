@@ -33,17 +33,18 @@ impl Model for PlanGate {
 }
 
 impl PlanGate {
-    /// A gate that hands out these links, and the calls of `listen` and `next` that fail, counted together from 1. No link can be
-    /// opened yet, so there are none.
+    /// A gate that hands out these links, and the calls of `listen` and `next` that fail, counted together from 1. It
+    /// keeps a copy of each link as it is now, and has room for what comes back.
     pub fn new(alloc: Global, links: Vec<MemLink>, fails: Vec<u32>) -> Result<PlanGate, OutOfMemory>
-        requires { links.items ≡ [] }
-        ensures { IfOk result (λ gate. gate ≡ new_gate [] fails.items) }
+        ensures { IfOk result (λ gate. gate ≡ new_gate links.items fails.items) }
     {
+        let finished = Vec::with_capacity(alloc, links.len())?;
+        let copies = Vec::from_clones(alloc, &links)?;
         Ok(PlanGate {
             waiting: VecDeque::from_vec(links),
-            links: Vec::new(alloc),
+            links: copies,
             given: 0,
-            finished: Vec::new(alloc),
+            finished,
             asked: None,
             ended: false,
             plan: Plan::new(fails),
@@ -138,6 +139,8 @@ fn has_room(asked: &Option<(u16, u16)>, given: usize) -> bool
 #[cfg(test)]
 mod tests {
     use super::*;
+    use crate::checks::must_be;
+    use crate::{Got, Link, PlanSink, PlanSource, Sink, Source, Wrote};
     use std::test::Fail;
 
     #[test]
@@ -148,6 +151,35 @@ mod tests {
         assert!(rt; gate.listen(3389, 1));
         assert!(rt; matches!(gate.next(), Next::End));
         assert!(rt; gate.finished().is_empty());
+        Ok(())
+    }
+
+    /// A link with these bytes to be read.
+    fn link_of(alloc: Global, bytes: &[u8]) -> Result<MemLink, OutOfMemory> {
+        let bytes = Vec::from_slice(alloc, bytes)?;
+        Ok(MemLink {
+            reader: PlanSource::new(bytes, Vec::new(alloc), Vec::new(alloc)),
+            writer: PlanSink::new(alloc, Vec::new(alloc)),
+        })
+    }
+
+    #[test]
+    fn a_link_that_a_gate_gave_is_used_and_comes_back(rt: HostRuntime) -> Result<(), Fail> {
+        let alloc = rt.alloc();
+        let links = Vec::from_array(alloc, [link_of(alloc, b"ann")?, link_of(alloc, b"bob")?])?;
+        let mut gate = PlanGate::new(alloc, links, Vec::new(alloc))?;
+        assert!(rt; gate.listen(3389, 1));
+        let Next::Link(link) = gate.next() else {
+            panic!(rt; "no link");
+        };
+        let (mut reader, mut writer) = link.split();
+        let mut buf = [0u8; 8];
+        must_be(&rt, &reader.read(&mut buf), &Got::Bytes(3));
+        must_be(&rt, &writer.write_all(b"hello"), &Wrote::All);
+        gate.done(MemLink::close(reader, writer));
+        assert!(rt; matches!(gate.next(), Next::End));
+        assert_eq!(rt; gate.finished().len(), 1);
+        assert_eq!(rt; gate.finished()[0].writer.bytes(), b"hello".as_slice());
         Ok(())
     }
 }

@@ -6,7 +6,7 @@ ghost use Rattle.edge_io.specs.PlannedSink.{PlannedSink, told_after_write, Fails
 
 use crate::plan::Plan;
 use crate::{Keep, Sink, Wrote};
-use std::alloc::Global;
+use std::alloc::{AllocError, Global};
 use std::marker::Model;
 
 /// A sink in memory that fails exactly at listed calls; a call that fails takes nothing.
@@ -38,6 +38,17 @@ impl PlanSink {
         ensures { result.now ≡ self.now.told }
     {
         self.kept.bytes()
+    }
+}
+
+impl Clone for PlanSink {
+    ghost is_clone = { λ sink copy. copy ≡ sink };
+
+    fn clone(&self) -> Result<PlanSink, AllocError> {
+        Ok(PlanSink {
+            kept: self.kept.clone()?,
+            plan: self.plan.clone()?,
+        })
     }
 }
 

@@ -7,6 +7,7 @@ ghost use Rattle.edge_io.specs.PlannedSource.{PlannedSource, planned_answer, pla
 
 use crate::plan::Plan;
 use crate::{Bytes, Got, Source};
+use std::alloc::AllocError;
 use std::marker::Model;
 
 /// A source in memory that fails exactly at listed calls; a call that fails takes and gives nothing.
@@ -31,6 +32,17 @@ impl PlanSource {
             bytes: Bytes::new(bytes, pieces),
             plan: Plan::new(fails),
         }
+    }
+}
+
+impl Clone for PlanSource {
+    ghost is_clone = { λ source copy. copy ≡ source };
+
+    fn clone(&self) -> Result<PlanSource, AllocError> {
+        Ok(PlanSource {
+            bytes: self.bytes.clone()?,
+            plan: self.plan.clone()?,
+        })
     }
 }
 

@@ -4,3 +4,4 @@ pub mod Numbered
 pub mod SentBytes
 pub mod Interleaved
 pub mod GoesOn
+pub mod TakesStay

@@ -9,7 +9,7 @@ ghost use Rattle.session_rules.specs.declared.entry.Entry.{Entry};
 ghost use Rattle.session_rules.specs.Journal.{Head, IsLegalJournal};
 ghost use Rattle.session_rules.specs.Steps.{TakeOf, TakesFollow, journal_of_steps, takes_of};
 ghost use Rattle.frame_rules.specs.FrameBytes.{joined_bytes};
-ghost use Rattle.frame_rules.specs.Encoder.{Encoder, first_encoder, bytes_of_takes};
+ghost use Rattle.frame_rules.specs.Encoder.{Encoder, first_encoder, bytes_of_takes, encoder_after_takes};
 ghost use Rattle.frame_rules.specs.Describes.{DescribesClient, HasAllCaches};
 ghost use Rattle.script_rules.specs.Script.{Asked};
 ghost use Rattle.script_rules.specs.CaptureText.{run_at_first, sent_from};
@@ -45,4 +45,12 @@ pub fn every_viewer_sees_the_journal()
 pub fn encoder_describes_its_client_as_the_journal_goes_on()
     ensures { (size : Size) (c : Confirmed) (j more : List Entry) (number : ℕ) (e : Encoder) (client : ClientState) → number ≤ length j
         → DescribesClient size c j number e client → DescribesClient size c (j ++ more) number e client }
+{}
+
+/// The bytes of takes that follow each other stay the same, however the journal goes on after the last of them; so does the encoder after them.
+pub fn takes_stay_as_the_journal_goes_on()
+    ensures bytes { (size : Size) (c : Confirmed) (j more : List Entry) (e : Encoder) (ts : List TakeOf) (from last : ℕ) → TakesFollow from ts last
+        → last ≤ length j → bytes_of_takes size c (j ++ more) e ts ≡ bytes_of_takes size c j e ts }
+    ensures encoder { (size : Size) (c : Confirmed) (j more : List Entry) (e : Encoder) (ts : List TakeOf) (from last : ℕ) → TakesFollow from ts last
+        → last ≤ length j → encoder_after_takes size c (j ++ more) e ts ≡ encoder_after_takes size c j e ts }
 {}

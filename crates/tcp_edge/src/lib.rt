@@ -1,0 +1,16 @@
+//! Sockets as links and a gate: the clients that connect to a port, over the system's TCP (profile).
+#![tactic(auto)]
+
+mod gate;
+mod limits;
+mod link;
+mod options;
+mod reader;
+mod refusal;
+mod writer;
+
+pub use gate::TcpGate;
+pub use limits::{LIMITS, Limits};
+pub use link::{TcpLink, TcpSpent};
+pub use reader::TcpReader;
+pub use writer::TcpWriter;

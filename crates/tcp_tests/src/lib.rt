@@ -1,0 +1,7 @@
+//! Tests of sockets as links: clients over the loopback interface.
+//!
+//! They use public calls alone, so they stand apart: a crate with tests of its own is proved a second time for them.
+#![tactic(auto)]
+
+#[cfg(test)]
+mod sockets;
