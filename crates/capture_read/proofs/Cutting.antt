@@ -1,10 +1,10 @@
 -- Lines that were cut from what a source gave.
-use Rattle.std.proofs.Common.{◌≡◌, ℕ, suc, ◌+◌, ◌<◌, Bool, true, false, List, [], ◌∷◌, ◌++◌, length, take, drop, Some, None, sym, ap, ◌∙◌, refl, arith, append_assoc, append-nil, position}
-use Rattle.std.specs.Prelude.{⊤}
+use Rattle.std.proofs.Common.{◌≡◌, ℕ, suc, ◌+◌, ◌<◌, Bool, true, false, List, [], ◌∷◌, ◌++◌, length, take, drop, Some, None, sym, ap, ◌∙◌, arith, append_assoc, append-nil, position}
 use Rattle.std.specs.declared.option.Option.{Option}
 use Rattle.std.specs.Io.KnownBytes.{Keeps, Consumes, IsAtEnd, prepend_known}
-use Rattle.line_text.specs.Lines.{Line, line_bytes, lines_of}
+use Rattle.line_text.specs.Lines.{Line, lines_of}
 use Rattle.line_read.specs.Reading.{TakesLine}
+use Rattle.capture_read.specs.Long.{HasNoFeed, LosesFront}
 use Rattle.line_read.proofs.LineLemmas.{is_feed, IsPlain, FeedAt, feed_found, feed_missing, line_ended, line_unended}
 
 plain_append : (xs ys : List ℕ) → IsPlain xs → IsPlain ys → IsPlain (xs ++ ys)
@@ -95,3 +95,18 @@ pub keeps_none : (left rest : Option (List ℕ)) → Keeps left rest → Keeps l
 keeps_none None rest kept = tt
 keeps_none (Some xs) None kept = absurd kept
 keeps_none (Some xs) (Some ys) kept = kept
+
+-- ---- what a failed read loses
+
+no_feed : (text : List ℕ) → IsPlain text → HasNoFeed text
+no_feed [] plain = tt
+no_feed (b ∷ text) plain = (plain.0, no_feed text plain.1)
+
+keeps_front : (before left rest : Option (List ℕ)) (text unread : List ℕ) → Keeps before (prepend_known text left) → Keeps left (prepend_known unread rest) → Keeps before (prepend_known text (prepend_known unread rest))
+keeps_front None left rest text unread keeps kept = tt
+keeps_front (Some bytes) None rest text unread keeps kept = absurd keeps
+keeps_front (Some bytes) (Some left) None text unread keeps kept = absurd kept
+keeps_front (Some bytes) (Some left) (Some rest) text unread keeps kept = ap (λ (l : List ℕ). text ++ l) kept ∙ keeps
+
+pub loses_front : (before left rest : Option (List ℕ)) (text unread : List ℕ) → Keeps before (prepend_known text left) → Keeps left (prepend_known unread rest) → IsPlain text → LosesFront before (prepend_known unread rest)
+loses_front before left rest text unread keeps kept plain = record { lost = text; of_line = no_feed text plain; keeps = keeps_front before left rest text unread keeps kept }

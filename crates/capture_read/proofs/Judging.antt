@@ -1,5 +1,5 @@
 -- What a line tells that was taken and judged.
-use Rattle.std.proofs.Common.{◌≡◌, ◌∙◌, ◌+◌, ◌-◌, ◌^◌, ◌≤◌, min, ℕ, List, Result, Ok, Err, IfOk, arith}
+use Rattle.std.proofs.Common.{◌≡◌, ◌∙◌, ◌+◌, ◌-◌, ◌^◌, min, ℕ, List, Result, Ok, Err, IfOk, arith}
 use Rattle.std.specs.declared.option.Option.{Option}
 use Rattle.line_text.specs.Lines.{Line}
 use Rattle.line_read.specs.Reading.{TakesLine}
@@ -8,6 +8,7 @@ use Rattle.capture_read.specs.declared.capture_reader.Told.TheVariants as told
 use Rattle.capture_read.specs.Reading.{CaptureReading, JudgesLine, Finds, FindCause, IsAnswer, StandsBefore, counted}
 use Rattle.out_of_memory.specs.declared.OutOfMemory.{OutOfMemory}
 use Rattle.std.specs.Io.KnownBytes.{prepend_known}
+use Rattle.capture_read.specs.Long.{LosesFront}
 use Rattle.capture_read.specs.Reading.{ahead}
 
 -- a line that was taken and judged was found
@@ -42,3 +43,8 @@ finds_after (Ok answer) old between new before rest unread line takes same read 
 -- the number of the next line
 pub next_number : (line next k : ℕ) → line ≡ counted k → next ≡ min (line + 1) (2 ^ 64 - 1) → next ≡ counted (k + 1)
 next_number line next k is after = omega (arith, is, after)
+
+-- a failed read leaves the number of the line
+pub loses_part : (old new : CaptureReading) (before now rest : Option (List ℕ)) → LosesFront before now → new.viewer ≡ old.viewer → new.line ≡ old.line → new.joined ≡ old.joined →
+    (k : ℕ) (joined : List ℕ) → StandsBefore k joined old → Finds told.Failed k joined old new before now rest
+loses_part old new before now rest loses viewer line flags k joined s = record { loses = loses; stands = record { line = line ∙ s.line; joined_are = rw flags s.joined_are }; viewer = viewer }

@@ -6,7 +6,6 @@ use Rattle.std.specs.Io.KnownBytes.{prepend_known, Keeps, IsAtEnd}
 use Rattle.edge_io.specs.Faults.{Rose}
 use Rattle.edge_io.specs.declared.source.Got.{Got}
 use Rattle.edge_io.specs.declared.source.Got.TheVariants as got
-use Rattle.line_text.specs.Lines.{Line}
 use Rattle.line_read.specs.Reading.{TakesLine}
 use Rattle.out_of_memory.specs.declared.OutOfMemory.{OutOfMemory}
 use Rattle.capture_read.specs.declared.long_lines.Cut.{Cut}
@@ -52,12 +51,23 @@ MoreCame (got.Bytes n) new left rest = (n ≡ length new.unread) × (0 < n)
 MoreCame got.End new left rest = (new.unread ≡ []) × (IsAtEnd left × Keeps left rest)
 MoreCame got.Failed new left rest = new.unread ≡ []
 
--- the next line was taken, and its text stands in the reader; or none is left; a failed read loses the line in which it came
+-- bytes without a line feed
+abbrev pub HasNoFeed : List ℕ → Type 0
+HasNoFeed [] = ⊤
+HasNoFeed (b ∷ bytes) = ((b == 10) ≡ false) × HasNoFeed bytes
+
+-- the front of a line is lost, and the rest of it stands ahead
+pub record LosesFront (before now : Option (List ℕ)) : Type 0 where
+  pub lost : List ℕ
+  pub of_line : HasNoFeed lost
+  pub keeps : Keeps before (prepend_known lost now)
+
+-- the next line was taken, and its text stands in the reader; or none is left; a failed read loses what was read of the line in which it came
 abbrev pub Cuts : Cut → LongReading → (before now rest : Option (List ℕ)) → Type 0
 Cuts cut.Ended new before now rest = TakesLine before now (record { text = new.text; ended = true })
 Cuts cut.Unended new before now rest = TakesLine before now (record { text = new.text; ended = false })
 Cuts cut.End new before now rest = IsAtEnd before × Keeps before rest
-Cuts cut.Failed new before now rest = ⊤
+Cuts cut.Failed new before now rest = LosesFront before now
 
 -- a read fails only where the count of faults rose, and any other answer leaves it
 abbrev pub CutCause : Result Cut OutOfMemory → ℕ → ℕ → Type 0

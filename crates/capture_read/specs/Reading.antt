@@ -1,5 +1,5 @@
 -- How a capture is read line by line for one of its viewers, and what each call finds.
-use Rattle.std.specs.Prelude.{◌≡◌, ℕ, ◌+◌, ◌<◌, min, Bool, true, false, List, [], ◌∷◌, ◌++◌, get_or, ◌==◌, ◌||◌, ⊤, Result, Ok, Err}
+use Rattle.std.specs.Prelude.{◌≡◌, ℕ, ◌+◌, ◌<◌, min, Bool, true, false, List, [], get_or, ◌==◌, ◌||◌, ⊤, Result, Ok, Err}
 use Rattle.std.specs.declared.option.Option.{Option}
 use Rattle.std.specs.declared.option.Option.TheVariants.{Some, None}
 use Rattle.std.specs.Io.KnownBytes.{prepend_known, Keeps, IsAtEnd}
@@ -10,6 +10,7 @@ use Rattle.px_core.specs.declared.surface.Size.{Size}
 use Rattle.caps_sets.specs.declared.confirmed.Confirmed.{Confirmed}
 use Rattle.script_rules.specs.Capture.{CaptureLine, JoinedAs, may_stand, joined_after, has_joined, line_read, first_broken_by, bytes_of_line, joined_in_line}
 use Rattle.out_of_memory.specs.declared.OutOfMemory.{OutOfMemory}
+use Rattle.capture_read.specs.Long.{LosesFront}
 use Rattle.capture_read.specs.declared.capture_reader.Told.{Told}
 use Rattle.capture_read.specs.declared.capture_reader.Told.TheVariants as told
 
@@ -108,6 +109,12 @@ pub record BreaksLine (k : ℕ) (joined : List ℕ) (old new : CaptureReading) (
   pub after : StandsBefore (k + 1) joined new
   pub viewer : new.viewer ≡ old.viewer
 
+-- a read failed in line k: what was read of the line is lost, and the rest of it is the reader's next line, which has its number
+pub record LosesPart (k : ℕ) (joined : List ℕ) (old new : CaptureReading) (before now : Option (List ℕ)) : Type 0 where
+  pub loses : LosesFront before now
+  pub stands : StandsBefore k joined new
+  pub viewer : new.viewer ≡ old.viewer
+
 -- what was found of the bytes ahead by a reader that stood before line k
 abbrev pub Finds : Told → ℕ → List ℕ → (old new : CaptureReading) → (before now rest : Option (List ℕ)) → Type 0
 Finds (told.Joined size confirmed) k joined old new before now rest = ReadsLine k joined old new before now (joined_with size confirmed) []
@@ -115,7 +122,7 @@ Finds told.Bytes k joined old new before now rest = ReadsLine k joined old new b
 Finds told.Other k joined old new before now rest = ReadsLine k joined old new before now None []
 Finds (told.Broken line) k joined old new before now rest = BreaksLine k joined old new before now × (line ≡ counted k)
 Finds told.End k joined old new before now rest = IsAtEnd before × Keeps before rest
-Finds told.Failed k joined old new before now rest = ⊤
+Finds told.Failed k joined old new before now rest = LosesPart k joined old new before now
 
 -- a read fails only where the count of faults rose, and any other answer leaves it
 abbrev pub FindCause : Result Told OutOfMemory → ℕ → ℕ → Type 0

@@ -28,7 +28,7 @@ pub enum Told {
     Broken { line: u64 },
     /// No line is left.
     End,
-    /// The source failed; the line in which it did is lost.
+    /// The source failed. What was read of the line in which it did is lost, and the rest of it is told as the next line, with its number.
     Failed,
 }
 
@@ -74,7 +74,7 @@ impl CaptureReader {
     }
 
     /// Reads the next line. A line is of a form of captures, joins no viewer twice, and gives bytes and answers only to one that has joined;
-    /// else it is broken. After a failed read the lines that follow aren't those of the capture.
+    /// else it is broken. After a failed read lines are counted on from the one in which it came. After want of memory nothing is said of the reader.
     pub fn next_line<S: Source>(&mut self, input: &mut S) -> Result<Told, OutOfMemory>
         ensures found { IfOk result (λ told. (k : ℕ) (joined : List ℕ) → StandsBefore k joined self.old
             → Finds told k joined self.old self.new (ahead self.old (S.left input.old)) (ahead self.new (S.left input.new)) (S.left input.new)) }

@@ -26,7 +26,7 @@ pub(crate) enum Cut {
     Unended,
     /// No byte is left.
     End,
-    /// The source failed; the line in which it did is lost.
+    /// The source failed; what was read of the line in which it did is lost.
     Failed,
 }
 

@@ -1,6 +1,6 @@
 //! The saved blocks of a client ([MS-RDPEGDI] 2.2.2.2.1.1.2.12).
 
-ghost use Rattle.std.specs.Prelude.{◌≡◌, ◌∷◌, [], ◌+◌, ◌*◌, nat_le, length, IfSome, OnOk, option_copied};
+ghost use Rattle.std.specs.Prelude.{◌≡◌, ◌≤◌, ◌<◌, ◌∷◌, [], ◌+◌, ◌*◌, nat_le, length, vec_len, vec_capacity, IfSome, OnOk, OnErr, option_copied};
 ghost use Rattle.order_means.specs.ClientState.{positions, are_apart, apart_from, block_at};
 ghost use Rattle.client_caches.specs.Blocks.{is_that, capped};
 
@@ -109,12 +109,14 @@ impl ClientBlocks {
         }
     }
 
-    /// Keeps a block, and drops each that shares a position with it. After an `Err` nothing is said of the blocks.
+    /// Keeps a block, and drops each that shares a position with it. An `Err` leaves the blocks as they were.
     pub fn keep(&mut self, block: KeptBlock) -> Result<(), OutOfMemory>
-        ensures { OnOk result (self.new ≡ block ∷ apart_from block self.old) }
+        ensures kept { OnOk result (self.new ≡ block ∷ apart_from block self.old) }
+        ensures unchanged { OnErr result (self.new ≡ self.old) }
     {
+        self.blocks.reserve(1)?;
         keep_apart(&mut self.blocks, &block);
-        self.blocks.insert(0, block)?;
+        put_first(&mut self.blocks, block);
         Ok(())
     }
 
@@ -134,7 +136,18 @@ impl ClientBlocks {
 
 /// Drops each block that shares a position with this one.
 fn keep_apart(blocks: &mut Vec<KeptBlock>, block: &KeptBlock)
-    ensures { blocks.new.items ≡ apart_from block.now blocks.old.items }
+    ensures apart { blocks.new.items ≡ apart_from block.now blocks.old.items }
+    ensures fewer { vec_len blocks.new ≤ vec_len blocks.old }
+    ensures capacity { vec_capacity blocks.new ≡ vec_capacity blocks.old }
 {
     blocks.retain(|other| block.is_apart(other));
+}
+
+/// Puts a block before the others, where there is room for it.
+fn put_first(blocks: &mut Vec<KeptBlock>, block: KeptBlock)
+    requires { vec_len blocks.old < vec_capacity blocks.old }
+    ensures { blocks.new.items ≡ block ∷ blocks.old.items }
+{
+    blocks.push_reserved(block);
+    blocks.rotate_right(1);
 }

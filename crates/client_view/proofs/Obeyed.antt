@@ -1,5 +1,5 @@
 -- Views after orders, and the viewers that stand for them.
-use Rattle.std.proofs.Common.{◌≡◌, ◌<◌, ℕ, ◌+◌, ◌-◌, ◌^◌, min, Bool, true, false, List, [], ◌∷◌, ◌++◌, length, get_or, drop, refl, ap, sym, subst, ◌∙◌, Some, arith}
+use Rattle.std.proofs.Common.{◌≡◌, ◌<◌, ℕ, ◌+◌, ◌-◌, ◌^◌, min, Bool, true, false, List, [], ◌∷◌, ◌++◌, length, get_or, take, drop, refl, ap, sym, subst, ◌∙◌, Some, arith}
 use Rattle.std.specs.Prelude.{Option, Result, Ok, Err}
 use Rattle.std.proofs.lemmas.List.{length-append}
 use Rattle.std.proofs.Math.Seq.{drop-cons}
@@ -24,7 +24,8 @@ use Rattle.client_caches.specs.Caches.{CachesOf, with_caches}
 use Rattle.client_caches.proofs.Stores.{refused_by}
 use Rattle.client_view.specs.declared.viewer.Viewer.{Viewer}
 use Rattle.client_view.specs.Told.{client_after_clipped, client_after_stored, counted_told, view_after_told, view_after_all_told}
-use Rattle.client_view.specs.Views.{capped, client_of, last_picture, StandsFor, SamePlace, IsMarked, Obeys}
+use Rattle.client_view.specs.Views.{capped, client_of, last_picture, StandsFor, SameViewer, SamePlace, IsMarked, Obeys}
+use Rattle.client_view.specs.OnTheWay.{HasCounts, SameCounts, Stops, AfterFirstTold}
 
 -- ---- counts
 
@@ -106,33 +107,64 @@ marked_stands v m n s is =
       tiles = s.tiles;
     })
 
+-- ---- what stays of a view
+
+pub counts_of : (v : View) (m : Viewer) → StandsFor v m → HasCounts v m
+counts_of v m s = record { marked = s.marked; marks = s.marks; orders = s.orders; tiles = s.tiles }
+
+pub counts_stay : (v : View) (m n : Viewer) → StandsFor v m → SameViewer m n → SameCounts m n → HasCounts v n
+counts_stay v m n s same kept = record {
+  marked = kept.marked ∙ s.marked ∙ ap (λ (size : Size). last_picture (unknown_picture size) v.pictures) (sym same.size);
+  marks = kept.marks ∙ s.marks;
+  orders = kept.orders ∙ s.orders;
+  tiles = kept.tiles ∙ s.tiles;
+}
+
+pub joined_by : {A B C E : Type 0} (r : Result A E) (f : A → Result B E) (g : B → Result C E) (h : A → Result C E) → ((a : A) → h a ≡ bind (f a) g) → bind r h ≡ bind (bind r f) g
+joined_by (Ok a) f g h e = e a
+joined_by (Err x) f g h e = refl
+
 -- ---- one by one
 
--- what is left comes to what all came to
-pub record LeftTold (confirmed : Confirmed) (size : Size) (whole : Result View Fault) (left : List Told) (m : Viewer) : Type 0 where
+-- what is left comes to what all came to, and what was obeyed to a view
+pub record LeftTold (confirmed : Confirmed) (size : Size) (first : View) (whole : Result View Fault) (done left : List Told) (m : Viewer) : Type 0 where
   pub view : View
   pub same : whole ≡ view_after_all_told confirmed size view left
+  pub reached : view_after_all_told confirmed size first done ≡ Ok view
   pub stands : StandsFor view m
 
-pub all_left : (confirmed : Confirmed) (size : Size) (v : View) (ts : List Told) (m : Viewer) → StandsFor v m → LeftTold confirmed size (view_after_all_told confirmed size v ts) ts m
-all_left confirmed size v ts m s = record { view = v; same = refl; stands = s }
+pub all_left : (confirmed : Confirmed) (size : Size) (v : View) (ts : List Told) (m : Viewer) → StandsFor v m → LeftTold confirmed size v (view_after_all_told confirmed size v ts) [] ts m
+all_left confirmed size v ts m s = record { view = v; same = refl; reached = refl; stands = s }
 
 pub told_left : (body : List ℕ) (reads : List Read) (i : ℕ) (d : Read) → i < length reads → told_reads body (drop i reads) ≡ told_read body (get_or reads i d) ∷ told_reads body (drop (i + 1) reads)
 told_left body reads i d h = ap (told_reads body) (drop-cons reads i d h) ∙ ap (λ (n : ℕ). told_read body (get_or reads i d) ∷ told_reads body (drop n reads)) (sym (add-one i))
 
-pub one_less : (confirmed : Confirmed) (size : Size) (whole : Result View Fault) (t : Told) (ts left : List Told) (m n : Viewer) → (l : LeftTold confirmed size whole left m) → left ≡ t ∷ ts
-    → Obeys (Ok tt) (view_after_told confirmed size l.view t) n → LeftTold confirmed size whole ts n
-one_less confirmed size whole t ts left m n l e o = record {
+told_joined : (confirmed : Confirmed) (size : Size) (v : View) (xs ys : List Told) → view_after_all_told confirmed size v (xs ++ ys) ≡ bind (view_after_all_told confirmed size v xs) (λ w. view_after_all_told confirmed size w ys)
+told_joined confirmed size v [] ys = refl
+told_joined confirmed size v (x ∷ xs) ys =
+    joined_by (view_after_told confirmed size v x) (λ w. view_after_all_told confirmed size w xs) (λ w. view_after_all_told confirmed size w ys) (λ w. view_after_all_told confirmed size w (xs ++ ys)) (λ w. told_joined confirmed size w xs ys)
+
+pub one_less : (confirmed : Confirmed) (size : Size) (first : View) (whole : Result View Fault) (t : Told) (done next ts left : List Told) (m n : Viewer) → (l : LeftTold confirmed size first whole done left m) → left ≡ t ∷ ts → next ≡ done ++ t ∷ []
+    → Obeys (Ok tt) (view_after_told confirmed size l.view t) n → LeftTold confirmed size first whole next ts n
+one_less confirmed size first whole t done next ts left m n l e d o = record {
   view = o.0;
   same = l.same ∙ ap (view_after_all_told confirmed size l.view) e ∙ ap (λ (r : Result View Fault). bind r (λ w. view_after_all_told confirmed size w ts)) o.1;
+  reached = ap (view_after_all_told confirmed size first) d ∙ told_joined confirmed size first done (t ∷ []) ∙ ap (λ (r : Result View Fault). bind r (λ w. view_after_all_told confirmed size w (t ∷ []))) l.reached
+      ∙ ap (λ (r : Result View Fault). bind r (λ w. Ok w)) o.1;
   stands = o.2;
 }
 
-pub one_refused : (f : ObeyFault) (confirmed : Confirmed) (size : Size) (whole : Result View Fault) (t : Told) (ts left : List Told) (m : Viewer) → (l : LeftTold confirmed size whole left m) → left ≡ t ∷ ts
+pub one_refused : (f : ObeyFault) (confirmed : Confirmed) (size : Size) (first : View) (whole : Result View Fault) (t : Told) (done ts left : List Told) (m : Viewer) → (l : LeftTold confirmed size first whole done left m) → left ≡ t ∷ ts
     → Refuses f (view_after_told confirmed size l.view t) → Refuses f whole
-one_refused f confirmed size whole t ts left m l e r =
+one_refused f confirmed size first whole t done ts left m l e r =
     refused_by f (view_after_told confirmed size l.view t) whole (λ g h.
     l.same ∙ ap (view_after_all_told confirmed size l.view) e ∙ ap (λ (r : Result View Fault). bind r (λ w. view_after_all_told confirmed size w ts)) h) r
 
-pub none_left : (confirmed : Confirmed) (size : Size) (whole : Result View Fault) (left : List Told) (m : Viewer) → LeftTold confirmed size whole left m → left ≡ [] → Obeys (Ok tt) whole m
-none_left confirmed size whole left m l e = (l.view, l.same ∙ ap (view_after_all_told confirmed size l.view) e, l.stands)
+-- an order leaves the marks and the counts of those before it
+pub one_stopped : (confirmed : Confirmed) (size : Size) (first : View) (whole : Result View Fault) (i : ℕ) (all done left : List Told) (m n : Viewer) → LeftTold confirmed size first whole done left m → take i all ≡ done
+    → SameViewer m n → SameCounts m n → Stops (AfterFirstTold confirmed size first all) n
+one_stopped confirmed size first whole i all done left m n l e same kept =
+    (l.view, (i, ap (view_after_all_told confirmed size first) e ∙ l.reached), counts_stay l.view m n l.stands same kept)
+
+pub none_left : (confirmed : Confirmed) (size : Size) (first : View) (whole : Result View Fault) (done left : List Told) (m : Viewer) → LeftTold confirmed size first whole done left m → left ≡ [] → Obeys (Ok tt) whole m
+none_left confirmed size first whole done left m l e = (l.view, l.same ∙ ap (view_after_all_told confirmed size l.view) e, l.stands)

@@ -1,13 +1,13 @@
 -- Readings of a host's bytes, byte by byte, and of those within a packet.
-use Rattle.std.proofs.Common.{◌≡◌, ◌<◌, ℕ, ◌+◌, List, [], ◌∷◌, length, get_or, drop, take, take-append-drop, drop-drop, refl, ap, sym, subst, ◌∙◌, Some, None, append-nil, add-one}
-use Rattle.std.specs.Prelude.{Option, Result, Ok, Err, true, false}
+use Rattle.std.proofs.Common.{◌≡◌, ◌<◌, ℕ, ◌+◌, List, [], ◌∷◌, ◌++◌, append_assoc, inl, inr, length, get_or, drop, take, take-append-drop, drop-drop, refl, ap, sym, subst, ◌∙◌, Some, None, append-nil, add-one}
+use Rattle.std.specs.Prelude.{Option, Result, Ok, Err, OnErr, is_ok, true, false}
 use Rattle.std.proofs.Math.Seq.{drop-cons}
 use Rattle.px_core.specs.declared.surface.Size.{Size}
-use Rattle.byte_fields.specs.Field.{bind}
+use Rattle.byte_fields.specs.Field.{bind, Read as Field}
 use Rattle.caps_sets.specs.declared.confirmed.Confirmed.{Confirmed}
 use Rattle.order_means.specs.ClientState.Fault.{Broken, Oversized, Empty}
 use Rattle.order_means.specs.Updates.{Body, Cutting, Updates, updates, updates_by, updates_from, refusal_in}
-use Rattle.order_means.specs.FrameMarks.{View, Refusal, ClientReading, reading, reading_after, read_on, view_after_body, view_after_bodies, unless_refused_at}
+use Rattle.order_means.specs.FrameMarks.{View, Refusal, Update as Meaning, ClientReading, reading, reading_after, read_on, view_after_body, view_after_bodies, update_at, unless_refused_at}
 use Rattle.order_means.proofs.Pieces.{read_joined}
 use Rattle.host_updates.specs.declared.state.State.{State}
 use Rattle.host_updates.specs.declared.state.State.TheVariants.{Open, Whole, Refused as RefusedAt}
@@ -19,6 +19,7 @@ use Rattle.client_view.specs.declared.viewer.Viewer.{Viewer}
 use Rattle.client_view.specs.Views.{capped}
 use Rattle.client_view.specs.Refusals.{RefusesAt, Shows, refusal, body_at}
 use Rattle.client_view.specs.Clients.{StandFor, Reads}
+use Rattle.client_view.specs.OnTheWay.{Stops, WithinRead, MidUpdate, MidBody, ComesNext, ComesTo}
 
 -- a refusal of one part is a refusal of the whole
 pub refuses_through : {A B : Type 0} (f : ClientFault) (part : Result A Refusal) (whole : Result B Refusal) → ((g : Refusal) → part ≡ Err g → whole ≡ Err g) → RefusesAt f part → RefusesAt f whole
@@ -144,54 +145,100 @@ reads_body result confirmed size r b at m new g e shown =
     let given = gives_body (by_byte r b) new at e g in
     body_by_result result confirmed size r b (body_at given.place (body_by new.state new.packet)) m new given.bodies given.unrefused g.1 shown
 
+-- ---- views on the way
+
+-- a call that fails where another one does stops at the same view
+pub stops_by : {T E U F : Type 0} (a : Result T E) (b : Result U F) (P Q : View → Type 0) (m : Viewer) → is_ok a ≡ is_ok b → ((w : View) → P w → Q w) → OnErr b (Stops P m) → OnErr a (Stops Q m)
+stops_by (Ok x) (Ok y) P Q m same f s = tt
+stops_by (Ok x) (Err y) P Q m same f s = absurd (let no : ⊥ = cc in no)
+stops_by (Err x) (Ok y) P Q m same f s = absurd (let no : ⊥ = cc in no)
+stops_by (Err x) (Err y) P Q m same f s = (s.0, f s.0 s.1, s.2)
+
+-- within an update, by what its body says
+pub mid_body : (confirmed : Confirmed) (size : Size) (v : View) (bytes : List ℕ) (u : Meaning) (w : View) → update_at bytes ≡ Ok (u, []) → MidUpdate confirmed size v u w → MidBody confirmed size v bytes w
+mid_body confirmed size v bytes u w e (inl h) = inl h
+mid_body confirmed size v bytes u w e (inr h) = inr (subst (λ (r : Field Meaning). WithinRead confirmed size v r w) (sym e) h)
+
+-- within the update whose packet a byte ends
+pub next_body : (confirmed : Confirmed) (size : Size) (r : ClientReading) (b place : ℕ) (packet : List ℕ) (w : View) → (by_byte r b).bodies ≡ body_at place packet ∷ [] → MidBody confirmed size r.view packet w → ComesNext confirmed size r (b ∷ []) w
+next_body confirmed size r b place packet w e (inl h) = inl h
+next_body confirmed size r b place packet w e (inr h) = inr (body_at place packet, e, h)
+
+next_further : (confirmed : Confirmed) (size : Size) (r : ClientReading) (b : ℕ) (bs : List ℕ) (w : View) → ComesNext confirmed size r (b ∷ []) w → ComesNext confirmed size r (b ∷ bs) w
+next_further confirmed size r b bs w (inl h) = inl h
+next_further confirmed size r b bs w (inr h) = inr h
+
 -- ---- bytes, one by one
 
--- what is left comes to what all came to
-pub record LeftBytes (confirmed : Confirmed) (size : Size) (whole : Result ClientReading Refusal) (left : List ℕ) (m : Viewer) (k : CutterOf) : Type 0 where
+-- what is left comes to what all came to, and the front of it that was read to a reading
+pub record LeftBytes (confirmed : Confirmed) (size : Size) (first : ClientReading) (all left : List ℕ) (m : Viewer) (k : CutterOf) : Type 0 where
+  pub front : List ℕ
+  pub parts : all ≡ front ++ left
   pub here : ClientReading
-  pub same : whole ≡ read_on confirmed size here left
+  pub reached : read_on confirmed size first front ≡ Ok here
   pub stand : StandFor here m k
 
-pub all_bytes : (confirmed : Confirmed) (size : Size) (r : ClientReading) (bytes : List ℕ) (m : Viewer) (k : CutterOf) → StandFor r m k → LeftBytes confirmed size (read_on confirmed size r bytes) bytes m k
-all_bytes confirmed size r bytes m k s = record { here = r; same = refl; stand = s }
+-- what all came to
+pub same_read : (confirmed : Confirmed) (size : Size) (first : ClientReading) (all left : List ℕ) (m : Viewer) (k : CutterOf) → (l : LeftBytes confirmed size first all left m k) → read_on confirmed size first all ≡ read_on confirmed size l.here left
+same_read confirmed size first all left m k l =
+    ap (read_on confirmed size first) l.parts ∙ read_joined confirmed size first l.front left ∙ ap (λ (x : Result ClientReading Refusal). bind x (λ s. read_on confirmed size s left)) l.reached
+
+pub all_bytes : (confirmed : Confirmed) (size : Size) (r : ClientReading) (bytes : List ℕ) (m : Viewer) (k : CutterOf) → StandFor r m k → LeftBytes confirmed size r bytes bytes m k
+all_bytes confirmed size r bytes m k s = record {
+  front = [];
+  parts = refl;
+  here = r;
+  reached = ap (λ (o : Option ℕ). unless_refused_at o (reading r.view r.cut)) s.unrefused;
+  stand = s;
+}
 
 pub byte_left : (bytes : List ℕ) (i : ℕ) → i < length bytes → drop i bytes ≡ get_or bytes i 0 ∷ drop (i + 1) bytes
 byte_left bytes i h = drop-cons bytes i 0 h ∙ ap (λ (n : ℕ). get_or bytes i 0 ∷ drop n bytes) (sym (add-one i))
 
-pub one_byte_less : (confirmed : Confirmed) (size : Size) (whole : Result ClientReading Refusal) (b : ℕ) (bs left : List ℕ) (m n : Viewer) (k j : CutterOf) → (l : LeftBytes confirmed size whole left m k) → left ≡ b ∷ bs
-    → Reads (Ok tt) (read_on confirmed size l.here (b ∷ [])) n j → LeftBytes confirmed size whole bs n j
-one_byte_less confirmed size whole b bs left m n k j l e o = record {
+-- more bytes were read
+further : (confirmed : Confirmed) (size : Size) (first : ClientReading) (all xs ys left : List ℕ) (m n : Viewer) (k j : CutterOf) → (l : LeftBytes confirmed size first all left m k) → left ≡ xs ++ ys
+    → Reads (Ok tt) (read_on confirmed size l.here xs) n j → LeftBytes confirmed size first all ys n j
+further confirmed size first all xs ys left m n k j l e o = record {
+  front = l.front ++ xs;
+  parts = l.parts ∙ ap (λ (zs : List ℕ). l.front ++ zs) e ∙ sym (append_assoc l.front xs ys);
   here = o.0;
-  same = l.same ∙ ap (read_on confirmed size l.here) e ∙ read_joined confirmed size l.here (b ∷ []) bs ∙ ap (λ (x : Result ClientReading Refusal). bind x (λ s. read_on confirmed size s bs)) o.1;
+  reached = read_joined confirmed size first l.front xs ∙ ap (λ (x : Result ClientReading Refusal). bind x (λ s. read_on confirmed size s xs)) l.reached ∙ o.1;
   stand = o.2;
 }
 
+pub one_byte_less : (confirmed : Confirmed) (size : Size) (first : ClientReading) (all : List ℕ) (b : ℕ) (bs left : List ℕ) (m n : Viewer) (k j : CutterOf) → (l : LeftBytes confirmed size first all left m k) → left ≡ b ∷ bs
+    → Reads (Ok tt) (read_on confirmed size l.here (b ∷ [])) n j → LeftBytes confirmed size first all bs n j
+one_byte_less confirmed size first all b bs left m n k j l e o = further confirmed size first all (b ∷ []) bs left m n k j l e o
+
 -- those within the packet are read
-pub taken_left : (confirmed : Confirmed) (size : Size) (whole : Result ClientReading Refusal) (n : ℕ) (left : List ℕ) (m : Viewer) (k j : CutterOf) → (l : LeftBytes confirmed size whole left m k)
-    → GoesOn l.here.cut (updates_from l.here.cut (take n left)) j → LeftBytes confirmed size whole (drop n left) m j
-taken_left confirmed size whole n left m k j l g =
-    let o = reads_within confirmed size l.here (take n left) m k j l.stand g in
-    record {
-      here = o.0;
-      same = l.same ∙ ap (read_on confirmed size l.here) (sym (take-append-drop n left)) ∙ read_joined confirmed size l.here (take n left) (drop n left)
-          ∙ ap (λ (x : Result ClientReading Refusal). bind x (λ s. read_on confirmed size s (drop n left))) o.1;
-      stand = o.2;
-    }
+pub taken_left : (confirmed : Confirmed) (size : Size) (first : ClientReading) (all : List ℕ) (n : ℕ) (left : List ℕ) (m : Viewer) (k j : CutterOf) → (l : LeftBytes confirmed size first all left m k)
+    → GoesOn l.here.cut (updates_from l.here.cut (take n left)) j → LeftBytes confirmed size first all (drop n left) m j
+taken_left confirmed size first all n left m k j l g =
+    further confirmed size first all (take n left) (drop n left) left m m k j l (sym (take-append-drop n left)) (reads_within confirmed size l.here (take n left) m k j l.stand g)
 
-pub taken_behind : (confirmed : Confirmed) (size : Size) (whole : Result ClientReading Refusal) (n i : ℕ) (bytes : List ℕ) (m : Viewer) (k j : CutterOf) → (l : LeftBytes confirmed size whole (drop i bytes) m k)
-    → GoesOn l.here.cut (updates_from l.here.cut (take n (drop i bytes))) j → LeftBytes confirmed size whole (drop (i + n) bytes) m j
-taken_behind confirmed size whole n i bytes m k j l g =
-    subst (λ (left : List ℕ). LeftBytes confirmed size whole left m j) (drop-drop n i bytes) (taken_left confirmed size whole n (drop i bytes) m k j l g)
+pub taken_behind : (confirmed : Confirmed) (size : Size) (first : ClientReading) (all : List ℕ) (n i : ℕ) (bytes : List ℕ) (m : Viewer) (k j : CutterOf) → (l : LeftBytes confirmed size first all (drop i bytes) m k)
+    → GoesOn l.here.cut (updates_from l.here.cut (take n (drop i bytes))) j → LeftBytes confirmed size first all (drop (i + n) bytes) m j
+taken_behind confirmed size first all n i bytes m k j l g =
+    subst (λ (left : List ℕ). LeftBytes confirmed size first all left m j) (drop-drop n i bytes) (taken_left confirmed size first all n (drop i bytes) m k j l g)
 
-pub one_byte_refused : (f : ClientFault) (confirmed : Confirmed) (size : Size) (whole : Result ClientReading Refusal) (b : ℕ) (bs left : List ℕ) (m : Viewer) (k : CutterOf) → (l : LeftBytes confirmed size whole left m k) → left ≡ b ∷ bs
-    → RefusesAt f (read_on confirmed size l.here (b ∷ [])) → RefusesAt f whole
-one_byte_refused f confirmed size whole b bs left m k l e r =
-    refuses_through f (read_on confirmed size l.here (b ∷ [])) whole (λ g h.
-    l.same ∙ ap (read_on confirmed size l.here) e ∙ read_joined confirmed size l.here (b ∷ []) bs ∙ ap (λ (x : Result ClientReading Refusal). bind x (λ s. read_on confirmed size s bs)) h) r
+pub one_byte_refused : (f : ClientFault) (confirmed : Confirmed) (size : Size) (first : ClientReading) (all : List ℕ) (b : ℕ) (bs left : List ℕ) (m : Viewer) (k : CutterOf) → (l : LeftBytes confirmed size first all left m k) → left ≡ b ∷ bs
+    → RefusesAt f (read_on confirmed size l.here (b ∷ [])) → RefusesAt f (read_on confirmed size first all)
+one_byte_refused f confirmed size first all b bs left m k l e r =
+    refuses_through f (read_on confirmed size l.here (b ∷ [])) (read_on confirmed size first all) (λ g h.
+    same_read confirmed size first all left m k l ∙ ap (read_on confirmed size l.here) e ∙ read_joined confirmed size l.here (b ∷ []) bs ∙ ap (λ (x : Result ClientReading Refusal). bind x (λ s. read_on confirmed size s bs)) h) r
 
-pub no_byte_left : (confirmed : Confirmed) (size : Size) (whole : Result ClientReading Refusal) (left : List ℕ) (m : Viewer) (k : CutterOf) → LeftBytes confirmed size whole left m k → left ≡ [] → Reads (Ok tt) whole m k
-no_byte_left confirmed size whole left m k l e = (
+-- a byte leaves the marks and the counts of what was obeyed
+pub one_byte_stopped : (confirmed : Confirmed) (size : Size) (first : ClientReading) (all : List ℕ) (b : ℕ) (bs left : List ℕ) (m n : Viewer) (k : CutterOf) → (l : LeftBytes confirmed size first all left m k) → left ≡ b ∷ bs
+    → Stops (ComesNext confirmed size l.here (b ∷ [])) n → Stops (ComesTo confirmed size first all) n
+one_byte_stopped confirmed size first all b bs left m n k l e s = (
+  s.0,
+  record { front = l.front; left = b ∷ bs; whole = l.parts ∙ ap (λ (zs : List ℕ). l.front ++ zs) e; here = l.here; reads = l.reached; there = next_further confirmed size l.here b bs s.0 s.1 },
+  s.2,
+)
+
+pub no_byte_left : (confirmed : Confirmed) (size : Size) (first : ClientReading) (all left : List ℕ) (m : Viewer) (k : CutterOf) → LeftBytes confirmed size first all left m k → left ≡ [] → Reads (Ok tt) (read_on confirmed size first all) m k
+no_byte_left confirmed size first all left m k l e = (
   l.here,
-  l.same ∙ ap (read_on confirmed size l.here) e ∙ ap (λ (o : Option ℕ). unless_refused_at o (reading l.here.view l.here.cut)) l.stand.unrefused,
+  same_read confirmed size first all left m k l ∙ ap (read_on confirmed size l.here) e ∙ ap (λ (o : Option ℕ). unless_refused_at o (reading l.here.view l.here.cut)) l.stand.unrefused,
   l.stand,
 )

@@ -1,5 +1,5 @@
 -- Views after the rectangles of Bitmap updates.
-use Rattle.std.proofs.Common.{◌≡◌, ◌<◌, ℕ, ◌+◌, Bool, true, List, [], ◌∷◌, length, get_or, drop, refl, ap, sym, ◌∙◌, Some, None, add-one}
+use Rattle.std.proofs.Common.{◌≡◌, ◌<◌, ℕ, ◌+◌, Bool, true, List, [], ◌∷◌, ◌++◌, length, get_or, take, drop, refl, ap, sym, ◌∙◌, Some, None, add-one}
 use Rattle.std.specs.Prelude.{Option, Result, Ok, Err}
 use Rattle.std.proofs.Math.Seq.{drop-cons}
 use Rattle.px_core.specs.declared.surface.Size.{Size}
@@ -16,7 +16,9 @@ use Rattle.client_caches.specs.Answers.{Refuses}
 use Rattle.client_caches.specs.Caches.{upright_pixels}
 use Rattle.client_caches.proofs.Stores.{refused_by}
 use Rattle.client_view.specs.declared.viewer.Viewer.{Viewer}
-use Rattle.client_view.specs.Views.{capped, client_of, last_picture, StandsFor, Obeys}
+use Rattle.client_view.specs.Views.{capped, client_of, last_picture, StandsFor, SameViewer, Obeys}
+use Rattle.client_view.specs.OnTheWay.{SameCounts, Stops, AfterFirstTiles}
+use Rattle.client_view.proofs.Obeyed.{joined_by, counts_stay}
 
 -- a view after the pixels of a rectangle
 pub view_tiled : Size → View → Rectangle → List ℕ → View
@@ -48,31 +50,45 @@ tile_stands v m t pixels pictures tiles s e count = record {
 
 -- ---- one by one
 
--- what is left comes to what all came to
-pub record LeftTiles (size : Size) (whole : Result View Fault) (left : List Rectangle) (m : Viewer) : Type 0 where
+-- what is left comes to what all came to, and what was written to a view
+pub record LeftTiles (size : Size) (first : View) (whole : Result View Fault) (done left : List Rectangle) (m : Viewer) : Type 0 where
   pub view : View
   pub same : whole ≡ view_after_tiles size view left
+  pub reached : view_after_tiles size first done ≡ Ok view
   pub stands : StandsFor view m
 
-pub all_tiles_left : (size : Size) (v : View) (ts : List Rectangle) (m : Viewer) → StandsFor v m → LeftTiles size (view_after_tiles size v ts) ts m
-all_tiles_left size v ts m s = record { view = v; same = refl; stands = s }
+pub all_tiles_left : (size : Size) (v : View) (ts : List Rectangle) (m : Viewer) → StandsFor v m → LeftTiles size v (view_after_tiles size v ts) [] ts m
+all_tiles_left size v ts m s = record { view = v; same = refl; reached = refl; stands = s }
 
 pub tiles_left : (body : List ℕ) (tiles : List Tile) (i : ℕ) (d : Tile) → i < length tiles → told_tiles body (drop i tiles) ≡ told_tile body (get_or tiles i d) ∷ told_tiles body (drop (i + 1) tiles)
 tiles_left body tiles i d h = ap (told_tiles body) (drop-cons tiles i d h) ∙ ap (λ (n : ℕ). told_tile body (get_or tiles i d) ∷ told_tiles body (drop n tiles)) (sym (add-one i))
 
-pub one_tile_less : (size : Size) (whole : Result View Fault) (t : Rectangle) (ts left : List Rectangle) (m n : Viewer) → (l : LeftTiles size whole left m) → left ≡ t ∷ ts
-    → Obeys (Ok tt) (view_after_tile size l.view t) n → LeftTiles size whole ts n
-one_tile_less size whole t ts left m n l e o = record {
+tiles_joined : (size : Size) (v : View) (xs ys : List Rectangle) → view_after_tiles size v (xs ++ ys) ≡ bind (view_after_tiles size v xs) (λ w. view_after_tiles size w ys)
+tiles_joined size v [] ys = refl
+tiles_joined size v (x ∷ xs) ys =
+    joined_by (view_after_tile size v x) (λ w. view_after_tiles size w xs) (λ w. view_after_tiles size w ys) (λ w. view_after_tiles size w (xs ++ ys)) (λ w. tiles_joined size w xs ys)
+
+pub one_tile_less : (size : Size) (first : View) (whole : Result View Fault) (t : Rectangle) (done next ts left : List Rectangle) (m n : Viewer) → (l : LeftTiles size first whole done left m) → left ≡ t ∷ ts → next ≡ done ++ t ∷ []
+    → Obeys (Ok tt) (view_after_tile size l.view t) n → LeftTiles size first whole next ts n
+one_tile_less size first whole t done next ts left m n l e d o = record {
   view = o.0;
   same = l.same ∙ ap (view_after_tiles size l.view) e ∙ ap (λ (r : Result View Fault). bind r (λ w. view_after_tiles size w ts)) o.1;
+  reached = ap (view_after_tiles size first) d ∙ tiles_joined size first done (t ∷ []) ∙ ap (λ (r : Result View Fault). bind r (λ w. view_after_tiles size w (t ∷ []))) l.reached
+      ∙ ap (λ (r : Result View Fault). bind r (λ w. Ok w)) o.1;
   stands = o.2;
 }
 
-pub one_tile_refused : (f : ObeyFault) (size : Size) (whole : Result View Fault) (t : Rectangle) (ts left : List Rectangle) (m : Viewer) → (l : LeftTiles size whole left m) → left ≡ t ∷ ts
+pub one_tile_refused : (f : ObeyFault) (size : Size) (first : View) (whole : Result View Fault) (t : Rectangle) (done ts left : List Rectangle) (m : Viewer) → (l : LeftTiles size first whole done left m) → left ≡ t ∷ ts
     → Refuses f (view_after_tile size l.view t) → Refuses f whole
-one_tile_refused f size whole t ts left m l e r =
+one_tile_refused f size first whole t done ts left m l e r =
     refused_by f (view_after_tile size l.view t) whole (λ g h.
     l.same ∙ ap (view_after_tiles size l.view) e ∙ ap (λ (r : Result View Fault). bind r (λ w. view_after_tiles size w ts)) h) r
 
-pub no_tile_left : (size : Size) (whole : Result View Fault) (left : List Rectangle) (m : Viewer) → LeftTiles size whole left m → left ≡ [] → Obeys (Ok tt) whole m
-no_tile_left size whole left m l e = (l.view, l.same ∙ ap (view_after_tiles size l.view) e, l.stands)
+-- a rectangle leaves the marks and the counts of those before it
+pub one_tile_stopped : (size : Size) (first : View) (whole : Result View Fault) (i : ℕ) (all done left : List Rectangle) (m n : Viewer) → LeftTiles size first whole done left m → take i all ≡ done
+    → SameViewer m n → SameCounts m n → Stops (AfterFirstTiles size first all) n
+one_tile_stopped size first whole i all done left m n l e same kept =
+    (l.view, (i, ap (view_after_tiles size first) e ∙ l.reached), counts_stay l.view m n l.stands same kept)
+
+pub no_tile_left : (size : Size) (first : View) (whole : Result View Fault) (done left : List Rectangle) (m : Viewer) → LeftTiles size first whole done left m → left ≡ [] → Obeys (Ok tt) whole m
+no_tile_left size first whole done left m l e = (l.view, l.same ∙ ap (view_after_tiles size l.view) e, l.stands)

@@ -1,19 +1,21 @@
 -- Views after updates.
-use Rattle.std.proofs.Common.{◌≡◌, ℕ, ◌+◌, ◌-◌, List, length, ap, sym, ◌∙◌, None, arith}
+use Rattle.std.proofs.Common.{◌≡◌, ℕ, ◌+◌, ◌-◌, List, length, take, ap, sym, ◌∙◌, None, arith}
 use Rattle.std.specs.Prelude.{Ok, Err}
+use Rattle.std.proofs.lemmas.List.{take-map}
 use Rattle.px_core.specs.declared.surface.Size.{Size}
 use Rattle.byte_fields.specs.Field.{Read}
 use Rattle.caps_sets.specs.declared.confirmed.Confirmed.{Confirmed}
 use Rattle.order_fields.specs.OrderTable.{Registers}
 use Rattle.order_fields.specs.OrderStream.{Stream}
-use Rattle.order_read.specs.Told.{Told, told_orders}
+use Rattle.order_read.specs.Told.{Told, told_order, told_orders}
 use Rattle.order_means.specs.ClientState.{ClientState}
 use Rattle.order_means.specs.ClientState.Fault.{Broken}
-use Rattle.order_means.specs.FrameMarks.{View, Update, meant, obeyed, with_registers, view_after_stream, view_after_read}
+use Rattle.order_means.specs.FrameMarks.{View, Update, meant, obeyed, with_registers, view_after_orders, view_after_stream, view_after_read}
 use Rattle.update_read.specs.Told.{IsRefusedAt}
 use Rattle.client_view.specs.declared.viewer.Viewer.{Viewer}
 use Rattle.client_view.specs.Told.{view_after_all_told}
 use Rattle.client_view.specs.Views.{StandsFor}
+use Rattle.client_view.specs.OnTheWay.{AfterFirstTold, WithinStream}
 use Rattle.client_view.specs.Refusals.{refusal, body_at}
 use Rattle.client_view.proofs.ToldMeaning.{all_alike}
 
@@ -41,3 +43,15 @@ bad_update confirmed size v place bytes (Ok u) at h = absurd h
 bad_update confirmed size v place bytes (Err left) at h =
     let same : length bytes - length left ≡ 0 + at = omega (arith, h) in
     ap (λ (n : ℕ). Err (refusal (place + n) Broken)) same
+
+-- some of the orders of an update that was read whole, as they are told
+pub within_stream : (confirmed : Confirmed) (size : Size) (v w : View) (s : Stream) (regs : Registers) (ts : List Told) → s.refused ≡ None → s.after ≡ regs → ts ≡ told_orders s.orders
+    → AfterFirstTold confirmed size (with_registers v regs) ts w → WithinStream confirmed size v s w
+within_stream confirmed size v w s regs ts r a t h =
+    let n : ℕ = h.0 in
+    let there : view_after_orders confirmed size (with_registers v s.after) (take n s.orders) ≡ Ok w =
+    all_alike confirmed size (with_registers v s.after) (take n s.orders)
+    ∙ ap (λ (x : Registers). view_after_all_told confirmed size (with_registers v x) (told_orders (take n s.orders))) a
+    ∙ ap (view_after_all_told confirmed size (with_registers v regs)) (sym (take-map told_order n s.orders) ∙ ap (λ (xs : List Told). take n xs) (sym t))
+    ∙ h.1
+    in (r, (n, there))

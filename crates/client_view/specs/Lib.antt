@@ -2,4 +2,5 @@ pub mod Told
 pub mod Views
 pub mod Refusals
 pub mod Tiles
+pub mod OnTheWay
 pub mod Clients

@@ -1,11 +1,12 @@
 //! A client: a host's stream in any pieces, and what it shows at its marks.
 
-ghost use Rattle.std.specs.Prelude.{◌≡◌, ◌<◌, None, Err, length, IfOk, IfSome};
+ghost use Rattle.std.specs.Prelude.{◌≡◌, ◌<◌, None, Err, length, IfOk, IfSome, OnErr};
 ghost use Rattle.px_core.specs.Picture.{pixel_at};
 ghost use Rattle.order_means.specs.FrameMarks.{ClientReading, first_reading, read_on};
 ghost use Rattle.client_picture.specs.Pictures.{unknown_picture};
 ghost use Rattle.client_view.specs.Views.{capped, last_picture, SameViewer};
 ghost use Rattle.client_view.specs.Clients.{IsReading, Feeds};
+ghost use Rattle.client_view.specs.OnTheWay.{Stops, ComesTo};
 
 use crate::reading::read_bytes;
 use crate::viewer::Viewer;
@@ -51,10 +52,12 @@ impl Client {
     }
 
     /// Reads the next bytes of the stream, and refuses it where it is to be refused, then and from then on. After want of memory the client
-    /// is spent, and answers it again. After an `Err` nothing changes any more.
+    /// is spent, and answers it again. After an `Err` nothing changes any more: the marks, the picture of the last one and the counts are
+    /// those of a view that the reading came to, be it before an update or behind some of its orders or rectangles.
     pub fn feed(&mut self, bytes: &[u8]) -> Result<(), ClientFault>
         ensures read { (r : ClientReading) → IsReading r self.old → Feeds result (read_on self.old.viewer.confirmed self.old.viewer.pictures.size r bytes.now) self.new }
         ensures same { SameViewer self.old.viewer self.new.viewer }
+        ensures stopped { (r : ClientReading) → IsReading r self.old → OnErr result (Stops (ComesTo self.old.viewer.confirmed self.old.viewer.pictures.size r bytes.now) self.new.viewer) }
         ensures ended { IfSome self.old.end (λ fault. (result ≡ Err fault) × (self.new ≡ self.old)) }
     {
         if let Some(fault) = self.end {

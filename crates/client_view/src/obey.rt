@@ -1,11 +1,12 @@
 //! Orders, obeyed one by one.
 
-ghost use Rattle.std.specs.Prelude.{◌≡◌, ◌+◌, ◌-◌, ◌^◌, min};
+ghost use Rattle.std.specs.Prelude.{◌≡◌, ◌+◌, ◌-◌, ◌^◌, min, OnErr};
 ghost use Rattle.order_means.specs.FrameMarks.{View};
 ghost use Rattle.order_read.specs.Told.{told_read, told_reads};
 ghost use Rattle.order_read.specs.Told.Told.{Drawn};
 ghost use Rattle.client_view.specs.Told.{view_after_told, view_after_all_told};
 ghost use Rattle.client_view.specs.Views.{StandsFor, SameViewer, Obeys, IsMarked};
+ghost use Rattle.client_view.specs.OnTheWay.{SameCounts, Stops, AfterFirstTold};
 
 use crate::draw::{draw, draw_fill};
 use crate::parts::part;
@@ -31,10 +32,11 @@ fn one_more(count: u64) -> u64
     count.saturating_add(1)
 }
 
-/// Obeys a primary order and counts it. Most are fills, which need no cache.
+/// Obeys a primary order and counts it. Most are fills, which need no cache. An `Err` leaves the marks and the counts.
 fn obey_drawing(viewer: &mut Viewer, fields: &Fields, bounds: Option<Rect>) -> Result<(), ObeyFault>
     ensures obeyed { (v : View) → StandsFor v viewer.old → Obeys result (view_after_told viewer.old.confirmed viewer.old.pictures.size v (Drawn fields.now bounds)) viewer.new }
     ensures same { SameViewer viewer.old viewer.new }
+    ensures kept { OnErr result (SameCounts viewer.old viewer.new) }
 {
     match fill_of(fields) {
         Some((rect, color)) => {
@@ -46,11 +48,12 @@ fn obey_drawing(viewer: &mut Viewer, fields: &Fields, bounds: Option<Rect>) -> R
     }
 }
 
-/// Obeys a primary order by the drawing that it says, and counts it.
+/// Obeys a primary order by the drawing that it says, and counts it. An `Err` leaves the marks and the counts.
 #[inline(never)]
 fn obey_named(viewer: &mut Viewer, fields: &Fields, bounds: Option<Rect>) -> Result<(), ObeyFault>
     ensures obeyed { (v : View) → StandsFor v viewer.old → Obeys result (view_after_told viewer.old.confirmed viewer.old.pictures.size v (Drawn fields.now bounds)) viewer.new }
     ensures same { SameViewer viewer.old viewer.new }
+    ensures kept { OnErr result (SameCounts viewer.old viewer.new) }
 {
     let Some(named) = drawing_of(fields) else {
         return Err(ObeyFault::Broken);
@@ -68,10 +71,11 @@ fn obey_named(viewer: &mut Viewer, fields: &Fields, bounds: Option<Rect>) -> Res
     Ok(())
 }
 
-/// Obeys what is told of an order; its ranges are those of the body.
+/// Obeys what is told of an order; its ranges are those of the body. An `Err` leaves the marks and the counts.
 fn obey(viewer: &mut Viewer, alloc: Global, body: &[u8], read: &Read) -> Result<(), ObeyFault>
     ensures obeyed { (v : View) → StandsFor v viewer.old → Obeys result (view_after_told viewer.old.confirmed viewer.old.pictures.size v (told_read body.now read.now)) viewer.new }
     ensures same { SameViewer viewer.old viewer.new }
+    ensures kept { OnErr result (SameCounts viewer.old viewer.new) }
 {
     match read {
         Read::Primary { fields, bounds } => obey_drawing(viewer, fields, *bounds),
@@ -120,7 +124,7 @@ fn obey(viewer: &mut Viewer, alloc: Global, body: &[u8], read: &Read) -> Result<
     }
 }
 
-/// Obeys what is told of orders, one by one.
+/// Obeys what is told of orders, one by one. An `Err` leaves the marks and the counts of those that were obeyed.
 pub(crate) fn obey_all(
     viewer: &mut Viewer,
     alloc: Global,
@@ -129,6 +133,7 @@ pub(crate) fn obey_all(
 ) -> Result<(), ObeyFault>
     ensures obeyed { (v : View) → StandsFor v viewer.old → Obeys result (view_after_all_told viewer.old.confirmed viewer.old.pictures.size v (told_reads body.now reads.now)) viewer.new }
     ensures same { SameViewer viewer.old viewer.new }
+    ensures stopped { (v : View) → StandsFor v viewer.old → OnErr result (Stops (AfterFirstTold viewer.old.confirmed viewer.old.pictures.size v (told_reads body.now reads.now)) viewer.new) }
 {
     for read in reads {
         obey(viewer, alloc, body, read)?;

@@ -1,9 +1,10 @@
 //! A host's bytes: those within a packet all at once, and one by one where a packet may begin or end.
 
-ghost use Rattle.std.specs.Prelude.{[], ◌∷◌};
+ghost use Rattle.std.specs.Prelude.{[], ◌∷◌, OnErr};
 ghost use Rattle.order_means.specs.FrameMarks.{ClientReading, read_on};
 ghost use Rattle.client_view.specs.Views.{SameViewer};
 ghost use Rattle.client_view.specs.Clients.{StandFor, Reads};
+ghost use Rattle.client_view.specs.OnTheWay.{Stops, ComesNext, ComesTo};
 
 use crate::ClientFault;
 use crate::update::obey_update;
@@ -11,7 +12,7 @@ use crate::viewer::Viewer;
 use host_updates::{Cutter, Step};
 use std::alloc::Global;
 
-/// Reads the next byte, and obeys the update whose packet it ends.
+/// Reads the next byte, and obeys the update whose packet it ends. An `Err` leaves the marks and the counts of what was obeyed.
 fn read_byte(
     viewer: &mut Viewer,
     cutter: &mut Cutter,
@@ -20,6 +21,7 @@ fn read_byte(
 ) -> Result<(), ClientFault>
     ensures read { (r : ClientReading) → StandFor r viewer.old cutter.old → Reads result (read_on viewer.old.confirmed viewer.old.pictures.size r (byte ∷ [])) viewer.new cutter.new }
     ensures same { SameViewer viewer.old viewer.new }
+    ensures stopped { (r : ClientReading) → StandFor r viewer.old cutter.old → OnErr result (Stops (ComesNext viewer.old.confirmed viewer.old.pictures.size r (byte ∷ [])) viewer.new) }
 {
     match cutter.push(byte) {
         Step::More => Ok(()),
@@ -28,7 +30,7 @@ fn read_byte(
     }
 }
 
-/// Reads the next bytes.
+/// Reads the next bytes. An `Err` leaves the marks and the counts of what was obeyed.
 pub(crate) fn read_bytes(
     viewer: &mut Viewer,
     cutter: &mut Cutter,
@@ -37,6 +39,7 @@ pub(crate) fn read_bytes(
 ) -> Result<(), ClientFault>
     ensures read { (r : ClientReading) → StandFor r viewer.old cutter.old → Reads result (read_on viewer.old.confirmed viewer.old.pictures.size r bytes.now) viewer.new cutter.new }
     ensures same { SameViewer viewer.old viewer.new }
+    ensures stopped { (r : ClientReading) → StandFor r viewer.old cutter.old → OnErr result (Stops (ComesTo viewer.old.confirmed viewer.old.pictures.size r bytes.now) viewer.new) }
 {
     let mut at = cutter.take(bytes);
     while at < bytes.len() {

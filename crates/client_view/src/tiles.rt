@@ -1,10 +1,11 @@
 //! The rectangles of a Bitmap update ([MS-RDPBCGR] 2.2.9.1.1.3.1.2).
 
-ghost use Rattle.std.specs.Prelude.{◌≡◌};
+ghost use Rattle.std.specs.Prelude.{◌≡◌, OnErr};
 ghost use Rattle.order_means.specs.FrameMarks.{View, tile_rect, is_tile, is_packed_tile, view_after_tile, view_after_tiles};
 ghost use Rattle.update_read.specs.Told.{told_tile, told_tiles};
 ghost use Rattle.client_view.specs.Views.{StandsFor, SameViewer, Obeys};
 ghost use Rattle.client_view.specs.Tiles.{bare_tile};
+ghost use Rattle.client_view.specs.OnTheWay.{SameCounts, Stops, AfterFirstTiles};
 
 use crate::parts::part;
 use crate::viewer::Viewer;
@@ -53,10 +54,11 @@ fn is_packed(flags: u16) -> Option<bool>
     }
 }
 
-/// Writes a rectangle's bitmap, whose bytes are those of the body, and counts it.
+/// Writes a rectangle's bitmap, whose bytes are those of the body, and counts it. An `Err` leaves the marks and the counts.
 fn obey_tile(viewer: &mut Viewer, alloc: Global, body: &[u8], t: &Tile) -> Result<(), ObeyFault>
     ensures obeyed { (v : View) → StandsFor v viewer.old → Obeys result (view_after_tile viewer.old.pictures.size v (told_tile body.now t.now)) viewer.new }
     ensures same { SameViewer viewer.old viewer.new }
+    ensures kept { OnErr result (SameCounts viewer.old viewer.new) }
 {
     let rect = tile_rect(t);
     if !is_tile(viewer.pictures.size(), t, rect) {
@@ -72,7 +74,7 @@ fn obey_tile(viewer: &mut Viewer, alloc: Global, body: &[u8], t: &Tile) -> Resul
     Ok(())
 }
 
-/// Writes the bitmaps of rectangles, one by one.
+/// Writes the bitmaps of rectangles, one by one. An `Err` leaves the marks and the counts of those that were written.
 pub(crate) fn obey_tiles(
     viewer: &mut Viewer,
     alloc: Global,
@@ -81,6 +83,7 @@ pub(crate) fn obey_tiles(
 ) -> Result<(), ObeyFault>
     ensures obeyed { (v : View) → StandsFor v viewer.old → Obeys result (view_after_tiles viewer.old.pictures.size v (told_tiles body.now tiles.now)) viewer.new }
     ensures same { SameViewer viewer.old viewer.new }
+    ensures stopped { (v : View) → StandsFor v viewer.old → OnErr result (Stops (AfterFirstTiles viewer.old.pictures.size v (told_tiles body.now tiles.now)) viewer.new) }
 {
     for t in tiles {
         obey_tile(viewer, alloc, body, t)?;

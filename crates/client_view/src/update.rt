@@ -1,10 +1,11 @@
 //! An update's body ([MS-RDPBCGR] 2.2.9.1.1.3).
 
-ghost use Rattle.std.specs.Prelude.{◌≡◌, ◌+◌, ℕ, drop};
+ghost use Rattle.std.specs.Prelude.{◌≡◌, ◌+◌, ℕ, drop, OnErr};
 ghost use Rattle.order_means.specs.FrameMarks.{View, view_after_update, view_after_body};
 ghost use Rattle.order_means.specs.FrameMarks.Update.{Orders};
 ghost use Rattle.client_view.specs.Views.{capped, StandsFor, SameViewer};
 ghost use Rattle.client_view.specs.Refusals.{Shows, body_at};
+ghost use Rattle.client_view.specs.OnTheWay.{Stops, MidUpdate, MidBody};
 
 use crate::ClientFault;
 use crate::meant::meant;
@@ -16,7 +17,8 @@ use order_read::{OrderFault, read_orders};
 use std::alloc::Global;
 use update_read::{Update, UpdateFault, read_update};
 
-/// Obeys so many orders, which stand from an offset on in an update's body that begins at a place.
+/// Obeys so many orders, which stand from an offset on in an update's body that begins at a place. An `Err` leaves the marks and the counts
+/// of those that were obeyed.
 fn obey_orders(
     viewer: &mut Viewer,
     alloc: Global,
@@ -28,6 +30,7 @@ fn obey_orders(
     ensures shown { (v : View) (place : ℕ) → StandsFor v viewer.old → at ≡ capped place
         → Shows result (view_after_update viewer.old.confirmed viewer.old.pictures.size (body_at place body.now) v (Orders count (drop from body.now))) viewer.new }
     ensures same { SameViewer viewer.old viewer.new }
+    ensures stopped { (v : View) → StandsFor v viewer.old → OnErr result (Stops (MidUpdate viewer.old.confirmed viewer.old.pictures.size v (Orders count (drop from body.now))) viewer.new) }
 {
     let orders = behind(body, from);
     match read_orders(alloc, orders, count, &mut viewer.regs) {
@@ -46,7 +49,7 @@ fn behind_place(at: u64, first: usize, more: usize) -> u64
     at.saturating_add(first as u64).saturating_add(more as u64)
 }
 
-/// Obeys an update whose body begins at a place.
+/// Obeys an update whose body begins at a place. An `Err` leaves the marks and the counts of what was obeyed.
 pub(crate) fn obey_update(
     viewer: &mut Viewer,
     alloc: Global,
@@ -56,6 +59,7 @@ pub(crate) fn obey_update(
     ensures shown { (v : View) (place : ℕ) → StandsFor v viewer.old → at ≡ capped place
         → Shows result (view_after_body viewer.old.confirmed viewer.old.pictures.size v (body_at place body.now)) viewer.new }
     ensures same { SameViewer viewer.old viewer.new }
+    ensures stopped { (v : View) → StandsFor v viewer.old → OnErr result (Stops (MidBody viewer.old.confirmed viewer.old.pictures.size v body.now) viewer.new) }
 {
     match read_update(alloc, body) {
         Ok(Update::Orders { count, from }) => obey_orders(viewer, alloc, at, body, from, count),

@@ -91,4 +91,4 @@ primary_drawn kind all control (Ok x) before after old mid new reads kept t same
     (drawn.0, primary_read kind all control (Ok drawn.0) before after old mid new t same some flags few drawn.1, drawn.2)
 primary_drawn kind all control (Err (BadOrder at)) before after old mid new reads kept t same some flags few drawn =
     (primary_read kind all control (Err (BadOrder at)) before after old mid new t same some flags few drawn.0, drawn.1)
-primary_drawn kind all control (Err OutOfMemory) before after old mid new reads kept t same some flags few drawn = tt
+primary_drawn kind all control (Err OutOfMemory) before after old mid new reads kept t same some flags few drawn = drawn

@@ -1,5 +1,5 @@
 -- The orders of a body, one after the other.
-use Rattle.std.proofs.Common.{◌≡◌, ◌≤◌, ◌<◌, ◌+◌, ◌*◌, ◌-◌, ◌%◌, ℕ, suc, List, [], ◌∷◌, ◌++◌, length, refl, ap, sym, subst, ◌∙◌, append_assoc, append-nil, arith, true, Some, None}
+use Rattle.std.proofs.Common.{◌≡◌, ◌≤◌, ◌<◌, ◌+◌, ◌*◌, ◌-◌, ◌%◌, ℕ, suc, List, [], ◌∷◌, ◌++◌, length, refl, ap, sym, subst, ◌∙◌, append_assoc, append-nil, arith, true, zero, Some, None}
 use Rattle.std.specs.Prelude.{Result, Ok, Err, ◌==◌, if◌then◌else◌}
 use Rattle.std.proofs.lemmas.Bool.Decides.{nat_tests}
 use Rattle.byte_fields.specs.Number.{little_at}
@@ -39,7 +39,7 @@ order_drawn (Ok x) control regs kept old mid new reads after e same class drawn 
     )
 order_drawn (Err (BadOrder at)) control regs kept old mid new reads after e same class drawn =
     (primary_first regs control (rest old) (rest mid) e class ∙ drawn.0.0, drawn.0.1 ∙ same, drawn.1)
-order_drawn (Err OutOfMemory) control regs kept old mid new reads after e same class drawn = tt
+order_drawn (Err OutOfMemory) control regs kept old mid new reads after e same class drawn = drawn
 
 -- ---- streams
 
@@ -97,3 +97,38 @@ all_there whole n k bs bytes regs before now le p none =
     let is : whole ≡ with_orders p.sent (stream_end regs []) = p.reading ∙ ap (with_orders p.sent) (ended n k bs regs le ∙ ap (stream_end regs) none) in
     let sent : p.sent ≡ whole.orders = sym (ap (λ (s : Stream). s.orders) is ∙ append-nil p.sent) in
     (ap (λ (s : Stream). s.refused) is, ap (λ (s : Stream). s.after) is, subst (λ (os : List Order). Appends bytes os before now) sent p.told)
+
+-- ---- registers
+
+-- so many orders were read, and whatever number of orders follows is read with these registers from what is left
+pub HasCome : List ℕ → ℕ → Registers → List ℕ → Registers → Type 0
+HasCome bytes k before left here = (m : ℕ) → (os : List Order) × (orders_in bytes (k + m) before ≡ with_orders os (orders_in left m here))
+
+pub at_first : (bytes : List ℕ) (regs : Registers) → HasCome bytes 0 regs bytes regs
+unfolding HasCome
+at_first bytes regs = λ m. ([], let same : 0 + m ≡ m = omega arith in ap (λ n. orders_in bytes n regs) same)
+
+pub come_further : (bytes left more : List ℕ) (k : ℕ) (before here after : Registers) (os : List Order) → HasCome bytes k before left here → order_at here left ≡ Ok (seen os after, more) → HasCome bytes (k + 1) before more after
+unfolding HasCome
+come_further bytes left more k before here after os p e = λ m.
+    let q = p (suc m) in
+    let same : (k + 1) + m ≡ k + suc m = omega arith in (
+      q.0 ++ os,
+      ap (λ n. orders_in bytes n before) same ∙ q.1 ∙ ap (with_orders q.0) (ap (λ r. then_orders r here (λ rest after. orders_in rest m after)) e) ∙ joined q.0 os (orders_in more m after),
+    )
+
+after_end : (regs : Registers) (left : List ℕ) → (stream_end regs left).after ≡ regs
+after_end regs [] = refl
+after_end regs (b ∷ bs) = refl
+
+pub registers_here : (bytes left : List ℕ) (k : ℕ) (before here : Registers) → HasCome bytes k before left here → (orders_in bytes k before).after ≡ here
+unfolding HasCome
+registers_here bytes left k before here p =
+    let q = p zero in
+    let same : k ≡ k + zero = omega arith in
+    ap (λ n. (orders_in bytes n before).after) same ∙ ap (λ (s : Stream). s.after) q.1 ∙ after_end here left
+
+-- an order that wasn't read leaves the registers
+pub registers_stay : (fault : OrderFault) (regs kept : Registers) (old new : CursorOf) (before after : List Read) → ReadsOrder {X = Unit {0}} (Err fault) regs kept old new before after → kept ≡ regs
+registers_stay (BadOrder at) regs kept old new before after read = read.2
+registers_stay OutOfMemory regs kept old new before after read = read

@@ -41,14 +41,14 @@ ReadsPrimary control before after (Err OutOfMemory) old new = ⊤
 
 -- ---- appended
 
--- The call read the drawing behind the type of an order, kept it and appended it; or it came to a field that is refused, and the registers are as they were; or no memory was left.
+-- The call read the drawing behind the type of an order, kept it and appended it; or it came to a field that is refused; or no memory was left. An `Err` leaves the registers as they were.
 abbrev pub DrawsTyped : {X : Type 0} → ℕ → ℕ → ℕ → Registers → Registers → Result X OrderFault → CursorOf → CursorOf → List Read → List Read → Type 0
 DrawsTyped kind size control before after (Ok _) old new reads kept = (read : Read) × IsTyped kind size control before after read old new × (kept ≡ reads ++ read ∷ [])
 DrawsTyped kind size control before after (Err (BadOrder at)) old new reads kept = ReadsTyped kind size control before after (Err (BadOrder at)) old new × (after ≡ before)
-DrawsTyped kind size control before after (Err OutOfMemory) old new reads kept = ⊤
+DrawsTyped kind size control before after (Err OutOfMemory) old new reads kept = after ≡ before
 
 -- the same of an order behind its control byte
 abbrev pub DrawsPrimary : {X : Type 0} → ℕ → Registers → Registers → Result X OrderFault → CursorOf → CursorOf → List Read → List Read → Type 0
 DrawsPrimary control before after (Ok _) old new reads kept = (read : Read) × IsDrawn control before after read old new × (kept ≡ reads ++ read ∷ [])
 DrawsPrimary control before after (Err (BadOrder at)) old new reads kept = ReadsPrimary control before after (Err (BadOrder at)) old new × (after ≡ before)
-DrawsPrimary control before after (Err OutOfMemory) old new reads kept = ⊤
+DrawsPrimary control before after (Err OutOfMemory) old new reads kept = after ≡ before

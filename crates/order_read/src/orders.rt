@@ -1,9 +1,9 @@
 //! The orders of an update's body.
 
-ghost use Rattle.std.specs.Prelude.{◌≡◌};
+ghost use Rattle.std.specs.Prelude.{◌≡◌, OnErr};
 ghost use Rattle.order_fields.specs.OrderStream.{orders_in};
 ghost use Rattle.wire_num.specs.Cursor.{rest};
-ghost use Rattle.order_read.specs.Reading.{ReadsOrder, ReadsAll, ReadsBody};
+ghost use Rattle.order_read.specs.Reading.{ReadsOrder, ReadsAll, ReadsBody, AreAfterFirst};
 
 use crate::number::read_byte;
 use crate::primary::read_primary;
@@ -24,7 +24,7 @@ const STANDARD_SECONDARY: u8 = 0x03;
 /// The control byte of a frame marker: TS_ALTSEC_FRAME_MARKER, an alternate secondary order.
 const FRAME_MARKER: u8 = 0x36;
 
-/// Reads an order and appends what it says. A refusal leaves the registers as they were.
+/// Reads an order and appends what it says. An `Err` leaves the registers as they were.
 fn read_order(
     alloc: Global,
     cursor: &mut Cursor<'_>,
@@ -48,7 +48,7 @@ fn read_order(
     Err(OrderFault::BadOrder { at: first })
 }
 
-/// Reads so many orders, which fill the bytes, and appends what they say. A refusal leaves the cursor at the refused field, and the registers after the last whole order.
+/// Reads so many orders, which fill the bytes, and appends what they say. A refusal leaves the cursor at the refused field, and an `Err` the registers after the last order that was read.
 fn read_all(
     alloc: Global,
     cursor: &mut Cursor<'_>,
@@ -56,7 +56,8 @@ fn read_all(
     regs: &mut Regs,
     out: &mut Vec<Read>,
 ) -> Result<(), OrderFault>
-    ensures { ReadsAll (orders_in (rest cursor.old) count regs.old) result regs.new cursor.old cursor.new out.old.items out.new.items }
+    ensures read { ReadsAll (orders_in (rest cursor.old) count regs.old) result regs.new cursor.old cursor.new out.old.items out.new.items }
+    ensures registers { OnErr result (AreAfterFirst (rest cursor.old) count regs.old regs.new) }
 {
     for _ in 0..count {
         read_order(alloc, cursor, regs, out)?;
@@ -67,14 +68,15 @@ fn read_all(
 
 /// Reads the orders of a body, which are so many and fill it.
 ///
-/// A refusal leaves the registers after the last whole order; after want of memory nothing is said of them.
+/// A refusal leaves the registers after the last whole order, and want of memory after the last one that was read by then.
 pub fn read_orders(
     alloc: Global,
     body: &[u8],
     count: u16,
     regs: &mut Regs,
 ) -> Result<Vec<Read>, OrderFault>
-    ensures { ReadsBody body.now (orders_in body.now count regs.old) result regs.new }
+    ensures read { ReadsBody body.now (orders_in body.now count regs.old) result regs.new }
+    ensures registers { OnErr result (AreAfterFirst body.now count regs.old regs.new) }
 {
     let mut cursor = Cursor::new(body);
     let mut out = Vec::new(alloc);

@@ -98,7 +98,7 @@ fn make_room(out: &mut Vec<Read>) -> Result<(), OutOfMemory>
     Ok(())
 }
 
-/// Reads an order of a type behind its type, keeps it in the registers and appends it. A refusal leaves the registers as they were.
+/// Reads an order of a type behind its type, keeps it in the registers and appends it. An `Err` leaves the registers as they were.
 fn read_typed(
     alloc: Global,
     cursor: &mut Cursor<'_>,
@@ -135,7 +135,7 @@ fn read_typed(
     Ok(())
 }
 
-/// Reads the order behind its control byte, which stands at `first`, keeps it in the registers and appends it. A refusal leaves the registers as they were.
+/// Reads the order behind its control byte, which stands at `first`, keeps it in the registers and appends it. An `Err` leaves the registers as they were.
 pub fn read_primary(
     alloc: Global,
     cursor: &mut Cursor<'_>,

@@ -1,4 +1,4 @@
-use Rattle.std.proofs.Common.{◌≡◌, ◌∷◌, ◌∙◌, ap}
+use Rattle.std.proofs.Common.{◌∷◌, ◌∙◌, ap}
 use Rattle.std.specs.Option.{option_copied}
 use Rattle.line_text.specs.Words.{parts_left}
 use Rattle.script_rules.specs.Capture.{viewer_line}

@@ -4,5 +4,5 @@ use Rattle.order_means.specs.ClientState.{are_apart}
 use Rattle.client_caches.proofs.Apart.{filter_is_apart}
 use Rattle.client_caches.proofs.blocks.keep_apart.Goals as goal
 
-pub returns : goal.returns
-returns c = filter_same _ (are_apart c.args.block.now) _ (λ x b f' k. search rules) _ _ c.retain.ensures.filtered ∙ filter_is_apart c.args.block.now c.args.blocks.now.items
+pub returns-clause-apart : goal.returns-clause-apart
+returns-clause-apart c = filter_same _ (are_apart c.args.block.now) _ (λ x b f' k. search rules) _ _ c.retain.ensures.filtered ∙ filter_is_apart c.args.block.now c.args.blocks.now.items

@@ -1,7 +1,7 @@
 use Rattle.std.proofs.Common.{◌∙◌, ◌≡◌, ◌≤◌, ◌+◌, ◌-◌, arith, get_or, drop, take, length, refl}
 use Rattle.std.proofs.lemmas.Result.{err_from_is_err_and}
 use Rattle.std.proofs.lemmas.List.{take_all, length-drop}
-use Rattle.client_view.proofs.Streams.{all_bytes, byte_left, one_byte_less, one_byte_refused, taken_left, taken_behind}
+use Rattle.client_view.proofs.Streams.{all_bytes, byte_left, one_byte_less, one_byte_refused, one_byte_stopped, taken_left, taken_behind}
 use Rattle.client_view.proofs.reading.read_bytes.Goals as goal
 
 pub loop-at-init : goal.loop-at-init
@@ -10,7 +10,7 @@ loop-at-init c =
     record {
       left = λ r s.
           let l = all_bytes m.confirmed m.pictures.size r c.args.bytes.now m c.args.cutter.now s in
-          taken_left m.confirmed m.pictures.size _ c.take-at.result c.args.bytes.now m c.args.cutter.now c.take-at.new.self l (c.take-at.ensures.cut l.here.cut l.stand.cut);
+          taken_left m.confirmed m.pictures.size r c.args.bytes.now c.take-at.result c.args.bytes.now m c.args.cutter.now c.take-at.new.self l (c.take-at.ensures.cut l.here.cut l.stand.cut);
       same = record { confirmed = refl; size = refl };
       within = c.take-at.ensures.count;
     }
@@ -22,7 +22,16 @@ returns-in_err-read_byte-clause-read c = λ r s.
     let l = c.loop-at.invariant.left r s in
     let p = err_from_is_err_and c.from_residual.result c.from_residual.ensures.1 in
     let read = rw (c.loop-at.invariant.same.confirmed, c.loop-at.invariant.same.size) at (c.in_err-read_byte.ensures.read l.here l.stand) in
-    rw (p.1, p.2) (one_byte_refused c.in_err-read_byte.field-0.0 m.confirmed m.pictures.size _ (get_or c.args.bytes.now i 0) (drop (i + 1) c.args.bytes.now) (drop i c.args.bytes.now) _ _ l (byte_left c.args.bytes.now i c.loop-at-test.true) read)
+    rw (p.1, p.2) (one_byte_refused c.in_err-read_byte.field-0.0 m.confirmed m.pictures.size r c.args.bytes.now (get_or c.args.bytes.now i 0) (drop (i + 1) c.args.bytes.now) (drop i c.args.bytes.now) _ _ l (byte_left c.args.bytes.now i c.loop-at-test.true) read)
+
+pub returns-in_err-read_byte-clause-stopped : goal.returns-in_err-read_byte-clause-stopped
+returns-in_err-read_byte-clause-stopped c = λ r s.
+    let m = c.args.viewer.now in
+    let i = c.loop-at.at in
+    let l = c.loop-at.invariant.left r s in
+    let p = err_from_is_err_and c.from_residual.result c.from_residual.ensures.1 in
+    let stopped = rw (c.loop-at.invariant.same.confirmed, c.loop-at.invariant.same.size) at (c.in_err-read_byte.ensures.stopped l.here l.stand) in
+    rw p.1 (one_byte_stopped m.confirmed m.pictures.size r c.args.bytes.now (get_or c.args.bytes.now i 0) (drop (i + 1) c.args.bytes.now) (drop i c.args.bytes.now) _ _ _ l (byte_left c.args.bytes.now i c.loop-at-test.true) stopped)
 
 pub loop-at-preserved : goal.loop-at-preserved
 loop-at-preserved c =
@@ -39,8 +48,8 @@ loop-at-preserved c =
       left = λ r s.
           let l = c.loop-at.invariant.left r s in
           let read = rw (c.loop-at.invariant.same.confirmed, c.loop-at.invariant.same.size) at (c.in_ok-read_byte.ensures.read l.here l.stand) in
-          let k = one_byte_less m.confirmed m.pictures.size _ (get_or bytes i 0) (drop (i + 1) bytes) (drop i bytes) _ _ _ _ l (byte_left bytes i below) read in
-          taken_behind m.confirmed m.pictures.size _ n (i + 1) bytes _ _ _ k (cut k.here.cut k.stand.cut);
+          let k = one_byte_less m.confirmed m.pictures.size r bytes (get_or bytes i 0) (drop (i + 1) bytes) (drop i bytes) _ _ _ _ l (byte_left bytes i below) read in
+          taken_behind m.confirmed m.pictures.size r bytes n (i + 1) bytes _ _ _ k (cut k.here.cut k.stand.cut);
       same = record { confirmed = c.in_ok-read_byte.ensures.same.confirmed ∙ c.loop-at.invariant.same.confirmed; size = c.in_ok-read_byte.ensures.same.size ∙ c.loop-at.invariant.same.size };
       within = omega (arith, count, size, below);
     }

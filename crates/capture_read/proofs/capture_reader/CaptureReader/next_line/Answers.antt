@@ -1,5 +1,5 @@
 use Rattle.std.proofs.Common.{refl}
-use Rattle.capture_read.proofs.Judging.{finds_after, cause_is}
+use Rattle.capture_read.proofs.Judging.{finds_after, cause_is, loses_part}
 use Rattle.capture_read.proofs.capture_reader.CaptureReader.next_line.Goals as goal
 
 pub returns-in-Ended-clause-found : goal.returns-in-Ended-clause-found
@@ -19,3 +19,8 @@ returns-in-Unended-clause-found g c =
 
 pub returns-in-Unended-clause-cause : goal.returns-in-Unended-clause-cause
 returns-in-Unended-clause-cause g c = cause_is c.judge-in-Unended.result _ _ c.judge-in-Unended.ensures.answer (rw c.in-Unended.is at c.in_ok-next_line.ensures.cause)
+
+pub returns-in-Failed-clause-found : goal.returns-in-Failed-clause-found
+returns-in-Failed-clause-found g c =
+    let cut = rw c.in-Failed.is at c.in_ok-next_line.ensures.cut in
+    rw (← c.self.view_is) (loses_part _ _ _ _ (g.S.Source.left c.next_line.new.input) cut refl refl refl)

@@ -1,4 +1,4 @@
-use Rattle.std.proofs.Common.{◌≡◌, ◌∙◌, ap, false, get_or}
+use Rattle.std.proofs.Common.{◌∙◌, ap, false, get_or}
 use Rattle.std.proofs.lemmas.List.{get_or-replicate}
 use Rattle.capture_read.proofs.joined.Joined.new.Goals as goal
 

@@ -1,8 +1,8 @@
-use Rattle.std.proofs.Common.{◌≡◌, ◌+◌, ◌-◌, ◌<◌, ◌^◌, ◌∙◌, [], ◌++◌, length, ap, sym, arith}
+use Rattle.std.proofs.Common.{◌≡◌, ◌∙◌, ◌++◌, sym}
 use Rattle.std.specs.Io.KnownBytes.{Keeps, prepend_known}
 use Rattle.line_read.proofs.LineLemmas.{IsPlain}
 use Rattle.capture_read.specs.Long.{behind}
-use Rattle.capture_read.proofs.Cutting.{takes_ended, takes_unended, end_is, plain_all, keeps_more, keeps_moved}
+use Rattle.capture_read.proofs.Cutting.{takes_ended, takes_unended, plain_all, keeps_more, keeps_moved, loses_front}
 use Rattle.capture_read.proofs.long_lines.LongLines.next_line.Goals as goal
 
 pub returns-then-branch-clause-cut : goal.returns-then-branch-clause-cut
@@ -35,3 +35,14 @@ returns-clause-cut g c =
     let plain : IsPlain c.refill.new.self.text = rw text (plain_all c.loop-self.self.text c.loop-self.self.unread c.loop-self.invariant.plain m.missing) in
     takes_unended before left (g.S.Source.left c.refill.new.input) c.refill.new.self.text c.refill.new.self.unread moved
     c.in-End.ensures.more.1.0 c.in-End.ensures.more.1.1 c.in-End.ensures.more.0 plain (rw c.if-is_blank.false at c.is_blank.ensures)
+
+pub returns-in-Failed-clause-cut : goal.returns-in-Failed-clause-cut
+returns-in-Failed-clause-cut g c =
+    let m = rw c.if-branch.false at c.in_ok-move_line.ensures.moved in
+    let before = behind c.args.self.now (g.S.Source.left c.args.input.now) in
+    let left = g.S.Source.left c.loop-self.input in
+    let text : c.refill.new.self.text ≡ c.loop-self.self.text ++ c.loop-self.self.unread = c.in-Failed.ensures.read.text ∙ m.text in
+    let moved : Keeps before (prepend_known c.refill.new.self.text left) =
+    keeps_moved before left c.refill.new.self.text (c.loop-self.self.text ++ c.loop-self.self.unread) c.loop-self.invariant.keeps text in
+    let plain : IsPlain c.refill.new.self.text = rw text (plain_all c.loop-self.self.text c.loop-self.self.unread c.loop-self.invariant.plain m.missing) in
+    loses_front before left (g.S.Source.left c.refill.new.input) c.refill.new.self.text c.refill.new.self.unread moved c.in-Failed.ensures.read.keeps plain

@@ -1,0 +1,87 @@
+-- The views that a viewer comes to on its way through a host's bytes: before each update, and after each of its orders or rectangles.
+use Rattle.std.specs.Prelude.{◌≡◌, ◌⊎◌, ℕ, List, [], ◌∷◌, ◌++◌, length, take, None, Ok, Err}
+use Rattle.px_core.specs.declared.surface.Size.{Size}
+use Rattle.byte_fields.specs.Field.{Read}
+use Rattle.caps_sets.specs.declared.confirmed.Confirmed.{Confirmed}
+use Rattle.order_fields.specs.OrderStream.{Order, Stream, orders_in}
+use Rattle.order_means.specs.Updates.{Body, updates_by}
+use Rattle.order_means.specs.FrameMarks.{View, Tile, Update, ClientReading, with_registers, view_after_orders, view_after_tiles, update_at, read_on}
+use Rattle.order_means.specs.FrameMarks.Update.{Orders, Tiles, Synchronize}
+use Rattle.order_read.specs.Told.{Told}
+use Rattle.client_picture.specs.Pictures.{unknown_picture}
+use Rattle.client_view.specs.declared.viewer.Viewer.{Viewer}
+use Rattle.client_view.specs.Told.{view_after_all_told}
+use Rattle.client_view.specs.Views.{capped, last_picture}
+
+-- ---- what a viewer that stops has of a view
+
+-- the picture of its last mark, and its counts
+pub record HasCounts (v : View) (m : Viewer) : Type 0 where
+  pub marked : m.pictures.marked ≡ last_picture (unknown_picture m.pictures.size) v.pictures
+  pub marks : m.marks ≡ capped (length v.pictures)
+  pub orders : m.orders ≡ capped v.orders
+  pub tiles : m.tiles ≡ capped v.tiles
+
+-- a viewer has those of one of these views
+abbrev pub Stops : (View → Type 0) → Viewer → Type 0
+Stops IsThere m = (w : View) × IsThere w × HasCounts w m
+
+-- the picture of a viewer's last mark stays, and its counts
+pub record SameCounts (old new : Viewer) : Type 0 where
+  pub marked : new.pictures.marked ≡ old.pictures.marked
+  pub marks : new.marks ≡ old.marks
+  pub orders : new.orders ≡ old.orders
+  pub tiles : new.tiles ≡ old.tiles
+
+-- ---- within an update
+
+-- after the first ones of what is told of orders, none, some or all
+abbrev pub AfterFirstTold : Confirmed → Size → View → List Told → View → Type 0
+AfterFirstTold confirmed size v ts w = (n : ℕ) × (view_after_all_told confirmed size v (take n ts) ≡ Ok w)
+
+abbrev pub AfterFirstOrders : Confirmed → Size → View → List Order → View → Type 0
+AfterFirstOrders confirmed size v os w = (n : ℕ) × (view_after_orders confirmed size v (take n os) ≡ Ok w)
+
+abbrev pub AfterFirstTiles : Size → View → List Tile → View → Type 0
+AfterFirstTiles size v ts w = (n : ℕ) × (view_after_tiles size v (take n ts) ≡ Ok w)
+
+-- the orders of an update are obeyed once all of them were read
+abbrev pub WithinStream : Confirmed → Size → View → Stream → View → Type 0
+WithinStream confirmed size v s w = (s.refused ≡ None) × AfterFirstOrders confirmed size (with_registers v s.after) s.orders w
+
+abbrev pub WithinUpdate : Confirmed → Size → View → Update → View → Type 0
+WithinUpdate confirmed size v (Orders count bytes) w = WithinStream confirmed size v (orders_in bytes count v.client.registers) w
+WithinUpdate confirmed size v (Tiles ts) w = AfterFirstTiles size v ts w
+WithinUpdate confirmed size v Synchronize w = ⊥
+
+abbrev pub WithinRead : Confirmed → Size → View → Read Update → View → Type 0
+WithinRead confirmed size v (Ok u) w = WithinUpdate confirmed size v u.0 w
+WithinRead confirmed size v (Err left) w = ⊥
+
+-- before an update, or within it
+abbrev pub MidUpdate : Confirmed → Size → View → Update → View → Type 0
+MidUpdate confirmed size v u w = (w ≡ v) ⊎ WithinUpdate confirmed size v u w
+
+abbrev pub MidBody : Confirmed → Size → View → List ℕ → View → Type 0
+MidBody confirmed size v bytes w = (w ≡ v) ⊎ WithinRead confirmed size v (update_at bytes) w
+
+-- ---- in a stream
+
+-- within the update whose packet the next byte ends
+abbrev pub WithinNext : Confirmed → Size → ClientReading → List ℕ → View → Type 0
+WithinNext confirmed size here [] w = ⊥
+WithinNext confirmed size here (b ∷ bs) w =
+    (body : Body) × ((updates_by here.cut.place here.cut.stage b).bodies ≡ body ∷ []) × WithinRead confirmed size here.view (update_at body.bytes) w
+
+-- the view of a reading, or one within the update whose packet the next byte ends
+abbrev pub ComesNext : Confirmed → Size → ClientReading → List ℕ → View → Type 0
+ComesNext confirmed size here bytes w = (w ≡ here.view) ⊎ WithinNext confirmed size here bytes w
+
+-- a viewer that reads on from a reading comes to this view: a front of the bytes is read, and the view is the one after it, or within the next update
+pub record ComesTo (confirmed : Confirmed) (size : Size) (r : ClientReading) (bytes : List ℕ) (w : View) : Type 0 where
+  pub front : List ℕ
+  pub left : List ℕ
+  pub whole : bytes ≡ front ++ left
+  pub here : ClientReading
+  pub reads : read_on confirmed size r front ≡ Ok here
+  pub there : ComesNext confirmed size here left w
