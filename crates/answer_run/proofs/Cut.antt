@@ -1,9 +1,7 @@
 -- The frames in a front of an answer show the first takes.
 use Rattle.std.proofs.Common.{◌≡◌, ℕ, zero, suc, List, [], ◌∷◌, ◌++◌, length, take, drop, refl, ap, sym, ◌∙◌, subst}
-use Rattle.std.specs.Prelude.{All, Option}
+use Rattle.std.specs.Prelude.{All}
 use Rattle.std.proofs.lemmas.List.Elements.{All-nil, All-cons, All-head, All-tail}
-use Rattle.std.proofs.KnownBytes.{Appends-nil}
-use Rattle.edge_io.specs.Sink.{WritesFront}
 use Rattle.px_core.specs.declared.surface.Size.{Size}
 use Rattle.session_rules.specs.Steps.{journal_of_steps, frame_numbers}
 use Rattle.script_rules.specs.Headline.{ConfirmAllCaches, HasSessionSize, steps_of, confirmed_in}
@@ -15,7 +13,7 @@ use Rattle.conn_laws.specs.Sound.{ConfirmsCaches, AllConfirmCaches}
 use Rattle.conn_laws.proofs.SoundSteps.{heard_sound}
 use Rattle.answer_run.specs.Asking.{first_guest, client, owners_head}
 use Rattle.answer_run.specs.Service.{first_service, heard_of, ultimatum_of, asked_of_stream, replies_of_stream, frames_of_stream, ending_of_stream, answer_of_stream}
-use Rattle.answer_run.specs.Cut.{frames_in, ShowsFirstTakes, WritesAFront}
+use Rattle.answer_run.specs.Cut.{frames_in, ShowsFirstTakes, IsFrontOfAnswer}
 use Rattle.answer_run.specs.Visits.{HasCaches}
 use Rattle.answer_run.proofs.Streams.{all_caches}
 use Rattle.answer_run.proofs.Present.{client_sees}
@@ -37,7 +35,7 @@ all_of [] p = All-nil HasCaches
 all_of (one ∷ steps) p =
     All-cons HasCaches one steps (caches_of one (All-head ConfirmsCaches one steps p)) (all_of steps (All-tail ConfirmsCaches one steps p))
 
-stream_caches : (size : Size) (owner stream : List ℕ) → ConfirmAllCaches (asked_of_stream size owner stream)
+pub stream_caches : (size : Size) (owner stream : List ℕ) → ConfirmAllCaches (asked_of_stream size owner stream)
 stream_caches size owner stream =
     let x = heard_of (first_service size) stream in
     all_caches (owners_head size owner) first_guest x.steps (all_of x.steps (heard_sound (first_service size).hearing stream tt).0)
@@ -77,19 +75,17 @@ frames_front replies frames last text rest e =
 
 -- ---- a service that was cut off
 
-pub front_shows : (size : Size) (owner stream : List ℕ) (told telling : Option (List ℕ)) → HasSessionSize (owners_head size owner)
-    → WritesFront told telling (answer_of_stream size owner stream) → WritesAFront size owner stream told telling
-front_shows size owner stream told telling sized f =
+pub front_shows : (size : Size) (owner stream text : List ℕ) → HasSessionSize (owners_head size owner) → IsFront text (answer_of_stream size owner stream)
+    → IsFrontOfAnswer size owner stream text
+front_shows size owner stream text sized f =
     let head = owners_head size owner in
     let asked = asked_of_stream size owner stream in
     let sees = client_sees size owner [] (heard_of (first_service size) stream).steps sized (stream_caches size owner stream) in
     record {
-      text = f.front;
-      written = f.written;
-      front = record { rest = f.rest; joined = f.whole };
+      front = f;
       shows_journal = front_sees size (confirmed_in head asked client) (journal_of_steps head (steps_of asked)) (frame_numbers head (steps_of asked) client)
-          (frames_of_stream size owner stream) (frames_in (replies_of_stream size owner stream) (frames_of_stream size owner stream) f.front) (sees.viewers client)
-          (frames_front (replies_of_stream size owner stream) (frames_of_stream size owner stream) (ultimatum_of (ending_of_stream size owner stream)) f.front f.rest f.whole);
+          (frames_of_stream size owner stream) (frames_in (replies_of_stream size owner stream) (frames_of_stream size owner stream) text) (sees.viewers client)
+          (frames_front (replies_of_stream size owner stream) (frames_of_stream size owner stream) (ultimatum_of (ending_of_stream size owner stream)) text f.rest f.joined);
     }
 
 -- a service that wrote nothing
@@ -99,13 +95,11 @@ no_frames [] (f ∷ frames) = refl
 no_frames (b ∷ replies) [] = refl
 no_frames (b ∷ replies) (f ∷ frames) = refl
 
-pub nothing_shows : (size : Size) (owner stream : List ℕ) (told : Option (List ℕ)) → WritesAFront size owner stream told told
-nothing_shows size owner stream told =
+pub nothing_shows : (size : Size) (owner stream : List ℕ) → IsFrontOfAnswer size owner stream []
+nothing_shows size owner stream =
     let head = owners_head size owner in
     let asked = asked_of_stream size owner stream in
     record {
-      text = [];
-      written = Appends-nil told;
       front = record { rest = answer_of_stream size owner stream; joined = refl };
       shows_journal = subst (λ xs. ShowsFirstTakes head asked xs) (no_frames (replies_of_stream size owner stream) (frames_of_stream size owner stream)) (record {
         seen = [];

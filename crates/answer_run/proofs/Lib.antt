@@ -9,3 +9,4 @@ pub mod Pieces
 pub mod Numbers
 pub mod Cut
 pub mod Served
+mod Rows

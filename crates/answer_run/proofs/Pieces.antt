@@ -36,7 +36,7 @@ use Rattle.answer_run.specs.declared.visitor.Visitor.TheVariants as visitor
 use Rattle.answer_run.specs.declared.fault.AnswerFault.{AnswerFault}
 use Rattle.answer_run.proofs.Fronts.{front_extends, front_after}
 use Rattle.answer_run.proofs.Streams.{guests_joined, asked_joined, words_joined, viewing_stays, away_stays, newcomer_asks, as_far, word_ends, ended_is_over, is_quiet, viewing_far, caches_joined}
-use Rattle.answer_run.proofs.Visiting.{frames_joined, frames_of_away}
+use Rattle.answer_run.proofs.Visiting.{frames_joined, run_joined, frames_of_away}
 
 -- ---- of what was heard
 
@@ -106,6 +106,56 @@ module _ (head : Head) (s : Service) (bytes more : List ℕ) where
         caches = λ c. subst (λ (z : Heard). ConfirmAllCaches (asked_from head s.guest z.steps)) (sym e)
             (subst ConfirmAllCaches (sym (asked_joined head s.guest x.steps y.steps)) (caches_joined (asked_from head s.guest x.steps) (asked_from head t.guest y.steps) caches c));
       }
+
+-- ---- one piece after another
+
+abbrev pub service_with : Hearing → Guest → Run Encoder → Service
+service_with hearing guest run = record { hearing = hearing; guest = guest; run = run }
+
+abbrev pub service_heard : Head → Service → Heard → Service
+service_heard head s x = service_with x.after (guest_after_all head s.guest x.steps) (run_by_steps head s.guest s.run x.steps)
+
+module _ (head : Head) (s : Service) (bytes more : List ℕ) where
+  both_heard : heard s.hearing (bytes ++ more) ≡ then_heard (heard s.hearing bytes) (heard (heard s.hearing bytes).after more)
+  both_heard = heard_then s.hearing bytes more
+
+  pub service_joined : service_after head s (bytes ++ more) ≡ service_after head (service_after head s bytes) more
+  service_joined =
+      let x = heard s.hearing bytes in
+      let y = heard x.after more in
+      let t = service_after head s bytes in
+      ap (service_heard head s) both_heard
+      ∙ (ap (λ g. service_with y.after g (run_by_steps head s.guest s.run (x.steps ++ y.steps))) (guests_joined head s.guest x.steps y.steps)
+      ∙ ap (service_with y.after (guest_after_all head t.guest y.steps)) (run_joined head s.guest s.run x.steps y.steps))
+
+  pub written_joined : IsAsFar (service_after head s bytes).guest (progress_of (service_after head s bytes).hearing.stage)
+      → written_of head s (bytes ++ more) ≡ written_of head s bytes ++ written_of head (service_after head s bytes) more
+  written_joined far =
+      let x = heard s.hearing bytes in
+      let y = heard x.after more in
+      let t = service_after head s bytes in
+      let first = frames_by head s.guest s.run x.steps in
+      let then = frames_by head t.guest t.run y.steps in
+      ap (text_heard head s.guest s.run) both_heard
+      ∙ (ap (λ fs. (x.replies ++ y.replies) ++ fs) (frames_joined head s.guest s.run x.steps y.steps)
+      ∙ (sym (append-nil ((x.replies ++ y.replies) ++ (first ++ then)))
+      ∙ (regroup x.replies y.replies first then [] (are_apart head s.guest s.run x.steps x.after more far)
+      ∙ ap (λ xs. (x.replies ++ first) ++ xs) (append-nil (y.replies ++ then)))))
+
+  pub unended_joined : last_word (heard_of s bytes).steps ≡ None → last_word (heard_of (service_after head s bytes) more).steps ≡ None
+      → last_word (heard_of s (bytes ++ more)).steps ≡ None
+  unended_joined e f =
+      let x = heard s.hearing bytes in
+      let y = heard x.after more in
+      ap (λ (z : Heard). last_word z.steps) both_heard ∙ (words_joined x.steps y.steps e ∙ f)
+
+  pub all_caches_joined : ConfirmAllCaches (asked_of head s bytes) → ConfirmAllCaches (asked_of head (service_after head s bytes) more) → ConfirmAllCaches (asked_of head s (bytes ++ more))
+  all_caches_joined p q =
+      let x = heard s.hearing bytes in
+      let y = heard x.after more in
+      let t = service_after head s bytes in
+      subst (λ (z : Heard). ConfirmAllCaches (asked_from head s.guest z.steps)) (sym both_heard)
+      (subst ConfirmAllCaches (sym (asked_joined head s.guest x.steps y.steps)) (caches_joined (asked_from head s.guest x.steps) (asked_from head t.guest y.steps) p q))
 
 -- ---- a service that is closed
 

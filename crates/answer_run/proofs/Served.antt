@@ -1,10 +1,13 @@
 -- A service, piece by piece.
-use Rattle.std.proofs.Common.{◌≡◌, ℕ, zero, suc, List, [], ◌++◌, length, refl, ap, sym, ◌∙◌, subst, append_assoc}
-use Rattle.std.specs.Prelude.{true, false, ◌<◌, All, Option, Some, None, Result, Ok, Err, IfOk, IfErr}
+use Rattle.std.proofs.Common.{◌≡◌, ℕ, zero, suc, List, [], ◌++◌, length, refl, ap, sym, ◌∙◌, subst, arith, append_assoc, append-nil}
+use Rattle.std.specs.Prelude.{true, false, ◌<◌, ◌≤◌, take, All, Option, Some, None, Result, Ok, Err, IfOk, IfErr}
+use Rattle.std.proofs.lemmas.List.{length-take}
 use Rattle.std.proofs.lemmas.List.Elements.{All-nil}
-use Rattle.std.specs.Io.KnownBytes.{Appends, Consumes, IsAtEnd}
-use Rattle.std.proofs.KnownBytes.{Appends-trans, Appends-nil}
+use Rattle.std.proofs.Math.Nat.{min-le_left}
+use Rattle.std.specs.Io.KnownBytes.{Appends, Consumes, Keeps, IsAtEnd}
+use Rattle.std.proofs.KnownBytes.{Appends-trans, Appends-nil, Appends-kept, Consumes-nil, Consumes-trans, Consumes-kept, Keeps-refl}
 use Rattle.edge_io.specs.Sink.{WritesFront}
+use Rattle.capture_laws.specs.Fronts.{IsFront}
 use Rattle.px_core.specs.declared.surface.Size.{Size}
 use Rattle.session_rules.specs.Journal.{Head}
 use Rattle.script_rules.specs.Headline.{ConfirmAllCaches, HasSessionSize}
@@ -22,9 +25,9 @@ use Rattle.answer_run.specs.Asking.{Guest, owners_head, asked_from, guest_after_
 use Rattle.answer_run.specs.Asking.Guest.{Coming, Viewing, TurnedAway}
 use Rattle.answer_run.specs.declared.ending.Ending.{Ending}
 use Rattle.answer_run.specs.declared.ending.Ending.TheVariants as ending
-use Rattle.answer_run.specs.Service.{last_word, ending_at, ending_by, ultimatum_of, Service, first_service, heard_of, asked_of, written_of, service_after, ending_of, answer_of}
+use Rattle.answer_run.specs.Service.{last_word, end_said, end_met, end_so_far, ending_at, ending_by, ultimatum_of, Service, first_service, heard_of, asked_of, written_of, service_after, ending_of, answer_of}
 use Rattle.answer_run.specs.Visits.{IsGuest, IsReady, HasCaches, frames_by, WritesCause, ReadsCause, IsWriteFault, IsFault}
-use Rattle.answer_run.specs.Serves.{fault_of, IsAnswerOf, Tells, ServesStream, RunsAnswer, IsServiceOf, moment, GoesOn, Continues, ServedSome, Gives, ServedAll, ServedAFront, WentOn, IsClosed, PieceStops, ServedPiece, ServedNext, end_of_part, StopsHeard, HeardDone, DoesHeard, IsAsFar}
+use Rattle.answer_run.specs.Serves.{fault_of, IsAnswerOf, Tells, ServesStream, RunsAnswer, IsServiceOf, moment, GoesOn, Continues, Gives, ServedAll, IsServedFront, ServedAFront, PieceDone, WentOn, IsClosed, PieceStops, ServedPiece, StopsBy, ServedNext, end_of_part, StopsHeard, HeardDone, DoesHeard, IsAsFar}
 use Rattle.answer_run.specs.Serves.StopsHeard.{Before, AtEnd}
 use Rattle.frame_rules.specs.Encoder.{Encoder}
 use Rattle.script_rules.specs.CaptureText.{Run}
@@ -34,16 +37,15 @@ use Rattle.answer_run.specs.declared.visitor.Visitor.{Visitor}
 use Rattle.answer_run.specs.declared.visitor.Visitor.TheVariants as visitor
 use Rattle.answer_run.specs.declared.fault.AnswerFault.{AnswerFault}
 use Rattle.answer_run.specs.declared.fault.AnswerFault.TheVariants as fault
-use Rattle.answer_run.proofs.Fronts.{front_none, front_extends, front_after}
 use Rattle.answer_run.proofs.Streams.{still_after, all_caches}
 use Rattle.conn_laws.specs.Sound.{IsRefusalNumber, IsSound}
 use Rattle.conn_laws.proofs.SoundSteps.{heard_sound}
-use Rattle.answer_run.specs.Cut.{WritesAFront}
+use Rattle.answer_run.specs.Cut.{read_room, WritesHandedBytes, WritesAFront}
 use Rattle.answer_run.specs.Serves.{IsNumbered, IsNumberedFault}
 use Rattle.answer_run.proofs.Numbers.{service_numbered}
 use Rattle.answer_run.proofs.Cut.{front_shows, nothing_shows}
 use Rattle.answer_run.proofs.Present.{client_sees}
-use Rattle.answer_run.proofs.Pieces.{StandsBy, IsFed, no_end, far_after, ends_piece, closed_same, goes_on, begins}
+use Rattle.answer_run.proofs.Pieces.{StandsBy, IsFed, no_end, far_after, ends_piece, closed_same, goes_on, service_heard, service_joined, written_joined, unended_joined, all_caches_joined, begins}
 
 abbrev pub serving_of : ConnOf → Visitor → Serving
 serving_of conn who = record { conn = conn; visitor = who }
@@ -87,16 +89,26 @@ module _ (head : Head) (s : Service) (bytes replies : List ℕ) (steps : List Co
         number = subst IsNumbered p.is (service_numbered head s bytes safe);
         caches = caches;
       }
-  piece_by (Err why) f far part b safe caches d ready = λ more. stopped d more
+  piece_by (Err why) f far part b safe caches d ready = stopped d
     where
-      stopped : StopsHeard head s.guest s.run (heard_of s bytes).replies (heard_of s bytes).steps refusal told telling → (more : List ℕ) → WritesFront told telling (answer_of head s (bytes ++ more))
-      stopped (Before front) more =
-          let rest = begins head s bytes more refusal far f.stands caches in
-          front_extends told telling (written_of head s bytes) rest.0 (answer_of head s (bytes ++ more)) rest.1 front
-      stopped (AtEnd at) more =
+      stopped : StopsHeard head s.guest s.run (heard_of s bytes).replies (heard_of s bytes).steps refusal told telling → PieceStops head s bytes told telling
+      stopped (Before w) = record {
+        text = w.front;
+        written = w.written;
+        is_front = λ more.
+            let rest = begins head s bytes more refusal far f.stands caches in
+            record { rest = w.rest ++ rest.0; joined = rest.1 ∙ (ap (λ t. t ++ rest.0) w.whole ∙ append_assoc w.front w.rest rest.0) };
+      }
+      stopped (AtEnd at) =
           let p = ends_piece head s bytes refusal at.how f.stands at.is in
-          let same = closed_same head s bytes more p.closed (far_after head s bytes far) in
-          subst (WritesFront told telling) (sym (same.answer ∙ ap (λ k. written_of head s bytes ++ ultimatum_of k) p.is)) at.front
+          let w = at.front in
+          record {
+            text = w.front;
+            written = w.written;
+            is_front = λ more.
+                let same = closed_same head s bytes more p.closed (far_after head s bytes far) in
+                record { rest = w.rest; joined = same.answer ∙ (ap (λ k. written_of head s bytes ++ ultimatum_of k) p.is ∙ w.whole) };
+          }
 
 pub piece_served : (result : Result (Option Ending) AnswerFault) (head : Head) (old : Serving) (bytes replies : List ℕ) (steps : List ConnStep) (refusal : Option Ending) (conn : ConnOf)
     (new : Visitor) (told telling : Option (List ℕ)) → IsFed (heard old.conn.hearing bytes) conn replies steps refusal → AreBytes bytes → All HasCaches steps
@@ -113,10 +125,65 @@ piece_served result head old bytes replies steps refusal conn new told telling f
 
 pub memory_served : (why : AnswerFault) (head : Head) (old new : Serving) (bytes : List ℕ) (told : Option (List ℕ)) → (s : Service) → IsServiceOf head old s
     → ServedPiece (Err why) head s bytes new told told
-memory_served why head old new bytes told s i = λ more. front_none told (answer_of head s (bytes ++ more))
+memory_served why head old new bytes told s i = record {
+  text = [];
+  written = Appends-nil told;
+  is_front = λ more. record { rest = answer_of head s (bytes ++ more); joined = refl };
+}
+
+-- ---- no bytes
+
+-- nothing is due for no bytes
+nothing_due : (head : Head) (s : Service) → heard s.hearing [] ≡ silent s.hearing → written_of head s [] ≡ []
+nothing_due head s still = ap (λ (x : Heard). x.replies ++ frames_by head s.guest s.run x.steps) still
+
+service_of : (head : Head) (s : Service) (serving : Serving) → IsServiceOf head serving s → IsServiceOf head serving (service_heard head s (silent s.hearing))
+service_of head s serving i = record {
+  hearing = i.hearing;
+  sound = i.sound;
+  visitor = i.visitor;
+  ready = i.ready;
+  as_far = i.as_far;
+  part = i.part;
+  still = i.still;
+  unrefused = i.unrefused;
+  safe = i.safe;
+}
+
+-- and the service stands where it stood
+none_served : (head : Head) (s : Service) (serving : Serving) (told : Option (List ℕ)) → IsServiceOf head serving s → PieceDone head s [] serving told told
+none_served head s serving told i = record {
+  is_service = subst (λ x. IsServiceOf head serving (service_heard head s x)) (sym i.still) (service_of head s serving i);
+  written = subst (Appends told told) (sym (nothing_due head s i.still)) (Appends-nil told);
+  unended = ap (λ (x : Heard). last_word x.steps) i.still;
+  caches = subst (λ (x : Heard). ConfirmAllCaches (asked_from head s.guest x.steps)) (sym i.still) tt;
+}
+
+-- of no bytes nothing was written
+none_stopped : (head : Head) (s : Service) → heard s.hearing [] ≡ silent s.hearing → IsServedFront head s [] [] []
+none_stopped head s still = record {
+  served_first = record { rest = []; joined = sym (ap (λ t. t ++ []) (nothing_due head s still)) };
+  is_front = λ more. record { rest = answer_of head s more; joined = refl };
+}
+
+pub nothing_stopped : (head : Head) (s : Service) (ahead told : Option (List ℕ)) → heard s.hearing [] ≡ silent s.hearing → ServedAFront head s (moment ahead told) (moment ahead told)
+nothing_stopped head s ahead told still = record {
+  served = [];
+  last = [];
+  text = [];
+  are_handed = Consumes-nil ahead;
+  at_once = omega arith;
+  written = Appends-nil told;
+  front = none_stopped head s still;
+}
 
 -- ---- the next bytes
 
+-- what a read gives is no more than its room
+pub few_at_once : (n room : ℕ) (bytes : List ℕ) → n ≤ room → room ≡ read_room → length (take n bytes) ≤ read_room
+few_at_once n room bytes fits is = let e = length-take n bytes in let low = min-le_left n (length bytes) in omega (arith, e, low, fits, is)
+
+-- what is due for bytes, and then for those that are left
 consumed_goes_on : (ahead left : Option (List ℕ)) (head : Head) (s : Service) (bytes : List ℕ) → Consumes ahead left bytes
     → IsAsFar (service_after head s bytes).guest (progress_of (service_after head s bytes).hearing.stage) → last_word (heard_of s bytes).steps ≡ None
     → ConfirmAllCaches (asked_of head s bytes) → Continues ahead left head s (written_of head s bytes) (service_after head s bytes)
@@ -134,27 +201,36 @@ consumed_ends (Some all) (Some left) head s bytes how c far closed is caches =
     let same = closed_same head s bytes left closed far in
     subst (Gives head s (answer_of head s bytes) how) (sym c) (record { answer = same.answer; ending = same.ending ∙ is; caches = subst ConfirmAllCaches (sym same.asked) caches })
 
-consumed_front : (ahead left : Option (List ℕ)) (head : Head) (s : Service) (bytes : List ℕ) (told telling : Option (List ℕ)) → Consumes ahead left bytes
-    → PieceStops head s bytes told telling → ServedAFront head s (moment ahead told) telling
-consumed_front None left head s bytes told telling c stops = tt
-consumed_front (Some all) None head s bytes told telling c stops = absurd c
-consumed_front (Some all) (Some left) head s bytes told telling c stops = subst (λ xs. WritesFront told telling (answer_of head s xs)) (sym c) (stops left)
+-- of the bytes of a read a front of what is due was written
+consumed_front : (ahead left : Option (List ℕ)) (head : Head) (s : Service) (bytes : List ℕ) (told telling : Option (List ℕ)) → Consumes ahead left bytes → length bytes ≤ read_room
+    → heard s.hearing [] ≡ silent s.hearing → PieceStops head s bytes told telling → ServedAFront head s (moment ahead told) (moment left telling)
+consumed_front ahead left head s bytes told telling c few still stops = record {
+  served = [];
+  last = bytes;
+  text = stops.text;
+  are_handed = c;
+  at_once = few;
+  written = stops.written;
+  front = record {
+    served_first = record { rest = stops.text; joined = sym (ap (λ t. t ++ stops.text) (nothing_due head s still)) };
+    is_front = stops.is_front;
+  };
+}
+
+write_stops : (why : AnswerFault) (head : Head) (s : Service) (ahead left told telling : Option (List ℕ)) → IsWriteFault why → ServedAFront head s (moment ahead told) (moment left telling)
+    → StopsBy why head s (moment ahead told) (moment left telling)
+write_stops (fault.Refused k at) head s ahead left told telling f d = absurd f
+write_stops fault.Truncated head s ahead left told telling f d = absurd f
+write_stops fault.NotInvited head s ahead left told telling f d = absurd f
+write_stops fault.ReadFault head s ahead left told telling f d = absurd f
+write_stops fault.WriteFault head s ahead left told telling f d = d
+write_stops fault.OutOfMemory head s ahead left told telling f d = d
 
 pub next_served : (result : Result (Option Ending) AnswerFault) (head : Head) (old new : Serving) (bytes : List ℕ) (ahead left told telling : Option (List ℕ)) → Consumes ahead left bytes
-    → ((s : Service) → IsServiceOf head old s → ServedPiece result head s bytes new told telling)
+    → length bytes ≤ read_room → IfErr result IsWriteFault → ((s : Service) → IsServiceOf head old s → ServedPiece result head s bytes new told telling)
     → (s : Service) → IsServiceOf head old s → ServedNext result head s new (moment ahead told) (moment left telling)
-next_served (Ok None) head old new bytes ahead left told telling c p s i =
-    let d = p s i in
-    record {
-      after = service_after head s bytes;
-      is_service = d.is_service;
-      some = record {
-        text = written_of head s bytes;
-        written = d.written;
-        continues = consumed_goes_on ahead left head s bytes c (far_after head s bytes i.as_far) d.unended d.caches;
-      };
-    }
-next_served (Ok (Some how)) head old new bytes ahead left told telling c p s i =
+next_served (Ok None) head old new bytes ahead left told telling c few f p s i = record { handed = bytes; is_handed = c; done = p s i }
+next_served (Ok (Some how)) head old new bytes ahead left told telling c few f p s i =
     let d = p s i in
     record {
       text = answer_of head s bytes;
@@ -162,7 +238,8 @@ next_served (Ok (Some how)) head old new bytes ahead left told telling c p s i =
       gives = consumed_ends ahead left head s bytes how c (far_after head s bytes i.as_far) d.closed d.is d.caches;
       number = d.number;
     }
-next_served (Err why) head old new bytes ahead left told telling c p s i = consumed_front ahead left head s bytes told telling c (p s i)
+next_served (Err why) head old new bytes ahead left told telling c few f p s i =
+    write_stops why head s ahead left told telling f (consumed_front ahead left head s bytes told telling c few i.still (p s i))
 
 -- ---- the end of the stream
 
@@ -258,7 +335,7 @@ guest_is_here head (visitor.Viewing seat) TurnedAway run i e = i
 
 last_text : (head : Head) (old : Serving) (s : Service) → IsServiceOf head old s → answer_of head s [] ≡ []
 last_text head old s i =
-    let written : written_of head s [] ≡ [] = ap (λ (x : Heard). x.replies ++ frames_by head s.guest s.run x.steps) i.still in
+    let written = nothing_due head s i.still in
     let ultimatum : ultimatum_of (ending_of head s []) ≡ [] = ap ultimatum_of (last_is head s i.still)
     ∙ no_ultimatum_by s.guest (end_of s.hearing) (guest_is_here head old.visitor s.guest s.run i.visitor)
     (λ k at e. unrefused_end s.hearing.stage (length s.hearing.part) k at i.unrefused e) in
@@ -282,35 +359,24 @@ pub end_served : (how : Ending) (head : Head) (old new : Serving) (ahead left to
 end_served how head old new ahead left told end is s i = record { text = []; written = Appends-nil told; gives = none_ahead ahead head old s how end i (is head s i); number = subst IsNumbered (sym (is head s i)) (service_numbered head s [] i.safe) }
 
 -- a read that failed
-front_of_told : (ahead : Option (List ℕ)) (head : Head) (s : Service) (told : Option (List ℕ)) → ServedAFront head s (moment ahead told) told
-front_of_told None head s told = tt
-front_of_told (Some bytes) head s told = front_none told (answer_of head s bytes)
-
-pub failed_served : (why : AnswerFault) (head : Head) (old new : Serving) (ahead left told : Option (List ℕ)) → (s : Service) → IsServiceOf head old s
-    → ServedNext (Err why) head s new (moment ahead told) (moment left told)
-failed_served why head old new ahead left told s i = front_of_told ahead head s told
+pub failed_served : (head : Head) (old new : Serving) (ahead left told : Option (List ℕ)) → Keeps ahead left → (s : Service) → IsServiceOf head old s
+    → ServedNext (Err fault.ReadFault) head s new (moment ahead told) (moment left told)
+failed_served head old new ahead left told kept s i = (kept, Keeps-refl told)
 
 -- ---- the whole stream
 
 -- some of a service, and then more
-continues_joined : (ahead mid left : Option (List ℕ)) (head : Head) (s t u : Service) (text more : List ℕ) → Continues ahead mid head s text t → Continues mid left head t more u
-    → Continues ahead left head s (text ++ more) u
-continues_joined None mid left head s t u text more c d = tt
-continues_joined (Some all) None left head s t u text more c d = absurd c
-continues_joined (Some all) (Some rest) None head s t u text more c d = absurd d
-continues_joined (Some all) (Some rest) (Some last) head s t u text more c d = record {
-  answer = c.answer ∙ (ap (λ xs. text ++ xs) d.answer ∙ sym (append_assoc text more (answer_of head u last)));
-  ending = c.ending ∙ d.ending;
-  caches = λ k. c.caches (d.caches k);
-}
-
-pub some_joined : (head : Head) (s t u : Service) (ahead mid left told some telling : Option (List ℕ)) → ServedSome head s t (moment ahead told) (moment mid some)
-    → ServedSome head t u (moment mid some) (moment left telling) → ServedSome head s u (moment ahead told) (moment left telling)
-some_joined head s t u ahead mid left told some telling c d = record {
-  text = c.text ++ d.text;
-  written = Appends-trans told some telling c.text d.text c.written d.written;
-  continues = continues_joined ahead mid left head s t u c.text d.text c.continues d.continues;
-}
+some_joined : (head : Head) (s : Service) (bytes more : List ℕ) (old new : Serving) (told some telling : Option (List ℕ)) → PieceDone head s bytes old told some
+    → PieceDone head (service_after head s bytes) more new some telling → PieceDone head s (bytes ++ more) new told telling
+some_joined head s bytes more old new told some telling c d =
+    let t = service_after head s bytes in
+    record {
+      is_service = subst (IsServiceOf head new) (sym (service_joined head s bytes more)) d.is_service;
+      written = subst (Appends told telling) (sym (written_joined head s bytes more c.is_service.as_far))
+          (Appends-trans told some telling (written_of head s bytes) (written_of head t more) c.written d.written);
+      unended = unended_joined head s bytes more c.unended d.unended;
+      caches = all_caches_joined head s bytes more c.caches d.caches;
+    }
 
 gives_joined : (ahead mid : Option (List ℕ)) (head : Head) (s t : Service) (text more : List ℕ) (how : Ending) → Continues ahead mid head s text t → Tells mid (Gives head t more how)
     → Tells ahead (Gives head s (text ++ more) how)
@@ -318,34 +384,58 @@ gives_joined None mid head s t text more how c d = tt
 gives_joined (Some all) None head s t text more how c d = absurd c
 gives_joined (Some all) (Some rest) head s t text more how c d = record { answer = c.answer ∙ ap (λ xs. text ++ xs) d.answer; ending = c.ending ∙ d.ending; caches = c.caches d.caches }
 
-pub all_joined : (head : Head) (s t : Service) (how : Ending) (ahead mid told some telling : Option (List ℕ)) → ServedSome head s t (moment ahead told) (moment mid some)
-    → ServedAll head t how (moment mid some) telling → ServedAll head s how (moment ahead told) telling
-all_joined head s t how ahead mid told some telling c d = record {
-  text = c.text ++ d.text;
-  written = Appends-trans told some telling c.text d.text c.written d.written;
-  gives = gives_joined ahead mid head s t c.text d.text how c.continues d.gives;
-  number = d.number;
+all_joined : (head : Head) (s : Service) (bytes : List ℕ) (how : Ending) (old : Serving) (ahead mid told some telling : Option (List ℕ)) → Consumes ahead mid bytes
+    → PieceDone head s bytes old told some → ServedAll head (service_after head s bytes) how (moment mid some) telling → ServedAll head s how (moment ahead told) telling
+all_joined head s bytes how old ahead mid told some telling k c d =
+    let t = service_after head s bytes in
+    record {
+      text = written_of head s bytes ++ d.text;
+      written = Appends-trans told some telling (written_of head s bytes) d.text c.written d.written;
+      gives = gives_joined ahead mid head s t (written_of head s bytes) d.text how (consumed_goes_on ahead mid head s bytes k c.is_service.as_far c.unended c.caches) d.gives;
+      number = d.number;
+    }
+
+-- what is due for bytes that were served, and then a front of what is due for others
+module _ (head : Head) (s : Service) (bytes served last text : List ℕ)
+    (far : IsAsFar (service_after head s bytes).guest (progress_of (service_after head s bytes).hearing.stage))
+    (unended : last_word (heard_of s bytes).steps ≡ None) (caches : ConfirmAllCaches (asked_of head s bytes)) where
+  first_joined : IsFront (written_of head (service_after head s bytes) served) text → IsFront (written_of head s (bytes ++ served)) (written_of head s bytes ++ text)
+  first_joined f =
+      let t = service_after head s bytes in
+      record {
+        rest = f.rest;
+        joined = ap (λ xs. written_of head s bytes ++ xs) f.joined
+            ∙ (sym (append_assoc (written_of head s bytes) (written_of head t served) f.rest)
+            ∙ ap (λ xs. xs ++ f.rest) (sym (written_joined head s bytes served far)));
+      }
+
+  more_joined : (more : List ℕ) → IsFront text (answer_of head (service_after head s bytes) ((served ++ last) ++ more))
+      → IsFront (written_of head s bytes ++ text) (answer_of head s (((bytes ++ served) ++ last) ++ more))
+  more_joined more f =
+      let same : ((bytes ++ served) ++ last) ++ more ≡ bytes ++ ((served ++ last) ++ more) =
+      ap (λ xs. xs ++ more) (append_assoc bytes served last) ∙ append_assoc bytes (served ++ last) more in
+      record {
+        rest = f.rest;
+        joined = ap (answer_of head s) same
+            ∙ ((goes_on head s bytes ((served ++ last) ++ more) far unended caches).answer
+            ∙ (ap (λ xs. written_of head s bytes ++ xs) f.joined ∙ sym (append_assoc (written_of head s bytes) text f.rest)));
+      }
+
+  served_joined : IsServedFront head (service_after head s bytes) served last text → IsServedFront head s (bytes ++ served) last (written_of head s bytes ++ text)
+  served_joined f = record { served_first = first_joined f.served_first; is_front = λ more. more_joined more (f.is_front more) }
+
+front_joined : (head : Head) (s : Service) (bytes : List ℕ) (old : Serving) (ahead mid left told some telling : Option (List ℕ)) → Consumes ahead mid bytes
+    → PieceDone head s bytes old told some → ServedAFront head (service_after head s bytes) (moment mid some) (moment left telling)
+    → ServedAFront head s (moment ahead told) (moment left telling)
+front_joined head s bytes old ahead mid left told some telling k c d = record {
+  served = bytes ++ d.served;
+  last = d.last;
+  text = written_of head s bytes ++ d.text;
+  are_handed = subst (Consumes ahead left) (sym (append_assoc bytes d.served d.last)) (Consumes-trans ahead mid left bytes (d.served ++ d.last) k d.are_handed);
+  at_once = d.at_once;
+  written = Appends-trans told some telling (written_of head s bytes) d.text c.written d.written;
+  front = served_joined head s bytes d.served d.last d.text c.is_service.as_far c.unended c.caches d.front;
 }
-
-front_by : (ahead mid : Option (List ℕ)) (head : Head) (s t : Service) (text : List ℕ) (told some telling : Option (List ℕ)) → Appends told some text → Continues ahead mid head s text t
-    → ServedAFront head t (moment mid some) telling → ServedAFront head s (moment ahead told) telling
-front_by None mid head s t text told some telling w c d = tt
-front_by (Some all) None head s t text told some telling w c d = absurd c
-front_by (Some all) (Some rest) head s t text told some telling w c d = front_after told some telling text (answer_of head t rest) (answer_of head s all) w c.answer d
-
-pub front_joined : (head : Head) (s t : Service) (ahead mid told some telling : Option (List ℕ)) → ServedSome head s t (moment ahead told) (moment mid some)
-    → ServedAFront head t (moment mid some) telling → ServedAFront head s (moment ahead told) telling
-front_joined head s t ahead mid told some telling c d = front_by ahead mid head s t c.text told some telling c.written c.continues d
-
-pub front_so_far : (head : Head) (s t : Service) (ahead mid told some : Option (List ℕ)) → ServedSome head s t (moment ahead told) (moment mid some) → ServedAFront head s (moment ahead told) some
-front_so_far head s t ahead mid told some c = front_joined head s t ahead mid told some some c (front_of_told mid head t some)
-
-continues_same : (ahead : Option (List ℕ)) (head : Head) (s : Service) → Continues ahead ahead head s [] s
-continues_same None head s = tt
-continues_same (Some all) head s = record { answer = refl; ending = refl; caches = λ k. k }
-
-pub nothing_served : (head : Head) (s : Service) (ahead told : Option (List ℕ)) → ServedSome head s s (moment ahead told) (moment ahead told)
-nothing_served head s ahead told = record { text = []; written = Appends-nil told; continues = continues_same ahead head s }
 
 -- ---- the answer
 
@@ -382,29 +472,97 @@ no_fault ending.NotInvited fault.WriteFault f e = cc e
 no_fault ending.NotInvited fault.OutOfMemory f e = cc e
 
 pub answered : (result : Result (Unit {0}) AnswerFault) (size : Size) (owner : List ℕ) (how : Ending) (ahead told telling : Option (List ℕ)) → HasSessionSize (owners_head size owner) → IsAnswerOf result how
-    → ServedAll (owners_head size owner) (first_service size) how (moment ahead told) telling → RunsAnswer result size owner ahead told telling
-answered (Ok x) size owner how ahead told telling sized is d = stream_by size owner how None ahead told telling d.text sized is d.written d.gives
-answered (Err (fault.Refused k at)) size owner how ahead told telling sized is d = stream_by size owner how (Some (fault.Refused k at)) ahead told telling d.text sized is d.written d.gives
-answered (Err fault.Truncated) size owner how ahead told telling sized is d = stream_by size owner how (Some fault.Truncated) ahead told telling d.text sized is d.written d.gives
-answered (Err fault.NotInvited) size owner how ahead told telling sized is d = stream_by size owner how (Some fault.NotInvited) ahead told telling d.text sized is d.written d.gives
-answered (Err fault.ReadFault) size owner how ahead told telling sized is d = absurd (no_fault how fault.ReadFault tt is)
-answered (Err fault.WriteFault) size owner how ahead told telling sized is d = absurd (no_fault how fault.WriteFault tt is)
-answered (Err fault.OutOfMemory) size owner how ahead told telling sized is d = absurd (no_fault how fault.OutOfMemory tt is)
+    → ServedAll (owners_head size owner) (first_service size) how (moment ahead told) telling → (left : Option (List ℕ)) → RunsAnswer result size owner ahead left told telling
+answered (Ok x) size owner how ahead told telling sized is d left = stream_by size owner how None ahead told telling d.text sized is d.written d.gives
+answered (Err (fault.Refused k at)) size owner how ahead told telling sized is d left = stream_by size owner how (Some (fault.Refused k at)) ahead told telling d.text sized is d.written d.gives
+answered (Err fault.Truncated) size owner how ahead told telling sized is d left = stream_by size owner how (Some fault.Truncated) ahead told telling d.text sized is d.written d.gives
+answered (Err fault.NotInvited) size owner how ahead told telling sized is d left = stream_by size owner how (Some fault.NotInvited) ahead told telling d.text sized is d.written d.gives
+answered (Err fault.ReadFault) size owner how ahead told telling sized is d left = absurd (no_fault how fault.ReadFault tt is)
+answered (Err fault.WriteFault) size owner how ahead told telling sized is d left = absurd (no_fault how fault.WriteFault tt is)
+answered (Err fault.OutOfMemory) size owner how ahead told telling sized is d left = absurd (no_fault how fault.OutOfMemory tt is)
 
 -- a front where the stream is told
-fronts_by : (size : Size) (owner : List ℕ) (ahead told telling : Option (List ℕ)) → HasSessionSize (owners_head size owner)
-    → ServedAFront (owners_head size owner) (first_service size) (moment ahead told) telling → Tells ahead (λ stream. WritesAFront size owner stream told telling)
-fronts_by size owner None told telling sized d = tt
-fronts_by size owner (Some stream) told telling sized d = front_shows size owner stream told telling sized d
+fronts_by : (size : Size) (owner : List ℕ) (ahead left told telling : Option (List ℕ)) → HasSessionSize (owners_head size owner)
+    → ServedAFront (owners_head size owner) (first_service size) (moment ahead told) (moment left telling) → Tells ahead (λ stream. WritesAFront size owner stream left told telling)
+fronts_by size owner None left told telling sized d = tt
+fronts_by size owner (Some stream) None told telling sized d = absurd d.are_handed
+fronts_by size owner (Some stream) (Some rest) told telling sized d =
+    let head = owners_head size owner in
+    let f = d.front.is_front rest in
+    record {
+      served = d.served;
+      last = d.last;
+      text = d.text;
+      are_handed = d.are_handed;
+      at_once = d.at_once;
+      written = d.written;
+      served_first = d.front.served_first;
+      for_handed = subst (λ xs. IsFront d.text (answer_of head (first_service size) xs)) (append-nil (d.served ++ d.last)) (d.front.is_front []);
+      is_answer = front_shows size owner stream d.text sized (subst (λ xs. IsFront d.text (answer_of head (first_service size) xs)) (sym d.are_handed) f);
+    }
 
-pub stopped : (why : AnswerFault) (size : Size) (owner : List ℕ) (ahead told telling : Option (List ℕ)) → HasSessionSize (owners_head size owner) → IsFault why
-    → ServedAFront (owners_head size owner) (first_service size) (moment ahead told) telling → RunsAnswer (Err why) size owner ahead told telling
-stopped (fault.Refused k at) size owner ahead told telling sized f d = absurd f
-stopped fault.Truncated size owner ahead told telling sized f d = absurd f
-stopped fault.NotInvited size owner ahead told telling sized f d = absurd f
-stopped fault.ReadFault size owner ahead told telling sized f d = fronts_by size owner ahead told telling sized d
-stopped fault.WriteFault size owner ahead told telling sized f d = fronts_by size owner ahead told telling sized d
-stopped fault.OutOfMemory size owner ahead told telling sized f d = fronts_by size owner ahead told telling sized d
+-- bytes behind which the code stands for a service bring no end
+said_within : (n : ℕ) (word : Option Ending) → end_said (end_within n) word ≡ word
+said_within zero word = refl
+said_within (suc n) word = refl
+
+said_by : (here : Stage) (n : ℕ) (word : Option Ending) → IsUnrefused here → end_said (end_by here n) word ≡ word
+said_by stage.Request n word u = said_within n word
+said_by (stage.Initial asked) n word u = said_within n word
+said_by (stage.Erect channels) n word u = said_within n word
+said_by (stage.Attach channels) n word u = said_within n word
+said_by (stage.Joins channels user io) n word u = said_within n word
+said_by (stage.Shares channels here) n word u = said_within n word
+said_by stage.Over n word u = refl
+said_by (stage.Refused k at) n word u = absurd u
+
+no_end_by : (g : Guest) (here : Stage) (n : ℕ) (word : Option Ending) → (g ≡ TurnedAway → ⊥) → IsUnrefused here → word ≡ None → end_met g (end_by here n) word ≡ None
+no_end_by (Coming name) here n word a u e = said_by here n word u ∙ e
+no_end_by Viewing here n word a u e = said_by here n word u ∙ e
+no_end_by TurnedAway here n word a u e = absurd (a refl)
+
+no_end_yet : (head : Head) (s : Service) (bytes : List ℕ) (serving : Serving) (told some : Option (List ℕ)) → PieceDone head s bytes serving told some → end_so_far head s bytes ≡ None
+no_end_yet head s bytes serving told some c =
+    let t = service_after head s bytes in
+    let i = c.is_service in
+    no_end_by t.guest t.hearing.stage (length t.hearing.part) (last_word (heard_of s bytes).steps) (guest_is_here head serving.visitor t.guest t.run i.visitor) i.unrefused c.unended
+
+-- exactly what is due where the stream is told
+handed_by : (size : Size) (owner bytes : List ℕ) (serving : Serving) (ahead left told telling : Option (List ℕ)) → HasSessionSize (owners_head size owner) → Consumes ahead left bytes
+    → Appends told telling (written_of (owners_head size owner) (first_service size) bytes)
+    → (some : Option (List ℕ)) → PieceDone (owners_head size owner) (first_service size) bytes serving told some
+    → Tells ahead (λ stream. WritesHandedBytes size owner stream left told telling)
+handed_by size owner bytes serving None left told telling sized k w some c = tt
+handed_by size owner bytes serving (Some stream) None told telling sized k w some c = absurd k
+handed_by size owner bytes serving (Some stream) (Some rest) told telling sized k w some c =
+    let head = owners_head size owner in
+    let s = first_service size in
+    let whole : answer_of head s stream ≡ written_of head s bytes ++ answer_of head (service_after head s bytes) rest =
+    ap (answer_of head s) k ∙ (goes_on head s bytes rest c.is_service.as_far c.unended c.caches).answer in
+    record {
+      handed = bytes;
+      is_handed = k;
+      written = w;
+      goes_on = no_end_yet head s bytes serving told some c;
+      shows_journal = client_sees size owner [] (heard_of s bytes).steps sized c.caches;
+      is_answer = front_shows size owner stream (written_of head s bytes) sized (record { rest = answer_of head (service_after head s bytes) rest; joined = whole });
+    }
+
+pub stopped : (why : AnswerFault) (size : Size) (owner bytes : List ℕ) (serving : Serving) (ahead mid left told some telling : Option (List ℕ)) → HasSessionSize (owners_head size owner)
+    → Consumes ahead mid bytes → PieceDone (owners_head size owner) (first_service size) bytes serving told some
+    → StopsBy why (owners_head size owner) (service_after (owners_head size owner) (first_service size) bytes) (moment mid some) (moment left telling)
+    → RunsAnswer (Err why) size owner ahead left told telling
+stopped (fault.Refused j at) size owner bytes serving ahead mid left told some telling sized k c d = absurd d
+stopped fault.Truncated size owner bytes serving ahead mid left told some telling sized k c d = absurd d
+stopped fault.NotInvited size owner bytes serving ahead mid left told some telling sized k c d = absurd d
+stopped fault.ReadFault size owner bytes serving ahead mid left told some telling sized k c d =
+    let head = owners_head size owner in
+    let text = written_of head (first_service size) bytes in
+    handed_by size owner bytes serving ahead left told telling sized (Consumes-kept ahead mid left bytes k d.0) (Appends-kept told some telling text c.written d.1) some c
+stopped fault.WriteFault size owner bytes serving ahead mid left told some telling sized k c d =
+    fronts_by size owner ahead left told telling sized (front_joined (owners_head size owner) (first_service size) bytes serving ahead mid left told some telling k c d)
+stopped fault.OutOfMemory size owner bytes serving ahead mid left told some telling sized k c d =
+    fronts_by size owner ahead left told telling sized (front_joined (owners_head size owner) (first_service size) bytes serving ahead mid left told some telling k c d)
 
 -- an answer has its number
 pub number_answered : (result : Result (Unit {0}) AnswerFault) (how : Ending) → IsAnswerOf result how → IsNumbered how → IfErr result IsNumberedFault
@@ -424,32 +582,57 @@ number_answered (Err fault.OutOfMemory) how is n = tt
 
 pub went_on_first : (head : Head) (s : Service) (serving : Serving) (ahead told : Option (List ℕ)) → IsServiceOf head serving s
     → WentOn head s serving (moment ahead told) (moment ahead told)
-went_on_first head s serving ahead told i = record { after = s; is_service = i; some = nothing_served head s ahead told }
+went_on_first head s serving ahead told i = record { handed = []; is_handed = Consumes-nil ahead; done = none_served head s serving told i }
 
 module _ (head : Head) (s : Service) (old new : Serving) (ahead mid left told some telling : Option (List ℕ)) (w : WentOn head s old (moment ahead told) (moment mid some)) where
   pub went_further : ((t : Service) → IsServiceOf head old t → ServedNext (Ok None) head t new (moment mid some) (moment left telling)) → WentOn head s new (moment ahead told) (moment left telling)
   went_further d =
-      let n = d w.after w.is_service in
-      record { after = n.after; is_service = n.is_service; some = some_joined head s w.after n.after ahead mid left told some telling w.some n.some }
+      let n = d (service_after head s w.handed) w.done.is_service in
+      record {
+        handed = w.handed ++ n.handed;
+        is_handed = Consumes-trans ahead mid left w.handed n.handed w.is_handed n.is_handed;
+        done = some_joined head s w.handed n.handed old new told some telling w.done n.done;
+      }
 
   pub ended_at : (how : Ending) → ((t : Service) → IsServiceOf head old t → ServedNext (Ok (Some how)) head t new (moment mid some) (moment left telling)) → ServedAll head s how (moment ahead told) telling
-  ended_at how d = all_joined head s w.after how ahead mid told some telling w.some (d w.after w.is_service)
+  ended_at how d = all_joined head s w.handed how old ahead mid told some telling w.is_handed w.done (d (service_after head s w.handed) w.done.is_service)
 
-  pub stopped_at : (why : AnswerFault) → ((t : Service) → IsServiceOf head old t → ServedNext (Err why) head t new (moment mid some) (moment left telling)) → ServedAFront head s (moment ahead told) telling
-  stopped_at why d = front_joined head s w.after ahead mid told some telling w.some (d w.after w.is_service)
+-- a fault ended it
+pub stopped_at : (why : AnswerFault) (size : Size) (owner : List ℕ) (old new : Serving) (ahead mid left told some telling : Option (List ℕ)) → HasSessionSize (owners_head size owner)
+    → WentOn (owners_head size owner) (first_service size) old (moment ahead told) (moment mid some)
+    → ((t : Service) → IsServiceOf (owners_head size owner) old t → ServedNext (Err why) (owners_head size owner) t new (moment mid some) (moment left telling))
+    → RunsAnswer (Err why) size owner ahead left told telling
+stopped_at why size owner old new ahead mid left told some telling sized w d =
+    stopped why size owner w.handed old ahead mid left told some telling sized w.is_handed w.done
+    (d (service_after (owners_head size owner) (first_service size) w.handed) w.done.is_service)
 
-pub no_more_reads : (head : Head) (s : Service) (old : Serving) (ahead mid told some : Option (List ℕ)) → WentOn head s old (moment ahead told) (moment mid some) → ServedAFront head s (moment ahead told) some
-no_more_reads head s old ahead mid told some w = front_so_far head s w.after ahead mid told some w.some
-
--- nothing was done
-pub nothing_done : (size : Size) (owner : List ℕ) (ahead told : Option (List ℕ)) → RunsAnswer (Err fault.OutOfMemory) size owner ahead told told
-nothing_done size owner None told = tt
-nothing_done size owner (Some stream) told = nothing_shows size owner stream told
+pub no_more_reads : (size : Size) (owner : List ℕ) (old : Serving) (ahead mid told some : Option (List ℕ)) → HasSessionSize (owners_head size owner)
+    → WentOn (owners_head size owner) (first_service size) old (moment ahead told) (moment mid some) → RunsAnswer (Err fault.OutOfMemory) size owner ahead mid told some
+no_more_reads size owner old ahead mid told some sized w =
+    stopped fault.OutOfMemory size owner w.handed old ahead mid mid told some some sized w.is_handed w.done
+    (nothing_stopped (owners_head size owner) (service_after (owners_head size owner) (first_service size) w.handed) mid some w.done.is_service.still)
 
 -- a service before the first byte
 still_first : (size : Size) → heard (first_service size).hearing [] ≡ silent (first_service size).hearing
 unfolding heard
 still_first size = refl
+
+-- nothing was done
+pub nothing_done : (size : Size) (owner : List ℕ) (ahead told : Option (List ℕ)) → RunsAnswer (Err fault.OutOfMemory) size owner ahead ahead told told
+nothing_done size owner None told = tt
+nothing_done size owner (Some stream) told =
+    let none = none_stopped (owners_head size owner) (first_service size) (still_first size) in
+    record {
+      served = [];
+      last = [];
+      text = [];
+      are_handed = refl;
+      at_once = omega arith;
+      written = Appends-nil told;
+      served_first = none.served_first;
+      for_handed = none.is_front [];
+      is_answer = nothing_shows size owner stream;
+    }
 
 pub starts : (size : Size) (owner : List ℕ) (conn : ConnOf) (name : List ℕ) → conn ≡ record { hearing = (first_service size).hearing; spent = false } → name ≡ []
     → IsServiceOf (owners_head size owner) (serving_of conn (visitor.Coming name)) (first_service size)

@@ -1,12 +1,13 @@
 -- What of a client's service was done.
-use Rattle.std.specs.Prelude.{◌≡◌, ℕ, zero, suc, Bool, true, false, List, [], ◌++◌, ⊤}
-use Rattle.std.specs.Io.KnownBytes.{Appends}
+use Rattle.std.specs.Prelude.{◌≡◌, ℕ, zero, suc, ◌≤◌, Bool, true, false, List, [], ◌++◌, length, ⊤}
+use Rattle.std.specs.Io.KnownBytes.{Appends, Consumes, Keeps}
 use Rattle.std.specs.declared.option.Option.{Option}
 use Rattle.std.specs.declared.option.Option.TheVariants.{Some, None}
 use Rattle.std.specs.declared.result.Result.{Result}
 use Rattle.std.specs.declared.result.Result.TheVariants.{Ok, Err}
 use Rattle.px_core.specs.declared.surface.Size.{Size}
 use Rattle.edge_io.specs.Sink.{WritesFront}
+use Rattle.capture_laws.specs.Fronts.{IsFront}
 use Rattle.session_rules.specs.Journal.{Head}
 use Rattle.script_rules.specs.CaptureText.{Run, run_at_first, sent_from}
 use Rattle.script_rules.specs.Headline.{encoder_frames, ConfirmAllCaches, EveryViewerSeesTheJournal}
@@ -22,7 +23,7 @@ use Rattle.conn_laws.specs.Progress.Progress.{Connecting, Ready, Ended}
 use Rattle.answer_run.specs.Asking.{Guest, owners_head, guest_after_all}
 use Rattle.answer_run.specs.Asking.Guest.{Coming, Viewing, TurnedAway}
 use Rattle.answer_run.specs.Service.{Service, heard_of, last_word, asked_of, written_of, service_after, ultimatum_of, ending_of, answer_of, asked_of_stream, ending_of_stream, answer_of_stream}
-use Rattle.answer_run.specs.Cut.{WritesAFront}
+use Rattle.answer_run.specs.Cut.{read_room, WritesHandedBytes, WritesAFront}
 use Rattle.answer_run.specs.Visits.{IsGuest, IsReady, frames_by, run_by_steps}
 use Rattle.answer_run.specs.declared.visitor.Visitor.{Visitor}
 use Rattle.conn_rules.specs.declared.conn_step.ConnStep.{ConnStep}
@@ -77,16 +78,17 @@ pub record ServesStream (size : Size) (owner : List ℕ) (why : Option AnswerFau
   pub shows_journal : EveryViewerSeesTheJournal (owners_head size owner) (asked_of_stream size owner stream)
       (sent_from encoder_frames (owners_head size owner) (run_at_first encoder_frames size) (asked_of_stream size owner stream))
 
--- what was done where the input tells the client's stream: all of its answer was written, and this is how it ends; or after a fault, or want of memory, a front of
--- it, whose frames show the first takes
-abbrev pub RunsAnswer : Result (Unit {0}) AnswerFault → Size → List ℕ → (left told telling : Option (List ℕ)) → Type 0
-RunsAnswer (Ok x) size owner left told telling = Tells left (λ stream. ServesStream size owner None stream told telling)
-RunsAnswer (Err (fault.Refused k at)) size owner left told telling = Tells left (λ stream. ServesStream size owner (Some (fault.Refused k at)) stream told telling)
-RunsAnswer (Err fault.Truncated) size owner left told telling = Tells left (λ stream. ServesStream size owner (Some fault.Truncated) stream told telling)
-RunsAnswer (Err fault.NotInvited) size owner left told telling = Tells left (λ stream. ServesStream size owner (Some fault.NotInvited) stream told telling)
-RunsAnswer (Err fault.ReadFault) size owner left told telling = Tells left (λ stream. WritesAFront size owner stream told telling)
-RunsAnswer (Err fault.WriteFault) size owner left told telling = Tells left (λ stream. WritesAFront size owner stream told telling)
-RunsAnswer (Err fault.OutOfMemory) size owner left told telling = Tells left (λ stream. WritesAFront size owner stream told telling)
+-- what was done where the input tells the client's stream, of which it has this left: all of its answer was written, and this is how it ends. After a failed read
+-- exactly what is due for the bytes that were handed out stands there; after a failed write, or want of memory, what is due for those before the last read, and then a
+-- front of what is due for the bytes of that read
+abbrev pub RunsAnswer : Result (Unit {0}) AnswerFault → Size → List ℕ → (left rest told telling : Option (List ℕ)) → Type 0
+RunsAnswer (Ok x) size owner left rest told telling = Tells left (λ stream. ServesStream size owner None stream told telling)
+RunsAnswer (Err (fault.Refused k at)) size owner left rest told telling = Tells left (λ stream. ServesStream size owner (Some (fault.Refused k at)) stream told telling)
+RunsAnswer (Err fault.Truncated) size owner left rest told telling = Tells left (λ stream. ServesStream size owner (Some fault.Truncated) stream told telling)
+RunsAnswer (Err fault.NotInvited) size owner left rest told telling = Tells left (λ stream. ServesStream size owner (Some fault.NotInvited) stream told telling)
+RunsAnswer (Err fault.ReadFault) size owner left rest told telling = Tells left (λ stream. WritesHandedBytes size owner stream rest told telling)
+RunsAnswer (Err fault.WriteFault) size owner left rest told telling = Tells left (λ stream. WritesAFront size owner stream rest told telling)
+RunsAnswer (Err fault.OutOfMemory) size owner left rest told telling = Tells left (λ stream. WritesAFront size owner stream rest told telling)
 
 -- ---- a service in its course
 
@@ -133,12 +135,6 @@ Continues None now head s text t = ⊤
 Continues (Some bytes) None head s text t = ⊥
 Continues (Some bytes) (Some left) head s text t = GoesOn head s bytes text t left
 
--- some of a service was done
-pub record ServedSome (head : Head) (s t : Service) (before now : Moment) : Type 0 where
-  pub text : List ℕ
-  pub written : Appends before.told now.told text
-  pub continues : Continues before.ahead now.ahead head s text t
-
 -- these bytes of a service give this text, and it ends so
 pub record Gives (head : Head) (s : Service) (text : List ℕ) (how : Ending) (bytes : List ℕ) : Type 0 where
   pub answer : answer_of head s bytes ≡ text
@@ -152,15 +148,20 @@ pub record ServedAll (head : Head) (s : Service) (how : Ending) (before : Moment
   pub gives : Tells before.ahead (Gives head s text how)
   pub number : IsNumbered how
 
--- a front of what is due was written
-abbrev pub ServedAFront : Head → Service → Moment → Option (List ℕ) → Type 0
-ServedAFront head s before telling = Tells before.ahead (λ bytes. WritesFront before.told telling (answer_of head s bytes))
+-- a text begins with all that is due for the bytes before the last read, and is a front of what is due with those of it, whatever follows
+pub record IsServedFront (head : Head) (s : Service) (served last text : List ℕ) : Type 0 where
+  pub served_first : IsFront (written_of head s served) text
+  pub is_front : (more : List ℕ) → IsFront text (answer_of head s ((served ++ last) ++ more))
 
--- a service went on, with a service that the code stands for
-pub record WentOn (head : Head) (s : Service) (new : Serving) (before now : Moment) : Type 0 where
-  pub after : Service
-  pub is_service : IsServiceOf head new after
-  pub some : ServedSome head s after before now
+-- bytes were read and served but for the last read, of which a front of what is due was written
+pub record ServedAFront (head : Head) (s : Service) (before now : Moment) : Type 0 where
+  pub served : List ℕ
+  pub last : List ℕ
+  pub text : List ℕ
+  pub are_handed : Consumes before.ahead now.ahead (served ++ last)
+  pub at_once : length last ≤ read_room
+  pub written : Appends before.told now.told text
+  pub front : IsServedFront head s served last text
 
 -- nothing that comes after these bytes counts: the stream is over or refused, or the client wasn't let in
 pub data IsClosed (head : Head) (s : Service) (bytes : List ℕ) : Type 0 where
@@ -174,6 +175,12 @@ pub record PieceDone (head : Head) (s : Service) (bytes : List ℕ) (new : Servi
   pub unended : last_word (heard_of s bytes).steps ≡ None
   pub caches : ConfirmAllCaches (asked_of head s bytes)
 
+-- bytes were read and served, and the service goes on
+pub record WentOn (head : Head) (s : Service) (new : Serving) (before now : Moment) : Type 0 where
+  pub handed : List ℕ
+  pub is_handed : Consumes before.ahead now.ahead handed
+  pub done : PieceDone head s handed new before.told now.told
+
 -- bytes were done, and with them the service
 pub record PieceEnds (head : Head) (s : Service) (bytes : List ℕ) (how : Ending) (told telling : Option (List ℕ)) : Type 0 where
   pub is : ending_of head s bytes ≡ how
@@ -183,8 +190,10 @@ pub record PieceEnds (head : Head) (s : Service) (bytes : List ℕ) (how : Endin
   pub caches : ConfirmAllCaches (asked_of head s bytes)
 
 -- a front of what is due for bytes was written, whatever follows them
-abbrev pub PieceStops : Head → Service → List ℕ → (told telling : Option (List ℕ)) → Type 0
-PieceStops head s bytes told telling = (more : List ℕ) → WritesFront told telling (answer_of head s (bytes ++ more))
+pub record PieceStops (head : Head) (s : Service) (bytes : List ℕ) (told telling : Option (List ℕ)) : Type 0 where
+  pub text : List ℕ
+  pub written : Appends told telling text
+  pub is_front : (more : List ℕ) → IsFront text (answer_of head s (bytes ++ more))
 
 -- what bytes did
 abbrev pub ServedPiece : Result (Option Ending) AnswerFault → Head → Service → List ℕ → Serving → (told telling : Option (List ℕ)) → Type 0
@@ -192,11 +201,24 @@ ServedPiece (Ok None) head s bytes new told telling = PieceDone head s bytes new
 ServedPiece (Ok (Some how)) head s bytes new told telling = PieceEnds head s bytes how told telling
 ServedPiece (Err why) head s bytes new told telling = PieceStops head s bytes told telling
 
--- what the next bytes did: the service goes on, or it ended; or a front of what is due was written
+-- a read failed: it took nothing, and nothing was written
+abbrev pub ReadFails : (before now : Moment) → Type 0
+ReadFails before now = Keeps before.ahead now.ahead × Keeps before.told now.told
+
+-- how far a service was done that a fault ends
+abbrev pub StopsBy : AnswerFault → Head → Service → (before now : Moment) → Type 0
+StopsBy (fault.Refused k at) head s before now = ⊥
+StopsBy fault.Truncated head s before now = ⊥
+StopsBy fault.NotInvited head s before now = ⊥
+StopsBy fault.ReadFault head s before now = ReadFails before now
+StopsBy fault.WriteFault head s before now = ServedAFront head s before now
+StopsBy fault.OutOfMemory head s before now = ServedAFront head s before now
+
+-- what the next bytes did: the service goes on, or it ended; or it was stopped by a fault
 abbrev pub ServedNext : Result (Option Ending) AnswerFault → Head → Service → Serving → (before now : Moment) → Type 0
 ServedNext (Ok None) head s new before now = WentOn head s new before now
 ServedNext (Ok (Some how)) head s new before now = ServedAll head s how before now.told
-ServedNext (Err why) head s new before now = ServedAFront head s before now.told
+ServedNext (Err why) head s new before now = StopsBy why head s before now
 
 -- ---- what was heard
 

@@ -44,6 +44,18 @@ ending_by (Coming name) end word = ending_at end false word
 ending_by Viewing end word = ending_at end true word
 ending_by TurnedAway end word = NotInvited
 
+-- the end that a stream brings which stands so and said this, whatever follows: it is refused, or it said its last word
+abbrev pub end_said : StreamEnd → Option Ending → Option Ending
+end_said (RefusedAt k at) word = Some (Refused k at)
+end_said (Within n) word = word
+end_said Between word = word
+
+-- a client that wasn't let in is at its end
+abbrev pub end_met : Guest → StreamEnd → Option Ending → Option Ending
+end_met (Coming name) end word = end_said end word
+end_met Viewing end word = end_said end word
+end_met TurnedAway end word = Some NotInvited
+
 -- the ultimatum that is the last of what is written: 21 80 where the client asked for the end, 20 80 where it was refused
 abbrev pub ultimatum_of : Ending → List ℕ
 ultimatum_of Left = []
@@ -85,6 +97,10 @@ service_after head s bytes = record {
   run = run_after_all encoder_frames head s.run (asked_of head s bytes);
 }
 
+-- the end that these bytes bring whatever follows them, where they bring one
+abbrev pub end_so_far : Head → Service → List ℕ → Option Ending
+end_so_far head s bytes = end_met (guest_after_all head s.guest (heard_of s bytes).steps) (end_of (heard_of s bytes).after) (last_word (heard_of s bytes).steps)
+
 -- how the service ends where these are the last bytes
 abbrev pub ending_of : Head → Service → List ℕ → Ending
 ending_of head s bytes = ending_by (guest_after_all head s.guest (heard_of s bytes).steps) (end_of (heard_of s bytes).after) (last_word (heard_of s bytes).steps)
@@ -106,6 +122,14 @@ replies_of_stream size owner stream = (heard_of (first_service size) stream).rep
 -- the frames that it is sent
 abbrev pub frames_of_stream : Size → List ℕ → List ℕ → List ℕ
 frames_of_stream size owner stream = frames_of (owners_head size owner) (first_service size) stream
+
+-- all that is due for the first bytes of it, as long as the service goes on: the replies of the connection, then the frames
+abbrev pub written_of_stream : Size → List ℕ → List ℕ → List ℕ
+written_of_stream size owner bytes = written_of (owners_head size owner) (first_service size) bytes
+
+-- the end that they bring, where they bring one
+abbrev pub end_so_far_of_stream : Size → List ℕ → List ℕ → Option Ending
+end_so_far_of_stream size owner bytes = end_so_far (owners_head size owner) (first_service size) bytes
 
 -- how its service ends
 abbrev pub ending_of_stream : Size → List ℕ → List ℕ → Ending

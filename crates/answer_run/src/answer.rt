@@ -1,9 +1,10 @@
 //! The service of one client.
 
-ghost use Rattle.std.specs.Prelude.{◌≢◌, ◌<◌, ℕ, List, [], IsTrue, IfOk, IfErr, vec_len};
+ghost use Rattle.std.specs.Prelude.{◌≡◌, ◌≢◌, ℕ, List, [], IsTrue, IfOk, IfErr, vec_len};
 ghost use Rattle.px_core.specs.Rectangle.{is_session_size};
 ghost use Rattle.answer_run.specs.Asking.{owners_head};
 ghost use Rattle.answer_run.specs.Service.{first_service};
+ghost use Rattle.answer_run.specs.Cut.{read_room};
 ghost use Rattle.answer_run.specs.Visits.{WritesCause, ReadsCause};
 ghost use Rattle.answer_run.specs.Serves.{IsAnswerOf, IsServiceOf, IsNumberedFault, RunsAnswer};
 
@@ -23,7 +24,8 @@ const ROOM: usize = 16_384;
 /// Serves one client, whose stream comes from the input: a session of this size is made for it, which it joins by the owner's name.
 ///
 /// What is written are the replies of the connection, then a frame once the client is ready and after each further packet whose take has
-/// work, and then an ultimatum where the client asked for the end, is refused or isn't let in.
+/// work, and then an ultimatum where the client asked for the end, is refused or isn't let in. What is due for the bytes that were read is
+/// written before more are read; so a `ReadFault` leaves exactly what is due for the bytes that the input had handed out.
 pub fn run_answer<S: Source, K: Sink>(
     alloc: Global,
     size: Size,
@@ -35,9 +37,11 @@ pub fn run_answer<S: Source, K: Sink>(
     requires owner { owner.now ≢ [] }
     // Where the input tells the client's stream, what is written is its answer, to the byte, and it ends as it is told to: well, refused
     // by just that number at just that place, truncated or not invited. The client's frames are never refused, and their marks show the
-    // pictures after exactly the journal entries that its takes found. After a fault, or want of memory, a front of the answer stands
-    // there, and the frames in it show the first ones of these takes.
-    ensures answer { RunsAnswer result size owner.now (S.left input.old) (K.told output.old) (K.told output.new) }
+    // pictures after exactly the journal entries that its takes found. After a failed read exactly what is due for the bytes that the
+    // input had handed out stands there, the replies and then the frames, which show these pictures; after a failed write, or want of
+    // memory, all that is due for the bytes before the last read, and then a front of what is due for those of that read. Either is a
+    // front of the answer, and the frames in it show the first ones of its takes.
+    ensures answer { RunsAnswer result size owner.now (S.left input.old) (S.left input.new) (K.told output.old) (K.told output.new) }
     // A refusal's number is 1 to 14.
     ensures number { IfErr result IsNumberedFault }
     ensures read { ReadsCause result (S.faults input.old) (S.faults input.new) }
@@ -76,7 +80,7 @@ fn start(alloc: Global, size: Size) -> Result<Serving, OutOfMemory>
 
 /// A buffer to read into.
 fn new_buffer(alloc: Global) -> Result<Vec<u8>, OutOfMemory>
-    ensures { IfOk result (λ buffer. 0 < vec_len buffer) }
+    ensures { IfOk result (λ buffer. vec_len buffer ≡ read_room) }
 {
     let buffer = vec![in alloc; 0; ROOM]?;
     Ok(buffer)

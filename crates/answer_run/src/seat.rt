@@ -1,6 +1,6 @@
 //! A session with the sender of its one viewer.
 
-ghost use Rattle.std.specs.Prelude.{◌≢◌, [], IsTrue, IfOk, OnOk};
+ghost use Rattle.std.specs.Prelude.{◌≡◌, ◌≢◌, [], Err, IsTrue, IfOk, OnOk, OnErr};
 ghost use Rattle.px_core.specs.Rectangle.{is_session_size, IsPlaced};
 ghost use Rattle.session_rules.specs.Steps.Step.{InputStep, RefreshStep, SuppressStep};
 ghost use Rattle.script_rules.specs.Script.{without_preset};
@@ -14,7 +14,7 @@ use out_of_memory::OutOfMemory;
 use px_core::{Rect, Size};
 use session_core::{InputRefusal, Invite, JoinFault, Role, Session};
 use std::alloc::Global;
-use viewer_sender::{Sender, Taken};
+use viewer_sender::{SendFault, Sender, Taken};
 
 /// The client's number: it is the first that joins.
 const CLIENT: u32 = 1;
@@ -65,9 +65,10 @@ pub fn input(seat: &mut Seat, event: Event) -> Result<(), OutOfMemory>
     Ok(())
 }
 
-/// An event that is refused counts as done.
+/// An event that is refused is passed over, as if it were done. Only want of memory is want of memory.
 fn settle(done: Result<(), InputRefusal>) -> Result<(), OutOfMemory>
-    ensures { OnOk result (IsSettled done) }
+    ensures settled { OnOk result (IsSettled done) }
+    ensures memory { OnErr result (done ≡ Err InputRefusal.OutOfMemory) }
 {
     match done {
         Ok(()) | Err(InputRefusal::NotHolder { .. }) | Err(InputRefusal::JournalFull) => Ok(()),
@@ -104,7 +105,8 @@ pub fn take(alloc: Global, seat: &mut Seat) -> Result<Vec<u8>, OutOfMemory>
         Taken::Nothing => Ok(Vec::new(alloc)),
         Taken::Frame(frame) => match seat.sender.encode(alloc, frame) {
             Ok(bytes) => Ok(bytes),
-            Err(_) => Err(OutOfMemory),
+            Err(SendFault::OutOfMemory) => Err(OutOfMemory),
+            Err(SendFault::Spent) => unreachable!(),
         },
     }
 }

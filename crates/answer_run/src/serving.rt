@@ -6,6 +6,7 @@ ghost use Rattle.session_rules.specs.Journal.{Head};
 ghost use Rattle.conn_laws.specs.Placed.{AreBytes};
 ghost use Rattle.answer_run.specs.Asking.{owners_head};
 ghost use Rattle.answer_run.specs.Service.{Service, ending_of};
+ghost use Rattle.answer_run.specs.Cut.{read_room};
 ghost use Rattle.answer_run.specs.Visits.{IsReady, WritesCause, ReadsCause, IsWriteFault, IsFault};
 ghost use Rattle.answer_run.specs.Serves.{IsServiceOf, IsRefusal, end_of_part, ServedPiece, ServedNext, moment};
 
@@ -26,8 +27,8 @@ pub struct Serving {
     pub visitor: Visitor,
 }
 
-/// Reads what comes next of the stream into a buffer, and does it; says how the service ends, if it does. An `Err` leaves a front of
-/// what is due.
+/// Reads what comes next of the stream into a buffer, and does it; says how the service ends, if it does. A failed read writes nothing;
+/// another `Err` leaves a front of what is due for the bytes that were read.
 pub fn serve_next<S: Source, K: Sink>(
     alloc: Global,
     size: Size,
@@ -41,7 +42,7 @@ pub fn serve_next<S: Source, K: Sink>(
     requires owner { owner.now ≢ [] }
     requires ready { IsReady serving.old.visitor }
     requires part { AreBytes serving.old.conn.hearing.part }
-    requires room { 0 < length buffer.old }
+    requires room { length buffer.old ≡ read_room }
     ensures done { (s : Service) → IsServiceOf (owners_head size owner.now) serving.old s → ServedNext result (owners_head size owner.now) s serving.new
         (moment (S.left input.old) (K.told output.old)) (moment (S.left input.new) (K.told output.new)) }
     ensures room { length buffer.new ≡ length buffer.old }

@@ -53,12 +53,13 @@ answer_status (Err fault.WriteFault) = 5
 answer_status (Err fault.OutOfMemory) = 6
 
 -- a client was served: 0 is that it left or asked for the end, 21 to 34 that its stream is refused, 35 that it was truncated, 36 that the name has no row, with its
--- whole answer written, in which its frames are never refused and show the journal; 4, 5 and 6 are faults of the source and of the sink, whose counts rose, and want
--- of memory, behind a front of it
+-- whole answer written, in which its frames are never refused and show the journal; 4 is a fault of the source, whose count rose, behind exactly what is due for the
+-- bytes that it had handed out; 5 and 6 are a fault of the sink, whose count rose, and want of memory, behind what is due for those before the last read and a front
+-- of what is due for that one's
 pub record RunsService (status : ℕ) (client : Client) (before now : Outside) : Type 0 where
   pub answer : Result (Unit {0}) AnswerFault
   pub status_is : status ≡ answer_status answer
   pub number : IfErr answer IsNumberedFault
-  pub serves : RunsAnswer answer client.size client.owner before.left before.told now.told
+  pub serves : RunsAnswer answer client.size client.owner before.left now.left before.told now.told
   pub read_cause : ReadsCause answer before.reads now.reads
   pub write_cause : WritesCause answer before.writes now.writes

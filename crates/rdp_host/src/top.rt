@@ -66,7 +66,8 @@ pub fn top<R: Threads + Wait + Sync, S: Source, K: Sink, G: Gate>(
         (outside (S.left input.old) (K.told output.old) (S.faults input.old) (K.faults output.old))
         (outside (S.left input.new) (K.told output.new) (S.faults input.new) (K.faults output.new)) }
     // The answer's own clause: whatever the client's stream, what is written is its answer to the byte, in which its frames are never
-    // refused, and each mark shows the picture after exactly the journal entries that the frame's take found.
+    // refused, and each mark shows the picture after exactly the journal entries that the frame's take found. After a failed read exactly
+    // what is due for the bytes that were handed out stands there.
     ensures answer { (client : Client) → client_asked (map string_bytes words.now) ≡ Some client → RunsService result client
         (outside (S.left input.old) (K.told output.old) (S.faults input.old) (K.faults output.old))
         (outside (S.left input.new) (K.told output.new) (S.faults input.new) (K.faults output.new)) }

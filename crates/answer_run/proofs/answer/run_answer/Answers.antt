@@ -4,7 +4,7 @@ use Rattle.answer_run.specs.Service.{Service, first_service}
 use Rattle.answer_run.specs.Serves.{IsServiceOf, ServedNext, moment}
 use Rattle.answer_run.specs.declared.fault.AnswerFault.TheVariants as fault
 use Rattle.answer_run.proofs.Numbers.{fault_numbered}
-use Rattle.answer_run.proofs.Served.{nothing_done, went_on_first, went_further, ended_at, stopped_at, no_more_reads, answered, stopped, number_answered}
+use Rattle.answer_run.proofs.Served.{nothing_done, went_on_first, went_further, ended_at, stopped_at, no_more_reads, answered, number_answered}
 use Rattle.answer_run.proofs.answer.run_answer.Goals as goal
 
 pub returns-in_default-clause-answer : goal.returns-in_default-clause-answer
@@ -36,14 +36,13 @@ returns-in-Ok-Some-clause-answer g c =
     answered c.answer_of.result c.args.size c.args.owner.now c.in-Ok-Some.how (g.S.Source.left c.args.input.now) (g.K.Sink.told c.args.output.now) telling c.requires.size c.answer_of.ensures
     (ended_at head (first_service c.args.size) c.loop.serving c.serve_next.new.serving (g.S.Source.left c.args.input.now) mid left (g.K.Sink.told c.args.output.now) some telling
     c.loop.invariant.went c.in-Ok-Some.how done)
+    left
 
 pub returns-in-Err-clause-answer : goal.returns-in-Err-clause-answer
 returns-in-Err-clause-answer g c =
-    let head = owners_head c.args.size c.args.owner.now in
-    let telling = g.K.Sink.told c.serve_next.new.output in
-    stopped c.in-Err.fault c.args.size c.args.owner.now (g.S.Source.left c.args.input.now) (g.K.Sink.told c.args.output.now) telling c.requires.size c.in-Err.ensures.fault
-    (stopped_at head (first_service c.args.size) c.loop.serving c.serve_next.new.serving (g.S.Source.left c.args.input.now) (g.S.Source.left c.loop.input)
-    (g.S.Source.left c.serve_next.new.input) (g.K.Sink.told c.args.output.now) (g.K.Sink.told c.loop.output) telling c.loop.invariant.went c.in-Err.fault c.in-Err.ensures.done)
+    stopped_at c.in-Err.fault c.args.size c.args.owner.now c.loop.serving c.serve_next.new.serving (g.S.Source.left c.args.input.now) (g.S.Source.left c.loop.input)
+    (g.S.Source.left c.serve_next.new.input) (g.K.Sink.told c.args.output.now) (g.K.Sink.told c.loop.output) (g.K.Sink.told c.serve_next.new.output) c.requires.size
+    c.loop.invariant.went c.in-Err.ensures.done
 
 pub loop-preserved : goal.loop-preserved
 loop-preserved g c =
@@ -65,9 +64,8 @@ loop-preserved g c =
 
 pub returns-clause-answer : goal.returns-clause-answer
 returns-clause-answer g c =
-    stopped fault.OutOfMemory c.args.size c.args.owner.now (g.S.Source.left c.args.input.now) (g.K.Sink.told c.args.output.now) (g.K.Sink.told c.loop.output) c.requires.size tt
-    (no_more_reads (owners_head c.args.size c.args.owner.now) (first_service c.args.size) c.loop.serving (g.S.Source.left c.args.input.now) (g.S.Source.left c.loop.input)
-    (g.K.Sink.told c.args.output.now) (g.K.Sink.told c.loop.output) c.loop.invariant.went)
+    no_more_reads c.args.size c.args.owner.now c.loop.serving (g.S.Source.left c.args.input.now) (g.S.Source.left c.loop.input) (g.K.Sink.told c.args.output.now)
+    (g.K.Sink.told c.loop.output) c.requires.size c.loop.invariant.went
 
 pub returns-in-Ok-Some-clause-number : goal.returns-in-Ok-Some-clause-number
 returns-in-Ok-Some-clause-number g c =

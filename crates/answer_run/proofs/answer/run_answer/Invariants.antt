@@ -1,7 +1,8 @@
-use Rattle.std.proofs.Common.{◌≡◌, ◌<◌}
+use Rattle.std.proofs.Common.{◌≡◌}
 use Rattle.std.specs.Prelude.{vec_len}
 use Rattle.answer_run.specs.Asking.{owners_head}
 use Rattle.answer_run.specs.Service.{first_service}
+use Rattle.answer_run.specs.Cut.{read_room}
 use Rattle.answer_run.specs.Serves.{WentOn, moment}
 use Rattle.answer_run.proofs.answer.run_answer.Given as goal
 
@@ -10,7 +11,7 @@ abbrev pub invariant-loop : goal.invariant-loop
 invariant-loop g l = record {
   went : WentOn (owners_head l.fn.size l.fn.owner) (first_service l.fn.size) l.serving
       (moment (g.S.Source.left l.fn.input) (g.K.Sink.told l.fn.output)) (moment (g.S.Source.left l.input) (g.K.Sink.told l.output));
-  room : 0 < vec_len l.buffer;
+  room : vec_len l.buffer ≡ read_room;
   read : g.S.Source.faults l.input ≡ g.S.Source.faults l.fn.input;
   write : g.K.Sink.faults l.output ≡ g.K.Sink.faults l.fn.output;
 }
