@@ -1,5 +1,5 @@
 //! A session of two viewers, and what is asked of it.
-ghost use Rattle.std.specs.Prelude.{◌≡◌, true};
+ghost use Rattle.std.specs.Prelude.{◌≡◌, pos, true};
 ghost use Rattle.px_core.specs.Colors.{are_colors};
 ghost use Rattle.px_core.specs.Rectangle.{boxed};
 ghost use Rattle.draw_ops.specs.Ranges.{colors_of};
@@ -122,7 +122,7 @@ fn pixel(rt: &impl Abort, session: &Session, x: u32, y: u32) -> u32 {
 }
 
 fn corner(side: u32) -> Rect
-    ensures { result ≡ boxed 0 0 side side }
+    ensures { result ≡ boxed (pos 0) (pos 0) side side }
 {
     Rect {
         x: 0,
