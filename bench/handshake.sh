@@ -1,26 +1,42 @@
 #!/bin/sh
-# Counts, by valgrind's callgrind, what rdp_host takes to hear a sample client from its Connection Request to its Font List, in one piece
-# and byte by byte, and what an Input packet takes that enters one event and draws nothing, with its take and the frame of a mark alone.
-# Wanted: at most 60,000 in one piece and 200,000 byte by byte.
+# Counts, by valgrind's callgrind, what rdp_host takes to hear a sample client from its Connection Request to the last packet before its
+# Font List, 864 bytes in 14 packets, in one piece and byte by byte, with the replies that it writes: the difference of a run over them and
+# of one over no byte. Both end as a stream does that ends too early. Then what its Font List takes, with the session's first frame, and
+# what an Input packet takes that enters one event and draws nothing, with its take and the frame of a mark alone.
+# Wanted of hearing: at most 60,000 in one piece and 200,000 byte by byte.
 #
 # usage: sh bench/handshake.sh      (it needs valgrind and python3)
 bench=handshake
 . "$(dirname "$0")/programs.sh"
 needs "$rdp_host"
+truncated=35
 
 # The sample client with so many Input packets behind it.
 sample() { python3 "$here/bench/sample_answers.py" sample "$1"; }
 
-row job instructions
-printf '|---|---:|\n'
+# The instructions of a service of the bytes of a file.
+served() { instructions "$1" "$rdp_host" answer 64 48 ann; }
+
 sample 0 >"$work/sample"
-instructions "$work/sample" "$rdp_host" answer 64 48 ann >"$work/whole"
-row 'the handshake, in one piece' "$(inclusive 'conn_core::conn::Conn::feed')"
-row 'the whole run, with its session and first frame' "$(cat "$work/whole")"
-python3 "$here/bench/feed.py" "$work/sample" valgrind --tool=callgrind --callgrind-out-file="$work/profile" "$rdp_host" answer 64 48 ann >"$work/output" 2>"$work/said"
-row 'the handshake, byte by byte' "$(inclusive 'conn_core::conn::Conn::feed')"
+font_list=40
+head -c $(($(wc -c <"$work/sample") - font_list)) "$work/sample" >"$work/before"
 sample 100 >"$work/few"
 sample 200 >"$work/many"
-a=$(instructions "$work/few" "$rdp_host" answer 64 48 ann)
-b=$(instructions "$work/many" "$rdp_host" answer 64 48 ann)
-row 'an Input packet of one event, with its take' $(((b - a) / 100))
+
+# A row: what, all instructions, those of hearing.
+counted() { printf '| %-44s | %12s | %12s |\n' "$1" "$2" "$3"; }
+
+counted job instructions hearing
+printf '|---|---:|---:|\n'
+ends=$truncated
+nothing=$(served /dev/null)
+whole=$(served "$work/before")
+counted 'the handshake, in one piece' $((whole - nothing)) "$(inclusive answer_run::serving::serve_piece)"
+through="python3 $here/bench/feed.py"
+nothing_fed=$(served /dev/null)
+fed=$(served "$work/before")
+counted 'the handshake, byte by byte' $((fed - nothing_fed)) "$(inclusive answer_run::serving::serve_piece)"
+ends=0
+through=
+counted 'its Font List, with the first frame' $(($(served "$work/sample") - whole)) ''
+counted 'an Input packet of one event, with its take' $((($(served "$work/many") - $(served "$work/few")) / 100)) ''

@@ -1,7 +1,8 @@
 #!/bin/sh
 # Counts, by valgrind's callgrind, what rdp_look takes for what a viewer is sent: an order, a mark, a tile. A count is the difference of two
 # runs that differ in how often it stands in the capture, over that difference. So what the process takes to start, to make its picture of
-# 2,048 by 2,048 and to write it isn't in it; reading the capture's digits is, and the second column has what the client alone takes.
+# 2,048 by 2,048 and to write it isn't in it; reading the capture's digits is. The second column is what the profile gives for `advance` of
+# them, in which the client is fed, and of a tile `upright_pixels`, which unpacks it and turns its rows over.
 # Then it times a capture of 100 MB.
 # Wanted of the client: an order at most 600 beside its pixels, a packed tile at most 30,000 beside unpacking it, a mark after a small fill
 # at most 20,000.
@@ -42,17 +43,17 @@ capture() {
     for i in $(seq "$2"); do echo "1 $1"; done
 }
 
-# Counts what these bytes take once more: all instructions, those of the client, and those of unpacking.
+# Counts what these bytes take once more: all instructions, those of the client, and those of a tile's pixels.
 fed() {
     capture "$1" 1 >"$work/capture"
     a=$(instructions "$work/capture" "$rdp_look" 1)
-    client_a=$(inclusive 'client_view::client::Client::feed')
-    unpack_a=$(inclusive 'rle_dec::unpack')
+    client_a=$(inclusive 'capture_show::stage::advance')
+    pixel_work_a=$(inclusive 'client_caches::wire::upright_pixels')
     capture "$1" 11 >"$work/capture"
     b=$(instructions "$work/capture" "$rdp_look" 1)
     all=$(((b - a) / 10))
-    client=$((($(inclusive 'client_view::client::Client::feed') - client_a) / 10))
-    unpack=$((($(inclusive 'rle_dec::unpack') - unpack_a) / 10))
+    client=$((($(inclusive 'capture_show::stage::advance') - client_a) / 10))
+    pixel_work=$((($(inclusive 'client_caches::wire::upright_pixels') - pixel_work_a) / 10))
 }
 
 # A row: what, all instructions, those of the client.
@@ -79,11 +80,11 @@ fed "$small$(packet 03000000)"
 counted 'a mark after a fill of 10 by 10' $((all - fill_all)) $((client - fill_client))
 fed "$(tile 60200000fff0c00f)"
 counted 'a packed tile of one colour, 8 bytes' "$all" "$client"
-counted 'the same, beside unpacking' $((all - unpack)) $((client - unpack))
+counted 'the same, beside its pixels' $((all - pixel_work)) $((client - pixel_work))
 pixels=$(awk 'BEGIN { for (i = 0; i < 3072; i++) printf "%02x", i * 37 % 256 }')
 fed "$(tile "f40004${pixels}f3000c010203")"
 counted 'a packed tile of 3,081 bytes' "$all" "$client"
-counted 'the same, beside unpacking' $((all - unpack)) $((client - unpack))
+counted 'the same, beside its pixels' $((all - pixel_work)) $((client - pixel_work))
 
 capture "$small$(packet 03000000)" 1 >"$work/line"
 {

@@ -17,11 +17,16 @@ needs() {
 }
 
 # The instructions of a program's run over an input, by valgrind's callgrind. Its profile stands in $work/profile then, and in
-# $work/output what it wrote. A run that doesn't end well ends the bench.
+# $work/output what it wrote. A run that ends with another status than that in $ends, 0 at first, ends the bench. What stands in
+# $through is run before it all.
+ends=0
+through=
 instructions() {
     input=$1
     shift
-    valgrind --tool=callgrind --callgrind-out-file="$work/profile" "$@" <"$input" >"$work/output" 2>"$work/said" || {
+    ended=0
+    $through valgrind --tool=callgrind --callgrind-out-file="$work/profile" "$@" <"$input" >"$work/output" 2>"$work/said" || ended=$?
+    [ "$ended" -eq "$ends" ] || {
         tail -n 3 "$work/output" "$work/said" >&2
         exit 1
     }

@@ -5,11 +5,11 @@
 # in it. Drawings are of 16 by 16 pixels where nothing else is said.
 # Wanted: ratios of at most 2.2, and at most 450 bytes of memory for each fill.
 #
-# usage: sh bench/scripts.sh [N]      (N lines to time, 100,000; it needs valgrind)
+# usage: sh bench/scripts.sh [N]      (N lines to time, 400,000; it needs valgrind)
 bench=scripts
 . "$(dirname "$0")/programs.sh"
 needs "$rdp_host"
-timed=${1:-100000}
+timed=${1:-400000}
 greatest=268435456
 
 # A script's lines by what is asked for. The counts of a form's lines lie where the journal's list has room already: it has room for
@@ -166,9 +166,9 @@ take_of() {
 # The instructions of a take that sends a tile of a kind, and of them those of packing it.
 tile_of() {
     a=$(script_instructions tiles "$1" 10 1 "$2")
-    p=$(inclusive "rle_enc::pack")
+    p=$(inclusive wire_pixels::data::packed_pixels)
     b=$(script_instructions tiles "$1" 20 1 "$2")
-    q=$(inclusive "rle_enc::pack")
+    q=$(inclusive wire_pixels::data::packed_pixels)
     bytes=$(tail -n 1 "$work/output" | awk '{ print (length($2) / 2) }')
     c=$(script_instructions tiles "$1" 10 0 "$2")
     d=$(script_instructions tiles "$1" 20 0 "$2")
