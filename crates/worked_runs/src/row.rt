@@ -1,5 +1,7 @@
 //! The lines of a manifest.
 
+ghost use Rattle.std.specs.Prelude.{◌≤◌, IfOk};
+
 use crate::streams::Known;
 use crate::verdict::Trouble;
 use crate::{demos, handshake, joins, looks, scripts, streams, words};
@@ -58,7 +60,9 @@ pub fn title(line: &str) -> &str {
 }
 
 /// The number of a word, up to a greatest one.
-pub fn number(word: &str, most: u64) -> Result<u64, Trouble> {
+pub fn number(word: &str, most: u64) -> Result<u64, Trouble>
+    ensures { IfOk result (λ number. number ≤ most) }
+{
     match read_number(word.as_bytes(), most) {
         Some(number) => Ok(number),
         None => Err(Trouble::NoForm),
