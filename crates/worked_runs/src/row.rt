@@ -4,7 +4,7 @@ ghost use Rattle.std.specs.Prelude.{◌≤◌, IfOk};
 
 use crate::streams::Known;
 use crate::verdict::Trouble;
-use crate::{demos, handshake, joins, looks, scripts, streams, words};
+use crate::{demos, faults, handshake, joins, looks, scripts, streams, words};
 use line_text::read_number;
 use std::rt::Files;
 use std::sync::Wait;
@@ -25,6 +25,7 @@ pub fn run<R: Files + AllocGlobal + Wait>(rt: &R, line: &str) -> Result<(), Trou
         "look" => looks::run_row(rt, words),
         "fronts" => looks::run_fronts(rt, words),
         "demo" => demos::run_row(rt, words),
+        "fault-texts" => faults::run_row(rt.alloc(), words),
         "request" => words::run_request(rt.alloc(), words),
         "viewer" => words::run_viewer(rt.alloc(), words),
         "no-words" => words::run_none(rt.alloc(), words),
