@@ -101,13 +101,19 @@ fn append_line(alloc: Global, bytes: &mut Vec<u8>, line: &str) -> Result<(), Tro
 /// Appends the bytes of a word of hexadecimal digits.
 fn append_word(alloc: Global, bytes: &mut Vec<u8>, word: &str) -> Result<(), Trouble> {
     match read_hexadecimals(alloc, word.as_bytes(), DIGITS) {
-        Ok(Some(numbers)) => {
-            for number in numbers.iter() {
-                bytes.extend_from_slice(&[*number as u8])?;
-            }
-            Ok(())
-        }
+        Ok(Some(numbers)) => append_numbers(bytes, &numbers),
         Ok(None) => Err(Trouble::NoForm),
         Err(_) => Err(Trouble::OutOfMemory),
     }
+}
+
+/// Appends numbers, each of which is a byte.
+fn append_numbers(bytes: &mut Vec<u8>, numbers: &[u32]) -> Result<(), Trouble> {
+    for number in numbers {
+        match u8::try_from(*number) {
+            Ok(byte) => bytes.extend_from_slice(&[byte])?,
+            Err(_) => return Err(Trouble::NoForm),
+        }
+    }
+    Ok(())
 }

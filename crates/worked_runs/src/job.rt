@@ -35,23 +35,24 @@ pub fn run<R: Wait>(
 ) -> Ending {
     match *job {
         Job::Script => script_ending(run_script(alloc, input, output)),
-        Job::Stream { size, owner } => serve(alloc, size, owner, input, output),
+        Job::Stream { size, owner } => serve(alloc, size, owner.as_bytes(), input, output),
         Job::Look { viewer } => show_ending(show_capture(rt, alloc, viewer, input, output)),
         Job::Demo { seed, steps } => script_ending(run_demo(alloc, seed, steps, output)),
     }
 }
 
-/// Serves a client.
+/// Serves a client, where a session may have this size and this owner.
 fn serve(
     alloc: Global,
     size: Size,
-    owner: &str,
+    owner: &[u8],
     input: &mut PlanSource,
     output: &mut PlanSink,
 ) -> Ending {
-    let owner = owner.as_bytes();
-    if !is_session_size(size.w, size.h) || !is_name(owner) {
-        return Ending::NoSession;
+    if is_session_size(size.w, size.h) && is_name(owner) {
+        let name = Name::new(owner);
+        answer_ending(run_answer(alloc, size, &name, input, output))
+    } else {
+        Ending::NoSession
     }
-    answer_ending(run_answer(alloc, size, &Name::new(owner), input, output))
 }

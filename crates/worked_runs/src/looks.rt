@@ -5,7 +5,7 @@ use crate::expected::Expected;
 use crate::files;
 use crate::job::Job;
 use crate::row::number;
-use crate::turns::{Task, otherwise, try_task, try_whole};
+use crate::turns::{Task, otherwise, try_cuts, try_task, try_whole};
 use crate::verdict::{Trouble, Way};
 use line_text::read_hexadecimal;
 use std::rt::Files;
@@ -71,14 +71,21 @@ fn text(text: String) -> Expected {
     Expected::Whole(text.into_bytes())
 }
 
-/// Shows each front of a capture to a viewer: within a line that line breaks the rules, and between lines all is right but that nobody
-/// has joined at first.
+/// Shows a capture that is accepted to a viewer, cut in two at each place, and each front of it: within a line that line breaks the rules,
+/// and between lines all is right but that nobody has joined at first.
 pub fn run_fronts<R: Files + AllocGlobal + Wait>(rt: &R, words: &[&str]) -> Result<(), Trouble> {
     let [name, viewer] = words else {
         return Err(Trouble::NoForm);
     };
     let viewer = number(viewer, u16::MAX.into())? as u16;
     let capture = files::read_of(rt, name, "capture")?;
+    let task = Task {
+        job: Job::Look { viewer },
+        input: &capture,
+        ending: Ending::Done,
+    };
+    let told = try_whole(rt, rt.alloc(), &task, &Expected::Tail(Vec::new(rt.alloc())))?;
+    try_cuts(rt, rt.alloc(), &task, &told, 1)?;
     for cut in 0..capture.len() {
         try_front(rt, viewer, &capture[..cut])?;
     }

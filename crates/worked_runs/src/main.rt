@@ -8,6 +8,7 @@
 mod demos;
 mod ending;
 mod expected;
+mod faults;
 mod files;
 mod handshake;
 mod job;

@@ -1,8 +1,10 @@
 //! The lines of a manifest.
 
+ghost use Rattle.std.specs.Prelude.{◌≤◌, IfOk};
+
 use crate::streams::Known;
 use crate::verdict::Trouble;
-use crate::{demos, handshake, joins, looks, scripts, streams, words};
+use crate::{demos, faults, handshake, joins, looks, scripts, streams, words};
 use line_text::read_number;
 use std::rt::Files;
 use std::sync::Wait;
@@ -23,6 +25,7 @@ pub fn run<R: Files + AllocGlobal + Wait>(rt: &R, line: &str) -> Result<(), Trou
         "look" => looks::run_row(rt, words),
         "fronts" => looks::run_fronts(rt, words),
         "demo" => demos::run_row(rt, words),
+        "fault-texts" => faults::run_row(rt.alloc(), words),
         "request" => words::run_request(rt.alloc(), words),
         "viewer" => words::run_viewer(rt.alloc(), words),
         "no-words" => words::run_none(rt.alloc(), words),
@@ -58,7 +61,9 @@ pub fn title(line: &str) -> &str {
 }
 
 /// The number of a word, up to a greatest one.
-pub fn number(word: &str, most: u64) -> Result<u64, Trouble> {
+pub fn number(word: &str, most: u64) -> Result<u64, Trouble>
+    ensures { IfOk result (λ number. number ≤ most) }
+{
     match read_number(word.as_bytes(), most) {
         Some(number) => Ok(number),
         None => Err(Trouble::NoForm),

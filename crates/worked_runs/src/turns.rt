@@ -1,5 +1,7 @@
 //! A task in each way: whole, byte by byte, cut in two, and with one read or one write failing after the other.
 
+ghost use Rattle.std.specs.Prelude.{◌<◌};
+
 use crate::ending::Ending;
 use crate::expected::{Expected, differs, first_difference};
 use crate::job::{Job, run};
@@ -9,7 +11,10 @@ use std::alloc::{AllocError, Global};
 use std::sync::Wait;
 
 /// At how many places an input is cut in two at most.
-const MOST_CUTS: usize = 1_000;
+const MOST_CUTS: usize = 100;
+
+/// At how many places a client's stream is.
+const STREAM_CUTS: usize = 1_000;
 
 /// In about how many pieces an input comes whose reads fail.
 const PIECES: usize = 24;
@@ -47,7 +52,7 @@ pub fn try_task<R: Wait>(
 ) -> Result<(), Trouble> {
     let told = try_whole(rt, alloc, task, expected)?;
     try_bytes(rt, alloc, task, &told)?;
-    try_cuts(rt, alloc, task, &told)?;
+    try_cuts(rt, alloc, task, &told, step_of(task))?;
     try_reads(rt, alloc, task, &told)?;
     try_writes(rt, alloc, task, &told)
 }
@@ -77,9 +82,26 @@ fn try_bytes<R: Wait>(rt: &R, alloc: Global, task: &Task<'_>, told: &[u8]) -> Re
     must_be_same(Way::ByByte, task, told, &found)
 }
 
-/// Does a task whose input is cut in two, at one place after the other.
-fn try_cuts<R: Wait>(rt: &R, alloc: Global, task: &Task<'_>, told: &[u8]) -> Result<(), Trouble> {
-    let step = task.input.len() / MOST_CUTS + 1;
+/// By how many bytes the places lie apart at which a task's input is cut in two.
+fn step_of(task: &Task<'_>) -> usize
+    ensures { 0 < result }
+{
+    match task.job {
+        Job::Stream { .. } => task.input.len() / STREAM_CUTS + 1,
+        Job::Script | Job::Look { .. } | Job::Demo { .. } => task.input.len() / MOST_CUTS + 1,
+    }
+}
+
+/// Does a task whose input is cut in two, at one place after the other, so many bytes apart.
+pub fn try_cuts<R: Wait>(
+    rt: &R,
+    alloc: Global,
+    task: &Task<'_>,
+    told: &[u8],
+    step: usize,
+) -> Result<(), Trouble>
+    requires { 0 < step }
+{
     for cut in (1..task.input.len()).step_by(step) {
         let way = Way::CutAt(cut);
         let pieces = vec![in alloc; cut; 1]?;
