@@ -5,6 +5,7 @@ use info_lic::Name;
 use input_pdu::Event;
 use px_core::Size;
 use std::test::Fail;
+use std::thread;
 
 /// The picture's size.
 const SIZE: Size = Size { w: 64, h: 48 };
@@ -104,6 +105,18 @@ fn the_sample_client_becomes_ready(rt: HostRuntime) -> Result<(), Fail> {
         None => assert!(rt; false),
     }
     must_be(&rt, &conn.part(), &0);
+    Ok(())
+}
+
+#[test]
+fn a_connection_goes_on_in_another_thread(rt: HostRuntime) -> Result<(), Fail> {
+    let mut out = Vec::new(rt.alloc());
+    let mut steps = Vec::new(rt.alloc());
+    let mut conn = Conn::new(rt.alloc(), SIZE)?;
+    let (heard, _) = thread::join(&rt, || conn.feed(&SAMPLE, &mut out, &mut steps), || ());
+    must_be(&rt, &heard, &Ok(()));
+    must_hold(&rt, out.as_slice(), REPLIES.as_slice());
+    must_count(&rt, steps.as_slice(), 2);
     Ok(())
 }
 
