@@ -6,7 +6,9 @@
 //! | `TCP_KEEPIDLE` | 60 s | asks after so much silence |
 //! | `TCP_KEEPINTVL` | 15 s | asks again after so much more |
 //! | `TCP_KEEPCNT` | 4 | gives the connection up after so many questions without an answer |
-//! | `TCP_USER_TIMEOUT` | 120 s | gives the connection up where what was sent is unanswered for so long |
+//! | `TCP_USER_TIMEOUT` | 120 s | gives the connection up where what was sent stays unanswered for so long |
+ghost use Rattle.libc.specs.Net.{SockOption};
+
 use libc::net as c;
 use std::net::TcpStream;
 use std::os::fd::AsRawFd;
@@ -21,49 +23,26 @@ const KEEP_COUNT: i32 = 4;
 const UNANSWERED_MILLISECONDS: i32 = 120_000;
 
 /// How many bytes a number takes as an option's value.
-const NUMBER_LENGTH: u32 = 4;
+const NUMBER_LENGTH: usize = 4;
 
-/// An option's value as the system reads it: a number in the first four bytes.
-type Value = [u8; 16];
-
-/// Has the system find out whether the client's machine is gone, and says whether it will.
-pub fn watch(stream: &TcpStream) -> bool {
+/// Has the system find out whether the client's machine is gone.
+pub fn watch(stream: &TcpStream) {
     let fd = stream.as_raw_fd();
-    asks(fd) && asks_in_time(fd) && gives_up(fd)
-}
-
-fn value_of(number: i32) -> Value {
-    let mut value = [0u8; 16];
-    value[..4].copy_from_slice(&number.to_ne_bytes());
-    value
-}
-
-fn asks(fd: i32) -> bool {
-    let on = value_of(1);
-    unsafe { c::setsockopt(fd, c::SOL_SOCKET, c::SO_KEEPALIVE, &on, NUMBER_LENGTH) == 0 }
-}
-
-fn asks_in_time(fd: i32) -> bool {
     let tcp = c::IPPROTO_TCP;
-    let idle = value_of(KEEP_IDLE_SECONDS);
-    let interval = value_of(KEEP_INTERVAL_SECONDS);
-    let count = value_of(KEEP_COUNT);
-    unsafe {
-        c::setsockopt(fd, tcp, c::TCP_KEEPIDLE, &idle, NUMBER_LENGTH) == 0
-            && c::setsockopt(fd, tcp, c::TCP_KEEPINTVL, &interval, NUMBER_LENGTH) == 0
-            && c::setsockopt(fd, tcp, c::TCP_KEEPCNT, &count, NUMBER_LENGTH) == 0
-    }
+    set(fd, c::SOL_SOCKET, c::SO_KEEPALIVE, 1);
+    set(fd, tcp, c::TCP_KEEPIDLE, KEEP_IDLE_SECONDS);
+    set(fd, tcp, c::TCP_KEEPINTVL, KEEP_INTERVAL_SECONDS);
+    set(fd, tcp, c::TCP_KEEPCNT, KEEP_COUNT);
+    set(fd, tcp, c::TCP_USER_TIMEOUT, UNANSWERED_MILLISECONDS);
 }
 
-fn gives_up(fd: i32) -> bool {
-    let unanswered = value_of(UNANSWERED_MILLISECONDS);
+/// Sets an option whose value is a number. Where the system doesn't take it, the connection goes without it.
+fn set(fd: i32, level: i32, option: i32, number: i32)
+    requires { SockOption level option }
+{
+    let mut value = [0u8; 16];
+    value[..NUMBER_LENGTH].copy_from_slice(&number.to_ne_bytes());
     unsafe {
-        c::setsockopt(
-            fd,
-            c::IPPROTO_TCP,
-            c::TCP_USER_TIMEOUT,
-            &unanswered,
-            NUMBER_LENGTH,
-        ) == 0
+        c::setsockopt(fd, level, option, &value, NUMBER_LENGTH as u32);
     }
 }
