@@ -177,9 +177,9 @@ take_of() {
 # The instructions of a take that sends a tile of a kind, and of them those of packing it.
 tile_of() {
     a=$(script_instructions tiles "$1" 10 1 "$2")
-    p=$(inclusive wire_pixels::data::packed_pixels)
+    p=$(inclusive ::packed_pixels)
     b=$(script_instructions tiles "$1" 20 1 "$2")
-    q=$(inclusive wire_pixels::data::packed_pixels)
+    q=$(inclusive ::packed_pixels)
     bytes=$(tail -n 1 "$work/output" | awk '{ print (length($2) / 2) }')
     c=$(script_instructions tiles "$1" 10 0 "$2")
     d=$(script_instructions tiles "$1" 20 0 "$2")
