@@ -31,11 +31,11 @@ printf '|---|---:|---:|\n'
 ends=$truncated
 nothing=$(served /dev/null)
 whole=$(served "$work/before")
-counted 'the handshake, in one piece' $((whole - nothing)) "$(inclusive answer_run::serving::serve_piece)"
+counted 'the handshake, in one piece' $((whole - nothing)) "$(inclusive ::serve_piece)"
 through="python3 $here/bench/feed.py"
 nothing_fed=$(served /dev/null)
 fed=$(served "$work/before")
-counted 'the handshake, byte by byte' $((fed - nothing_fed)) "$(inclusive answer_run::serving::serve_piece)"
+counted 'the handshake, byte by byte' $((fed - nothing_fed)) "$(inclusive ::serve_piece)"
 ends=0
 through=
 counted 'its Font List, with the first frame' $(($(served "$work/sample") - whole)) ''

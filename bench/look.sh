@@ -47,13 +47,13 @@ capture() {
 fed() {
     capture "$1" 1 >"$work/capture"
     a=$(instructions "$work/capture" "$rdp_look" 1)
-    client_a=$(inclusive 'capture_show::stage::advance')
-    pixel_work_a=$(inclusive 'client_caches::wire::upright_pixels')
+    client_a=$(inclusive '::stage::advance')
+    pixel_work_a=$(inclusive '::upright_pixels')
     capture "$1" 11 >"$work/capture"
     b=$(instructions "$work/capture" "$rdp_look" 1)
     all=$(((b - a) / 10))
-    client=$((($(inclusive 'capture_show::stage::advance') - client_a) / 10))
-    pixel_work=$((($(inclusive 'client_caches::wire::upright_pixels') - pixel_work_a) / 10))
+    client=$((($(inclusive '::stage::advance') - client_a) / 10))
+    pixel_work=$((($(inclusive '::upright_pixels') - pixel_work_a) / 10))
 }
 
 # A row: what, all instructions, those of the client.

@@ -1,24 +1,26 @@
 #!/bin/sh
 # Counts, by valgrind's callgrind, what rdp_host takes for a line of each form, for a take by what is in it, and for a tile by what it
-# shows; then it times scripts of N and of 2N lines, and runs one of the greatest size. A count is the difference of two runs that
+# shows; then it counts and times scripts of N and of 2N lines, and runs one of the greatest size. A count is the difference of two runs that
 # differ in how many lines, takes or tiles there are, over that difference: what the process takes to start, and all lines before, aren't
 # in it. Drawings are of 16 by 16 pixels where nothing else is said.
 # Wanted: ratios of at most 2.2, and at most 450 bytes of memory for each fill.
 #
-# usage: sh bench/scripts.sh [N]      (N lines to time, 400,000; it needs valgrind)
+# usage: sh bench/scripts.sh [N]      (N lines, 100,000; it needs valgrind)
 bench=scripts
 . "$(dirname "$0")/programs.sh"
 needs "$rdp_host"
-timed=${1:-400000}
+timed=${1:-100000}
 greatest=268435456
 
 # A script's lines by what is asked for. The counts of a form's lines lie where the journal's list has room already: it has room for
 # 2,048 entries behind the 1,100 fills of the head.
 generate() {
-    awk -v job="$1" -v count="$2" -v preset="${3:-full}" -v entries="${4:-1100}" '
+    awk -v job="$1" -v count="$2" -v preset="${3:-full}" -v entries="${4:-1100}" -v side="${5:-16}" '
     function color(i) { return sprintf("%06X", (i * 7919) % 16777216) }
     function place(i) { return sprintf("%d %d", (i * 37) % 1000, (i * 53) % 700) }
-    function box(i) { return place(i) " 16 16" }
+    # one that is larger than 16 by 16 stands in the corner, so that all of it is on the picture
+    function box(i) { return side == 16 ? place(i) " 16 16" : "0 0 " side " " side }
+    function source(i) { return side == 16 ? (i * 29) % 900 " " (i * 31) % 700 : "256 128" }
     function fill(i) { return sprintf("fill %s %d %d %s", place(i), 1 + i % 60, 1 + i % 50, color(i)) }
     function brush(i, pixel, text) {
         for (pixel = 0; pixel < 64; pixel++) text = text color((i + pixel) % 5)
@@ -32,7 +34,7 @@ generate() {
         if (form == "fill") return "fill " box(i) " " color(i)
         if (form == "dst") return "dst " box(i) " 55"
         if (form == "pat") return "pat " box(i) " 5A 0"
-        if (form == "copy") return "copy " box(i) " CC " (i * 29) % 900 " " (i * 31) % 700
+        if (form == "copy") return "copy " box(i) " CC " source(i)
         if (form == "blit") return "blit " box(i) " CC 0 0 0"
         if (form == "blit3") return "blit3 " box(i) " CA 0 0 0 0"
         if (form == "text") return text(i)
@@ -154,6 +156,15 @@ line_of() {
     echo $(((b - a) / 400))
 }
 
+# The instructions of one more pixel of a form, by lines of 16 by 16 and of 512 by 512 pixels.
+pixel_of() {
+    a=$(script_instructions generate "form:$1" 10 full 1100 16)
+    b=$(script_instructions generate "form:$1" 20 full 1100 16)
+    c=$(script_instructions generate "form:$1" 10 full 1100 512)
+    d=$(script_instructions generate "form:$1" 20 full 1100 512)
+    awk -v small=$((b - a)) -v large=$((d - c)) 'BEGIN { printf "%.2f", (large - small) / 10 / (512 * 512 - 16 * 16) }'
+}
+
 # The instructions of a take behind so many drawings of a form: of more takes with their drawings, without the drawings.
 take_of() {
     a=$(script_instructions generate "takes:$1:$2" 10 full "$3")
@@ -166,9 +177,9 @@ take_of() {
 # The instructions of a take that sends a tile of a kind, and of them those of packing it.
 tile_of() {
     a=$(script_instructions tiles "$1" 10 1 "$2")
-    p=$(inclusive wire_pixels::data::packed_pixels)
+    p=$(inclusive ::packed_pixels)
     b=$(script_instructions tiles "$1" 20 1 "$2")
-    q=$(inclusive wire_pixels::data::packed_pixels)
+    q=$(inclusive ::packed_pixels)
     bytes=$(tail -n 1 "$work/output" | awk '{ print (length($2) / 2) }')
     c=$(script_instructions tiles "$1" 10 0 "$2")
     d=$(script_instructions tiles "$1" 20 0 "$2")
@@ -179,6 +190,9 @@ row 'a line more of a form' instructions
 printf '|---|---:|\n'
 for form in fill dst pat copy blit blit3 text line save restore image brush glyph key char mouse refresh 'suppress, allow' 'take, with nothing due' 'join, leave'; do
     row "$form" "$(line_of "$form")"
+done
+for form in fill dst pat copy; do
+    row "a pixel more of it: $form" "$(pixel_of "$form")"
 done
 echo
 row 'a take' instructions
@@ -200,18 +214,21 @@ done
 tile_of noise plain 'unpacked'
 echo
 
-# Times scripts of N and of 2N lines: the least of five runs each, which take turns, so that what else the machine does meets both.
+# Counts and times scripts of N and of 2N lines. The times are the least of five runs each, which take turns, so that what else the
+# machine does meets both.
 time_both() {
     generate "viewers:$1" "$timed" >"$work/single"
     generate "viewers:$1" $((2 * timed)) >"$work/double"
+    few=$(instructions "$work/single" "$rdp_host" script)
+    many=$(instructions "$work/double" "$rdp_host" script)
     single=$(milliseconds "$work/single" "$rdp_host" script)
     double=$(milliseconds "$work/double" "$rdp_host" script)
     for round in 2 3 4 5; do
         single=$(least "$single" "$(milliseconds "$work/single" "$rdp_host" script)")
         double=$(least "$double" "$(milliseconds "$work/double" "$rdp_host" script)")
     done
-    awk -v viewers="$1" -v lines="$timed" -v single="$single" -v double="$double" 'BEGIN {
-        printf "| fills seen by %d: %d lines, and %d | %.2f s, %.2f s: %.2f times |\n", viewers, lines, 2 * lines, single / 1000, double / 1000, double / single
+    awk -v viewers="$1" -v lines="$timed" -v few="$few" -v many="$many" -v single="$single" -v double="$double" 'BEGIN {
+        printf "| fills seen by %d: %d lines, and %d | %.0f instructions, %.2f times; %.2f s, %.2f times |\n", viewers, lines, 2 * lines, few, many / few, single / 1000, double / single
     }'
 }
 
