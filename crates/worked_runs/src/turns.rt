@@ -11,19 +11,19 @@ use std::alloc::{AllocError, Global};
 use std::sync::Wait;
 
 /// At how many places an input is cut in two at most.
-const MOST_CUTS: usize = 100;
+const MOST_CUTS: usize = 16;
 
 /// At how many places a client's stream is.
 const STREAM_CUTS: usize = 1_000;
 
 /// In about how many pieces an input comes whose reads fail.
-const PIECES: usize = 24;
+const PIECES: usize = 16;
 
 /// The most bytes of such a piece, for which each reader here has room.
-const MOST_PIECE: usize = 64;
+const MOST_PIECE: usize = 16_384;
 
 /// More reads than any row's input takes.
-const MOST_READS: u32 = 10_000;
+const MOST_READS: u32 = 100;
 
 /// How many writes are made to fail at most, one after the other: more than any row has, but for the largest pictures.
 const MOST_WRITES: u32 = 70;
