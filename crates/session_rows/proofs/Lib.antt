@@ -4,3 +4,5 @@ mod Sessions
 mod Premises
 mod Limits
 mod Meanings
+mod Paints
+mod CaptureLines

@@ -1,0 +1,66 @@
+-- Worked lines of captures: how an answer is written, and the first line that a capture may not have.
+use Rattle.std.proofs.Common.{◌≡◌, ℕ, List, [], ◌++◌, refl, Some, None}
+use Rattle.std.specs.Fmt.{digits}
+use Rattle.std.specs.Prelude.{codes, Option}
+use Rattle.script_rules.specs.Capture.{ended, first_broken_line}
+use Rattle.script_rules.specs.CaptureText.{FrameText, capture_of}
+
+-- an encoder that writes nothing
+abbrev no_bytes : FrameText (Unit {0})
+no_bytes = record { first = tt; bytes = λ size c j e take. []; after = λ size c j e take. e }
+
+-- ---- answers
+
+-- a script's capture without the bytes of its frames
+abbrev answers_of : List ℕ → List ℕ
+answers_of script = capture_of no_bytes script
+
+an_unended_size_breaks_rule_2_of_its_line : answers_of (codes "size 64 48") ≡ ended (codes "line 1 rule 2")
+unfolding digits
+an_unended_size_breaks_rule_2_of_its_line = refl
+
+-- a session whose one viewer may not hold control
+nobody_holds_control : answers_of (ended (codes "size 64 48") ++ ended (codes "invite ann view") ++ ended (codes "join ann plain") ++ ended (codes "mouse 9000 20 20"))
+    ≡ ended (codes "1 joined 64 48 plain") ++ ended (codes "1 refused not-holder 0")
+unfolding digits
+nobody_holds_control = refl
+
+a_missing_glyph_is_told_by_its_code : answers_of (ended (codes "size 64 48") ++ ended (codes "text 4 5 FFFFFF 1 65:0"))
+    ≡ ended (codes "1 joined 64 48 plain") ++ ended (codes "1 refused empty-slot 65")
+unfolding digits
+a_missing_glyph_is_told_by_its_code = refl
+
+-- ---- captures that are read
+
+abbrev broken_after_a_join : List ℕ → Option ℕ
+broken_after_a_join line = first_broken_line (ended (codes "1 joined 64 48 plain") ++ ended line)
+
+the_greatest_holder : broken_after_a_join (codes "1 refused not-holder 65535") ≡ None
+the_greatest_holder = refl
+
+no_holder_is_greater : broken_after_a_join (codes "1 refused not-holder 65536") ≡ Some 2
+no_holder_is_greater = refl
+
+the_greatest_slot : broken_after_a_join (codes "1 refused slot-size 255") ≡ None
+the_greatest_slot = refl
+
+no_slot_of_a_size_is_256 : broken_after_a_join (codes "1 refused slot-size 256") ≡ Some 2
+no_slot_of_a_size_is_256 = refl
+
+no_drawing_breaks_rule_0 : broken_after_a_join (codes "1 refused bad-drawing 0") ≡ Some 2
+no_drawing_breaks_rule_0 = refl
+
+the_greatest_line_of_a_script : broken_after_a_join (codes "line 4294967295 rule 3") ≡ None
+the_greatest_line_of_a_script = refl
+
+no_line_of_a_script_is_greater : broken_after_a_join (codes "line 4294967296 rule 3") ≡ Some 2
+no_line_of_a_script_is_greater = refl
+
+no_line_breaks_rule_0 : broken_after_a_join (codes "line 3 rule 0") ≡ Some 2
+no_line_breaks_rule_0 = refl
+
+the_greatest_viewer_joins : broken_after_a_join (codes "65535 joined 64 48 plain") ≡ None
+the_greatest_viewer_joins = refl
+
+no_greater_viewer_joins : broken_after_a_join (codes "65536 joined 64 48 plain") ≡ Some 2
+no_greater_viewer_joins = refl
