@@ -3,31 +3,28 @@
 #![tactic(auto)]
 
 mod answering;
+mod ending;
 mod loading;
 mod top;
 mod words;
 
 pub use answer_run::{AnswerFault, run_answer};
 pub use demo_run::run_demo;
-use edge_io::{FileIn, FileOut, PlanGate};
+use edge_io::{FileIn, FileOut, OutOfMemory, PlanGate};
+pub use ending::Ending;
 pub use script_run::{ScriptFault, run_script};
-use std::process::ExitCode;
-use top::OUT_OF_MEMORY;
 pub use top::top;
 use words::words;
 
-fn main(rt: HostRuntime) -> ExitCode {
+fn main(rt: HostRuntime) -> Ending {
     let alloc = rt.alloc();
-    // What fails before `top` wants memory.
-    let Some(words) = words(&rt, alloc) else {
-        return ExitCode::from(OUT_OF_MEMORY);
-    };
-    let Ok(mut gate) = PlanGate::new(alloc, Vec::new(alloc), Vec::new(alloc)) else {
-        return ExitCode::from(OUT_OF_MEMORY);
-    };
+    let words = words(&rt, alloc);
     let mut input = FileIn::new(&rt);
     let mut output = FileOut::new(&rt);
-    ExitCode::from(top(&rt, alloc, &words, &mut input, &mut output, &mut gate))
+    match PlanGate::new(alloc, Vec::new(alloc), Vec::new(alloc)) {
+        Ok(mut gate) => Ending::of_run(&rt, alloc, words, &mut input, &mut output, &mut gate),
+        Err(OutOfMemory) => Ending::out_of_memory(),
+    }
 }
 
 #[cfg(test)]
