@@ -1,6 +1,6 @@
 -- A client joins.
 use Rattle.std.proofs.Common.{◌≡◌, ℕ, List, [], ◌∷◌, ◌++◌, refl, ap, sym, ◌∙◌, subst, arith}
-use Rattle.std.specs.Prelude.{Bool, true, false, Option, Some, None, is_some, option_to_list, if◌then◌else◌}
+use Rattle.std.specs.Prelude.{Bool, true, false, Option, Some, None, Result, Ok, Err, is_some, option_to_list, if◌then◌else◌}
 use Rattle.px_core.specs.declared.surface.Size.{Size}
 use Rattle.px_core.specs.Tiles.{no_tiles}
 use Rattle.line_text.specs.Words.{is_same_word}
@@ -14,12 +14,14 @@ use Rattle.session_rules.specs.Steps.Step.{JoinStep}
 use Rattle.session_rules.specs.Steps.Answer.{Joined}
 use Rattle.session_laws.specs.Entering.{entry_of_step, answer_at}
 use Rattle.session_core.specs.SessionModel.{SessionModel, new_session, reached_by, asked_by, is_suppressed}
+use Rattle.session_core.specs.declared.faults.JoinFault.{JoinFault}
+use Rattle.session_core.specs.declared.faults.JoinFault.TheVariants as fault
 use Rattle.frame_rules.specs.Encoder.{first_encoder}
 use Rattle.viewer_sender.specs.Senders.{SenderModel, StandsFor}
 use Rattle.script_rules.specs.CaptureText.{run_at_first, run_by}
 use Rattle.script_rules.specs.Headline.{encoder_frames}
 use Rattle.answer_run.specs.Asking.{owners_head, client, asks_to_join}
-use Rattle.answer_run.specs.Seats.{IsRunOf, Joins}
+use Rattle.answer_run.specs.Seats.{IsRunOf, Joins, IsLetIn}
 use Rattle.answer_run.proofs.Seated.{seat_of, reached_grown}
 
 -- the role of the owner's name, and what comes of a join by it
@@ -32,6 +34,17 @@ joins_by size owner b = outcome_of (owners_head size owner) (play_at_first size)
 is_owner : (size : Size) (owner : List ℕ) (v : ℕ) (b : Bool) → Joined v ≡ (joins_by size owner b).answer → (b ≡ true) × (v ≡ client)
 is_owner size owner v true e = (refl, cc e)
 is_owner size owner v false e = absurd (cc e)
+
+-- a number is of a viewer that joined
+not_let_in : (number : Option ℕ) (v : ℕ) → number ≡ None → number ≡ Some v → ⊥
+not_let_in number v none is = let k = sym none ∙ is in cc k
+
+pub let_in_is : (joined : Result ℕ JoinFault) (number : Option ℕ) (v : ℕ) → IsLetIn joined number → number ≡ Some v → joined ≡ Ok v
+let_in_is (Ok w) number v l is = let k = sym l ∙ is in cc
+let_in_is (Err fault.NotInvited) number v l is = absurd (not_let_in number v l is)
+let_in_is (Err fault.RoomFull) number v l is = absurd (not_let_in number v l is)
+let_in_is (Err fault.JoinsSpent) number v l is = absurd (not_let_in number v l is)
+let_in_is (Err fault.OutOfMemory) number v l is = absurd l
 
 -- what is known of the session before and after, and of the sender
 pub record JoinFacts (size : Size) (owner name : List ℕ) (c : Confirmed) (v : ℕ) (old new : SessionModel) (s : SenderModel) : Type 0 where

@@ -1,5 +1,5 @@
 -- What is due in the course of a service, in examples.
-use Rattle.std.proofs.Common.{◌≡◌, ℕ, List, [], ◌∷◌, take, refl, Some, None}
+use Rattle.std.proofs.Common.{◌≡◌, ℕ, List, [], ◌∷◌, take, refl, ap, sym, ◌∙◌, append-nil, Some, None}
 use Rattle.px_core.specs.declared.surface.Size.{Size}
 use Rattle.wire_num.specs.Field.{passing_at, at_least, rest_count_at}
 use Rattle.tpkt_x224.specs.Request.{references, request_header, after_cookie, asked_protocols}
@@ -7,6 +7,7 @@ use Rattle.conn_rules.specs.Hearing.{heard}
 use Rattle.conn_rules.specs.Hearing.StreamEnd.{Between, Within, RefusedAt}
 use Rattle.answer_run.specs.Asking.Guest.{Coming, Viewing, TurnedAway}
 use Rattle.answer_run.specs.Service.{end_met, written_of_stream, end_so_far_of_stream, answer_of_stream}
+use Rattle.answer_run.specs.Cut.{WritesHandedBytes}
 use Rattle.answer_run.specs.declared.ending.Ending.TheVariants.{Left, AskedForEnd, Refused, NotInvited}
 
 abbrev size : Size
@@ -27,6 +28,13 @@ confirm = 3 ∷ 0 ∷ 0 ∷ 19 ∷ 14 ∷ 208 ∷ 0 ∷ 0 ∷ 18 ∷ 52 ∷ 0 �
 a_whole_request_is_due_its_confirm : written_of_stream size ann request ≡ confirm
 unfolding passing_at at_least rest_count_at references request_header after_cookie asked_protocols heard
 a_whole_request_is_due_its_confirm = refl
+
+-- a body that serves into memory and writes nothing where the next read fails
+who_writes_nothing_for_a_request : WritesHandedBytes size ann request (Some []) (Some []) (Some []) → ⊥
+who_writes_nothing_for_a_request w =
+    let handed : w.handed ≡ request = sym (append-nil w.handed) ∙ sym w.is_handed in
+    let none : [] ≡ confirm = w.written ∙ (ap (written_of_stream size ann) handed ∙ a_whole_request_is_due_its_confirm) in
+    cc none
 
 nothing_is_due_while_a_byte_is_missing : written_of_stream size ann (take 18 request) ≡ []
 unfolding passing_at at_least rest_count_at references request_header after_cookie asked_protocols heard

@@ -3,6 +3,8 @@ use Rattle.std.specs.Prelude.{◌≡◌, ℕ, ◌≤◌, true, false, ⊤, IsTru
 use Rattle.caps_sets.specs.declared.confirmed.Confirmed.{Confirmed}
 use Rattle.session_rules.specs.Journal.{Head}
 use Rattle.session_core.specs.SessionModel.{reached_by, is_here, asked_by, is_suppressed}
+use Rattle.session_core.specs.declared.faults.JoinFault.{JoinFault}
+use Rattle.session_core.specs.declared.faults.JoinFault.TheVariants as fault
 use Rattle.session_core.specs.declared.faults.InputRefusal.{InputRefusal}
 use Rattle.session_core.specs.declared.faults.InputRefusal.TheVariants as refusal
 use Rattle.frame_rules.specs.Encoder.{Encoder}
@@ -46,6 +48,14 @@ abbrev pub Joins : Head → List ℕ → Confirmed → Option Seat → Type 0
 Joins head name confirmed (Some seat) = (is_invited name head.rows ≡ true) × IsSeated seat
     × IsRunOf head seat (run_after encoder_frames head (run_at_first encoder_frames head.size) (asks_to_join name confirmed))
 Joins head name confirmed None = is_invited name head.rows ≡ false
+
+-- the number of a viewer that joined, none of one that isn't let in; it didn't want memory
+abbrev pub IsLetIn : Result ℕ JoinFault → Option ℕ → Type 0
+IsLetIn (Ok v) number = number ≡ Some v
+IsLetIn (Err fault.NotInvited) number = number ≡ None
+IsLetIn (Err fault.RoomFull) number = number ≡ None
+IsLetIn (Err fault.JoinsSpent) number = number ≡ None
+IsLetIn (Err fault.OutOfMemory) number = ⊥
 
 -- an event was done, or refused; it didn't want memory
 abbrev pub IsSettled : Result (Unit {0}) InputRefusal → Type 0

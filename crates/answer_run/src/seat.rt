@@ -5,7 +5,7 @@ ghost use Rattle.px_core.specs.Rectangle.{is_session_size, IsPlaced};
 ghost use Rattle.session_rules.specs.Steps.Step.{InputStep, RefreshStep, SuppressStep};
 ghost use Rattle.script_rules.specs.Script.{without_preset};
 ghost use Rattle.answer_run.specs.Asking.{client, owners_head};
-ghost use Rattle.answer_run.specs.Seats.{IsSeated, Does, Takes, Joins, IsSettled};
+ghost use Rattle.answer_run.specs.Seats.{IsSeated, Does, Takes, Joins, IsSettled, IsLetIn};
 
 use caps_sets::Confirmed;
 use info_lic::Name;
@@ -43,15 +43,26 @@ pub fn join(
         role: Role::Owner,
     }];
     let mut session = Session::new(alloc, size, &rows)?;
-    match session.join(name) {
-        Ok(v) => {
+    match let_in(session.join(name))? {
+        Some(v) => {
             let sender = Sender::new(alloc, v, confirmed)?;
             Ok(Some(Seat { session, sender }))
         }
-        Err(JoinFault::OutOfMemory) => Err(OutOfMemory),
+        None => Ok(None),
+    }
+}
+
+/// The number of a viewer that joined; `None` where it isn't let in. Only want of memory is want of memory.
+fn let_in(joined: Result<u32, JoinFault>) -> Result<Option<u32>, OutOfMemory>
+    ensures number { IfOk result (IsLetIn joined) }
+    ensures memory { OnErr result (joined ≡ Err JoinFault.OutOfMemory) }
+{
+    match joined {
+        Ok(v) => Ok(Some(v)),
         Err(JoinFault::NotInvited) | Err(JoinFault::RoomFull) | Err(JoinFault::JoinsSpent) => {
             Ok(None)
         }
+        Err(JoinFault::OutOfMemory) => Err(OutOfMemory),
     }
 }
 

@@ -2,7 +2,6 @@ use Rattle.std.proofs.Common.{refl, ◌∙◌, subst, Ok, Some, None}
 use Rattle.answer_run.specs.Asking.{owners_head}
 use Rattle.answer_run.specs.Service.{Service, first_service}
 use Rattle.answer_run.specs.Serves.{IsServiceOf, ServedNext, moment}
-use Rattle.answer_run.specs.declared.fault.AnswerFault.TheVariants as fault
 use Rattle.answer_run.proofs.Numbers.{fault_numbered}
 use Rattle.answer_run.proofs.Served.{nothing_done, went_on_first, went_further, ended_at, stopped_at, no_more_reads, answered, number_answered}
 use Rattle.answer_run.proofs.answer.run_answer.Goals as goal

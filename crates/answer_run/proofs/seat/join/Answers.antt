@@ -1,29 +1,36 @@
-use Rattle.answer_run.proofs.Joined.{joined}
+use Rattle.std.proofs.Common.{rules, ◌≡◌, false, subst, IfOk, Ok}
+use Rattle.px_core.specs.Tiles.{no_tiles}
+use Rattle.session_rules.specs.Steps.Step.{JoinStep}
+use Rattle.session_laws.specs.Entering.{entry_of_step, answer_at}
+use Rattle.session_core.specs.SessionModel.{reached_by, asked_by, is_suppressed}
+use Rattle.session_core.specs.Outcomes.{IsAnswered, GoesOn}
+use Rattle.session_core.specs.Faults.{join_answer}
+use Rattle.answer_run.proofs.Joined.{let_in_is, joined}
 use Rattle.answer_run.proofs.seat.join.Goals as goal
-use Rattle.std.proofs.Common.{rules}
-
-pub returns-in-Ok : goal.returns-in-Ok
-returns-in-Ok c =
-    let viewer = c.in_ok-sender-in-Ok.ensures.viewer in
-    let idle = c.in_ok-sender-in-Ok.ensures.idle in
-    joined c.args.size c.args.owner.now c.args.name.now c.args.confirmed c.in-Ok.v c.join.new.self c.in_ok-sender-in-Ok.sender c.in_ok-session.session c.in_ok-session.ensures (record {
-      head = c.join.ensures.head;
-      answer = c.in-Ok.ensures.answer;
-      journal = c.in-Ok.ensures.journal;
-      asked = c.in-Ok.ensures.fresh.0;
-      suppressed = c.in-Ok.ensures.fresh.1;
-      viewer = viewer.0;
-      confirmed = viewer.1;
-      number = viewer.2;
-      held = viewer.3;
-      taken = idle.0;
-      encoded = idle.1;
-      sound = idle.2;
-      stands = c.in_ok-sender-in-Ok.ensures.stands;
-    })
 
 pub new-requires-clause-rows : goal.new-requires-clause-rows
 new-requires-clause-rows c = search rules
 
-pub returns : goal.returns
-returns c = search rules
+pub returns-in_ok-sender-in-Some : goal.returns-in_ok-sender-in-Some
+returns-in_ok-sender-in-Some c =
+    let old = c.in_ok-session.session in
+    let new = c.join.new.self in
+    let step = JoinStep c.args.name.now in
+    let is : c.join.result ≡ Ok c.in-Some.v = let_in_is c.join.result c.in_ok-v.field-0 c.in-Some.v c.in_ok-v.ensures.number c.in-Some.is in
+    let fresh = subst (λ r. IfOk r (λ v. (asked_by new v ≡ no_tiles) × (is_suppressed new v ≡ false))) is c.join.ensures.fresh in
+    let sender = c.in_ok-sender-in-Some.ensures in
+    joined c.args.size c.args.owner.now c.args.name.now c.args.confirmed c.in-Some.v new c.in_ok-sender-in-Some.sender old c.in_ok-session.ensures (record {
+      head = c.join.ensures.head;
+      answer = subst (λ r. IsAnswered (join_answer r) (answer_at old.head (reached_by old) step)) is c.join.ensures.answer;
+      journal = subst (λ r. GoesOn (join_answer r) (entry_of_step old.head (reached_by old) step) old.journal new.journal) is c.join.ensures.journal;
+      asked = fresh.0;
+      suppressed = fresh.1;
+      viewer = sender.viewer.0;
+      confirmed = sender.viewer.1;
+      number = sender.viewer.2;
+      held = sender.viewer.3;
+      taken = sender.idle.0;
+      encoded = sender.idle.1;
+      sound = sender.idle.2;
+      stands = sender.stands;
+    })
