@@ -6,3 +6,4 @@ pub mod TileRows
 pub mod OrderRows
 pub mod CautiousRows
 mod Meanings
+mod PendingRows

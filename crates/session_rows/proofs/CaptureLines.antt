@@ -64,3 +64,21 @@ the_greatest_viewer_joins = refl
 
 no_greater_viewer_joins : broken_after_a_join (codes "65536 joined 64 48 plain") ≡ Some 2
 no_greater_viewer_joins = refl
+
+no_digits_are_no_bytes : broken_after_a_join (codes "1 ") ≡ Some 2
+no_digits_are_no_bytes = refl
+
+a_full_journal_refuses_no_join : broken_after_a_join (codes "0 refused journal-full") ≡ Some 2
+a_full_journal_refuses_no_join = refl
+
+a_full_room_refuses_no_step : broken_after_a_join (codes "1 refused room-full") ≡ Some 2
+a_full_room_refuses_no_step = refl
+
+a_joined_line_has_a_sessions_size : broken_after_a_join (codes "2 joined 63 48 plain") ≡ Some 2
+a_joined_line_has_a_sessions_size = refl
+
+a_joined_line_has_a_preset : broken_after_a_join (codes "2 joined 64 48") ≡ Some 2
+a_joined_line_has_a_preset = refl
+
+the_last_line_of_a_capture_is_ended : first_broken_line (codes "line 3 rule 3") ≡ Some 1
+the_last_line_of_a_capture_is_ended = refl

@@ -1,6 +1,6 @@
 -- Worked paintings that a reader of the formulas could take for something else.
 use Rattle.std.proofs.Common.{◌≡◌, ℕ, List, [], ◌∷◌, ◌++◌, refl, Some, None, replicate}
-use Rattle.std.specs.Prelude.{pos, negsuc, Option}
+use Rattle.std.specs.Prelude.{pos, negsuc, Option, option_map}
 use Rattle.px_core.specs.declared.surface.Size.{Size}
 use Rattle.px_core.specs.declared.rectangle.Rect.{Rect}
 use Rattle.px_core.specs.Picture.{listed}
@@ -89,6 +89,11 @@ a_pixel_of_two_glyphs : (state_after_drawings small (opening_surface small) (pla
     ≡ replicate 8 7 ++ replicate 16 0
 a_pixel_of_two_glyphs = refl
 
+-- the bits behind column 3 pad the row: columns 4 and 5 lie between the cells
+bits_that_pad_a_row_are_not_drawn : (state_after_drawings small (opening_surface small) (plain (LoadGlyph 0 65 (record flat { cx = 4 })) ∷ plain (Text (pos 0) (pos 0) 7 0 ((65, 0) ∷ (65, 6) ∷ [])) ∷ [])).picture
+    ≡ (7 ∷ 7 ∷ 7 ∷ 7 ∷ 0 ∷ 0 ∷ 7 ∷ 7 ∷ replicate 16 0)
+bits_that_pad_a_row_are_not_drawn = refl
+
 -- it has the cells alone, and not the pen's own point
 the_rectangle_of_a_run : rect_of (plain (LoadGlyph 0 66 low) ∷ []) (Text (pos 2) (pos 0) 7 0 ((66, 0) ∷ [])) ≡ boxed (pos 1) (pos 1) 4 2
 the_rectangle_of_a_run = refl
@@ -102,6 +107,14 @@ a_missing_glyph_of_font_1 = refl
 abbrev dot : ℕ → ImageOf
 dot color = record { w = 1; h = 1; pixels = color ∷ [] }
 
-a_slot_filled_again_holds_the_new : lookup 7 (state_after_drawings small (opening_surface small) (plain (LoadImage 7 (dot 5)) ∷ plain (LoadImage 7 (dot 6)) ∷ [])).images
-    ≡ Some (record { number = 2; content = dot 6 })
+abbrev number_of : {A : Type 0} → Option (Loaded A) → Option ℕ
+number_of o = option_map (λ l. l.number) o
+
+abbrev twice_loaded : SurfaceState
+twice_loaded = state_after_drawings small (opening_surface small) (plain (LoadImage 7 (dot 5)) ∷ plain (LoadImage 7 (dot 6)) ∷ plain (LoadBrush 2 (replicate 64 5))
+    ∷ plain (LoadBrush 2 (replicate 64 6)) ∷ plain (LoadGlyph 1 65 flat) ∷ plain (LoadGlyph 1 65 low) ∷ [])
+
+-- each holds the second of its two loads
+a_slot_filled_again_holds_the_new :
+    number_of (lookup 7 twice_loaded.images) ∷ number_of (lookup 2 twice_loaded.brushes) ∷ number_of (lookup 321 twice_loaded.glyphs) ∷ [] ≡ Some 2 ∷ Some 4 ∷ Some 6 ∷ []
 a_slot_filled_again_holds_the_new = refl
