@@ -3,7 +3,7 @@
 ghost use Rattle.std.specs.Io.{WritesAtMost};
 
 use crate::top;
-use crate::words::words as command_words;
+use crate::words::words as words_given;
 use edge_io::{Bytes, Keep, PlanGate, PlanSink, PlanSource};
 use std::alloc::Global;
 use std::env::{Env, FillError};
@@ -189,7 +189,7 @@ fn put_word(buf: &mut [u8], word: &[u8]) -> Result<usize, FillError>
 
 #[test]
 fn a_word_that_is_not_text_leaves_no_words(rt: HostRuntime) -> Result<(), Fail> {
-    match command_words(&(OddWord, rt.alloc()), rt.alloc()) {
+    match words_given(&(OddWord, rt.alloc()), rt.alloc()) {
         Some(words) => assert!(rt; words.is_empty()),
         None => assert!(rt; false),
     }
