@@ -3,6 +3,7 @@
 //! `docs/threads.md` says what the lock promises and what it does not.
 #![tactic(auto)]
 
+mod bell;
 mod grows;
 mod lock;
 mod notes;

@@ -5,6 +5,7 @@ ghost use Rattle.grow_lock.specs.Passes.{IsPassOf, pass_of, pass_after_entering}
 ghost use Rattle.grow_lock.specs.Steps.{HasTaken};
 
 use crate::OutOfMemory;
+use crate::bell::Bell;
 use crate::grows::Grows;
 use crate::notes::Notes;
 use crate::pass::Pass;
@@ -15,16 +16,23 @@ use crate::steps::{
 use crate::turn::Turn;
 use atomic_table::{Refused, Table};
 use std::alloc::Global;
+use std::hint;
 use std::marker::Model;
 use std::snapshot::Snapshot;
 use std::sync::Wait;
-use std::thread;
+use std::sync::atomic::{AtomicU64, Ordering};
+
+/// How often a thread tries to take the turn before it sleeps.
+const TRIES: u64 = 100;
 
 /// A lock round a value that only grows. Threads share it by reference, each with a pass of its own. Contracts see
 /// which lock it is, and the head of its value.
 #[derive(Drop)]
 pub struct GrowLock<T: Grows> {
     table: Table<Option<T>, Notes<T::Head, T::Entry>, Snapshot<T>, LockRule<T>, Global>,
+    // How many threads sleep until the turn is free, or are about to.
+    waiting: AtomicU64,
+    news: Bell,
 }
 
 impl<T: Grows> Model for GrowLock<T> {
@@ -50,7 +58,14 @@ impl<T: Grows> GrowLock<T> {
         let mut slots = Vec::new(alloc);
         slots.push(Some(value))?;
         match Table::new(alloc, &[FREE, count], slots, &about) {
-            Ok((table, seat)) => Ok((GrowLock { table }, Pass { seat, count })),
+            Ok((table, seat)) => {
+                let lock = GrowLock {
+                    table,
+                    waiting: AtomicU64::new(0),
+                    news: Bell::new(),
+                };
+                Ok((lock, Pass { seat, count }))
+            }
             Err(Refused { slots: _ }) => Err(OutOfMemory),
         }
     }
@@ -67,13 +82,48 @@ impl<T: Grows> GrowLock<T> {
     {
         let Pass { mut seat, count: _ } = pass;
         let shared = &self.table.shared;
+        let mut tries = 0u64;
         for _ in rt.forever() {
             if shared.compare_exchange::<TakeTurn>(&mut seat, TURN, FREE, TAKEN) == FREE {
                 return self.begin(seat);
             }
-            thread::yield_now();
+            self.wait_for_turn(rt, tries);
+            tries = tries.saturating_add(1);
         }
         unreachable!()
+    }
+
+    // After some tries, sleeps while the turn is taken. It may return before.
+    fn wait_for_turn<R: Wait>(&self, rt: &R, tries: u64) {
+        if tries < TRIES {
+            hint::spin_loop();
+            return;
+        }
+        self.waiting.fetch_add(1, Ordering::SeqCst);
+        self.table.shared.park(rt, TURN, TAKEN as u32);
+        self.waiting.fetch_sub(1, Ordering::SeqCst);
+    }
+
+    // Wakes a thread that sleeps until the turn is free, if there is one.
+    fn wake_for_turn(&self) {
+        if self.waiting.load(Ordering::SeqCst) != 0 {
+            self.table.shared.wake_one(TURN);
+        }
+    }
+
+    /// How often there was news: a list that grew, or a call of `ring`. Read it before a look at the value, for `sleep`.
+    pub fn rings(&self) -> u64 {
+        self.news.rings()
+    }
+
+    /// Tells those who sleep that there is news of which the list says nothing.
+    pub fn ring(&self) {
+        self.news.ring();
+    }
+
+    /// Sleeps until there was more news than this, for a second at most. It may return before.
+    pub fn sleep<R: Wait>(&self, rt: &R, rings: u64) {
+        self.news.sleep(rt, rings);
     }
 
     // Reads the length, and moves the value out.
@@ -107,8 +157,13 @@ impl<T: Grows> GrowLock<T> {
         let None = shared.exchange(&mut seat, VALUE, Some(value)) else {
             unreachable!()
         };
+        let grew = shared.peek(LENGTH) != count;
         shared.store::<PublishLength>(&mut seat, LENGTH, count);
         shared.store::<FreeTurn>(&mut seat, TURN, FREE);
+        self.wake_for_turn();
+        if grew {
+            self.news.ring();
+        }
         Pass { seat, count }
     }
 
