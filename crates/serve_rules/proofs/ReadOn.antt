@@ -4,6 +4,7 @@ use Rattle.std.specs.Prelude.{Bool, true, ⊤}
 use Rattle.std.specs.declared.option.Option.{Option}
 use Rattle.std.specs.declared.option.Option.TheVariants.{Some, None}
 use Rattle.std.specs.Io.KnownBytes.{Consumes}
+use Rattle.edge_io.specs.Faults.{Rose}
 use Rattle.session_rules.specs.Journal.{Head}
 use Rattle.grow_lock.specs.Journal.{StartsWith}
 use Rattle.conn_rules.specs.declared.conn_step.ConnStep.{ConnStep}
@@ -12,9 +13,9 @@ use Rattle.conn_rules.proofs.Pieces.{heard_then}
 use Rattle.serve_rules.specs.Turns.{SessionPass}
 use Rattle.serve_rules.specs.Events.{Handles}
 use Rattle.serve_rules.specs.Notices.{Notice, events_in, notice_after_all, notice_in}
-use Rattle.serve_rules.specs.Reading.{ReadsOn, ReadEnd, IsOrderly}
+use Rattle.serve_rules.specs.Reading.{ReadsOn, ReadEnd, IsOrderly, IsWhole}
 use Rattle.serve_rules.specs.declared.ends.ConnEnd.{ConnEnd}
-use Rattle.serve_rules.specs.declared.ends.ConnEnd.TheVariants.{OutOfMemory}
+use Rattle.serve_rules.specs.declared.ends.ConnEnd.TheVariants.{Left, Refused, Truncated, NotInvited, RoomFull, JoinsSpent, ReadFault, WriteFault, OutOfMemory}
 use Rattle.serve_rules.specs.declared.ends.SideEnd.{SideEnd}
 use Rattle.serve_rules.specs.declared.ends.SideEnd.TheVariants.{Done, Stopped}
 use Rattle.serve_rules.specs.declared.told.Told.{Told}
@@ -39,10 +40,19 @@ consumes_then (Some a) None c xs ys p q = absurd p
 consumes_then (Some a) (Some b) None xs ys p q = absurd q
 consumes_then (Some a) (Some b) (Some c) xs ys p q = p ∙ (ap (λ l. xs ++ l) q ∙ sym (append_assoc xs ys c))
 
--- an end of the second stretch is one of both, since the first met no fault
-end_then : (flagged : Bool) (h : Hearing) (notice : Notice) (left : Option (List ℕ)) (f f' f'' : ℕ) (end : SideEnd) → f' ≡ f → ReadEnd flagged h notice left f' f'' end
-    → ReadEnd flagged h notice left f f'' end
-end_then flagged h notice left f f' f'' end same e = subst (λ (n : ℕ). ReadEnd flagged h notice left n f'' end) same e
+-- an end of the second stretch is one of both: what the second left is what both did, and the first met no fault
+end_then : (flagged : Bool) (left left' : Option (List ℕ)) (xs ys : List ℕ) (h : Hearing) (notice : Notice) (f f' f'' : ℕ) (end : SideEnd)
+    → (IsWhole left' ys → IsWhole left (xs ++ ys)) → f' ≡ f → ReadEnd flagged left' ys h notice f' f'' end → ReadEnd flagged left (xs ++ ys) h notice f f'' end
+end_then flagged left left' xs ys h notice f f' f'' (Done Left) whole same e = λ unended. let x = e unended in (whole x.0, x.1)
+end_then flagged left left' xs ys h notice f f' f'' (Done (Refused k at)) whole same e = e
+end_then flagged left left' xs ys h notice f f' f'' (Done Truncated) whole same e = (e.0, whole e.1, e.2)
+end_then flagged left left' xs ys h notice f f' f'' (Done NotInvited) whole same e = e
+end_then flagged left left' xs ys h notice f f' f'' (Done RoomFull) whole same e = e
+end_then flagged left left' xs ys h notice f f' f'' (Done JoinsSpent) whole same e = e
+end_then flagged left left' xs ys h notice f f' f'' (Done ReadFault) whole same e = subst (λ (n : ℕ). Rose n f'') same e
+end_then flagged left left' xs ys h notice f f' f'' (Done WriteFault) whole same e = e
+end_then flagged left left' xs ys h notice f f' f'' (Done OutOfMemory) whole same e = e
+end_then flagged left left' xs ys h notice f f' f'' Stopped whole same e = e
 
 -- a stretch of reading after one that went well
 pub reads_then : (head : Head) (v : ℕ) (rest : List ConnStep) (flagged : Bool) (conn conn' conn'' : Hearing) (p q r : SessionPass) (told told' told'' : Told)
@@ -68,8 +78,9 @@ reads_then head v rest flagged conn conn' conn'' p q r told told' told'' left le
       room = b.room;
       notice = b.notice ∙ (ap (λ n. notice_after_all n b.steps) a.notice ∙ sym (notice_then (notice_in told) a.steps b.steps));
       calm = λ stopped. b.calm stopped ∙ a.calm refl;
-      ends = subst (λ (h : Heard). ReadEnd flagged h.after (notice_in told'') left'' f f'' end) (sym both)
-          (end_then flagged (heard conn' b.fed).after (notice_in told'') left'' f f' f'' end (a.calm refl) b.ends);
+      ends = subst (λ (h : Heard). ReadEnd flagged left (a.fed ++ b.fed) h.after (notice_in told'') f f'' end) (sym both)
+          (end_then flagged left left' a.fed b.fed (heard conn' b.fed).after (notice_in told'') f f' f'' end
+          (consumes_then left left' (Some []) a.fed b.fed a.taken) (a.calm refl) b.ends);
     }
 
 -- what a read side did stays so for the pass in which it met the other side's, which appended nothing

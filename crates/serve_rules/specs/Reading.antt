@@ -1,7 +1,8 @@
 -- What the read side of a viewer does.
 use Rattle.std.specs.Prelude.{◌≡◌, ◌≢◌, ℕ, ◌<◌, Bool, true, ◌||◌, List, [], ◌++◌, ⊤}
 use Rattle.std.specs.declared.option.Option.{Option}
-use Rattle.std.specs.Io.KnownBytes.{Consumes, IsAtEnd}
+use Rattle.std.specs.declared.option.Option.TheVariants.{Some}
+use Rattle.std.specs.Io.KnownBytes.{Consumes}
 use Rattle.edge_io.specs.Faults.{Rose}
 use Rattle.session_rules.specs.Journal.{Head}
 use Rattle.conn_rules.specs.declared.conn_step.ConnStep.{ConnStep}
@@ -23,18 +24,23 @@ IsOrderly end = end ≢ Done OutOfMemory
 abbrev pub IsUnended : Notice → Type 0
 IsUnended n = n.bye || n.shutdown ≡ true → ⊥
 
--- when a read side that may be stopped or not ends so, by where the stream stands, what it announced, what is left of it, and the counts of the input's faults
-abbrev pub ReadEnd : Bool → Hearing → Notice → Option (List ℕ) → ℕ → ℕ → SideEnd → Type 0
-ReadEnd flagged h notice left faults_old faults_new (Done Left) = IsUnended notice → IsAtEnd left × (end_of h ≡ Between)
-ReadEnd flagged h notice left faults_old faults_new (Done (Refused k at)) = end_of h ≡ RefusedAt k at
-ReadEnd flagged h notice left faults_old faults_new (Done Truncated) = IsUnended notice × IsAtEnd left × (end_of h ≢ Between)
-ReadEnd flagged h notice left faults_old faults_new (Done NotInvited) = ⊥
-ReadEnd flagged h notice left faults_old faults_new (Done RoomFull) = ⊥
-ReadEnd flagged h notice left faults_old faults_new (Done JoinsSpent) = ⊥
-ReadEnd flagged h notice left faults_old faults_new (Done ReadFault) = Rose faults_old faults_new
-ReadEnd flagged h notice left faults_old faults_new (Done WriteFault) = ⊥
-ReadEnd flagged h notice left faults_old faults_new (Done OutOfMemory) = ⊤
-ReadEnd flagged h notice left faults_old faults_new Stopped = flagged ≡ true
+-- what was read is all that was left, where that is told
+abbrev pub IsWhole : Option (List ℕ) → List ℕ → Type 0
+IsWhole left fed = Consumes left (Some []) fed
+
+-- when a read side that may be stopped or not ends so: by what was left of the stream and what of it was read, where it stands then and what it announced, and
+-- the counts of the input's faults
+abbrev pub ReadEnd : Bool → Option (List ℕ) → List ℕ → Hearing → Notice → ℕ → ℕ → SideEnd → Type 0
+ReadEnd flagged left fed h notice faults_old faults_new (Done Left) = IsUnended notice → IsWhole left fed × (end_of h ≡ Between)
+ReadEnd flagged left fed h notice faults_old faults_new (Done (Refused k at)) = end_of h ≡ RefusedAt k at
+ReadEnd flagged left fed h notice faults_old faults_new (Done Truncated) = IsUnended notice × IsWhole left fed × (end_of h ≢ Between)
+ReadEnd flagged left fed h notice faults_old faults_new (Done NotInvited) = ⊥
+ReadEnd flagged left fed h notice faults_old faults_new (Done RoomFull) = ⊥
+ReadEnd flagged left fed h notice faults_old faults_new (Done JoinsSpent) = ⊥
+ReadEnd flagged left fed h notice faults_old faults_new (Done ReadFault) = Rose faults_old faults_new
+ReadEnd flagged left fed h notice faults_old faults_new (Done WriteFault) = ⊥
+ReadEnd flagged left fed h notice faults_old faults_new (Done OutOfMemory) = ⊤
+ReadEnd flagged left fed h notice faults_old faults_new Stopped = flagged ≡ true
 
 -- what a read side did between two states of its pass, its connection, its record and its input: what it read was fed to the connection, and the events of the
 -- steps before it and of those that were heard were handled in order, all of them unless memory was wanted
@@ -50,4 +56,4 @@ pub record ReadsOn (head : Head) (v : ℕ) (rest : List ConnStep) (flagged : Boo
   pub room : 0 < told_new.places.room
   pub notice : notice_in told_new ≡ notice_after_all (notice_in told_old) steps
   pub calm : end ≡ Stopped → faults_new ≡ faults_old
-  pub ends : ReadEnd flagged (heard conn_old fed).after (notice_in told_new) left_new faults_old faults_new end
+  pub ends : ReadEnd flagged left_old fed (heard conn_old fed).after (notice_in told_new) faults_old faults_new end
