@@ -1,0 +1,6 @@
+pub mod Lists
+pub mod Turning
+pub mod Handling
+pub mod Ascending
+pub mod Noticing
+pub mod ReadOn

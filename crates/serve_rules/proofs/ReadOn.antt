@@ -1,0 +1,106 @@
+-- A read side that goes on: one stretch of reading after another, and the pass that meets another one.
+use Rattle.std.proofs.Common.{◌≡◌, ℕ, List, [], ◌++◌, sym, refl, ap, ap₂, ◌∙◌, subst, append_assoc, append-nil}
+use Rattle.std.specs.Prelude.{Bool, true, ⊤}
+use Rattle.std.specs.declared.option.Option.{Option}
+use Rattle.std.specs.declared.option.Option.TheVariants.{Some, None}
+use Rattle.std.specs.Io.KnownBytes.{Consumes}
+use Rattle.edge_io.specs.Faults.{Rose}
+use Rattle.session_rules.specs.Journal.{Head}
+use Rattle.grow_lock.specs.Journal.{StartsWith}
+use Rattle.conn_rules.specs.declared.conn_step.ConnStep.{ConnStep}
+use Rattle.conn_rules.specs.Hearing.{Hearing, Heard, heard, then_heard}
+use Rattle.conn_rules.proofs.Pieces.{heard_then}
+use Rattle.serve_rules.specs.Turns.{SessionPass}
+use Rattle.serve_rules.specs.Events.{Handles}
+use Rattle.serve_rules.specs.Notices.{Notice, events_in, notice_after_all, notice_in}
+use Rattle.serve_rules.specs.Reading.{ReadsOn, ReadEnd, IsOrderly, IsWhole}
+use Rattle.serve_rules.specs.declared.ends.ConnEnd.{ConnEnd}
+use Rattle.serve_rules.specs.declared.ends.ConnEnd.TheVariants.{Left, Refused, Truncated, NotInvited, RoomFull, JoinsSpent, ReadFault, WriteFault, OutOfMemory}
+use Rattle.serve_rules.specs.declared.ends.SideEnd.{SideEnd}
+use Rattle.serve_rules.specs.declared.ends.SideEnd.TheVariants.{Done, Stopped}
+use Rattle.serve_rules.specs.declared.told.Told.{Told}
+use Rattle.serve_rules.proofs.Handling.{handles_then, handles_more}
+use Rattle.serve_rules.proofs.Noticing.{notice_then, events_then}
+
+abbrev OnlyDone : SideEnd → Type 0
+OnlyDone (Done end) = ⊤
+OnlyDone Stopped = ⊥
+
+pub not_stopped : (end : ConnEnd) → Done end ≡ Stopped → ⊥
+not_stopped end e = subst OnlyDone e tt
+
+-- want of memory doesn't stop a side
+pub orderly_stop : IsOrderly Stopped
+orderly_stop e = not_stopped OutOfMemory (sym e)
+
+-- bytes after bytes
+pub consumes_then : (a b c : Option (List ℕ)) (xs ys : List ℕ) → Consumes a b xs → Consumes b c ys → Consumes a c (xs ++ ys)
+consumes_then None b c xs ys p q = tt
+consumes_then (Some a) None c xs ys p q = absurd p
+consumes_then (Some a) (Some b) None xs ys p q = absurd q
+consumes_then (Some a) (Some b) (Some c) xs ys p q = p ∙ (ap (λ l. xs ++ l) q ∙ sym (append_assoc xs ys c))
+
+-- an end of the second stretch is one of both: what the second left is what both did, and the first met no fault
+end_then : (flagged : Bool) (left left' : Option (List ℕ)) (xs ys : List ℕ) (h : Hearing) (notice : Notice) (f f' f'' : ℕ) (end : SideEnd)
+    → (IsWhole left' ys → IsWhole left (xs ++ ys)) → f' ≡ f → ReadEnd flagged left' ys h notice f' f'' end → ReadEnd flagged left (xs ++ ys) h notice f f'' end
+end_then flagged left left' xs ys h notice f f' f'' (Done Left) whole same e = λ unended. let x = e unended in (whole x.0, x.1)
+end_then flagged left left' xs ys h notice f f' f'' (Done (Refused k at)) whole same e = e
+end_then flagged left left' xs ys h notice f f' f'' (Done Truncated) whole same e = (e.0, whole e.1, e.2)
+end_then flagged left left' xs ys h notice f f' f'' (Done NotInvited) whole same e = e
+end_then flagged left left' xs ys h notice f f' f'' (Done RoomFull) whole same e = e
+end_then flagged left left' xs ys h notice f f' f'' (Done JoinsSpent) whole same e = e
+end_then flagged left left' xs ys h notice f f' f'' (Done ReadFault) whole same e = subst (λ (n : ℕ). Rose n f'') same e
+end_then flagged left left' xs ys h notice f f' f'' (Done WriteFault) whole same e = e
+end_then flagged left left' xs ys h notice f f' f'' (Done OutOfMemory) whole same e = e
+end_then flagged left left' xs ys h notice f f' f'' Stopped whole same e = e
+
+-- a stretch of reading after one that went well
+pub reads_then : (head : Head) (v : ℕ) (rest : List ConnStep) (flagged : Bool) (conn conn' conn'' : Hearing) (p q r : SessionPass) (told told' told'' : Told)
+    (left left' left'' : Option (List ℕ)) (f f' f'' : ℕ) (end : SideEnd)
+    → ReadsOn head v rest true conn conn' p q told told' left left' f f' Stopped → ReadsOn head v [] flagged conn' conn'' q r told' told'' left' left'' f' f'' end
+    → ReadsOn head v rest flagged conn conn'' p r told told'' left left'' f f'' end
+reads_then head v rest flagged conn conn' conn'' p q r told told' told'' left left' left'' f f' f'' end a b =
+    let whole = a.all orderly_stop in
+    let after_is : conn' ≡ (heard conn a.fed).after = whole.1 in
+    let both : heard conn (a.fed ++ b.fed) ≡ then_heard (heard conn a.fed) (heard conn' b.fed)
+    = heard_then conn a.fed b.fed ∙ ap (λ (h : Hearing). then_heard (heard conn a.fed) (heard h b.fed)) (sym after_is) in
+    record {
+      fed = a.fed ++ b.fed;
+      taken = consumes_then left left' left'' a.fed b.fed a.taken b.taken;
+      steps = a.steps ++ b.steps;
+      undone = b.undone;
+      front = ap (λ (h : Heard). rest ++ h.steps) both
+          ∙ (sym (append_assoc rest _ _)
+          ∙ (ap₂ ◌++◌ (a.front ∙ (ap (λ l. a.steps ++ l) whole.0 ∙ append-nil a.steps)) b.front ∙ sym (append_assoc a.steps b.steps b.undone)));
+      all = λ orderly. let w = b.all orderly in (w.0, w.1 ∙ ap (λ (h : Heard). h.after) (sym both));
+      handles = subst (λ es. Handles head v es p r told.places.list told''.places.list) (sym (events_then a.steps b.steps))
+          (handles_then head v (events_in a.steps) (events_in b.steps) p q r told.places.list told'.places.list told''.places.list a.handles b.handles);
+      room = b.room;
+      notice = b.notice ∙ (ap (λ n. notice_after_all n b.steps) a.notice ∙ sym (notice_then (notice_in told) a.steps b.steps));
+      calm = λ stopped. b.calm stopped ∙ a.calm refl;
+      ends = subst (λ (h : Heard). ReadEnd flagged left (a.fed ++ b.fed) h.after (notice_in told'') f f'' end) (sym both)
+          (end_then flagged left left' a.fed b.fed (heard conn' b.fed).after (notice_in told'') f f' f'' end
+          (consumes_then left left' (Some []) a.fed b.fed a.taken) (a.calm refl) b.ends);
+    }
+
+-- what a read side did stays so for the pass in which it met the other side's, which appended nothing
+pub reads_met : (head : Head) (v : ℕ) (rest : List ConnStep) (flagged : Bool) (conn conn' : Hearing) (p' p a b m : SessionPass) (told told' : Told)
+    (left left' : Option (List ℕ)) (f f' : ℕ) (end : SideEnd)
+    → p' ≡ p → ReadsOn head v rest flagged conn conn' p' a told told' left left' f f' end
+    → StartsWith m.seen a.seen → m.found ≡ a.found ++ b.found → m.mine ≡ a.mine ++ b.mine → b.mine ≡ []
+    → ReadsOn head v rest flagged conn conn' p m told told' left left' f f' end
+reads_met head v rest flagged conn conn' p' p a b m told told' left left' f f' end same h grows found mine none = record {
+  fed = h.fed;
+  taken = h.taken;
+  steps = h.steps;
+  undone = h.undone;
+  front = h.front;
+  all = h.all;
+  handles = handles_more head v (events_in h.steps) p a m told.places.list told'.places.list b.found
+      (subst (λ (x : SessionPass). Handles head v (events_in h.steps) x a told.places.list told'.places.list) same h.handles) grows found
+      (mine ∙ (ap (λ l. a.mine ++ l) none ∙ append-nil a.mine));
+  room = h.room;
+  notice = h.notice;
+  calm = h.calm;
+  ends = h.ends;
+}

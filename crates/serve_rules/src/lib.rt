@@ -1,0 +1,15 @@
+//! What serving a viewer comes to, as definitions: its turns at the session's lock, the events and the frames of its two sides, how a
+//! connection ends, and the laws by which these statements join (profile).
+//!
+//! docs/threads.md tells it in sentences. The definitions stand in specs/.
+#![tactic(auto)]
+
+mod ends;
+pub mod laws;
+mod places;
+mod told;
+
+pub use ends::{ConnEnd, SideEnd};
+pub use out_of_memory::OutOfMemory;
+pub use places::Places;
+pub use told::{ConnReport, Told};

@@ -1,0 +1,70 @@
+-- Where a client's stream stands.
+use Rattle.std.proofs.Common.{◌≡◌, ◌≢◌, ℕ, zero, suc, List, [], length, sym, refl, ap, ◌∙◌, subst, append-nil}
+use Rattle.std.proofs.lemmas.List.{append_cancel_left}
+use Rattle.std.specs.Prelude.{true, ⊤}
+use Rattle.conn_rules.specs.declared.stage.Stage.{Stage}
+use Rattle.conn_rules.specs.declared.stage.Stage.TheVariants as stage
+use Rattle.conn_rules.specs.Hearing.{Hearing, Heard, StreamEnd, heard, then_heard, is_over, end_by, end_of}
+use Rattle.conn_rules.specs.Hearing.StreamEnd.{Between, Within, RefusedAt}
+use Rattle.conn_rules.proofs.Pieces.{heard_then}
+use Rattle.conn_laws.proofs.Quiet.{end_silence}
+use Rattle.conn_core.specs.Kept.{IsUnrefused}
+use Rattle.viewer_run.specs.Feeding.{IsHeard}
+
+-- what no further byte leads to
+nothing_after : (first : Hearing) (bytes : List ℕ) → heard first bytes ≡ then_heard (heard first bytes) (heard (heard first bytes).after [])
+nothing_after first bytes = ap (heard first) (sym (append-nil bytes)) ∙ heard_then first bytes []
+
+-- nothing is heard of no bytes
+pub silent_steps : (h : Hearing) → IsHeard h → (heard h []).steps ≡ []
+silent_steps h (first, bytes, e) =
+    ap (λ (x : Hearing). (heard x []).steps) e
+    ∙ append_cancel_left (heard first bytes).steps (heard (heard first bytes).after []).steps []
+    (sym (ap (λ (x : Heard). x.steps) (nothing_after first bytes)) ∙ sym (append-nil (heard first bytes).steps))
+
+pub silent_after : (h : Hearing) → IsHeard h → (heard h []).after ≡ h
+silent_after h (first, bytes, e) =
+    ap (λ (x : Hearing). (heard x []).after) e ∙ (sym (ap (λ (x : Heard). x.after) (nothing_after first bytes)) ∙ sym e)
+
+-- nothing is kept of a packet once the stream is over
+pub over_part : (h : Hearing) → IsHeard h → is_over h.stage ≡ true → h.part ≡ []
+over_part h led over = ap (λ (x : Hearing). x.part) (sym (silent_after h led) ∙ ap (λ (x : Heard). x.after) (end_silence h [] over))
+
+-- a stream that isn't refused ends between packets where nothing is there of one
+between_by : (s : Stage) → IsUnrefused s → end_by s 0 ≡ Between
+between_by stage.Request u = refl
+between_by (stage.Initial asked) u = refl
+between_by (stage.Erect channels) u = refl
+between_by (stage.Attach channels) u = refl
+between_by (stage.Joins channels user io) u = refl
+between_by (stage.Shares channels here) u = refl
+between_by stage.Over u = refl
+between_by (stage.Refused k at) u = absurd u
+
+pub ends_between : (h : Hearing) → IsUnrefused h.stage → length h.part ≡ 0 → end_of h ≡ Between
+ends_between h u none = ap (end_by h.stage) none ∙ between_by h.stage u
+
+abbrev OnlyWithin : StreamEnd → Type 0
+OnlyWithin Between = ⊥
+OnlyWithin (Within n) = ⊤
+OnlyWithin (RefusedAt k at) = ⊤
+
+within_by : (s : Stage) (n : ℕ) → IsUnrefused s → (is_over s ≡ true → ⊥) → OnlyWithin (end_by s (suc n))
+within_by stage.Request n u o = tt
+within_by (stage.Initial asked) n u o = tt
+within_by (stage.Erect channels) n u o = tt
+within_by (stage.Attach channels) n u o = tt
+within_by (stage.Joins channels user io) n u o = tt
+within_by (stage.Shares channels here) n u o = tt
+within_by stage.Over n u o = absurd (o refl)
+within_by (stage.Refused k at) n u o = tt
+
+abbrev OnlyZero : ℕ → Type 0
+OnlyZero zero = ⊤
+OnlyZero (suc n) = ⊥
+
+-- and within a packet where something is
+pub ends_within : (h : Hearing) (n : ℕ) → IsHeard h → IsUnrefused h.stage → length h.part ≡ suc n → end_of h ≢ Between
+ends_within h n led u some e =
+    let open_still : is_over h.stage ≡ true → ⊥ = λ over. subst OnlyZero (sym (ap (λ (p : List ℕ). length p) (over_part h led over)) ∙ some) tt in
+    subst OnlyWithin (ap (end_by h.stage) (sym some) ∙ e) (within_by h.stage n u open_still)

@@ -1,0 +1,20 @@
+//! The host's work for its viewers: each is served by two sides, over one session behind its lock (profile).
+//!
+//! docs/threads.md says what is promised and what isn't.
+#![tactic(auto)]
+
+mod reading;
+mod sends;
+mod sides;
+mod steps;
+mod turns;
+mod visits;
+
+pub use out_of_memory::OutOfMemory;
+pub use reading::read_side;
+pub use sends::{send_side, take_once};
+pub use serve_rules::{ConnEnd, ConnReport, Places, SideEnd, Told};
+pub use sides::run_sides;
+pub use steps::do_steps;
+pub use turns::{handle_event, refresh, suppress};
+pub use visits::{Arrival, FirstFrame, arrive, depart, take_last};

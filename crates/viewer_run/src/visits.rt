@@ -1,0 +1,168 @@
+//! The turns with which a viewer comes and goes: its Join with its first take, its last take, and its Leave.
+ghost use Rattle.std.specs.Prelude.{◌≡◌, ◌≤◌, ◌<◌, false, length, MatchResult, IsTrue};
+ghost use Rattle.session_core.specs.SessionModel.{is_here, is_suppressed};
+ghost use Rattle.grow_lock.specs.Journal.{StartsWith};
+ghost use Rattle.grow_lock.specs.Passes.{IsPassOf};
+ghost use Rattle.viewer_run.specs.Sending.{TakesAs, TakesIn};
+ghost use Rattle.viewer_run.specs.Visiting.{Arrives, ArrivesIn, IsTurnedAway, IsTurnedAwayIn, IsFirst, IsUpToDate, LeavesHere, LeavesIn};
+
+use crate::OutOfMemory;
+use caps_sets::Confirmed;
+use grow_lock::{GrowLock, Pass};
+use info_lic::Name;
+use session_core::{JoinFault, Session};
+use std::alloc::Global;
+use std::sync::Wait;
+use viewer_sender::{Sender, Take, Taken};
+
+/// A viewer who has joined.
+#[derive(Drop)]
+pub struct Arrival {
+    /// Its number.
+    pub v: u32,
+    /// Its first frame, unless memory was wanted.
+    pub first: Result<FirstFrame, OutOfMemory>,
+}
+
+/// A viewer's first frame, and what sends it.
+#[derive(Drop)]
+pub struct FirstFrame {
+    pub sender: Sender,
+    pub take: Take,
+}
+
+/// A viewer joins by a name, and its first frame is taken, in one turn.
+pub fn arrive<R: Wait>(
+    rt: &R,
+    alloc: Global,
+    lock: &GrowLock<Session>,
+    pass: Pass<Session>,
+    name: &Name,
+    confirmed: Confirmed,
+) -> (Pass<Session>, Result<Arrival, JoinFault>)
+    requires { IsPassOf lock.now pass }
+    ensures lock { IsPassOf lock.now result.0 }
+    ensures came { MatchResult result.1 (λ arrival. ArrivesIn lock.now.head name.now confirmed pass result.0 arrival)
+        (λ fault. IsTurnedAwayIn lock.now.head name.now pass result.0 fault) }
+{
+    let mut turn = lock.enter(rt, pass);
+    let came = arrive_here(alloc, turn.value(), name, confirmed);
+    let pass = lock.leave(turn);
+    (pass, came)
+}
+
+/// A viewer joins a session by a name, and its first frame is taken.
+fn arrive_here(
+    alloc: Global,
+    session: &mut Session,
+    name: &Name,
+    confirmed: Confirmed,
+) -> Result<Arrival, JoinFault>
+    ensures head { session.new.head ≡ session.old.head }
+    ensures came { MatchResult result (λ arrival. Arrives session.old.head name.now confirmed session.old.journal session.new.journal arrival)
+        (λ fault. IsTurnedAway session.old.head name.now session.old.journal session.new.journal fault) }
+    ensures goes_on { StartsWith session.new.journal session.old.journal }
+{
+    match session.join(name) {
+        Ok(v) => {
+            let first = first_frame(alloc, session, v, confirmed);
+            Ok(Arrival { v, first })
+        }
+        Err(fault) => Err(fault),
+    }
+}
+
+/// A viewer's first frame, right after its Join.
+fn first_frame(
+    alloc: Global,
+    session: &mut Session,
+    v: u32,
+    confirmed: Confirmed,
+) -> Result<FirstFrame, OutOfMemory>
+    requires present { IsTrue (is_here session.old v) }
+    requires fresh { is_suppressed session.old v ≡ false }
+    requires some { 0 < length session.old.journal }
+    ensures head { session.new.head ≡ session.old.head }
+    ensures journal { session.new.journal ≡ session.old.journal }
+    ensures first { IsFirst session.old.head session.old.journal v confirmed result }
+{
+    let mut sender = Sender::new(alloc, v, confirmed)?;
+    match sender.take(alloc, session)? {
+        Taken::Frame(take) => Ok(FirstFrame { sender, take }),
+        Taken::Nothing => unreachable!(),
+    }
+}
+
+/// Output is allowed again, and a viewer's last frame is taken, in one turn. For a viewer that isn't present it does nothing.
+pub fn take_last<R: Wait>(
+    rt: &R,
+    alloc: Global,
+    lock: &GrowLock<Session>,
+    pass: Pass<Session>,
+    v: u32,
+    sender: &mut Sender,
+) -> (Pass<Session>, Result<Taken, OutOfMemory>)
+    requires lock { IsPassOf lock.now pass }
+    requires viewer { sender.old.v ≡ v }
+    requires seen { sender.old.number ≤ length pass.seen }
+    ensures lock { IsPassOf lock.now result.0 }
+    ensures taken { TakesIn lock.now.head pass result.0 sender.old sender.new result.1 }
+    ensures whole { IsUpToDate lock.now.head v result.0.seen sender.old.number result.1 }
+{
+    let mut turn = lock.enter(rt, pass);
+    let taken = take_last_here(alloc, turn.value(), v, sender);
+    let pass = lock.leave(turn);
+    (pass, taken)
+}
+
+/// Output is allowed again at a session, and a viewer's last frame is taken.
+fn take_last_here(
+    alloc: Global,
+    session: &mut Session,
+    v: u32,
+    sender: &mut Sender,
+) -> Result<Taken, OutOfMemory>
+    requires viewer { sender.old.v ≡ v }
+    requires seen { sender.old.number ≤ length session.old.journal }
+    ensures head { session.new.head ≡ session.old.head }
+    ensures journal { session.new.journal ≡ session.old.journal }
+    ensures taken { TakesAs session.old.head session.old.journal sender.old sender.new result }
+    ensures whole { IsUpToDate session.old.head v session.old.journal sender.old.number result }
+{
+    if !session.present(v) {
+        return Ok(Taken::Nothing);
+    }
+    session.suppress(v, false);
+    sender.take(alloc, session)
+}
+
+/// A viewer leaves in a turn of its own; gives the place of its Leave. One that isn't present has left already.
+pub fn depart<R: Wait>(
+    rt: &R,
+    lock: &GrowLock<Session>,
+    pass: Pass<Session>,
+    v: u32,
+) -> (Pass<Session>, Option<u64>)
+    requires { IsPassOf lock.now pass }
+    ensures lock { IsPassOf lock.now result.0 }
+    ensures left { LeavesIn lock.now.head v pass result.0 result.1 }
+{
+    let mut turn = lock.enter(rt, pass);
+    let place = depart_here(turn.value(), v);
+    let pass = lock.leave(turn);
+    (pass, place)
+}
+
+/// A viewer leaves a session.
+fn depart_here(session: &mut Session, v: u32) -> Option<u64>
+    ensures head { session.new.head ≡ session.old.head }
+    ensures left { LeavesHere v (is_here session.old v) result session.old.journal session.new.journal }
+    ensures goes_on { StartsWith session.new.journal session.old.journal }
+{
+    if !session.present(v) {
+        return None;
+    }
+    let place = session.length();
+    session.leave(v);
+    Some(place)
+}
