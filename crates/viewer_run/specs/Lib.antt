@@ -3,3 +3,4 @@ pub mod Doing
 pub mod Feeding
 pub mod Sending
 pub mod Visiting
+pub mod Greeting

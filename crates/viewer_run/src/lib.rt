@@ -3,6 +3,7 @@
 //! docs/threads.md says what is promised and what isn't.
 #![tactic(auto)]
 
+mod guest;
 mod reading;
 mod sends;
 mod sides;
@@ -10,6 +11,7 @@ mod steps;
 mod turns;
 mod visits;
 
+pub use guest::{Guest, greet};
 pub use out_of_memory::OutOfMemory;
 pub use reading::read_side;
 pub use sends::{send_side, take_once};
