@@ -4,3 +4,4 @@ pub mod Feeding
 pub mod Sending
 pub mod Visiting
 pub mod Greeting
+pub mod Ending

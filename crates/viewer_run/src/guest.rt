@@ -97,7 +97,7 @@ fn greet_piece<K: Sink>(
 }
 
 /// Writes replies; where there are none the output isn't called.
-fn reply<K: Sink>(output: &mut K, replies: &[u8]) -> Result<(), ConnEnd>
+pub(crate) fn reply<K: Sink>(output: &mut K, replies: &[u8]) -> Result<(), ConnEnd>
     ensures { Replies (K.told output.old) (K.told output.new) replies.now (K.faults output.old) (K.faults output.new) result }
 {
     if replies.is_empty() {
