@@ -6,3 +6,4 @@ pub mod TakesOn
 pub mod OneTake
 pub mod SendOn
 pub mod Coming
+pub mod Greeted

@@ -22,6 +22,12 @@ silent_steps h (first, bytes, e) =
     ∙ append_cancel_left (heard first bytes).steps (heard (heard first bytes).after []).steps []
     (sym (ap (λ (x : Heard). x.steps) (nothing_after first bytes)) ∙ sym (append-nil (heard first bytes).steps))
 
+pub silent_replies : (h : Hearing) → IsHeard h → (heard h []).replies ≡ []
+silent_replies h (first, bytes, e) =
+    ap (λ (x : Hearing). (heard x []).replies) e
+    ∙ append_cancel_left (heard first bytes).replies (heard (heard first bytes).after []).replies []
+    (sym (ap (λ (x : Heard). x.replies) (nothing_after first bytes)) ∙ sym (append-nil (heard first bytes).replies))
+
 pub silent_after : (h : Hearing) → IsHeard h → (heard h []).after ≡ h
 silent_after h (first, bytes, e) =
     ap (λ (x : Hearing). (heard x []).after) e ∙ (sym (ap (λ (x : Heard). x.after) (nothing_after first bytes)) ∙ sym e)

@@ -284,7 +284,7 @@ still_open h new bytes replies steps n end out (Ok done) part are x e stopped =
     }
 
 -- nothing was left
-at_end : (left : Option (List ℕ)) → IsAtEnd left → IsWhole left []
+pub at_end : (left : Option (List ℕ)) → IsAtEnd left → IsWhole left []
 at_end None e = tt
 at_end (Some xs) e = e
 

@@ -3,3 +3,5 @@ pub mod Doing
 pub mod Feeding
 pub mod Sending
 pub mod Visiting
+pub mod Greeting
+pub mod Ending

@@ -3,6 +3,8 @@
 //! docs/threads.md says what is promised and what isn't.
 #![tactic(auto)]
 
+mod ending;
+mod guest;
 mod reading;
 mod sends;
 mod sides;
@@ -10,6 +12,8 @@ mod steps;
 mod turns;
 mod visits;
 
+pub use ending::{put_last, size_of};
+pub use guest::{Guest, greet};
 pub use out_of_memory::OutOfMemory;
 pub use reading::read_side;
 pub use sends::{send_side, take_once};

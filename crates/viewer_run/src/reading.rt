@@ -92,7 +92,7 @@ fn is_set(flag: Option<&AtomicBool>) -> bool
 }
 
 /// A buffer to read into.
-fn new_buffer(alloc: Global) -> Result<Vec<u8>, OutOfMemory>
+pub(crate) fn new_buffer(alloc: Global) -> Result<Vec<u8>, OutOfMemory>
     ensures { IfOk result (λ buffer. 0 < vec_len buffer) }
 {
     let buffer = vec![in alloc; 0; ROOM]?;

@@ -1,0 +1,82 @@
+-- A client's connection sequence: one stretch after another.
+use Rattle.std.proofs.Common.{◌≡◌, ℕ, List, [], ◌∷◌, ◌++◌, sym, ap, ap₂, ◌∙◌, subst, append_assoc, append-nil}
+use Rattle.std.proofs.KnownBytes.{Appends-nil, Appends-trans}
+use Rattle.std.specs.Prelude.{Option, Some, None, Result, Ok, Err}
+use Rattle.std.specs.Io.KnownBytes.{Consumes}
+use Rattle.edge_io.specs.Faults.{Rose}
+use Rattle.conn_rules.specs.declared.conn_step.ConnStep.{ConnStep}
+use Rattle.conn_rules.specs.declared.conn_step.ConnStep.TheVariants as step
+use Rattle.conn_rules.specs.Hearing.{Hearing, Heard, heard, then_heard}
+use Rattle.conn_rules.proofs.Pieces.{heard_then}
+use Rattle.serve_rules.specs.Reading.{IsWhole}
+use Rattle.serve_rules.specs.declared.ends.ConnEnd.{ConnEnd}
+use Rattle.serve_rules.specs.declared.ends.ConnEnd.TheVariants.{Left, Refused, Truncated, NotInvited, RoomFull, JoinsSpent, ReadFault, WriteFault, OutOfMemory}
+use Rattle.serve_rules.proofs.ReadOn.{consumes_then}
+use Rattle.viewer_run.specs.declared.guest.Guest.{Guest}
+use Rattle.viewer_run.specs.Greeting.{Greeting, greeting, GreetEnd, Greets}
+use Rattle.viewer_run.specs.Greeting.Greeting.{Connects}
+
+-- steps behind others of a client that still connects
+pub greeting_then : (n m : List ℕ) (xs ys : List ConnStep) → greeting n xs ≡ Connects m → greeting n (xs ++ ys) ≡ greeting m ys
+greeting_then n m [] ys e = ap (λ (k : List ℕ). greeting k ys) (cc e)
+greeting_then n m (step.Named other ∷ xs) ys e = greeting_then other m xs ys e
+greeting_then n m (step.Ready confirmed ∷ xs) ys e = absurd (cc e)
+greeting_then n m (step.Event event ∷ xs) ys e = greeting_then n m xs ys e
+greeting_then n m (step.Refresh area ∷ xs) ys e = greeting_then n m xs ys e
+greeting_then n m (step.Suppress stop ∷ xs) ys e = greeting_then n m xs ys e
+greeting_then n m (step.Shutdown ∷ xs) ys e = greeting_then n m xs ys e
+greeting_then n m (step.Bye ∷ xs) ys e = absurd (cc e)
+greeting_then n m (step.Packet ∷ xs) ys e = greeting_then n m xs ys e
+
+-- an end of the second stretch is one of both
+end_then : (left left' : Option (List ℕ)) (xs ys unwritten : List ℕ) (g : Greeting) (after new : Hearing) (name : List ℕ) (rf rf' rf'' wf wf' wf'' : ℕ)
+    (r : Result (Option Guest) ConnEnd) → (IsWhole left' ys → IsWhole left (xs ++ ys)) → rf' ≡ rf → wf' ≡ wf
+    → GreetEnd left' ys unwritten g after new name rf' rf'' wf' wf'' r → GreetEnd left (xs ++ ys) unwritten g after new name rf rf'' wf wf'' r
+end_then left left' xs ys unwritten g after new name rf rf' rf'' wf wf' wf'' (Ok None) whole a b e = (e.0, e.1, e.2, e.3 ∙ a, e.4 ∙ b)
+end_then left left' xs ys unwritten g after new name rf rf' rf'' wf wf' wf'' (Ok (Some guest)) whole a b e = (e.0, e.1, e.2, e.3 ∙ a, e.4 ∙ b)
+end_then left left' xs ys unwritten g after new name rf rf' rf'' wf wf' wf'' (Err Left) whole a b e = e
+end_then left left' xs ys unwritten g after new name rf rf' rf'' wf wf' wf'' (Err (Refused k at)) whole a b e = e
+end_then left left' xs ys unwritten g after new name rf rf' rf'' wf wf' wf'' (Err Truncated) whole a b e = (e.0, e.1, whole e.2)
+end_then left left' xs ys unwritten g after new name rf rf' rf'' wf wf' wf'' (Err NotInvited) whole a b e = e
+end_then left left' xs ys unwritten g after new name rf rf' rf'' wf wf' wf'' (Err RoomFull) whole a b e = e
+end_then left left' xs ys unwritten g after new name rf rf' rf'' wf wf' wf'' (Err JoinsSpent) whole a b e = e
+end_then left left' xs ys unwritten g after new name rf rf' rf'' wf wf' wf'' (Err ReadFault) whole a b e = subst (λ (n : ℕ). Rose n rf'') a e
+end_then left left' xs ys unwritten g after new name rf rf' rf'' wf wf' wf'' (Err WriteFault) whole a b e = subst (λ (n : ℕ). Rose n wf'') b e
+end_then left left' xs ys unwritten g after new name rf rf' rf'' wf wf' wf'' (Err OutOfMemory) whole a b e = e
+
+-- a stretch after one that went well
+pub greets_then : (h m k : Hearing) (n n' n'' : List ℕ) (left left' left'' told told' told'' : Option (List ℕ)) (rf rf' rf'' wf wf' wf'' : ℕ) (r : Result (Option Guest) ConnEnd)
+    → Greets h m n n' left left' told told' rf rf' wf wf' (Ok None) → Greets m k n' n'' left' left'' told' told'' rf' rf'' wf' wf'' r
+    → Greets h k n n'' left left'' told told'' rf rf'' wf wf'' r
+greets_then h m k n n' n'' left left' left'' told told' told'' rf rf' rf'' wf wf' wf'' r a b =
+    let both : heard h (a.fed ++ b.fed) ≡ then_heard (heard h a.fed) (heard m b.fed)
+    = heard_then h a.fed b.fed ∙ ap (λ (x : Hearing). then_heard (heard h a.fed) (heard x b.fed)) (sym a.came.1) in
+    let steps : greeting n (heard h (a.fed ++ b.fed)).steps ≡ greeting n' (heard m b.fed).steps
+    = ap (λ (x : Heard). greeting n x.steps) both ∙ greeting_then n n' (heard h a.fed).steps (heard m b.fed).steps a.came.2 in
+    let after : (heard h (a.fed ++ b.fed)).after ≡ (heard m b.fed).after = ap (λ (x : Heard). x.after) both in
+    record {
+      fed = a.fed ++ b.fed;
+      taken = consumes_then left left' left'' a.fed b.fed a.taken b.taken;
+      written = a.written ++ b.written;
+      unwritten = b.unwritten;
+      replies = ap (λ (x : Heard). x.replies) both
+          ∙ (ap₂ ◌++◌ (a.replies ∙ (ap (λ l. a.written ++ l) a.came.0 ∙ append-nil a.written)) b.replies ∙ sym (append_assoc a.written b.written b.unwritten));
+      told = Appends-trans told told' told'' a.written b.written a.told b.told;
+      came = subst (λ (x : Hearing). GreetEnd left (a.fed ++ b.fed) b.unwritten (greeting n (heard h (a.fed ++ b.fed)).steps) x k n'' rf rf'' wf wf'' r) (sym after)
+          (subst (λ (g : Greeting). GreetEnd left (a.fed ++ b.fed) b.unwritten g (heard m b.fed).after k n'' rf rf'' wf wf'' r) (sym steps)
+          (end_then left left' a.fed b.fed b.unwritten (greeting n' (heard m b.fed).steps) (heard m b.fed).after k n'' rf rf' rf'' wf wf' wf'' r
+          (consumes_then left left' (Some []) a.fed b.fed a.taken) a.came.3 a.came.4 b.came));
+    }
+
+-- nothing was read
+pub greets_none : (h : Hearing) (n : List ℕ) (left less told : Option (List ℕ)) (rf rf' wf : ℕ) (r : Result (Option Guest) ConnEnd) → Consumes left less []
+    → (heard h []).replies ≡ [] → GreetEnd left [] [] (greeting n (heard h []).steps) (heard h []).after h n rf rf' wf wf r → Greets h h n n left less told told rf rf' wf wf r
+greets_none h n left less told rf rf' wf r taken quiet e = record {
+  fed = [];
+  taken = taken;
+  written = [];
+  unwritten = [];
+  replies = quiet;
+  told = Appends-nil told;
+  came = e;
+}

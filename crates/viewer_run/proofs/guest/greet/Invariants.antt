@@ -1,0 +1,13 @@
+use Rattle.std.proofs.Common.{◌<◌, [], vec_len, Ok, None}
+use Rattle.viewer_run.specs.Feeding.{IsHeard}
+use Rattle.viewer_run.specs.Greeting.{Greets}
+use Rattle.viewer_run.proofs.guest.greet.Given as goal
+
+-- what was read so far was answered, and the client still connects
+abbrev pub invariant-loop : goal.invariant-loop
+invariant-loop g l = record {
+  heard : IsHeard l.conn.hearing;
+  buffer : 0 < vec_len l.buffer;
+  greets : Greets l.fn.conn.hearing l.conn.hearing [] l.name (g.S.Source.left l.fn.input) (g.S.Source.left l.input) (g.K.Sink.told l.fn.output) (g.K.Sink.told l.output)
+      (g.S.Source.faults l.fn.input) (g.S.Source.faults l.input) (g.K.Sink.faults l.fn.output) (g.K.Sink.faults l.output) (Ok None);
+}
