@@ -7,3 +7,4 @@ pub mod OneTake
 pub mod SendOn
 pub mod Coming
 pub mod Greeted
+pub mod FromFirst

@@ -5,3 +5,4 @@ pub mod Sending
 pub mod Visiting
 pub mod Greeting
 pub mod Ending
+pub mod Frames

@@ -4,6 +4,7 @@
 #![tactic(auto)]
 
 mod ending;
+mod frames;
 mod guest;
 mod reading;
 mod sends;
@@ -13,6 +14,7 @@ mod turns;
 mod visits;
 
 pub use ending::{put_last, size_of};
+pub use frames::send_first;
 pub use guest::{Guest, greet};
 pub use out_of_memory::OutOfMemory;
 pub use reading::read_side;
