@@ -8,3 +8,4 @@ pub mod SendOn
 pub mod Coming
 pub mod Greeted
 pub mod FromFirst
+pub mod Attending

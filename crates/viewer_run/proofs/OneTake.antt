@@ -214,3 +214,14 @@ module _ (head : Head) (p q : SessionPass) (s t u : SenderModel) (told told' : O
   sends_one (Ok (Frame take)) h seen idle d = frame_sent h.turn seen idle take h.takes d
   sends_one (Ok Nothing) h seen idle d = nothing_sent h.turn seen idle d.1 (d.0 ∙ h.takes) (subst IsSendEnd (sym d.2) tt) (λ is. stopped_is_no_fault (sym d.2 ∙ is)) d.3
   sends_one (Err refusal) h seen idle d = nothing_sent h.turn seen idle d.1 (d.0 ∙ h.takes) (subst IsSendEnd (sym d.2) tt) (λ is. memory_is_no_fault (sym d.2 ∙ is)) d.3
+
+abbrev NumberOf : Result Taken NoMemory → ℕ → Head → List Entry → SenderModel → Type 0
+NumberOf taken number head j u = (taken ≡ Ok Nothing → number ≡ length j) → u.number ≡ length j
+
+-- what is sent last has all of the journal
+pub shown_all : (head : Head) (j : List Entry) (s t u : SenderModel) (taken : Result Taken NoMemory) (told told' : Option (List ℕ)) (f f' : ℕ) → TakesAs head j s t taken
+    → SendsTaken taken t u told told' f f' Stopped → NumberOf taken s.number head j u
+shown_all head j s t u (Ok (Frame take)) told told' f f' h d = λ whole. let n = (d.after refl).1 in
+    ap (λ (x : SenderModel). x.number) n.rest ∙ ap (λ (x : SenderModel). x.number) h.sender
+shown_all head j s t u (Ok Nothing) told told' f f' h d = λ whole. ap (λ (x : SenderModel). x.number) (d.0 ∙ h) ∙ whole refl
+shown_all head j s t u (Err refusal) told told' f f' h d = λ whole. absurd (not_stopped OutOfMemory (sym d.2))

@@ -6,3 +6,4 @@ pub mod Visiting
 pub mod Greeting
 pub mod Ending
 pub mod Frames
+pub mod Serving
