@@ -1,7 +1,7 @@
 -- A client's connection sequence: one stretch after another.
 use Rattle.std.proofs.Common.{◌≡◌, ℕ, List, [], ◌∷◌, ◌++◌, sym, ap, ap₂, ◌∙◌, subst, append_assoc, append-nil}
 use Rattle.std.proofs.KnownBytes.{Appends-nil, Appends-trans}
-use Rattle.std.specs.Prelude.{Option, Some, None, Result, Ok, Err}
+use Rattle.std.specs.Prelude.{Option, Some, None, Result, Ok, Err, IfOk}
 use Rattle.std.specs.Io.KnownBytes.{Consumes}
 use Rattle.edge_io.specs.Faults.{Rose}
 use Rattle.conn_rules.specs.declared.conn_step.ConnStep.{ConnStep}
@@ -13,8 +13,13 @@ use Rattle.serve_rules.specs.declared.ends.ConnEnd.{ConnEnd}
 use Rattle.serve_rules.specs.declared.ends.ConnEnd.TheVariants.{Left, Refused, Truncated, NotInvited, RoomFull, JoinsSpent, ReadFault, WriteFault, OutOfMemory}
 use Rattle.serve_rules.proofs.ReadOn.{consumes_then}
 use Rattle.viewer_run.specs.declared.guest.Guest.{Guest}
-use Rattle.viewer_run.specs.Greeting.{Greeting, greeting, GreetEnd, Greets}
-use Rattle.viewer_run.specs.Greeting.Greeting.{Connects}
+use Rattle.caps_sets.specs.declared.confirmed.Confirmed.{Confirmed}
+use Rattle.std.proofs.lemmas.List.Elements.{All-tail}
+use Rattle.conn_laws.specs.Placed.{AreBytes, IsStepPlaced, ArePlaced}
+use Rattle.serve_rules.specs.declared.ends.SideEnd.{SideEnd}
+use Rattle.serve_rules.specs.declared.ends.SideEnd.TheVariants.{Done, Stopped}
+use Rattle.viewer_run.specs.Greeting.{Greeting, greeting, GreetEnd, Greets, IsRestPlaced, refusal_of}
+use Rattle.viewer_run.specs.Greeting.Greeting.{Connects, IsReady}
 
 -- steps behind others of a client that still connects
 pub greeting_then : (n m : List ℕ) (xs ys : List ConnStep) → greeting n xs ≡ Connects m → greeting n (xs ++ ys) ≡ greeting m ys
@@ -80,3 +85,20 @@ greets_none h n left less told rf rf' wf r taken quiet e = record {
   told = Appends-nil told;
   came = e;
 }
+
+-- steps behind Ready are among those whose areas are placed
+pub rest_placed : (n name : List ℕ) (confirmed : Confirmed) (xs rest : List ConnStep) → ArePlaced xs → greeting n xs ≡ IsReady name confirmed rest → ArePlaced rest
+rest_placed n name confirmed [] rest p e = absurd (cc e)
+rest_placed n name confirmed (step.Named other ∷ xs) rest p e = rest_placed other name confirmed xs rest (All-tail IsStepPlaced _ xs p) e
+rest_placed n name confirmed (step.Ready found ∷ xs) rest p e = subst ArePlaced (cc e) (All-tail IsStepPlaced _ xs p)
+rest_placed n name confirmed (step.Event event ∷ xs) rest p e = rest_placed n name confirmed xs rest (All-tail IsStepPlaced _ xs p) e
+rest_placed n name confirmed (step.Refresh area ∷ xs) rest p e = rest_placed n name confirmed xs rest (All-tail IsStepPlaced _ xs p) e
+rest_placed n name confirmed (step.Suppress stop ∷ xs) rest p e = rest_placed n name confirmed xs rest (All-tail IsStepPlaced _ xs p) e
+rest_placed n name confirmed (step.Shutdown ∷ xs) rest p e = rest_placed n name confirmed xs rest (All-tail IsStepPlaced _ xs p) e
+rest_placed n name confirmed (step.Bye ∷ xs) rest p e = absurd (cc e)
+rest_placed n name confirmed (step.Packet ∷ xs) rest p e = rest_placed n name confirmed xs rest (All-tail IsStepPlaced _ xs p) e
+
+-- where a refusal isn't an end no client is ready
+pub refusal_placed : (end : SideEnd) (h : Hearing) (r : Result (Option Guest) ConnEnd) → AreBytes h.part → r ≡ refusal_of end → IfOk r (λ met. AreBytes h.part × IsRestPlaced met)
+refusal_placed (Done end) h r part e = subst (λ (x : Result (Option Guest) ConnEnd). IfOk x (λ met. AreBytes h.part × IsRestPlaced met)) (sym e) tt
+refusal_placed Stopped h r part e = subst (λ (x : Result (Option Guest) ConnEnd). IfOk x (λ met. AreBytes h.part × IsRestPlaced met)) (sym e) (part, tt)

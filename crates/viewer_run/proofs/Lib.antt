@@ -7,3 +7,5 @@ pub mod OneTake
 pub mod SendOn
 pub mod Coming
 pub mod Greeted
+pub mod FromFirst
+pub mod Attending

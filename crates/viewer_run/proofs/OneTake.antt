@@ -28,7 +28,7 @@ use Rattle.serve_rules.specs.declared.ends.SideEnd.{SideEnd}
 use Rattle.serve_rules.specs.declared.ends.SideEnd.TheVariants.{Done, Stopped}
 use Rattle.serve_rules.proofs.ReadOn.{not_stopped}
 use Rattle.serve_rules.proofs.Turning.{TurnFacts, turned}
-use Rattle.viewer_run.specs.Sending.{due, TakesFrame, TakesAs, TakesIn, Encodes, WritesFrame, SendsFrame, SendsTaken, IsNext, SendsOn}
+use Rattle.viewer_run.specs.Sending.{due, TakesFrame, TakesAs, TakesIn, IsSendEnd, Encodes, WritesFrame, SendsFrame, SendsTaken, IsNext, SendsOn}
 
 -- ---- a take
 
@@ -96,6 +96,7 @@ unsent s s' take told f = record {
   told = Appends-nil told;
   bytes = λ e frame stands is. (_, refl, λ stopped. absurd (not_stopped OutOfMemory stopped));
   after = λ stopped. absurd (not_stopped OutOfMemory stopped);
+  only = tt;
   cause = λ is. absurd (memory_is_no_fault is);
   calm = λ stopped. absurd (not_stopped OutOfMemory stopped);
 }
@@ -108,13 +109,14 @@ sent s s' take bytes told told' f f' end n w = record {
   told = w.told;
   bytes = λ e frame stands is. (w.unwritten, sym (n.bytes_are e frame stands is) ∙ w.whole, w.all);
   after = λ stopped. (bytes, n);
+  only = w.only;
   cause = w.cause;
   calm = w.calm;
 }
 
 -- ---- one round
 
-stands_taken : (s : SenderModel) (number taken : ℕ) (held : Held) (e : Encoder) → StandsFor s e → StandsFor (record s { number = number; held = held; taken = taken }) e
+pub stands_taken : (s : SenderModel) (number taken : ℕ) (held : Held) (e : Encoder) → StandsFor s e → StandsFor (record s { number = number; held = held; taken = taken }) e
 stands_taken s number taken held e h = record { registers = h.registers; caches = h.caches }
 
 -- the next take is the one to be encoded
@@ -128,9 +130,9 @@ next_is head j s t (Err refusal) idle h = tt
 
 module _ (head : Head) (p q : SessionPass) (s t u : SenderModel) (told told' : Option (List ℕ)) (f f' : ℕ) (end : SideEnd) where
   -- nothing was sent
-  nothing_sent : IsTurn p q q.seen [] → s.number ≤ length p.seen → IsIdle s → Appends told told' [] → u ≡ s → (end ≡ Done WriteFault → ⊥) → f' ≡ f
+  nothing_sent : IsTurn p q q.seen [] → s.number ≤ length p.seen → IsIdle s → Appends told told' [] → u ≡ s → IsSendEnd end → (end ≡ Done WriteFault → ⊥) → f' ≡ f
       → SendsOn head s u p q told told' f f' end
-  nothing_sent turn seen idle kept same no_fault calm = record {
+  nothing_sent turn seen idle kept same only no_fault calm = record {
     takes = [];
     last = s.number;
     follow = refl;
@@ -150,6 +152,7 @@ module _ (head : Head) (p q : SessionPass) (s t u : SenderModel) (told told' : O
       subst IsIdle (sym same) idle,
       λ e fol. subst (λ (x : SenderModel). Follows x e) (sym same) fol,
     );
+    only = only;
     cause = λ is. absurd (no_fault is);
     calm = λ stopped. calm;
   }
@@ -200,6 +203,7 @@ module _ (head : Head) (p q : SessionPass) (s t u : SenderModel) (told told' : O
             ap (λ (x : SenderModel). x.held) n.rest ∙ (ap (λ (x : SenderModel). x.held) h.sender ∙ ap (λ (held : Held). (frame_at held).held) fol.1),
           ),
         );
+        only = fr.only;
         cause = fr.cause;
         calm = fr.calm;
       }
@@ -208,5 +212,16 @@ module _ (head : Head) (p q : SessionPass) (s t u : SenderModel) (told told' : O
   pub sends_one : (taken : Result Taken NoMemory) → TakesIn head p q s t taken → s.number ≤ length p.seen → IsIdle s → SendsTaken taken t u told told' f f' end
       → SendsOn head s u p q told told' f f' end
   sends_one (Ok (Frame take)) h seen idle d = frame_sent h.turn seen idle take h.takes d
-  sends_one (Ok Nothing) h seen idle d = nothing_sent h.turn seen idle d.1 (d.0 ∙ h.takes) (λ is. stopped_is_no_fault (sym d.2 ∙ is)) d.3
-  sends_one (Err refusal) h seen idle d = nothing_sent h.turn seen idle d.1 (d.0 ∙ h.takes) (λ is. memory_is_no_fault (sym d.2 ∙ is)) d.3
+  sends_one (Ok Nothing) h seen idle d = nothing_sent h.turn seen idle d.1 (d.0 ∙ h.takes) (subst IsSendEnd (sym d.2) tt) (λ is. stopped_is_no_fault (sym d.2 ∙ is)) d.3
+  sends_one (Err refusal) h seen idle d = nothing_sent h.turn seen idle d.1 (d.0 ∙ h.takes) (subst IsSendEnd (sym d.2) tt) (λ is. memory_is_no_fault (sym d.2 ∙ is)) d.3
+
+abbrev NumberOf : Result Taken NoMemory → ℕ → Head → List Entry → SenderModel → Type 0
+NumberOf taken number head j u = (taken ≡ Ok Nothing → number ≡ length j) → u.number ≡ length j
+
+-- what is sent last has all of the journal
+pub shown_all : (head : Head) (j : List Entry) (s t u : SenderModel) (taken : Result Taken NoMemory) (told told' : Option (List ℕ)) (f f' : ℕ) → TakesAs head j s t taken
+    → SendsTaken taken t u told told' f f' Stopped → NumberOf taken s.number head j u
+shown_all head j s t u (Ok (Frame take)) told told' f f' h d = λ whole. let n = (d.after refl).1 in
+    ap (λ (x : SenderModel). x.number) n.rest ∙ ap (λ (x : SenderModel). x.number) h.sender
+shown_all head j s t u (Ok Nothing) told told' f f' h d = λ whole. ap (λ (x : SenderModel). x.number) (d.0 ∙ h) ∙ whole refl
+shown_all head j s t u (Err refusal) told told' f f' h d = λ whole. absurd (not_stopped OutOfMemory (sym d.2))

@@ -38,6 +38,7 @@ sends_none head s p told f idle seen = record {
   told = Appends-nil told;
   bytes = λ e fol. ([], refl, λ stopped. refl);
   after_is = λ stopped. (refl, refl, refl, idle, λ e fol. fol);
+  only = tt;
   cause = λ is. absurd (stopped_is_no_fault is);
   calm = λ stopped. refl;
 }
@@ -99,6 +100,7 @@ module _ (head : Head) where
               ∙ ap (λ (d : Confirmed). encoder_after_takes size d r.seen (mid e) b.takes) (sym conf))))
               (z.4 (mid e) (w.4 e fol)),
         );
+        only = b.only;
         cause = λ is. subst (λ (n : ℕ). Rose n f'') (a.calm refl) (b.cause is);
         calm = λ stopped. b.calm stopped ∙ a.calm refl;
       }
@@ -130,6 +132,7 @@ module _ (head : Head) where
         told = h.told;
         bytes = λ e fol. let x = h.bytes e fol in (x.0, ap joined_bytes (bytes_same e) ∙ x.1, x.2);
         after_is = λ stopped. let x = h.after_is stopped in (x.0, x.1, x.2, x.3, λ e fol. subst (Follows s') (sym (encoder_same e)) (x.4 e fol));
+        only = h.only;
         cause = h.cause;
         calm = h.calm;
       }

@@ -33,10 +33,18 @@ abbrev OnlyTrue : Bool → Type 0
 OnlyTrue true = ⊤
 OnlyTrue false = ⊥
 
+abbrev OnlyFalse : Bool → Type 0
+OnlyFalse true = ⊥
+OnlyFalse false = ⊤
+
 -- a side that isn't done goes on
 pub goes_on : (end : SideEnd) → is_done end ≡ false → end ≡ Stopped
 goes_on (Done end) e = absurd (subst OnlyTrue e tt)
 goes_on Stopped e = refl
+
+-- a side that is done didn't stop
+pub done_is_no_stop : (end : SideEnd) → is_done end ≡ true → end ≡ Stopped → ⊥
+done_is_no_stop end e stopped = subst OnlyFalse (sym (ap is_done stopped) ∙ e) tt
 
 -- no step is left where memory sufficed
 pub whole : (answer : Result (Unit {0}) NoMemory) (undone : List ConnStep) → is_err answer ≡ false → WholeIfOk answer undone → undone ≡ []

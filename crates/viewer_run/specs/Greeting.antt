@@ -8,6 +8,7 @@ use Rattle.conn_rules.specs.declared.conn_step.ConnStep.{ConnStep}
 use Rattle.conn_rules.specs.declared.conn_step.ConnStep.TheVariants as step
 use Rattle.conn_rules.specs.Hearing.{Hearing, heard, end_of}
 use Rattle.conn_rules.specs.Hearing.StreamEnd.{RefusedAt}
+use Rattle.conn_laws.specs.Placed.{ArePlaced}
 use Rattle.serve_rules.specs.Reading.{IsWhole}
 use Rattle.serve_rules.specs.declared.ends.ConnEnd.{ConnEnd}
 use Rattle.serve_rules.specs.declared.ends.ConnEnd.TheVariants.{Left, Refused, Truncated, NotInvited, RoomFull, JoinsSpent, ReadFault, WriteFault, OutOfMemory}
@@ -95,6 +96,11 @@ GuestOf g name (Err JoinsSpent) = ⊥
 GuestOf g name (Err ReadFault) = ⊥
 GuestOf g name (Err WriteFault) = ⊥
 GuestOf g name (Err OutOfMemory) = ⊤
+
+-- the areas of the steps that follow Ready are placed, where a client is ready
+abbrev pub IsRestPlaced : Option Guest → Type 0
+IsRestPlaced None = ⊤
+IsRestPlaced (Some guest) = ArePlaced guest.rest.items
 
 -- a refusal is an end
 abbrev pub refusal_of : SideEnd → Result (Option Guest) ConnEnd

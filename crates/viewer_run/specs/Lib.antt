@@ -5,3 +5,5 @@ pub mod Sending
 pub mod Visiting
 pub mod Greeting
 pub mod Ending
+pub mod Frames
+pub mod Serving

@@ -19,7 +19,7 @@ use Rattle.viewer_sender.specs.OwnTakes.{IsOwnTake}
 use Rattle.grow_lock.specs.Journal.{StartsWith}
 use Rattle.serve_rules.specs.Turns.{SessionPass, IsTurn}
 use Rattle.serve_rules.specs.Events.{IsWithin}
-use Rattle.serve_rules.specs.declared.ends.ConnEnd.TheVariants.{WriteFault, OutOfMemory}
+use Rattle.serve_rules.specs.declared.ends.ConnEnd.TheVariants.{Left, Refused, Truncated, NotInvited, RoomFull, JoinsSpent, ReadFault, WriteFault, OutOfMemory}
 use Rattle.serve_rules.specs.declared.ends.SideEnd.{SideEnd}
 use Rattle.serve_rules.specs.declared.ends.SideEnd.TheVariants.{Done, Stopped}
 
@@ -57,6 +57,19 @@ pub record Encodes (s s' : SenderModel) (take : TakeModel) (bytes : List ℕ) : 
   pub after : (e : Encoder) (f : FrameOf) → StandsFor s e → take.frame ≡ taken_as take.size f → StandsFor s' (encoder_after_frame take.size s.confirmed e f)
   pub rest : s' ≡ with_encoded s s'.registers s'.caches
 
+-- an end that sending has: a write failed, or memory was wanted, or it was stopped
+abbrev pub IsSendEnd : SideEnd → Type 0
+IsSendEnd Stopped = ⊤
+IsSendEnd (Done Left) = ⊥
+IsSendEnd (Done (Refused k at)) = ⊥
+IsSendEnd (Done Truncated) = ⊥
+IsSendEnd (Done NotInvited) = ⊥
+IsSendEnd (Done RoomFull) = ⊥
+IsSendEnd (Done JoinsSpent) = ⊥
+IsSendEnd (Done ReadFault) = ⊥
+IsSendEnd (Done WriteFault) = ⊤
+IsSendEnd (Done OutOfMemory) = ⊤
+
 -- a front of these bytes was written, and at `Stopped` all of them
 pub record WritesFrame (bytes : List ℕ) (told_old told_new : Option (List ℕ)) (faults_old faults_new : ℕ) (end : SideEnd) : Type 0 where
   pub written : List ℕ
@@ -64,6 +77,7 @@ pub record WritesFrame (bytes : List ℕ) (told_old told_new : Option (List ℕ)
   pub whole : bytes ≡ written ++ unwritten
   pub told : Appends told_old told_new written
   pub all : end ≡ Stopped → unwritten ≡ []
+  pub only : IsSendEnd end
   pub cause : end ≡ Done WriteFault → Rose faults_old faults_new
   pub calm : end ≡ Stopped → faults_new ≡ faults_old
 
@@ -74,6 +88,7 @@ pub record SendsFrame (s s' : SenderModel) (take : TakeModel) (told_old told_new
   pub bytes : (e : Encoder) (f : FrameOf) → StandsFor s e → take.frame ≡ taken_as take.size f
       → (unwritten : List ℕ) × (frame_bytes take.size s.confirmed e.registers e.uses f ≡ written ++ unwritten) × (end ≡ Stopped → unwritten ≡ [])
   pub after : end ≡ Stopped → (bytes : List ℕ) × Encodes s s' take bytes
+  pub only : IsSendEnd end
   pub cause : end ≡ Done WriteFault → Rose faults_old faults_new
   pub calm : end ≡ Stopped → faults_new ≡ faults_old
 
@@ -115,5 +130,6 @@ pub record SendsOn (head : Head) (before after : SenderModel) (pass_before pass_
       → (unwritten : List ℕ) × (joined_bytes (bytes_of_takes head.size before.confirmed pass_after.seen e takes) ≡ written ++ unwritten) × (end ≡ Stopped → unwritten ≡ [])
   pub after_is : end ≡ Stopped → (after.v ≡ before.v) × (after.confirmed ≡ before.confirmed) × (after.number ≡ last) × IsIdle after
       × ((e : Encoder) → Follows before e → Follows after (encoder_after_takes head.size before.confirmed pass_after.seen e takes))
+  pub only : IsSendEnd end
   pub cause : end ≡ Done WriteFault → Rose faults_old faults_new
   pub calm : end ≡ Stopped → faults_new ≡ faults_old

@@ -17,6 +17,8 @@ use Rattle.frame_plan.specs.declared.taken.Taken.{Taken}
 use Rattle.frame_plan.specs.declared.taken.Taken.TheVariants.{Nothing}
 use Rattle.viewer_sender.specs.Senders.{SenderModel, IsIdle, Follows}
 use Rattle.serve_rules.specs.Turns.{SessionPass, IsTurn}
+use Rattle.serve_rules.specs.declared.ends.SideEnd.{SideEnd}
+use Rattle.serve_rules.specs.declared.ends.SideEnd.TheVariants.{Stopped}
 use Rattle.viewer_run.specs.Sending.{TakesFrame}
 use Rattle.viewer_run.specs.declared.visits.Arrival.{Arrival}
 use Rattle.viewer_run.specs.declared.visits.FirstFrame.{FirstFrame}
@@ -64,6 +66,10 @@ pub record IsTurnedAwayIn (head : Head) (name : List ℕ) (before after : Sessio
 -- a take that finds nothing for a viewer who is present leaves it with all of the journal
 abbrev pub IsUpToDate : Head → ℕ → List Entry → ℕ → Result Taken OutOfMemory → Type 0
 IsUpToDate head v j number result = is_present v (reached_at head.size j (length j)).viewers ≡ true → result ≡ Ok Nothing → number ≡ length j
+
+-- a viewer who is present has a frame with all of the journal, where its last one was sent or none was due
+abbrev pub IsShownAll : Head → ℕ → List Entry → ℕ → SideEnd → Type 0
+IsShownAll head v j number end = is_present v (reached_at head.size j (length j)).viewers ≡ true → end ≡ Stopped → number ≡ length j
 
 -- the Leave of a viewer, if it is present, and its place behind a journal
 abbrev pub leave_if : Bool → ℕ → List Entry

@@ -1,9 +1,9 @@
 //! A client's connection sequence, until it is ready.
-ghost use Rattle.std.specs.Prelude.{◌≡◌, ◌<◌, ℕ, [], List, Option, length};
+ghost use Rattle.std.specs.Prelude.{◌≡◌, ◌<◌, ℕ, [], List, Option, IfOk, length};
 ghost use Rattle.std.specs.Io.KnownBytes.{Consumes};
-ghost use Rattle.conn_laws.specs.Placed.{AreBytes};
+ghost use Rattle.conn_laws.specs.Placed.{AreBytes, ArePlaced};
 ghost use Rattle.viewer_run.specs.Feeding.{IsHeard};
-ghost use Rattle.viewer_run.specs.Greeting.{greeting, Greets, with_guest, Replies, GuestOf, refusal_of};
+ghost use Rattle.viewer_run.specs.Greeting.{greeting, Greets, with_guest, Replies, GuestOf, IsRestPlaced, refusal_of};
 
 use crate::reading::{feed, new_buffer};
 use crate::{ConnEnd, SideEnd};
@@ -29,9 +29,11 @@ pub fn greet<S: Source, K: Sink>(
     input: &mut S,
     output: &mut K,
 ) -> Result<Guest, ConnEnd>
-    requires { IsHeard conn.old.hearing }
-    ensures { (name : List ℕ) × Greets conn.old.hearing conn.new.hearing [] name (S.left input.old) (S.left input.new) (K.told output.old) (K.told output.new)
+    requires heard { IsHeard conn.old.hearing }
+    requires part { AreBytes conn.old.hearing.part }
+    ensures greets { (name : List ℕ) × Greets conn.old.hearing conn.new.hearing [] name (S.left input.old) (S.left input.new) (K.told output.old) (K.told output.new)
         (S.faults input.old) (S.faults input.new) (K.faults output.old) (K.faults output.new) (with_guest result) }
+    ensures placed { IfOk result (λ guest. AreBytes conn.new.hearing.part × ArePlaced guest.rest.items) }
 {
     let mut name = Name::new(b"");
     let Ok(mut buffer) = new_buffer(alloc) else {
@@ -58,10 +60,12 @@ fn greet_next<S: Source, K: Sink>(
     output: &mut K,
 ) -> Result<Option<Guest>, ConnEnd>
     requires heard { IsHeard conn.old.hearing }
+    requires part { AreBytes conn.old.hearing.part }
     requires buffer { 0 < length buffer.old }
     ensures buffer { length buffer.new ≡ length buffer.old }
     ensures greets { Greets conn.old.hearing conn.new.hearing name.old name.new (S.left input.old) (S.left input.new) (K.told output.old) (K.told output.new)
         (S.faults input.old) (S.faults input.new) (K.faults output.old) (K.faults output.new) result }
+    ensures placed { IfOk result (λ met. AreBytes conn.new.hearing.part × IsRestPlaced met) }
 {
     match input.read(buffer) {
         Got::Bytes(n) => greet_piece(alloc, conn, name, &buffer[..n], output),
@@ -78,8 +82,10 @@ fn greet_piece<K: Sink>(
     bytes: &[u8],
     output: &mut K,
 ) -> Result<Option<Guest>, ConnEnd>
-    ensures { (left less : Option (List ℕ)) (f : ℕ) → Consumes left less bytes.now
+    requires { AreBytes conn.old.hearing.part }
+    ensures greets { (left less : Option (List ℕ)) (f : ℕ) → Consumes left less bytes.now
         → Greets conn.old.hearing conn.new.hearing name.old name.new left less (K.told output.old) (K.told output.new) f f (K.faults output.old) (K.faults output.new) result }
+    ensures placed { IfOk result (λ met. AreBytes conn.new.hearing.part × IsRestPlaced met) }
 {
     let mut replies = Vec::new(alloc);
     let mut steps = Vec::new(alloc);

@@ -4,15 +4,18 @@
 #![tactic(auto)]
 
 mod ending;
+mod frames;
 mod guest;
 mod reading;
 mod sends;
 mod sides;
 mod steps;
 mod turns;
+mod viewing;
 mod visits;
 
 pub use ending::{put_last, size_of};
+pub use frames::send_first;
 pub use guest::{Guest, greet};
 pub use out_of_memory::OutOfMemory;
 pub use reading::read_side;
@@ -21,4 +24,5 @@ pub use serve_rules::{ConnEnd, ConnReport, Places, SideEnd, Told};
 pub use sides::run_sides;
 pub use steps::do_steps;
 pub use turns::{handle_event, refresh, suppress};
+pub use viewing::{attend, send_last};
 pub use visits::{Arrival, FirstFrame, arrive, depart, take_last};

@@ -49,6 +49,7 @@ pub fn read_side<R: Wait, S: Source>(
     ensures lock { IsPassOf lock.now result.0 }
     ensures reads { ReadsOn lock.now.head v rest.now (is_some flag.entry) conn.old.hearing conn.new.hearing pass result.0 told.old told.new
         (S.left input.old) (S.left input.new) (S.faults input.old) (S.faults input.new) result.1 }
+    ensures part { result.1 ≡ Stopped → AreBytes conn.new.hearing.part }
 {
     let (pass, end) = read_rest(rt, alloc, lock, pass, v, conn, rest, told);
     if is_done(end) {

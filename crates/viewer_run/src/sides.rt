@@ -4,6 +4,7 @@ ghost use Rattle.conn_laws.specs.Placed.{AreBytes, ArePlaced};
 ghost use Rattle.viewer_sender.specs.Senders.{IsIdle};
 ghost use Rattle.grow_lock.specs.Passes.{IsPassOf};
 ghost use Rattle.serve_rules.specs.Reading.{ReadsOn};
+ghost use Rattle.serve_rules.specs.declared.ends.SideEnd.TheVariants.{Stopped};
 ghost use Rattle.viewer_run.specs.Sending.{SendsOn};
 
 use crate::reading::read_side;
@@ -98,6 +99,7 @@ pub fn run_sides<R: Threads + Wait + Sync, S: Source + Send, K: Sink + Send>(
     ensures lock { IsPassOf lock.now result.0 }
     ensures reads { ReadsOn lock.now.head v rest.now true conn.old.hearing conn.new.hearing pass result.0 told.old told.new
         (S.left input.old) (S.left input.new) (S.faults input.old) (S.faults input.new) result.1 }
+    ensures part { result.1 ≡ Stopped → AreBytes conn.new.hearing.part }
     ensures sends { SendsOn lock.now.head sender.old sender.new pass result.0 (K.told output.old) (K.told output.new) (K.faults output.old) (K.faults output.new) result.2 }
 {
     let mut mine = pass;
@@ -134,6 +136,7 @@ fn side_by_side<R: Threads + Wait + Sync, S: Source + Send, K: Sink + Send>(
     ensures lock { IsPassOf lock.now result.0 }
     ensures reads { ReadsOn lock.now.head v rest.now true conn.old.hearing conn.new.hearing pass result.0 told.old told.new
         (S.left input.old) (S.left input.new) (S.faults input.old) (S.faults input.new) result.1 }
+    ensures part { result.1 ≡ Stopped → AreBytes conn.new.hearing.part }
     ensures other { IsPassOf lock.now result.2 }
     ensures mine { result.2.mine ≡ other.mine }
     ensures sends { SendsOn lock.now.head sender.old sender.new other result.2 (K.told output.old) (K.told output.new) (K.faults output.old) (K.faults output.new) result.3 }
@@ -145,7 +148,7 @@ fn side_by_side<R: Threads + Wait + Sync, S: Source + Send, K: Sink + Send>(
         rt,
         &mut || -> (Pass<Session>, SideEnd)
             requires { IfSome mine (λ p. IsPassOf lock.now p) × (is_some mine ≡ true) × AreBytes conn.now.hearing.part × ArePlaced rest.now × (0 < told.now.places.room) }
-            ensures { IfSome mine.entry (λ p. IsPassOf lock.entry.now result.0 × ReadsOn lock.entry.now.head v rest.entry.now true conn.entry.now.hearing conn.exit.now.hearing p result.0 told.entry.now told.exit.now (S.left input.entry.now) (S.left input.exit.now) (S.faults input.entry.now) (S.faults input.exit.now) result.1) }
+            ensures { IfSome mine.entry (λ p. IsPassOf lock.entry.now result.0 × ReadsOn lock.entry.now.head v rest.entry.now true conn.entry.now.hearing conn.exit.now.hearing p result.0 told.entry.now told.exit.now (S.left input.entry.now) (S.left input.exit.now) (S.faults input.entry.now) (S.faults input.exit.now) result.1 × (result.1 ≡ Stopped → AreBytes conn.exit.now.hearing.part)) }
         {
             shared.start();
             let ended = read_side(

@@ -1,7 +1,8 @@
 use Rattle.std.proofs.Common.{[], List, ℕ, refl, sym, ap, subst, Ok}
 use Rattle.std.specs.Prelude.{Option}
 use Rattle.viewer_run.specs.declared.guest.Guest.{Guest}
-use Rattle.viewer_run.specs.Greeting.{greeting, Greets}
+use Rattle.conn_laws.specs.Placed.{AreBytes}
+use Rattle.viewer_run.specs.Greeting.{greeting, Greets, IsRestPlaced}
 use Rattle.viewer_run.proofs.Stretches.{same_none}
 use Rattle.viewer_run.proofs.Streams.{silent_steps, silent_after, silent_replies}
 use Rattle.viewer_run.proofs.Greeted.{greets_none, greets_then}
@@ -15,15 +16,16 @@ loop-init g c =
     let rf = g.S.Source.faults c.args.input.now in
     let wf = g.K.Sink.faults c.args.output.now in
     record {
-      heard = c.requires;
+      heard = c.requires.heard;
+      part = c.requires.part;
       buffer = c.in-Ok.ensures;
       greets = subst (λ (name : List ℕ). Greets h h [] name left left told told rf rf wf wf _) (sym c.new-name.ensures)
-          (greets_none h [] left left told rf rf wf _ (same_none left) (silent_replies h c.requires)
-          (refl, sym (silent_after h c.requires), ap (greeting []) (silent_steps h c.requires), refl, refl));
+          (greets_none h [] left left told rf rf wf _ (same_none left) (silent_replies h c.requires.heard)
+          (refl, sym (silent_after h c.requires.heard), ap (greeting []) (silent_steps h c.requires.heard), refl, refl));
     }
 
-pub returns-in-Ok-Some : goal.returns-in-Ok-Some
-returns-in-Ok-Some g c = (
+pub returns-in-Ok-Some-clause-greets : goal.returns-in-Ok-Some-clause-greets
+returns-in-Ok-Some-clause-greets g c = (
   c.greet_next.new.name,
   greets_then _ _ _ _ _ _ _ _ _ _ _ _ _ _ _ _ _ _ (Ok _) c.loop.invariant.greets
       (subst (λ (came : Option Guest). Greets c.loop.conn.hearing c.greet_next.new.conn.hearing c.loop.name c.greet_next.new.name (g.S.Source.left c.loop.input)
@@ -31,8 +33,8 @@ returns-in-Ok-Some g c = (
       (g.S.Source.faults c.greet_next.new.input) (g.K.Sink.faults c.loop.output) (g.K.Sink.faults c.greet_next.new.output) (Ok came)) c.in-Ok-Some.field-0-is c.in-Ok-Some.ensures.greets),
 )
 
-pub returns-in-Err : goal.returns-in-Err
-returns-in-Err g c = (c.greet_next.new.name, greets_then _ _ _ _ _ _ _ _ _ _ _ _ _ _ _ _ _ _ _ c.loop.invariant.greets c.in-Err.ensures.greets)
+pub returns-in-Err-clause-greets : goal.returns-in-Err-clause-greets
+returns-in-Err-clause-greets g c = (c.greet_next.new.name, greets_then _ _ _ _ _ _ _ _ _ _ _ _ _ _ _ _ _ _ _ c.loop.invariant.greets c.in-Err.ensures.greets)
 
 pub loop-preserved : goal.loop-preserved
 loop-preserved g c =
@@ -40,4 +42,7 @@ loop-preserved g c =
     (subst (λ (came : Option Guest). Greets c.loop.conn.hearing c.greet_next.new.conn.hearing c.loop.name c.greet_next.new.name (g.S.Source.left c.loop.input)
     (g.S.Source.left c.greet_next.new.input) (g.K.Sink.told c.loop.output) (g.K.Sink.told c.greet_next.new.output) (g.S.Source.faults c.loop.input)
     (g.S.Source.faults c.greet_next.new.input) (g.K.Sink.faults c.loop.output) (g.K.Sink.faults c.greet_next.new.output) (Ok came)) c.in-Ok-None.field-0-is c.in-Ok-None.ensures.greets) in
-    record { heard = (c.args.conn.now.hearing, all.fed, all.came.1); buffer = c.loop.invariant.buffer; greets = all }
+    record { heard = (c.args.conn.now.hearing, all.fed, all.came.1); part = c.in-Ok-None.ensures.placed.0; buffer = c.loop.invariant.buffer; greets = all }
+
+pub returns-in-Ok-Some-clause-placed : goal.returns-in-Ok-Some-clause-placed
+returns-in-Ok-Some-clause-placed g c = subst (λ (came : Option Guest). AreBytes c.greet_next.new.conn.hearing.part × IsRestPlaced came) c.in-Ok-Some.field-0-is c.in-Ok-Some.ensures.placed

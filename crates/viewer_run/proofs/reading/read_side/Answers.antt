@@ -1,8 +1,9 @@
 use Rattle.std.proofs.Common.{sym, ◌∙◌, subst, is_some}
 use Rattle.std.specs.Prelude.{true}
 use Rattle.serve_rules.specs.Reading.{ReadsOn}
-use Rattle.serve_rules.proofs.ReadOn.{reads_then}
-use Rattle.viewer_run.proofs.Stretches.{goes_on, reads_done, reads_lost}
+use Rattle.serve_rules.specs.declared.ends.ConnEnd.TheVariants.{OutOfMemory}
+use Rattle.serve_rules.proofs.ReadOn.{reads_then, not_stopped}
+use Rattle.viewer_run.proofs.Stretches.{goes_on, done_is_no_stop, reads_done, reads_lost}
 use Rattle.viewer_run.proofs.reading.read_side.Goals as goal
 
 pub returns-then-is_done-clause-reads : goal.returns-then-is_done-clause-reads
@@ -12,6 +13,15 @@ returns-then-is_done-clause-reads g c =
     let r = c.read_rest-pass in
     reads_done c.args.lock.now.head c.args.v (is_some c.args.flag) c.args.rest.now c.args.conn.now.hearing r.new.conn.hearing c.args.pass r.result.0 c.args.told.now r.new.told
     left left f f r.result.1 (sym c.is_done.ensures ∙ c.if-is_done.true) (r.ensures.reads left f)
+
+pub returns-then-is_done-clause-part : goal.returns-then-is_done-clause-part
+returns-then-is_done-clause-part g c = λ stopped. absurd (done_is_no_stop c.read_rest-pass.result.1 (sym c.is_done.ensures ∙ c.if-is_done.true) stopped)
+
+pub returns-in_default-clause-part : goal.returns-in_default-clause-part
+returns-in_default-clause-part g c = λ stopped. absurd (not_stopped OutOfMemory stopped)
+
+pub returns-then-is_done-2-clause-part : goal.returns-then-is_done-2-clause-part
+returns-then-is_done-2-clause-part g c = λ stopped. absurd (done_is_no_stop c.read_next-next.result.1 (sym c.is_done-in-loop.ensures ∙ c.if-is_done-2.true) stopped)
 
 pub returns-in_default-clause-reads : goal.returns-in_default-clause-reads
 returns-in_default-clause-reads g c =

@@ -1,0 +1,219 @@
+-- A viewer's sides and its first frame, until its connection ends.
+use Rattle.std.proofs.Common.{◌≡◌, ℕ, ◌<◌, List, [], ◌++◌, length, map, sym, refl, ap, ◌∙◌, subst, arith, append_assoc, append-nil, inl, inr}
+use Rattle.std.specs.Prelude.{Bool, true, false, ⊤, ◌⊎◌}
+use Rattle.std.specs.declared.option.Option.{Option}
+use Rattle.std.specs.Io.KnownBytes.{Consumes}
+use Rattle.edge_io.specs.Faults.{Rose}
+use Rattle.caps_sets.specs.declared.confirmed.Confirmed.{Confirmed}
+use Rattle.session_rules.specs.declared.entry.Entry.{Entry}
+use Rattle.session_rules.specs.Journal.{Head}
+use Rattle.session_rules.specs.Steps.{TakeOf}
+use Rattle.conn_rules.specs.declared.conn_step.ConnStep.{ConnStep}
+use Rattle.conn_rules.specs.Hearing.{Hearing, heard}
+use Rattle.frame_rules.specs.FrameBytes.{joined_bytes}
+use Rattle.frame_rules.specs.Encoder.{Encoder, bytes_of_takes, encoder_after_takes}
+use Rattle.viewer_sender.specs.Senders.{SenderModel, Follows}
+use Rattle.grow_lock.specs.Journal.{StartsWith}
+use Rattle.grow_lock.proofs.Lists.{starts_trans, length_starts}
+use Rattle.serve_rules.specs.Turns.{SessionPass}
+use Rattle.serve_rules.specs.Events.{IsWithin}
+use Rattle.serve_rules.specs.Notices.{Notice, notice_in}
+use Rattle.serve_rules.specs.Reading.{ReadsOn, ReadEnd, IsOrderly}
+use Rattle.serve_rules.specs.declared.ends.ConnEnd.{ConnEnd}
+use Rattle.serve_rules.specs.declared.ends.ConnEnd.TheVariants.{Left, Refused, Truncated, NotInvited, RoomFull, JoinsSpent, ReadFault, WriteFault, OutOfMemory}
+use Rattle.serve_rules.specs.declared.ends.SideEnd.{SideEnd}
+use Rattle.serve_rules.specs.declared.ends.SideEnd.TheVariants.{Done, Stopped}
+use Rattle.serve_rules.specs.declared.told.Told.{Told}
+use Rattle.serve_rules.proofs.Handling.{handles_nothing}
+use Rattle.serve_rules.proofs.Lists.{within_back}
+use Rattle.serve_rules.proofs.ReadOn.{reads_then}
+use Rattle.viewer_run.specs.Sending.{IsSendEnd, SendsOn}
+use Rattle.viewer_run.specs.Frames.{FirstSent}
+use Rattle.viewer_run.specs.Serving.{ViewEnd, ReadsTo, EndsSending, SidesServe, Attends, ended_by}
+use Rattle.viewer_run.proofs.FromFirst.{first_alone, first_then}
+use Rattle.viewer_run.proofs.Stretches.{same_none}
+use Rattle.viewer_run.proofs.TakesOn.{bytes_stay, encoder_stays}
+
+-- ---- the end of the reading is that of the connection
+
+view_end : (flagged : Bool) (left : Option (List ℕ)) (fed : List ℕ) (h : Hearing) (n : Notice) (f f' w w' : ℕ) (end : ConnEnd) → ReadEnd flagged left fed h n f f' (Done end)
+    → ViewEnd left fed h n f f' w w' end
+view_end flagged left fed h n f f' w w' Left e = e
+view_end flagged left fed h n f f' w w' (Refused k at) e = e
+view_end flagged left fed h n f f' w w' Truncated e = e
+view_end flagged left fed h n f f' w w' NotInvited e = e
+view_end flagged left fed h n f f' w w' RoomFull e = e
+view_end flagged left fed h n f f' w w' JoinsSpent e = e
+view_end flagged left fed h n f f' w w' ReadFault e = e
+view_end flagged left fed h n f f' w w' WriteFault e = absurd e
+view_end flagged left fed h n f f' w w' OutOfMemory e = tt
+
+-- and where it is that of the sending
+cut_end : (left : Option (List ℕ)) (fed : List ℕ) (h : Hearing) (n : Notice) (f f' w w' : ℕ) (end : ConnEnd) → IsSendEnd (Done end)
+    → (Done end ≡ Done WriteFault → Rose w w') → ViewEnd left fed h n f f' w w' end
+cut_end left fed h n f f' w w' Left only cause = absurd only
+cut_end left fed h n f f' w w' (Refused k at) only cause = absurd only
+cut_end left fed h n f f' w w' Truncated only cause = absurd only
+cut_end left fed h n f f' w w' NotInvited only cause = absurd only
+cut_end left fed h n f f' w w' RoomFull only cause = absurd only
+cut_end left fed h n f f' w w' JoinsSpent only cause = absurd only
+cut_end left fed h n f f' w w' ReadFault only cause = absurd only
+cut_end left fed h n f f' w w' WriteFault only cause = cause refl
+cut_end left fed h n f f' w w' OutOfMemory only cause = tt
+
+cut_only : (end : ConnEnd) → IsSendEnd (Done end) → (end ≡ WriteFault → ⊥) → (end ≡ OutOfMemory → ⊥) → ⊥
+cut_only Left only no_write no_memory = only
+cut_only (Refused k at) only no_write no_memory = only
+cut_only Truncated only no_write no_memory = only
+cut_only NotInvited only no_write no_memory = only
+cut_only RoomFull only no_write no_memory = only
+cut_only JoinsSpent only no_write no_memory = only
+cut_only ReadFault only no_write no_memory = only
+cut_only WriteFault only no_write no_memory = no_write refl
+cut_only OutOfMemory only no_write no_memory = no_memory refl
+
+module _ (head : Head) (v : ℕ) (rest : List ConnStep) (conn : Hearing) (p q : SessionPass) (told told' : Told) (left left' : Option (List ℕ)) (f f' w w' : ℕ) (end : ConnEnd) where
+  -- the stream was read to its end
+  pub read_to : (flagged : Bool) (conn' : Hearing) → ReadsOn head v rest flagged conn conn' p q told told' left left' f f' (Done end)
+      → ReadsTo head v rest conn p q told told' left left' f f' w w' end
+  read_to flagged conn' h = record {
+    fed = h.fed;
+    taken = h.taken;
+    steps = h.steps;
+    undone = h.undone;
+    front = h.front;
+    all = λ no_write no_memory. (h.all (λ is. no_memory (cc is))).0;
+    handles = h.handles;
+    room = h.room;
+    notice = h.notice;
+    ends = view_end flagged left h.fed (heard conn h.fed).after (notice_in told') f f' w w' end h.ends;
+  }
+
+  -- sending came to its end before
+  pub cut_to : (flagged : Bool) (conn' : Hearing) (read : SideEnd) → ReadsOn head v rest flagged conn conn' p q told told' left left' f f' read
+      → IsSendEnd (Done end) → (Done end ≡ Done WriteFault → Rose w w') → ReadsTo head v rest conn p q told told' left left' f f' w w' end
+  cut_to flagged conn' read h only cause = record {
+    fed = h.fed;
+    taken = h.taken;
+    steps = h.steps;
+    undone = h.undone;
+    front = h.front;
+    all = λ no_write no_memory. absurd (cut_only end only no_write no_memory);
+    handles = h.handles;
+    room = h.room;
+    notice = h.notice;
+    ends = cut_end left h.fed (heard conn h.fed).after (notice_in told') f f' w w' end only cause;
+  }
+
+-- nothing was read
+pub unread_to : (head : Head) (v : ℕ) (rest : List ConnStep) (conn : Hearing) (p : SessionPass) (told : Told) (left : Option (List ℕ)) (f w w' : ℕ) (end : ConnEnd)
+    → 0 < told.places.room → IsSendEnd (Done end) → (Done end ≡ Done WriteFault → Rose w w') → ReadsTo head v rest conn p p told told left left f f w w' end
+unread_to head v rest conn p told left f w w' end room only cause = record {
+  fed = [];
+  taken = same_none left;
+  steps = [];
+  undone = rest ++ (heard conn []).steps;
+  front = refl;
+  all = λ no_write no_memory. absurd (cut_only end only no_write no_memory);
+  handles = handles_nothing head v p told.places.list;
+  room = room;
+  notice = refl;
+  ends = cut_end left [] (heard conn []).after (notice_in told) f f w w' end only cause;
+}
+
+-- ---- what was sent stays so as the pass goes on
+
+pub sends_stay : (head : Head) (s s' : SenderModel) (p q r : SessionPass) (told told' : Option (List ℕ)) (f f' : ℕ) (end : SideEnd) (turns : List ℕ)
+    → SendsOn head s s' p q told told' f f' end → StartsWith r.seen q.seen → r.found ≡ q.found ++ turns → SendsOn head s s' p r told told' f f' end
+sends_stay head s s' p q r told told' f f' end turns h grows found =
+    let size = head.size in
+    let c = s.confirmed in
+    let bytes_same : (e : Encoder) → bytes_of_takes size c r.seen e h.takes ≡ bytes_of_takes size c q.seen e h.takes
+    = λ e. ap (λ (j : List Entry). bytes_of_takes size c j e h.takes) grows.1 ∙ bytes_stay size c q.seen grows.0 e h.takes s.number h.last h.follow h.within_seen in
+    let encoder_same : (e : Encoder) → encoder_after_takes size c r.seen e h.takes ≡ encoder_after_takes size c q.seen e h.takes
+    = λ e. ap (λ (j : List Entry). encoder_after_takes size c j e h.takes) grows.1 ∙ encoder_stays size c q.seen grows.0 e h.takes s.number h.last h.follow h.within_seen in
+    record {
+      takes = h.takes;
+      last = h.last;
+      follow = h.follow;
+      grows = starts_trans r.seen q.seen p.seen grows h.grows;
+      within_seen = omega (arith, h.within_seen, length_starts r.seen q.seen grows);
+      up_to_date = h.up_to_date;
+      more_found = h.more_found ++ turns;
+      found = found ∙ (ap (λ l. l ++ turns) h.found ∙ append_assoc p.found h.more_found turns);
+      in_found = within_back turns (map (λ (t : TakeOf). t.number) h.takes) h.more_found h.in_found;
+      written = h.written;
+      told = h.told;
+      bytes = λ e fol. let x = h.bytes e fol in (x.0, ap joined_bytes (bytes_same e) ∙ x.1, x.2);
+      after_is = λ stopped. let x = h.after_is stopped in (x.0, x.1, x.2, x.3, λ e fol. subst (Follows s') (sym (encoder_same e)) (x.4 e fol));
+      only = h.only;
+      cause = h.cause;
+      calm = h.calm;
+    }
+
+-- ---- both sides
+
+module _ (head : Head) (v : ℕ) (rest : List ConnStep) (conn conn' : Hearing) (s s' : SenderModel) (p q : SessionPass) (told told' : Told) (left left' : Option (List ℕ)) (f f' : ℕ)
+    (out out' : Option (List ℕ)) (w w' : ℕ) where
+  -- one of them met the connection's end
+  pub sides_ended : (read sent : SideEnd) (end : ConnEnd) → ReadsOn head v rest true conn conn' p q told told' left left' f f' read → SendsOn head s s' p q out out' w w' sent
+      → Done end ≡ ended_by read sent → SidesServe head v rest conn s s' p q told told' left left' f f' out out' w w' end
+  sides_ended read (Done other) end r d e =
+      let same : other ≡ end = sym (cc e) in
+      let sent : SendsOn head s s' p q out out' w w' (Done end) = subst (λ (x : ConnEnd). SendsOn head s s' p q out out' w w' (Done x)) same d in record {
+        reads = cut_to head v rest conn p q told told' left left' f f' w w' end true conn' read r sent.only sent.cause;
+        sent = Done end;
+        sends = sent;
+        ended = inr refl;
+      }
+  sides_ended read Stopped end r d e = record {
+    reads = read_to head v rest conn p q told told' left left' f f' w w' end true conn'
+        (subst (λ (x : SideEnd). ReadsOn head v rest true conn conn' p q told told' left left' f f' x) (sym e) r);
+    sent = Stopped;
+    sends = d;
+    ended = inl refl;
+  }
+
+  -- neither did, and the stream was read on
+  pub sides_read_on : (read sent : SideEnd) (end : ConnEnd) (conn'' : Hearing) (z : SessionPass) (told'' : Told) (left'' : Option (List ℕ)) (f'' : ℕ)
+      → ReadsOn head v rest true conn conn' p q told told' left left' f f' read → SendsOn head s s' p q out out' w w' sent → Stopped ≡ ended_by read sent
+      → ReadsOn head v [] false conn' conn'' q z told' told'' left' left'' f' f'' (Done end)
+      → SidesServe head v rest conn s s' p z told told'' left left'' f f'' out out' w w' end
+  sides_read_on read (Done other) end conn'' z told'' left'' f'' r d e on = absurd (cc e)
+  sides_read_on read Stopped end conn'' z told'' left'' f'' r d e on = record {
+    reads = read_to head v rest conn p z told told'' left left'' f f'' w w' end false conn''
+        (reads_then head v rest false conn conn' conn'' p q z told told' told'' left left' left'' f f' f'' (Done end)
+        (subst (λ (x : SideEnd). ReadsOn head v rest true conn conn' p q told told' left left' f f' x) (sym e) r) on);
+    sent = Stopped;
+    sends = sends_stay head s s' p q z out out' w w' Stopped on.handles.more_found d on.handles.grows on.handles.found;
+    ended = inl refl;
+  }
+
+-- where no end counts the read side was stopped
+pub read_stopped : (read sent : SideEnd) → Stopped ≡ ended_by read sent → read ≡ Stopped
+read_stopped read (Done other) e = absurd (cc e)
+read_stopped read Stopped e = sym e
+
+-- ---- the first frame before
+
+module _ (head : Head) (v : ℕ) (confirmed : Confirmed) (rest : List ConnStep) (conn : Hearing) where
+  -- it wasn't sent
+  pub attends_cut : (t : SenderModel) (p : SessionPass) (told : Told) (left : Option (List ℕ)) (f : ℕ) (out out' : Option (List ℕ)) (w w' : ℕ) (end : ConnEnd) → 0 < told.places.room
+      → FirstSent head v confirmed p.seen t out out' w w' (Done end) → Attends head v confirmed rest conn t p p told told left left f f out out' w w' end
+  attends_cut t p told left f out out' w w' end room a = record {
+    reads = unread_to head v rest conn p told left f w w' end room a.only a.cause;
+    sent = Done end;
+    frames = first_alone head v confirmed t p out out' w w' (Done end) a;
+    ended = inr refl;
+  }
+
+  -- it was, and both sides did their work
+  pub attends_all : (t u : SenderModel) (p q : SessionPass) (told told' : Told) (left left' : Option (List ℕ)) (f f' : ℕ) (out out' out'' : Option (List ℕ)) (w w' w'' : ℕ)
+      (end : ConnEnd) → FirstSent head v confirmed p.seen t out out' w w' Stopped → SidesServe head v rest conn t u p q told told' left left' f f' out' out'' w' w'' end
+      → Attends head v confirmed rest conn u p q told told' left left' f f' out out'' w w'' end
+  attends_all t u p q told told' left left' f f' out out' out'' w w' w'' end a b = record {
+    reads = subst (λ (n : ℕ). ReadsTo head v rest conn p q told told' left left' f f' n w'' end) (a.calm refl) b.reads;
+    sent = b.sent;
+    frames = first_then head v confirmed t u p q out out' out'' w w' w'' b.sent a b.sends;
+    ended = b.ended;
+  }

@@ -1,0 +1,64 @@
+-- A viewer's frames, from its first one on.
+use Rattle.std.specs.Prelude.{◌≡◌, ℕ, ◌≤◌, Bool, true, List, [], ◌∷◌, ◌++◌, length, map, ◌⊎◌}
+use Rattle.std.specs.declared.option.Option.{Option}
+use Rattle.std.specs.Io.KnownBytes.{Appends}
+use Rattle.px_core.specs.Tiles.{Tiles}
+use Rattle.caps_sets.specs.declared.confirmed.Confirmed.{Confirmed}
+use Rattle.edge_io.specs.Faults.{Rose}
+use Rattle.session_rules.specs.declared.entry.Entry.{Entry}
+use Rattle.session_rules.specs.Journal.{Head}
+use Rattle.session_rules.specs.Steps.{TakeOf, TakesFollow}
+use Rattle.frame_rules.specs.FrameBytes.{joined_bytes}
+use Rattle.frame_rules.specs.Encoder.{first_encoder, take_bytes, encoder_after, bytes_of_takes, encoder_after_takes}
+use Rattle.viewer_sender.specs.Senders.{SenderModel, IsIdle, Follows}
+use Rattle.grow_lock.specs.Journal.{StartsWith}
+use Rattle.serve_rules.specs.Turns.{SessionPass}
+use Rattle.serve_rules.specs.Events.{IsWithin}
+use Rattle.serve_rules.specs.declared.ends.ConnEnd.TheVariants.{WriteFault}
+use Rattle.serve_rules.specs.declared.ends.SideEnd.{SideEnd}
+use Rattle.serve_rules.specs.declared.ends.SideEnd.TheVariants.{Done, Stopped}
+use Rattle.viewer_run.specs.Sending.{AtLeast, IsSendEnd}
+
+-- a viewer's first take, over the journal of its Join's turn
+abbrev pub first_take : List Entry → Tiles → TakeOf
+first_take j asked = record { before = 0; number = length j; asked = asked }
+
+-- the frame of a viewer's first take was written, or a front of it where memory or the output failed; after it the sender follows the encoder
+pub record FirstSent (head : Head) (v : ℕ) (confirmed : Confirmed) (j : List Entry) (sender : SenderModel) (told_old told_new : Option (List ℕ)) (faults_old faults_new : ℕ)
+    (end : SideEnd) : Type 0 where
+  pub asked : Tiles
+  pub written : List ℕ
+  pub unwritten : List ℕ
+  pub bytes : take_bytes head.size confirmed j first_encoder (first_take j asked) ≡ written ++ unwritten
+  pub told : Appends told_old told_new written
+  pub all : end ≡ Stopped → unwritten ≡ []
+  pub after_is : end ≡ Stopped → (sender.v ≡ v) × (sender.confirmed ≡ confirmed) × (sender.number ≡ length j) × IsIdle sender
+      × Follows sender (encoder_after head.size confirmed j first_encoder (first_take j asked))
+  pub only : IsSendEnd end
+  pub cause : end ≡ Done WriteFault → Rose faults_old faults_new
+  pub calm : end ≡ Stopped → faults_new ≡ faults_old
+
+-- a viewer's frames from the first on, between its Join's turn and another state of the pass: each later take in a turn of its own behind it; a front of the bytes
+-- of all, in order, was written, and at `Stopped` all of them
+pub record FramesSent (head : Head) (v : ℕ) (confirmed : Confirmed) (sender : SenderModel) (joined after : SessionPass) (told_old told_new : Option (List ℕ))
+    (faults_old faults_new : ℕ) (end : SideEnd) : Type 0 where
+  pub asked : Tiles
+  pub later : List TakeOf
+  pub last : ℕ
+  pub follow : TakesFollow 0 (first_take joined.seen asked ∷ later) last
+  pub grows : StartsWith after.seen joined.seen
+  pub within_seen : last ≤ length after.seen
+  pub up_to_date : AtLeast (length joined.seen) later
+  pub more_found : List ℕ
+  pub found : after.found ≡ joined.found ++ more_found
+  pub in_found : IsWithin (map (λ (t : TakeOf). t.number) later) more_found
+  pub written : List ℕ
+  pub unwritten : List ℕ
+  pub bytes : joined_bytes (bytes_of_takes head.size confirmed after.seen first_encoder (first_take joined.seen asked ∷ later)) ≡ written ++ unwritten
+  pub told : Appends told_old told_new written
+  pub all : end ≡ Stopped → unwritten ≡ []
+  pub after_is : end ≡ Stopped → (sender.v ≡ v) × (sender.confirmed ≡ confirmed) × (sender.number ≡ last) × IsIdle sender
+      × Follows sender (encoder_after_takes head.size confirmed after.seen first_encoder (first_take joined.seen asked ∷ later))
+  pub only : IsSendEnd end
+  pub cause : end ≡ Done WriteFault → Rose faults_old faults_new
+  pub calm : end ≡ Stopped → faults_new ≡ faults_old

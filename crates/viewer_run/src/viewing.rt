@@ -1,0 +1,181 @@
+//! A viewer who has joined is attended to, until its connection ends.
+ghost use Rattle.std.specs.Prelude.{◌≡◌, ◌≤◌, ◌<◌, [], false, length, Ok};
+ghost use Rattle.conn_laws.specs.Placed.{AreBytes, ArePlaced};
+ghost use Rattle.viewer_sender.specs.Senders.{IsIdle};
+ghost use Rattle.grow_lock.specs.Passes.{IsPassOf};
+ghost use Rattle.serve_rules.specs.Reading.{ReadsOn};
+ghost use Rattle.serve_rules.specs.declared.ends.SideEnd.TheVariants.{Done, Stopped};
+ghost use Rattle.viewer_run.specs.Sending.{IsNext, SendsTaken, SendsOn};
+ghost use Rattle.viewer_run.specs.Visiting.{IsFirst, IsShownAll};
+ghost use Rattle.viewer_run.specs.Serving.{SidesServe, Attends, ended_by};
+
+use crate::frames::send_first;
+use crate::reading::{NO_MEMORY, read_side};
+use crate::sends::send_frame;
+use crate::sides::run_sides;
+use crate::visits::{FirstFrame, take_last};
+use crate::{ConnEnd, OutOfMemory, SideEnd, Told};
+use conn_core::Conn;
+use conn_rules::ConnStep;
+use edge_io::{Sink, Source};
+use grow_lock::{GrowLock, Pass};
+use session_core::Session;
+use std::alloc::Global;
+use std::sync::Wait;
+use std::thread::Threads;
+use viewer_sender::{Sender, Taken};
+
+/// Sends a viewer's first frame, and then runs both its sides until the connection ends.
+pub fn attend<R: Threads + Wait + Sync, S: Source + Send, K: Sink + Send>(
+    rt: &R,
+    alloc: Global,
+    lock: &GrowLock<Session>,
+    pass: Pass<Session>,
+    v: u32,
+    conn: &mut Conn,
+    rest: &[ConnStep],
+    told: &mut Told,
+    first: FirstFrame,
+    input: &mut S,
+    output: &mut K,
+) -> (Pass<Session>, Sender, ConnEnd)
+    requires lock { IsPassOf lock.now pass }
+    requires part { AreBytes conn.old.hearing.part }
+    requires placed { ArePlaced rest.now }
+    requires room { 0 < told.old.places.room }
+    requires first { IsFirst lock.now.head pass.seen v first.sender.confirmed (Ok first) }
+    ensures lock { IsPassOf lock.now result.0 }
+    ensures attends { Attends lock.now.head v first.sender.confirmed rest.now conn.old.hearing result.1 pass result.0 told.old told.new (S.left input.old) (S.left input.new)
+        (S.faults input.old) (S.faults input.new) (K.told output.old) (K.told output.new) (K.faults output.old) (K.faults output.new) result.2 }
+{
+    let (mut sender, sent) = send_first(alloc, first, output);
+    match sent {
+        SideEnd::Done { end } => (pass, sender, end),
+        SideEnd::Stopped => {
+            let (pass, end) = serve_sides(
+                rt,
+                alloc,
+                lock,
+                pass,
+                v,
+                conn,
+                rest,
+                told,
+                &mut sender,
+                input,
+                output,
+            );
+            (pass, sender, end)
+        }
+    }
+}
+
+/// Runs both sides of a viewer, and reads its stream on where neither met the connection's end.
+fn serve_sides<R: Threads + Wait + Sync, S: Source + Send, K: Sink + Send>(
+    rt: &R,
+    alloc: Global,
+    lock: &GrowLock<Session>,
+    pass: Pass<Session>,
+    v: u32,
+    conn: &mut Conn,
+    rest: &[ConnStep],
+    told: &mut Told,
+    sender: &mut Sender,
+    input: &mut S,
+    output: &mut K,
+) -> (Pass<Session>, ConnEnd)
+    requires lock { IsPassOf lock.now pass }
+    requires part { AreBytes conn.old.hearing.part }
+    requires placed { ArePlaced rest.now }
+    requires room { 0 < told.old.places.room }
+    requires viewer { sender.old.v ≡ v }
+    requires idle { IsIdle sender.old }
+    requires seen { sender.old.number ≤ length pass.seen }
+    ensures lock { IsPassOf lock.now result.0 }
+    ensures serves { SidesServe lock.now.head v rest.now conn.old.hearing sender.old sender.new pass result.0 told.old told.new (S.left input.old) (S.left input.new)
+        (S.faults input.old) (S.faults input.new) (K.told output.old) (K.told output.new) (K.faults output.old) (K.faults output.new) result.1 }
+{
+    let (pass, read, sent) = run_sides(
+        rt, alloc, lock, pass, v, conn, rest, told, sender, input, output,
+    );
+    match ended_by(read, sent) {
+        SideEnd::Done { end } => (pass, end),
+        SideEnd::Stopped => read_out(rt, alloc, lock, pass, v, conn, told, input),
+    }
+}
+
+/// Which of both sides' ends counts: that of the sending, where that didn't stop.
+fn ended_by(read: SideEnd, sent: SideEnd) -> SideEnd
+    ensures { result ≡ ended_by read sent }
+{
+    match sent {
+        SideEnd::Done { end } => SideEnd::Done { end },
+        SideEnd::Stopped => read,
+    }
+}
+
+/// Reads a viewer's stream on to its end.
+fn read_out<R: Wait, S: Source>(
+    rt: &R,
+    alloc: Global,
+    lock: &GrowLock<Session>,
+    pass: Pass<Session>,
+    v: u32,
+    conn: &mut Conn,
+    told: &mut Told,
+    input: &mut S,
+) -> (Pass<Session>, ConnEnd)
+    requires lock { IsPassOf lock.now pass }
+    requires part { AreBytes conn.old.hearing.part }
+    requires room { 0 < told.old.places.room }
+    ensures lock { IsPassOf lock.now result.0 }
+    ensures reads { ReadsOn lock.now.head v [] false conn.old.hearing conn.new.hearing pass result.0 told.old told.new
+        (S.left input.old) (S.left input.new) (S.faults input.old) (S.faults input.new) (Done result.1) }
+{
+    let (pass, ended) = read_side(rt, alloc, lock, pass, v, conn, &[], told, input, None);
+    match ended {
+        SideEnd::Done { end } => (pass, end),
+        SideEnd::Stopped => unreachable!(),
+    }
+}
+
+/// Output is allowed again, and a viewer's last frame is taken and sent. `Stopped` says that no fault came.
+pub fn send_last<R: Wait, K: Sink>(
+    rt: &R,
+    alloc: Global,
+    lock: &GrowLock<Session>,
+    pass: Pass<Session>,
+    v: u32,
+    sender: &mut Sender,
+    output: &mut K,
+) -> (Pass<Session>, SideEnd)
+    requires lock { IsPassOf lock.now pass }
+    requires viewer { sender.old.v ≡ v }
+    requires idle { IsIdle sender.old }
+    requires seen { sender.old.number ≤ length pass.seen }
+    ensures lock { IsPassOf lock.now result.0 }
+    ensures mine { result.0.mine ≡ pass.mine }
+    ensures sends { SendsOn lock.now.head sender.old sender.new pass result.0 (K.told output.old) (K.told output.new) (K.faults output.old) (K.faults output.new) result.1 }
+    ensures whole { IsShownAll lock.now.head v result.0.seen sender.new.number result.1 }
+{
+    let (pass, taken) = take_last(rt, alloc, lock, pass, v, sender);
+    let end = send_last_taken(alloc, taken, sender, output);
+    (pass, end)
+}
+
+/// Sends what the last take found.
+fn send_last_taken<K: Sink>(
+    alloc: Global,
+    taken: Result<Taken, OutOfMemory>,
+    sender: &mut Sender,
+    output: &mut K,
+) -> SideEnd
+    requires { IsNext taken sender.old }
+    ensures { SendsTaken taken sender.old sender.new (K.told output.old) (K.told output.new) (K.faults output.old) (K.faults output.new) result }
+{
+    match taken {
+        Ok(Taken::Frame(take)) => send_frame(alloc, take, sender, output),
+        Ok(Taken::Nothing) => SideEnd::Stopped,
+        Err(OutOfMemory) => NO_MEMORY,
+    }
+}
