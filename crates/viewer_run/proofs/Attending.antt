@@ -1,8 +1,7 @@
 -- A viewer's sides and its first frame, until its connection ends.
-use Rattle.std.proofs.Common.{◌≡◌, ℕ, ◌<◌, List, [], ◌++◌, length, map, sym, refl, ap, ◌∙◌, subst, arith, append_assoc, append-nil, inl, inr}
-use Rattle.std.specs.Prelude.{Bool, true, false, ⊤, ◌⊎◌}
+use Rattle.std.proofs.Common.{◌≡◌, ℕ, ◌<◌, ⊎_elim, List, [], ◌++◌, map, sym, refl, ap, ◌∙◌, subst, arith, append_assoc, inl, inr}
+use Rattle.std.specs.Prelude.{Bool, true, false}
 use Rattle.std.specs.declared.option.Option.{Option}
-use Rattle.std.specs.Io.KnownBytes.{Consumes}
 use Rattle.edge_io.specs.Faults.{Rose}
 use Rattle.caps_sets.specs.declared.confirmed.Confirmed.{Confirmed}
 use Rattle.session_rules.specs.declared.entry.Entry.{Entry}
@@ -16,21 +15,20 @@ use Rattle.viewer_sender.specs.Senders.{SenderModel, Follows}
 use Rattle.grow_lock.specs.Journal.{StartsWith}
 use Rattle.grow_lock.proofs.Lists.{starts_trans, length_starts}
 use Rattle.serve_rules.specs.Turns.{SessionPass}
-use Rattle.serve_rules.specs.Events.{IsWithin}
-use Rattle.serve_rules.specs.Notices.{Notice, notice_in}
-use Rattle.serve_rules.specs.Reading.{ReadsOn, ReadEnd, IsOrderly}
+use Rattle.serve_rules.specs.Notices.{Notice, events_in, notice_in}
+use Rattle.serve_rules.specs.Reading.{ReadsOn, ReadEnd}
 use Rattle.serve_rules.specs.declared.ends.ConnEnd.{ConnEnd}
 use Rattle.serve_rules.specs.declared.ends.ConnEnd.TheVariants.{Left, Refused, Truncated, NotInvited, RoomFull, JoinsSpent, ReadFault, WriteFault, OutOfMemory}
 use Rattle.serve_rules.specs.declared.ends.SideEnd.{SideEnd}
 use Rattle.serve_rules.specs.declared.ends.SideEnd.TheVariants.{Done, Stopped}
 use Rattle.serve_rules.specs.declared.told.Told.{Told}
-use Rattle.serve_rules.proofs.Handling.{handles_nothing}
+use Rattle.serve_rules.proofs.Handling.{handles_nothing, handles_more}
 use Rattle.serve_rules.proofs.Lists.{within_back}
 use Rattle.serve_rules.proofs.ReadOn.{reads_then}
 use Rattle.viewer_run.specs.Sending.{IsSendEnd, SendsOn}
-use Rattle.viewer_run.specs.Frames.{FirstSent}
-use Rattle.viewer_run.specs.Serving.{ViewEnd, ReadsTo, EndsSending, SidesServe, Attends, ended_by}
-use Rattle.viewer_run.proofs.FromFirst.{first_alone, first_then}
+use Rattle.viewer_run.specs.Frames.{FirstSent, FramesSent}
+use Rattle.viewer_run.specs.Serving.{ViewEnd, ReadsTo, EndsSending, SidesServe, Attends, ended_by, wants_last, end_of_last}
+use Rattle.viewer_run.proofs.FromFirst.{first_alone, first_then, frames_then}
 use Rattle.viewer_run.proofs.Stretches.{same_none}
 use Rattle.viewer_run.proofs.TakesOn.{bytes_stay, encoder_stays}
 
@@ -217,3 +215,67 @@ module _ (head : Head) (v : ℕ) (confirmed : Confirmed) (rest : List ConnStep) 
     frames = first_then head v confirmed t u p q out out' out'' w w' w'' b.sent a b.sends;
     ended = b.ended;
   }
+
+-- ---- the last frame behind
+
+left_only : (end : ConnEnd) → IsSendEnd (Done end) → end ≡ Left → ⊥
+left_only end only is = subst (λ (x : ConnEnd). IsSendEnd (Done x)) is only
+
+-- a stream that was left was sent to so far
+pub left_stopped : (sent : SideEnd) (end : ConnEnd) → EndsSending sent end → IsSendEnd sent → end ≡ Left → sent ≡ Stopped
+left_stopped sent end e only is = ⊎_elim (λ l. l) (λ r. absurd (left_only end (subst IsSendEnd r only) is)) e
+
+pub wants_left : (end : ConnEnd) (n : Notice) → wants_last end n ≡ true → end ≡ Left
+wants_left Left n e = refl
+wants_left (Refused k at) n e = absurd (cc e)
+wants_left Truncated n e = absurd (cc e)
+wants_left NotInvited n e = absurd (cc e)
+wants_left RoomFull n e = absurd (cc e)
+wants_left JoinsSpent n e = absurd (cc e)
+wants_left ReadFault n e = absurd (cc e)
+wants_left WriteFault n e = absurd (cc e)
+wants_left OutOfMemory n e = absurd (cc e)
+
+-- the connection's end behind it
+last_end : (left : Option (List ℕ)) (fed : List ℕ) (h : Hearing) (n : Notice) (f f' w w' : ℕ) (sent : SideEnd) → IsSendEnd sent → (sent ≡ Done WriteFault → Rose w w')
+    → ViewEnd left fed h n f f' w w' Left → ViewEnd left fed h n f f' w w' (end_of_last sent)
+last_end left fed h n f f' w w' (Done end) only cause e = cut_end left fed h n f f' w w' end only cause
+last_end left fed h n f f' w w' Stopped only cause e = e
+
+ends_last : (sent : SideEnd) → EndsSending sent (end_of_last sent)
+ends_last (Done end) = inr refl
+ends_last Stopped = inl refl
+
+module _ (head : Head) (v : ℕ) (confirmed : Confirmed) (rest : List ConnStep) (conn : Hearing) where
+  pub attends_last : (t u : SenderModel) (p q r : SessionPass) (told told' : Told) (left left' : Option (List ℕ)) (f f' : ℕ) (out out' out'' : Option (List ℕ)) (w w' w'' : ℕ)
+      (end : ConnEnd) (sent : SideEnd) → Attends head v confirmed rest conn t p q told told' left left' f f' out out' w w' end → end ≡ Left
+      → SendsOn head t u q r out' out'' w' w'' sent → r.mine ≡ q.mine
+      → Attends head v confirmed rest conn u p r told told' left left' f f' out out'' w w'' (end_of_last sent)
+  attends_last t u p q r told told' left left' f f' out out' out'' w w' w'' end sent a is d mine =
+      let h = a.reads in
+      let frames : FramesSent head v confirmed t p q out out' w w' Stopped
+      = subst (FramesSent head v confirmed t p q out out' w w') (left_stopped a.sent end a.ended a.frames.only is) a.frames in
+      let both : FramesSent head v confirmed u p r out out'' w w'' sent = frames_then head v confirmed t u p q r out out' out'' w w' w'' sent frames d in
+      record {
+        reads = record {
+          fed = h.fed;
+          taken = h.taken;
+          steps = h.steps;
+          undone = h.undone;
+          front = h.front;
+          all = λ no_write no_memory. h.all (λ wrote. absurd (cc (sym is ∙ wrote))) (λ wanted. absurd (cc (sym is ∙ wanted)));
+          handles = handles_more head v (events_in h.steps) p q r told.places.list told'.places.list d.more_found h.handles d.grows d.found mine;
+          room = h.room;
+          notice = h.notice;
+          ends = last_end left h.fed (heard conn h.fed).after (notice_in told') f f' w w'' sent d.only both.cause
+              (subst (ViewEnd left h.fed (heard conn h.fed).after (notice_in told') f f' w w') is h.ends);
+        };
+        sent = sent;
+        frames = both;
+        ended = ends_last sent;
+      }
+
+-- a last frame is due at no end of its sending but a stop
+pub last_stopped : (sent : SideEnd) (n : Notice) → IsSendEnd sent → wants_last (end_of_last sent) n ≡ true → sent ≡ Stopped
+last_stopped (Done end) n only e = absurd (left_only end only (wants_left end n e))
+last_stopped Stopped n only e = refl

@@ -1,10 +1,8 @@
 -- A viewer's first frame, and the frames behind it.
-use Rattle.std.proofs.Common.{◌≡◌, ℕ, ◌+◌, ◌≤◌, List, [], ◌∷◌, ◌++◌, length, sym, refl, ap, ap₂, ◌∙◌, subst, arith, append_assoc, append-nil}
+use Rattle.std.proofs.Common.{◌≡◌, ℕ, ◌+◌, ◌≤◌, List, [], ◌∷◌, ◌++◌, length, sym, refl, ap, ap₂, ◌∙◌, subst, arith, append_assoc, append-nil, map}
 use Rattle.std.proofs.KnownBytes.{Appends-trans}
-use Rattle.std.specs.Prelude.{Result, Ok}
 use Rattle.std.specs.declared.option.Option.{Option}
 use Rattle.edge_io.specs.Faults.{Rose}
-use Rattle.px_core.specs.Tiles.{Tiles}
 use Rattle.px_core.specs.declared.surface.Size.{Size}
 use Rattle.caps_sets.specs.declared.confirmed.Confirmed.{Confirmed}
 use Rattle.session_rules.specs.declared.entry.Entry.{Entry}
@@ -16,15 +14,18 @@ use Rattle.frame_rules.specs.FrameBytes.{joined_bytes, frame_bytes}
 use Rattle.frame_rules.specs.Encoder.{Encoder, first_encoder, take_bytes, encoder_after, encoder_after_frame, bytes_of_takes, encoder_after_takes}
 use Rattle.frame_rules.proofs.FrameLaws.{take_bytes-append, encoder_after-append}
 use Rattle.frame_plan.specs.Takes.{TakeModel, taken_as}
-use Rattle.viewer_sender.specs.Senders.{SenderModel, StandsFor, Follows, IsIdle}
-use Rattle.grow_lock.specs.Journal.{StartsWith}
-use Rattle.grow_lock.proofs.Lists.{starts_itself, length_starts}
+use Rattle.viewer_sender.specs.Senders.{SenderModel, StandsFor, Follows}
+use Rattle.grow_lock.proofs.Lists.{starts_itself, starts_trans, length_starts}
 use Rattle.serve_rules.specs.Turns.{SessionPass}
 use Rattle.serve_rules.specs.declared.ends.SideEnd.{SideEnd}
-use Rattle.serve_rules.specs.declared.ends.SideEnd.TheVariants.{Done, Stopped}
+use Rattle.serve_rules.specs.declared.ends.SideEnd.TheVariants.{Stopped}
 use Rattle.viewer_run.specs.Sending.{TakesFrame, SendsFrame, SendsOn}
 use Rattle.viewer_run.specs.Visiting.{IsFresh}
 use Rattle.viewer_run.specs.Frames.{first_take, FirstSent, FramesSent}
+use Rattle.std.proofs.lemmas.List.{map-append}
+use Rattle.serve_rules.specs.Events.{IsWithin}
+use Rattle.serve_rules.proofs.Lists.{within_then}
+use Rattle.viewer_run.proofs.TakesOn.{follow_then, at_least_lower, at_least_then, joined_then, bytes_then, encoder_then, bytes_stay, encoder_stays}
 use Rattle.viewer_run.proofs.OneTake.{stands_taken}
 
 -- the first take's frame was sent
@@ -137,6 +138,57 @@ module _ (head : Head) (v : ℕ) (confirmed : Confirmed) where
           z.2,
           z.3,
           subst (Follows u) (sym (ap₂ (λ (d : Confirmed) (k : Encoder). encoder_after_takes size d q.seen k b.takes) (sym w.1) mid_same)) (z.4 mid w.4),
+        );
+        only = b.only;
+        cause = λ is. subst (λ (n : ℕ). Rose n f'') (a.calm refl) (b.cause is);
+        calm = λ stopped. b.calm stopped ∙ a.calm refl;
+      }
+
+  -- further frames behind all of these
+  pub frames_then : (t u : SenderModel) (p q r : SessionPass) (told told' told'' : Option (List ℕ)) (f f' f'' : ℕ) (end : SideEnd)
+      → FramesSent head v confirmed t p q told told' f f' Stopped → SendsOn head t u q r told' told'' f' f'' end → FramesSent head v confirmed u p r told told'' f f'' end
+  frames_then t u p q r told told' told'' f f' f'' end a b =
+      let size = head.size in
+      let w = a.after_is refl in
+      let takes : List TakeOf = first_take p.seen a.asked ∷ a.later in
+      let e : Encoder = first_encoder in
+      let mid : Encoder = encoder_after_takes size confirmed q.seen e takes in
+      let bytes_same : bytes_of_takes size confirmed r.seen e takes ≡ bytes_of_takes size confirmed q.seen e takes
+      = ap (λ (j : List Entry). bytes_of_takes size confirmed j e takes) b.grows.1 ∙ bytes_stay size confirmed q.seen b.grows.0 e takes 0 a.last a.follow a.within_seen in
+      let mid_same : encoder_after_takes size confirmed r.seen e takes ≡ mid
+      = ap (λ (j : List Entry). encoder_after_takes size confirmed j e takes) b.grows.1 ∙ encoder_stays size confirmed q.seen b.grows.0 e takes 0 a.last a.follow a.within_seen in
+      let y = b.bytes mid w.4 in
+      let first_bytes : joined_bytes (bytes_of_takes size confirmed r.seen e takes) ≡ a.written
+      = ap joined_bytes bytes_same ∙ (a.bytes ∙ (ap (λ l. a.written ++ l) (a.all refl) ∙ append-nil a.written)) in
+      let later_bytes : joined_bytes (bytes_of_takes size confirmed r.seen (encoder_after_takes size confirmed r.seen e takes) b.takes) ≡ b.written ++ y.0
+      = ap₂ (λ (d : Confirmed) (k : Encoder). joined_bytes (bytes_of_takes size d r.seen k b.takes)) (sym w.1) mid_same ∙ y.1 in
+      let longer : length p.seen ≤ length q.seen = length_starts q.seen p.seen a.grows in
+      record {
+        asked = a.asked;
+        later = a.later ++ b.takes;
+        last = b.last;
+        follow = follow_then 0 takes b.takes a.last b.last a.follow (subst (λ (n : ℕ). TakesFollow n b.takes b.last) w.2 b.follow);
+        grows = starts_trans r.seen q.seen p.seen b.grows a.grows;
+        within_seen = b.within_seen;
+        up_to_date = at_least_then (length p.seen) a.later b.takes a.up_to_date (at_least_lower (length q.seen) (length p.seen) b.takes longer b.up_to_date);
+        more_found = a.more_found ++ b.more_found;
+        found = b.found ∙ (ap (λ l. l ++ b.more_found) a.found ∙ append_assoc p.found a.more_found b.more_found);
+        in_found = subst (λ l. IsWithin l (a.more_found ++ b.more_found)) (sym (map-append (λ (t : TakeOf). t.number) a.later b.takes))
+            (within_then (map (λ (t : TakeOf). t.number) a.later) a.more_found (map (λ (t : TakeOf). t.number) b.takes) b.more_found a.in_found b.in_found);
+        written = a.written ++ b.written;
+        unwritten = y.0;
+        bytes = ap joined_bytes (bytes_then size confirmed r.seen e takes b.takes)
+            ∙ (joined_then (bytes_of_takes size confirmed r.seen e takes) (bytes_of_takes size confirmed r.seen (encoder_after_takes size confirmed r.seen e takes) b.takes)
+            ∙ (ap₂ ◌++◌ first_bytes later_bytes ∙ sym (append_assoc a.written b.written y.0)));
+        told = Appends-trans told told' told'' a.written b.written a.told b.told;
+        all = y.2;
+        after_is = λ stopped. let z = b.after_is stopped in (
+          z.0 ∙ w.0,
+          z.1 ∙ w.1,
+          z.2,
+          z.3,
+          subst (Follows u) (sym (encoder_then size confirmed r.seen e takes b.takes
+              ∙ ap₂ (λ (d : Confirmed) (k : Encoder). encoder_after_takes size d r.seen k b.takes) (sym w.1) mid_same)) (z.4 mid w.4),
         );
         only = b.only;
         cause = λ is. subst (λ (n : ℕ). Rose n f'') (a.calm refl) (b.cause is);

@@ -1,10 +1,10 @@
 -- What is done for a client that is ready.
-use Rattle.std.specs.Prelude.{◌≡◌, ℕ, ◌<◌, ⊤, false, List, [], ◌++◌, ◌⊎◌}
+use Rattle.std.specs.Prelude.{◌≡◌, ℕ, ◌<◌, ⊤, Bool, true, false, not, ◌&&◌, List, [], ◌++◌, length, ◌⊎◌}
 use Rattle.std.specs.declared.option.Option.{Option}
 use Rattle.std.specs.Io.KnownBytes.{Consumes}
 use Rattle.edge_io.specs.Faults.{Rose}
 use Rattle.caps_sets.specs.declared.confirmed.Confirmed.{Confirmed}
-use Rattle.session_rules.specs.Journal.{Head}
+use Rattle.session_rules.specs.Journal.{Head, is_present, reached_at}
 use Rattle.conn_rules.specs.declared.conn_step.ConnStep.{ConnStep}
 use Rattle.conn_rules.specs.Hearing.{Hearing, heard}
 use Rattle.viewer_sender.specs.Senders.{SenderModel}
@@ -71,3 +71,25 @@ pub record Attends (head : Head) (v : ℕ) (confirmed : Confirmed) (rest : List 
 abbrev pub ended_by : SideEnd → SideEnd → SideEnd
 ended_by read (Done end) = Done end
 ended_by read Stopped = read
+
+-- whether a last frame is due at an end: the client left without a Bye, and its last word on output isn't that it stops
+abbrev pub wants_last : ConnEnd → Notice → Bool
+wants_last Left n = not n.bye && not n.quiet
+wants_last (Refused k at) n = false
+wants_last Truncated n = false
+wants_last NotInvited n = false
+wants_last RoomFull n = false
+wants_last JoinsSpent n = false
+wants_last ReadFault n = false
+wants_last WriteFault n = false
+wants_last OutOfMemory n = false
+
+-- the connection's end after its last frame
+abbrev pub end_of_last : SideEnd → ConnEnd
+end_of_last (Done end) = end
+end_of_last Stopped = Left
+
+-- a viewer who is still present when its connection has ended in such a way has a frame with all of the journal
+abbrev pub IsShownLast : Head → ℕ → SessionPass → SenderModel → ConnEnd → Notice → Type 0
+IsShownLast head v after sender end n = wants_last end n ≡ true → is_present v (reached_at head.size after.seen (length after.seen)).viewers ≡ true
+    → sender.number ≡ length after.seen

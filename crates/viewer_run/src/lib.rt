@@ -24,5 +24,5 @@ pub use serve_rules::{ConnEnd, ConnReport, Places, SideEnd, Told};
 pub use sides::run_sides;
 pub use steps::do_steps;
 pub use turns::{handle_event, refresh, suppress};
-pub use viewing::{attend, send_last};
+pub use viewing::{attend, attend_whole, send_last};
 pub use visits::{Arrival, FirstFrame, arrive, depart, take_last};

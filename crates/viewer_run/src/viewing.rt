@@ -7,7 +7,8 @@ ghost use Rattle.serve_rules.specs.Reading.{ReadsOn};
 ghost use Rattle.serve_rules.specs.declared.ends.SideEnd.TheVariants.{Done, Stopped};
 ghost use Rattle.viewer_run.specs.Sending.{IsNext, SendsTaken, SendsOn};
 ghost use Rattle.viewer_run.specs.Visiting.{IsFirst, IsShownAll};
-ghost use Rattle.viewer_run.specs.Serving.{SidesServe, Attends, ended_by};
+ghost use Rattle.viewer_run.specs.Serving.{SidesServe, Attends, IsShownLast, ended_by, wants_last, end_of_last};
+ghost use Rattle.serve_rules.specs.Notices.{notice_in};
 
 use crate::frames::send_first;
 use crate::reading::{NO_MEMORY, read_side};
@@ -67,6 +68,67 @@ pub fn attend<R: Threads + Wait + Sync, S: Source + Send, K: Sink + Send>(
             );
             (pass, sender, end)
         }
+    }
+}
+
+/// Attends to a viewer who has joined, and sends its last frame where one is due.
+pub fn attend_whole<R: Threads + Wait + Sync, S: Source + Send, K: Sink + Send>(
+    rt: &R,
+    alloc: Global,
+    lock: &GrowLock<Session>,
+    pass: Pass<Session>,
+    v: u32,
+    conn: &mut Conn,
+    rest: &[ConnStep],
+    told: &mut Told,
+    first: FirstFrame,
+    input: &mut S,
+    output: &mut K,
+) -> (Pass<Session>, Sender, ConnEnd)
+    requires lock { IsPassOf lock.now pass }
+    requires part { AreBytes conn.old.hearing.part }
+    requires placed { ArePlaced rest.now }
+    requires room { 0 < told.old.places.room }
+    requires first { IsFirst lock.now.head pass.seen v first.sender.confirmed (Ok first) }
+    ensures lock { IsPassOf lock.now result.0 }
+    ensures attends { Attends lock.now.head v first.sender.confirmed rest.now conn.old.hearing result.1 pass result.0 told.old told.new (S.left input.old) (S.left input.new)
+        (S.faults input.old) (S.faults input.new) (K.told output.old) (K.told output.new) (K.faults output.old) (K.faults output.new) result.2 }
+    ensures whole { IsShownLast lock.now.head v result.0 result.1 result.2 (notice_in told.new) }
+{
+    let (pass, mut sender, end) = attend(
+        rt, alloc, lock, pass, v, conn, rest, told, first, input, output,
+    );
+    if wants_last(end, told) {
+        let (pass, sent) = send_last(rt, alloc, lock, pass, v, &mut sender, output);
+        return (pass, sender, end_of_last(sent));
+    }
+    (pass, sender, end)
+}
+
+/// Whether a last frame is due at an end.
+fn wants_last(end: ConnEnd, told: &Told) -> bool
+    ensures { result ≡ wants_last end (notice_in told.now) }
+{
+    match end {
+        ConnEnd::Left => !told.bye && !told.quiet,
+        ConnEnd::Refused { .. }
+        | ConnEnd::Truncated
+        | ConnEnd::NotInvited
+        | ConnEnd::RoomFull
+        | ConnEnd::JoinsSpent
+        | ConnEnd::ReadFault
+        | ConnEnd::WriteFault
+        | ConnEnd::OutOfMemory => false,
+    }
+}
+
+/// The connection's end after its last frame.
+fn end_of_last(sent: SideEnd) -> ConnEnd
+    ensures { result ≡ end_of_last sent }
+{
+    match sent {
+        SideEnd::Done { end } => end,
+        SideEnd::Stopped => ConnEnd::Left,
     }
 }
 

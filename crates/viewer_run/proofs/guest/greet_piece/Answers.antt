@@ -1,5 +1,5 @@
 use Rattle.std.proofs.Common.{◌<◌, Fits, w8, sym, subst, arith}
-use Rattle.std.specs.Prelude.{slice_index_or, List, Option, Ok}
+use Rattle.std.specs.Prelude.{slice_index_or, Option, Ok}
 use Rattle.std.proofs.lemmas.List.Elements.{All-from_get_or}
 use Rattle.conn_laws.specs.Placed.{AreBytes, ArePlaced}
 use Rattle.viewer_run.specs.declared.guest.Guest.{Guest}

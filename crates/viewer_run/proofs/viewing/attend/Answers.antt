@@ -1,4 +1,4 @@
-use Rattle.std.proofs.Common.{◌≡◌, ◌≤◌, length, sym, subst, arith}
+use Rattle.std.proofs.Common.{◌≡◌, length, subst, arith}
 use Rattle.std.specs.Prelude.{Ok}
 use Rattle.frame_plan.specs.declared.taken.Taken.TheVariants.{Frame}
 use Rattle.viewer_run.specs.Frames.{FirstSent}

@@ -1,4 +1,4 @@
-use Rattle.std.proofs.Common.{List, ℕ, ◌∙◌, append-nil, subst}
+use Rattle.std.proofs.Common.{◌∙◌, append-nil, subst}
 use Rattle.serve_rules.specs.declared.ends.SideEnd.{SideEnd}
 use Rattle.viewer_run.specs.Sending.{SendsTaken}
 use Rattle.viewer_run.proofs.OneTake.{sends_one, next_is, shown_all}
