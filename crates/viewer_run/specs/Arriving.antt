@@ -23,13 +23,17 @@ use Rattle.viewer_run.specs.declared.visits.FirstFrame.{FirstFrame}
 abbrev pub IsFirstOfSome : Head → List Entry → ℕ → Result FirstFrame OutOfMemory → Type 0
 IsFirstOfSome head j v first = (confirmed : Confirmed) × IsFirst head j v confirmed first
 
+-- nothing was noted, read or written
+abbrev pub IsUntouched : Told → Told → std_option.Option (List ℕ) → std_option.Option (List ℕ) → ℕ → ℕ → std_option.Option (List ℕ) → std_option.Option (List ℕ) → ℕ → ℕ → Type 0
+IsUntouched told told' left left' rf rf' out out' wf wf' = (told' ≡ told) × (left' ≡ left) × (rf' ≡ rf) × (out' ≡ out) × (wf' ≡ wf)
+
 -- a viewer who joined was attended to until its connection ended; where memory was wanted for its first frame nothing was read, written or handled
 abbrev pub Stays : Head → ℕ → Confirmed → Result FirstFrame OutOfMemory → List ConnStep → Hearing → SessionPass → SessionPass → Told → Told
     → std_option.Option (List ℕ) → std_option.Option (List ℕ) → ℕ → ℕ → std_option.Option (List ℕ) → std_option.Option (List ℕ) → ℕ → ℕ → ConnEnd → Type 0
 Stays head v confirmed (Ok first) rest conn joined viewed told told' left left' rf rf' out out' wf wf' end = (sender : SenderModel)
     × Attends head v confirmed rest conn sender joined viewed told told' left left' rf rf' out out' wf wf' end × IsShownLast head v viewed sender end (notice_in told')
 Stays head v confirmed (Err refusal) rest conn joined viewed told told' left left' rf rf' out out' wf wf' end =
-    (viewed ≡ joined) × (told' ≡ told) × (left' ≡ left) × (rf' ≡ rf) × (out' ≡ out) × (wf' ≡ wf) × (end ≡ ends.OutOfMemory)
+    (viewed ≡ joined) × IsUntouched told told' left left' rf rf' out out' wf wf' × (end ≡ ends.OutOfMemory)
 
 -- a viewer left in a turn of its own, and the place of its Leave, if it was present, joined a list of places
 abbrev pub LeavesNoted : Head → ℕ → SessionPass → SessionPass → List ℕ → List ℕ → Type 0

@@ -5,7 +5,7 @@ ghost use Rattle.conn_laws.specs.Placed.{AreBytes, ArePlaced};
 ghost use Rattle.grow_lock.specs.Passes.{IsPassOf};
 ghost use Rattle.serve_rules.specs.Notices.{notice_in};
 ghost use Rattle.viewer_run.specs.Visiting.{IsFirst, IsTurnedAwayIn};
-ghost use Rattle.viewer_run.specs.Arriving.{Stays, LeavesNoted, ServesArrival, IsFirstOfSome};
+ghost use Rattle.viewer_run.specs.Arriving.{Stays, LeavesNoted, ServesArrival, IsFirstOfSome, IsUntouched};
 
 use crate::viewing::attend_whole;
 use crate::visits::{Arrival, FirstFrame, arrive, depart};
@@ -52,7 +52,8 @@ pub fn serve_arrival<R: Threads + Wait + Sync, S: Source + Send, K: Sink + Send>
     ensures served { MatchResult result.1
         (λ visit. ServesArrival lock.now.head name.now confirmed rest.now conn.old.hearing pass result.0 told.old told.new (S.left input.old) (S.left input.new)
         (S.faults input.old) (S.faults input.new) (K.told output.old) (K.told output.new) (K.faults output.old) (K.faults output.new) visit)
-        (λ fault. IsTurnedAwayIn lock.now.head name.now pass result.0 fault) }
+        (λ fault. IsTurnedAwayIn lock.now.head name.now pass result.0 fault × IsUntouched told.old told.new (S.left input.old) (S.left input.new)
+        (S.faults input.old) (S.faults input.new) (K.told output.old) (K.told output.new) (K.faults output.old) (K.faults output.new)) }
 {
     let (pass, came) = arrive(rt, alloc, lock, pass, name, confirmed);
     match came {
