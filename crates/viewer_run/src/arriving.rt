@@ -1,15 +1,15 @@
 //! A client that is ready joins, is attended to, and leaves.
-ghost use Rattle.std.specs.Prelude.{◌≡◌, ◌≤◌, ◌<◌, ◌-◌, ◌++◌, ◌∷◌, ◌+◌, [], length, MatchResult};
+ghost use Rattle.std.specs.Prelude.{◌≡◌, ◌≤◌, ◌<◌, ◌-◌, ◌++◌, ◌∷◌, ◌+◌, [], length, MatchResult, IfOk};
 ghost use Rattle.caps_sets.specs.declared.confirmed.Confirmed.{Confirmed};
 ghost use Rattle.conn_laws.specs.Placed.{AreBytes, ArePlaced};
 ghost use Rattle.grow_lock.specs.Passes.{IsPassOf};
 ghost use Rattle.serve_rules.specs.Notices.{notice_in};
 ghost use Rattle.viewer_run.specs.Visiting.{IsFirst, IsTurnedAwayIn};
-ghost use Rattle.viewer_run.specs.Arriving.{Stays, LeavesNoted, ServesArrival, IsFirstOfSome, IsUntouched};
+ghost use Rattle.viewer_run.specs.Arriving.{Stays, LeavesNoted, ServesArrival, IsFirstOfSome, IsUntouched, GuestServed, no_notice, end_of_join};
 
 use crate::viewing::attend_whole;
 use crate::visits::{Arrival, FirstFrame, arrive, depart};
-use crate::{ConnEnd, OutOfMemory, Told};
+use crate::{ConnEnd, Guest, OutOfMemory, Places, Told};
 use caps_sets::Confirmed;
 use conn_core::Conn;
 use conn_rules::ConnStep;
@@ -77,6 +77,74 @@ pub fn serve_arrival<R: Threads + Wait + Sync, S: Source + Send, K: Sink + Send>
             (pass, Ok(Visit { v, end }))
         }
         Err(fault) => (pass, Err(fault)),
+    }
+}
+
+/// A client that is ready joins by its name, is attended to and leaves, as `serve_arrival` says; gives what was noted too. An `Err` says how the connection of a
+/// client that didn't join ended.
+pub fn serve_guest<R: Threads + Wait + Sync, S: Source + Send, K: Sink + Send>(
+    rt: &R,
+    alloc: Global,
+    lock: &GrowLock<Session>,
+    pass: Pass<Session>,
+    guest: &Guest,
+    conn: &mut Conn,
+    input: &mut S,
+    output: &mut K,
+) -> (Pass<Session>, Result<(Visit, Told), ConnEnd>)
+    requires lock { IsPassOf lock.now pass }
+    requires part { AreBytes conn.old.hearing.part }
+    requires placed { ArePlaced guest.now.rest.items }
+    ensures lock { IsPassOf lock.now result.0 }
+    ensures served { GuestServed lock.now.head guest.now conn.old.hearing pass result.0 (S.left input.old) (S.left input.new)
+        (S.faults input.old) (S.faults input.new) (K.told output.old) (K.told output.new) (K.faults output.old) (K.faults output.new) result.1 }
+{
+    let Ok(mut told) = first_told(alloc) else {
+        return (pass, Err(ConnEnd::OutOfMemory));
+    };
+    let (pass, came) = serve_arrival(
+        rt,
+        alloc,
+        lock,
+        pass,
+        &guest.name,
+        guest.confirmed,
+        conn,
+        &guest.rest,
+        &mut told,
+        input,
+        output,
+    );
+    match came {
+        Ok(visit) => (pass, Ok((visit, told))),
+        Err(fault) => (pass, Err(end_of_join(fault))),
+    }
+}
+
+/// Nothing noted yet, and room for two places.
+fn first_told(alloc: Global) -> Result<Told, OutOfMemory>
+    ensures list { IfOk result (λ told. told.places.list ≡ []) }
+    ensures room { IfOk result (λ told. 2 ≤ told.places.room) }
+    ensures notice { IfOk result (λ told. notice_in told ≡ no_notice) }
+{
+    let places = Places::new(alloc)?;
+    Ok(Told {
+        places,
+        bye: false,
+        shutdown: false,
+        quiet: false,
+    })
+}
+
+/// How the connection of a client ends that didn't join.
+fn end_of_join(fault: JoinFault) -> ConnEnd
+    ensures { result ≡ end_of_join fault }
+{
+    match fault {
+        JoinFault::NotInvited => ConnEnd::NotInvited,
+        JoinFault::RoomFull => ConnEnd::RoomFull,
+        JoinFault::JoinsSpent => ConnEnd::JoinsSpent,
+        JoinFault::OutOfMemory => ConnEnd::OutOfMemory,
     }
 }
 

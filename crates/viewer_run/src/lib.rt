@@ -15,7 +15,7 @@ mod turns;
 mod viewing;
 mod visits;
 
-pub use arriving::{Visit, serve_arrival};
+pub use arriving::{Visit, serve_arrival, serve_guest};
 pub use ending::{put_last, size_of};
 pub use frames::send_first;
 pub use guest::{Guest, greet};
