@@ -7,3 +7,4 @@ pub mod Greeting
 pub mod Ending
 pub mod Frames
 pub mod Serving
+pub mod Arriving

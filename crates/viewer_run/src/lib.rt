@@ -3,6 +3,7 @@
 //! docs/threads.md says what is promised and what isn't.
 #![tactic(auto)]
 
+mod arriving;
 mod ending;
 mod frames;
 mod guest;
@@ -14,6 +15,7 @@ mod turns;
 mod viewing;
 mod visits;
 
+pub use arriving::{Visit, serve_arrival, serve_guest};
 pub use ending::{put_last, size_of};
 pub use frames::send_first;
 pub use guest::{Guest, greet};

@@ -1,0 +1,47 @@
+-- A client that is ready joins, is attended to, and leaves.
+use Rattle.std.proofs.Common.{◌≡◌, ℕ, ◌+◌, ◌-◌, List, [], ◌∷◌, length, sym, ap, ◌∙◌, subst, arith}
+use Rattle.std.specs.Prelude.{Result, Ok, Err, MatchResult}
+use Rattle.std.specs.declared.option.Option.{Option}
+use Rattle.out_of_memory.specs.declared.OutOfMemory.{OutOfMemory}
+use Rattle.caps_sets.specs.declared.confirmed.Confirmed.{Confirmed}
+use Rattle.session_rules.specs.declared.entry.Entry.{Entry}
+use Rattle.session_rules.specs.Journal.{Head}
+use Rattle.session_core.specs.declared.faults.JoinFault.{JoinFault}
+use Rattle.session_core.proofs.AllShown.{length_pushed}
+use Rattle.conn_rules.specs.declared.conn_step.ConnStep.{ConnStep}
+use Rattle.conn_rules.specs.Hearing.{Hearing}
+use Rattle.viewer_sender.specs.Senders.{SenderModel}
+use Rattle.serve_rules.specs.Turns.{SessionPass, IsTurn}
+use Rattle.serve_rules.specs.Notices.{notice_in}
+use Rattle.serve_rules.specs.declared.ends.ConnEnd.{ConnEnd}
+use Rattle.serve_rules.specs.declared.told.Told.{Told}
+use Rattle.viewer_run.specs.Visiting.{IsFirst, ArrivesIn, IsTurnedAwayIn}
+use Rattle.viewer_run.specs.Serving.{Attends, IsShownLast}
+use Rattle.viewer_run.specs.Arriving.{Stays}
+use Rattle.viewer_run.specs.declared.visits.Arrival.{Arrival}
+use Rattle.viewer_run.specs.declared.visits.FirstFrame.{FirstFrame}
+
+-- a turn that gave a viewer is that of its Join
+pub arrived : (head : Head) (name : List ℕ) (confirmed : Confirmed) (p q : SessionPass) (came : Result Arrival JoinFault) (arrival : Arrival) → came ≡ Ok arrival
+    → MatchResult came (λ a. ArrivesIn head name confirmed p q a) (λ fault. IsTurnedAwayIn head name p q fault) → ArrivesIn head name confirmed p q arrival
+arrived head name confirmed p q (Ok other) arrival is h = subst (ArrivesIn head name confirmed p q) (cc is) h
+arrived head name confirmed p q (Err fault) arrival is h = absurd (cc is)
+
+-- an entry that a turn appended alone stands at the end of what was found
+pub last_place : (p q : SessionPass) (base : List Entry) (entry : Entry) → IsTurn p q base (entry ∷ []) → length q.seen - 1 ≡ length base
+last_place p q base entry turn =
+    let n : length q.seen ≡ length base + 1 = ap (λ (j : List Entry). length j) turn.seen ∙ length_pushed base entry in
+    omega (arith, n)
+
+-- a viewer whose first frame was taken was attended to
+pub stays_first : (head : Head) (v : ℕ) (confirmed : Confirmed) (given : Result FirstFrame OutOfMemory) (first : FirstFrame) (rest : List ConnStep) (conn : Hearing)
+    (t : SenderModel) (p q : SessionPass) (told told' : Told) (left left' : Option (List ℕ)) (f f' : ℕ) (out out' : Option (List ℕ)) (w w' : ℕ) (end : ConnEnd)
+    → given ≡ Ok first → IsFirst head p.seen v confirmed given
+    → Attends head v first.sender.confirmed rest conn t p q told told' left left' f f' out out' w w' end → IsShownLast head v q t end (notice_in told')
+    → Stays head v confirmed given rest conn p q told told' left left' f f' out out' w w' end
+stays_first head v confirmed (Ok other) first rest conn t p q told told' left left' f f' out out' w w' end is fresh attends whole =
+    let same : first ≡ other = sym (cc is) in
+    let confirms : first.sender.confirmed ≡ confirmed
+    = ap (λ (x : FirstFrame). x.sender.confirmed) same ∙ (ap (λ (s : SenderModel). s.confirmed) fresh.2.sender ∙ fresh.1.confirms) in
+    (t, subst (λ (x : Confirmed). Attends head v x rest conn t p q told told' left left' f f' out out' w w' end) confirms attends, whole)
+stays_first head v confirmed (Err refusal) first rest conn t p q told told' left left' f f' out out' w w' end is fresh attends whole = absurd (cc is)
