@@ -4,13 +4,13 @@ use Rattle.std.specs.Prelude.{All}
 use Rattle.std.proofs.lemmas.List.Elements.{All-nil, All-cons, All-head, All-tail}
 use Rattle.px_core.specs.declared.surface.Size.{Size}
 use Rattle.session_rules.specs.Steps.{journal_of_steps, frame_numbers}
-use Rattle.script_rules.specs.Headline.{ConfirmAllCaches, HasSessionSize, steps_of, confirmed_in}
-use Rattle.capture_laws.specs.Fronts.{IsFront}
-use Rattle.capture_laws.proofs.CaptureFronts.{front_sees}
+use Rattle.headline.specs.Headline.{ConfirmAllCaches, HasSessionSize, steps_of, confirmed_in}
+use Rattle.headline.specs.Fronts.{IsFront}
+use Rattle.headline.proofs.CaptureFronts.{front_sees}
 use Rattle.conn_rules.specs.declared.conn_step.ConnStep.{ConnStep}
 use Rattle.conn_rules.specs.declared.conn_step.ConnStep.TheVariants as step
-use Rattle.conn_laws.specs.Sound.{ConfirmsCaches, AllConfirmCaches}
-use Rattle.conn_laws.proofs.SoundSteps.{heard_sound}
+use Rattle.conn_rules.specs.Sound.{ConfirmsCaches, AllConfirmCaches}
+use Rattle.conn_rules.proofs.SoundSteps.{heard_sound}
 use Rattle.answer_run.specs.Asking.{first_guest, client, owners_head}
 use Rattle.answer_run.specs.Service.{first_service, heard_of, ultimatum_of, asked_of_stream, replies_of_stream, frames_of_stream, ending_of_stream, answer_of_stream}
 use Rattle.answer_run.specs.Cut.{frames_in, ShowsFirstTakes, IsFrontOfAnswer}

@@ -16,8 +16,7 @@ use Rattle.frame_plan.specs.Plans.{is_work, take_at, frame_at, taken_at, taken_i
 use Rattle.frame_plan.specs.declared.taken.Taken.TheVariants as taken
 use Rattle.frame_plan.proofs.TakeSteps.{work_of_steps, take_of_steps}
 use Rattle.viewer_sender.specs.Senders.{SenderModel, desk_of, with_desk, with_encoded, StandsFor, Follows, IsIdle}
-use Rattle.script_rules.specs.CaptureText.{Run, run_by, bytes_of_answer}
-use Rattle.script_rules.specs.Headline.{encoder_frames}
+use Rattle.script_rules.specs.CaptureText.{Run, run_by, bytes_of_answer, encoder_frames}
 use Rattle.answer_run.specs.Asking.{client, asks_for_frame}
 use Rattle.answer_run.specs.Seats.{IsSeated, IsRunOf, Takes}
 use Rattle.answer_run.specs.declared.seat.Seat.{Seat}

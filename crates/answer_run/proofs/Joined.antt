@@ -12,14 +12,13 @@ use Rattle.session_rules.specs.Journal.{Reached, is_present}
 use Rattle.session_rules.specs.Steps.{Outcome, play_at_first, join_effect, outcome_of}
 use Rattle.session_rules.specs.Steps.Step.{JoinStep}
 use Rattle.session_rules.specs.Steps.Answer.{Joined}
-use Rattle.session_laws.specs.Entering.{entry_of_step, answer_at}
+use Rattle.session_rules.specs.Entering.{entry_of_step, answer_at}
 use Rattle.session_core.specs.SessionModel.{SessionModel, new_session, reached_by, asked_by, is_suppressed}
 use Rattle.session_core.specs.declared.faults.JoinFault.{JoinFault}
 use Rattle.session_core.specs.declared.faults.JoinFault.TheVariants as fault
 use Rattle.frame_rules.specs.Encoder.{first_encoder}
 use Rattle.viewer_sender.specs.Senders.{SenderModel, StandsFor}
-use Rattle.script_rules.specs.CaptureText.{run_at_first, run_by}
-use Rattle.script_rules.specs.Headline.{encoder_frames}
+use Rattle.script_rules.specs.CaptureText.{run_at_first, run_by, encoder_frames}
 use Rattle.answer_run.specs.Asking.{owners_head, client, asks_to_join}
 use Rattle.answer_run.specs.Seats.{IsRunOf, Joins, IsLetIn}
 use Rattle.answer_run.proofs.Seated.{seat_of, reached_grown}

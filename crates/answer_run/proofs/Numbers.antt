@@ -8,8 +8,8 @@ use Rattle.conn_rules.specs.declared.stage.Stage.{Stage}
 use Rattle.conn_rules.specs.declared.stage.Stage.TheVariants as stage
 use Rattle.conn_rules.specs.Hearing.{StreamEnd, end_within, end_by}
 use Rattle.conn_rules.specs.Hearing.StreamEnd.{Between, Within, RefusedAt}
-use Rattle.conn_laws.specs.Sound.{IsRefusalNumber, IsSound}
-use Rattle.conn_laws.proofs.SoundSteps.{heard_sound}
+use Rattle.conn_rules.specs.Sound.{IsRefusalNumber, IsSound}
+use Rattle.conn_rules.proofs.SoundSteps.{heard_sound}
 use Rattle.answer_run.specs.Asking.{Guest, guest_after_all}
 use Rattle.answer_run.specs.Asking.Guest.{Coming, Viewing, TurnedAway}
 use Rattle.answer_run.specs.declared.ending.Ending.{Ending}

@@ -6,19 +6,19 @@ use Rattle.std.proofs.KnownBytes.{Appends-trans}
 use Rattle.edge_io.specs.Sink.{WritesFront}
 use Rattle.session_rules.specs.Journal.{Head}
 use Rattle.frame_rules.specs.Encoder.{Encoder}
-use Rattle.script_rules.specs.CaptureText.{Run, sent_from}
-use Rattle.script_rules.specs.Headline.{encoder_frames, ConfirmAllCaches}
+use Rattle.script_rules.specs.CaptureText.{Run, sent_from, encoder_frames}
+use Rattle.headline.specs.Headline.{ConfirmAllCaches}
 use Rattle.conn_rules.specs.declared.conn_step.ConnStep.{ConnStep}
 use Rattle.conn_rules.specs.declared.stage.Stage.{Stage}
 use Rattle.conn_rules.specs.declared.stage.Stage.TheVariants as stage
 use Rattle.conn_rules.specs.Hearing.{Hearing, Heard, is_over, silent, between, then_heard, heard, end_by, end_of}
 use Rattle.conn_rules.specs.Hearing.StreamEnd.{Between}
 use Rattle.conn_rules.proofs.Pieces.{heard_then}
-use Rattle.conn_laws.specs.Progress.{progress_of}
-use Rattle.conn_laws.specs.Placed.{AreBytes, ArePlaced}
-use Rattle.conn_laws.proofs.Quiet.{end_silence}
-use Rattle.conn_laws.proofs.Order.{heard_in_order}
-use Rattle.conn_laws.proofs.Near.{heard_near}
+use Rattle.conn_rules.specs.Progress.{progress_of}
+use Rattle.conn_rules.specs.Placed.{AreBytes, ArePlaced}
+use Rattle.conn_rules.proofs.Quiet.{end_silence}
+use Rattle.conn_rules.proofs.Order.{heard_in_order}
+use Rattle.conn_rules.proofs.Near.{heard_near}
 use Rattle.conn_core.specs.declared.conn_fault.ConnFault.{ConnFault}
 use Rattle.conn_core.specs.declared.conn_fault.ConnFault.TheVariants as conn
 use Rattle.conn_core.specs.Kept.{ConnOf, IsUnrefused, Feeds, FeedsAppend}

@@ -4,7 +4,7 @@ use Rattle.std.specs.Prelude.{Bool, true, false, Option, Some, None, is_some, if
 use Rattle.px_core.specs.declared.surface.Size.{Size}
 use Rattle.line_text.specs.Words.{is_same_word}
 use Rattle.caps_sets.specs.declared.confirmed.Confirmed.{Confirmed}
-use Rattle.input_events.specs.declared.event.Event.{Event}
+use Rattle.input_pdu.specs.declared.event.Event.{Event}
 use Rattle.session_rules.specs.declared.entry.Role.{Role}
 use Rattle.session_rules.specs.declared.entry.Role.TheVariants.{Owner}
 use Rattle.session_rules.specs.declared.entry.Entry.{Entry}
@@ -14,9 +14,9 @@ use Rattle.session_rules.specs.Steps.{Play, play_at_first, entered, outcome, out
 use Rattle.session_rules.specs.Steps.Step.{JoinStep, InputStep, RefreshStep, SuppressStep, TakeStep}
 use Rattle.session_rules.specs.Steps.Effect.{Enters, Answers}
 use Rattle.session_rules.specs.Steps.Answer.{Accepted}
-use Rattle.script_rules.specs.CaptureText.{run_at_first, sent_from}
-use Rattle.script_rules.specs.Headline.{encoder_frames, AreByPresentFrom, AreByPresentViewers, ConfirmAllCaches, HasSessionSize, EveryViewerSeesTheJournal}
-use Rattle.host_shows.proofs.Interleaved.{every_viewer_sees}
+use Rattle.script_rules.specs.CaptureText.{run_at_first, sent_from, encoder_frames}
+use Rattle.headline.specs.Headline.{AreByPresentFrom, AreByPresentViewers, ConfirmAllCaches, HasSessionSize, EveryViewerSeesTheJournal}
+use Rattle.headline.proofs.Interleaved.{every_viewer_sees}
 use Rattle.conn_rules.specs.declared.conn_step.ConnStep.{ConnStep}
 use Rattle.conn_rules.specs.declared.conn_step.ConnStep.TheVariants as step
 use Rattle.answer_run.specs.Asking.{owners_head, client, asked_at_ready, guest_if, asked_from}

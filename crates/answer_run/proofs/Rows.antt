@@ -1,7 +1,7 @@
 -- What is due in the course of a service, in examples.
 use Rattle.std.proofs.Common.{◌≡◌, ℕ, List, [], ◌∷◌, take, refl, ap, sym, ◌∙◌, append-nil, Some, None}
 use Rattle.px_core.specs.declared.surface.Size.{Size}
-use Rattle.wire_num.specs.Field.{passing_at, at_least, rest_count_at}
+use Rattle.wire_num.specs.FieldValue.{passing_at, at_least, rest_count_at}
 use Rattle.tpkt_x224.specs.Request.{references, request_header, after_cookie, asked_protocols}
 use Rattle.conn_rules.specs.Hearing.{heard}
 use Rattle.conn_rules.specs.Hearing.StreamEnd.{Between, Within, RefusedAt}

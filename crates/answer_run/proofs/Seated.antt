@@ -5,7 +5,7 @@ use Rattle.px_core.specs.declared.surface.Size.{Size}
 use Rattle.px_core.specs.declared.rectangle.Rect.{Rect}
 use Rattle.px_core.specs.Tiles.{either_tiles, tiles_of}
 use Rattle.px_core.specs.TileFlags.{tiles}
-use Rattle.input_events.specs.declared.event.Event.{Event}
+use Rattle.input_pdu.specs.declared.event.Event.{Event}
 use Rattle.session_rules.specs.declared.entry.Entry.{Entry}
 use Rattle.session_rules.specs.declared.entry.Entry.TheVariants.{Join, Leave, Give, Input, Draw}
 use Rattle.session_rules.specs.Journal.{Head, Reached, Refusal, reached_at, reached_at_first, reached_after, refusal_of, is_f12, is_present}
@@ -14,8 +14,8 @@ use Rattle.session_rules.specs.Steps.Step.{InputStep, RefreshStep, SuppressStep}
 use Rattle.session_rules.specs.Steps.Effect.{Enters, Answers}
 use Rattle.session_rules.specs.Steps.Answer.{Accepted}
 use Rattle.session_rules.proofs.Journals.{reached_after-append, reached-session_after}
-use Rattle.session_laws.specs.Entering.{play_of, entry_of_step}
-use Rattle.session_laws.proofs.Entered.{entry_of_outcome}
+use Rattle.session_rules.specs.Entering.{play_of, entry_of_step}
+use Rattle.session_rules.proofs.Entered.{entry_of_outcome}
 use Rattle.session_core.specs.SessionModel.{SessionModel, reached_by, is_here, asked_by, is_suppressed}
 use Rattle.session_core.specs.PerViewer.{kept_for}
 use Rattle.session_core.specs.Outcomes.{GoesOn}
@@ -28,8 +28,7 @@ use Rattle.frame_rules.specs.Encoder.{Encoder}
 use Rattle.viewer_sender.specs.Senders.{SenderModel, Follows}
 use Rattle.script_rules.specs.Script.{Asked, without_preset}
 use Rattle.script_rules.specs.Capture.{viewer_of}
-use Rattle.script_rules.specs.CaptureText.{Run, run_after, confirmed_after, encoders_after}
-use Rattle.script_rules.specs.Headline.{encoder_frames}
+use Rattle.script_rules.specs.CaptureText.{Run, run_after, confirmed_after, encoders_after, encoder_frames}
 use Rattle.answer_run.specs.Asking.{client}
 use Rattle.answer_run.specs.Seats.{IsSeated, IsRunOf, Does, IsSettled}
 use Rattle.answer_run.specs.declared.seat.Seat.{Seat}

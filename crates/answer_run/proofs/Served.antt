@@ -6,19 +6,19 @@ use Rattle.std.proofs.lemmas.List.Elements.{All-nil}
 use Rattle.std.proofs.Math.Nat.{min-le_left}
 use Rattle.std.specs.Io.KnownBytes.{Appends, Consumes, Keeps, IsAtEnd}
 use Rattle.std.proofs.KnownBytes.{Appends-trans, Appends-nil, Appends-kept, Consumes-nil, Consumes-trans, Consumes-kept, Keeps-refl}
-use Rattle.capture_laws.specs.Fronts.{IsFront}
+use Rattle.headline.specs.Fronts.{IsFront}
 use Rattle.px_core.specs.declared.surface.Size.{Size}
 use Rattle.session_rules.specs.Journal.{Head}
-use Rattle.script_rules.specs.Headline.{ConfirmAllCaches, HasSessionSize}
+use Rattle.headline.specs.Headline.{ConfirmAllCaches, HasSessionSize}
 use Rattle.conn_rules.specs.declared.conn_step.ConnStep.{ConnStep}
 use Rattle.conn_rules.specs.declared.stage.Stage.{Stage}
 use Rattle.conn_rules.specs.declared.stage.Stage.TheVariants as stage
 use Rattle.conn_rules.specs.Hearing.{Hearing, Heard, StreamEnd, is_over, silent, heard, end_within, end_by, end_of}
 use Rattle.conn_rules.specs.Hearing.StreamEnd.{Between, Within, RefusedAt}
-use Rattle.conn_laws.specs.Progress.{progress_of}
-use Rattle.conn_laws.specs.Placed.{AreBytes}
-use Rattle.conn_laws.proofs.Quiet.{end_silence}
-use Rattle.conn_laws.proofs.Near.{heard_near}
+use Rattle.conn_rules.specs.Progress.{progress_of}
+use Rattle.conn_rules.specs.Placed.{AreBytes}
+use Rattle.conn_rules.proofs.Quiet.{end_silence}
+use Rattle.conn_rules.proofs.Near.{heard_near}
 use Rattle.conn_core.specs.Kept.{ConnOf, IsUnrefused}
 use Rattle.answer_run.specs.Asking.{Guest, owners_head, asked_from, guest_after_all}
 use Rattle.answer_run.specs.Asking.Guest.{Coming, Viewing, TurnedAway}
@@ -37,8 +37,8 @@ use Rattle.answer_run.specs.declared.visitor.Visitor.TheVariants as visitor
 use Rattle.answer_run.specs.declared.fault.AnswerFault.{AnswerFault}
 use Rattle.answer_run.specs.declared.fault.AnswerFault.TheVariants as fault
 use Rattle.answer_run.proofs.Streams.{still_after, all_caches}
-use Rattle.conn_laws.specs.Sound.{IsRefusalNumber, IsSound}
-use Rattle.conn_laws.proofs.SoundSteps.{heard_sound}
+use Rattle.conn_rules.specs.Sound.{IsRefusalNumber, IsSound}
+use Rattle.conn_rules.proofs.SoundSteps.{heard_sound}
 use Rattle.answer_run.specs.Cut.{read_room, WritesHandedBytes, WritesAFront}
 use Rattle.answer_run.specs.Serves.{IsNumbered, IsNumberedFault}
 use Rattle.answer_run.proofs.Numbers.{service_numbered}

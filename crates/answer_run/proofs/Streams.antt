@@ -8,8 +8,8 @@ use Rattle.session_rules.specs.Journal.{Head}
 use Rattle.frame_rules.specs.Encoder.{Encoder}
 use Rattle.frame_rules.specs.Describes.{HasAllCaches}
 use Rattle.script_rules.specs.Script.{Asked, is_invited}
-use Rattle.script_rules.specs.CaptureText.{Run, run_after, run_after_all, sent_by, sent_from}
-use Rattle.script_rules.specs.Headline.{encoder_frames, ConfirmAllCaches}
+use Rattle.script_rules.specs.CaptureText.{Run, run_after, run_after_all, sent_by, sent_from, encoder_frames}
+use Rattle.headline.specs.Headline.{ConfirmAllCaches}
 use Rattle.conn_rules.specs.declared.conn_step.ConnStep.{ConnStep}
 use Rattle.conn_rules.specs.declared.conn_step.ConnStep.TheVariants as step
 use Rattle.conn_rules.specs.declared.stage.Stage.{Stage}
@@ -18,9 +18,9 @@ use Rattle.conn_rules.specs.declared.stage.SharePhase.TheVariants as phase
 use Rattle.conn_rules.specs.Told.{is_ready}
 use Rattle.conn_rules.specs.Hearing.{Hearing, Heard, is_over, silent, then_heard, heard}
 use Rattle.conn_rules.proofs.Pieces.{heard_then}
-use Rattle.conn_laws.specs.Progress.{Progress, progress_of, StaysOrEnds, ComeInOrder}
-use Rattle.conn_laws.specs.Progress.Progress.{Connecting, Ready, Ended}
-use Rattle.conn_laws.proofs.Quiet.{ready_silence, end_silence}
+use Rattle.conn_rules.specs.Progress.{Progress, progress_of, StaysOrEnds, ComeInOrder}
+use Rattle.conn_rules.specs.Progress.Progress.{Connecting, Ready, Ended}
+use Rattle.conn_rules.proofs.Quiet.{ready_silence, end_silence}
 use Rattle.answer_run.specs.Asking.{Guest, asked_at_ready, guest_if, asked_by_viewer, asked_by, guest_after, asked_from, guest_after_all}
 use Rattle.answer_run.specs.Asking.Guest.{Coming, Viewing, TurnedAway}
 use Rattle.answer_run.specs.declared.ending.Ending.{Ending}

@@ -6,7 +6,7 @@ use Rattle.std.specs.Io.KnownBytes.{Appends}
 use Rattle.std.proofs.KnownBytes.{Appends-trans, Appends-nil}
 use Rattle.edge_io.specs.Sink.{WritesFront}
 use Rattle.caps_sets.specs.declared.confirmed.Confirmed.{Confirmed}
-use Rattle.input_events.specs.declared.event.Event.{Event}
+use Rattle.input_pdu.specs.declared.event.Event.{Event}
 use Rattle.px_core.specs.declared.rectangle.Rect.{Rect}
 use Rattle.session_rules.specs.declared.entry.Entry.{Entry}
 use Rattle.session_rules.specs.declared.entry.Entry.TheVariants.{Give, Input}
@@ -17,8 +17,7 @@ use Rattle.session_rules.specs.Steps.Effect.{Enters, Answers}
 use Rattle.session_rules.specs.Steps.Answer.{Accepted}
 use Rattle.frame_rules.specs.Encoder.{Encoder}
 use Rattle.script_rules.specs.Script.{without_preset}
-use Rattle.script_rules.specs.CaptureText.{Run, run_at_first, run_after, run_after_all, bytes_of_answer, sent_by, sent_from}
-use Rattle.script_rules.specs.Headline.{encoder_frames}
+use Rattle.script_rules.specs.CaptureText.{Run, run_at_first, run_after, run_after_all, bytes_of_answer, sent_by, sent_from, encoder_frames}
 use Rattle.conn_rules.specs.declared.conn_step.ConnStep.{ConnStep}
 use Rattle.conn_rules.specs.declared.conn_step.ConnStep.TheVariants as step
 use Rattle.answer_run.specs.Asking.{Guest, client, asks_to_join, asks_for_frame, asked_at_ready, guest_if, asked_from, guest_after, guest_after_all}

@@ -7,9 +7,9 @@ use Rattle.px_core.specs.declared.surface.Size.{Size}
 use Rattle.session_rules.specs.Journal.{Head}
 use Rattle.session_rules.specs.Steps.{journal_of_steps, frame_numbers}
 use Rattle.script_rules.specs.Script.{Asked}
-use Rattle.script_rules.specs.CaptureText.{run_at_first, sent_from}
-use Rattle.script_rules.specs.Headline.{encoder_frames, steps_of, confirmed_in, EveryViewerSeesTheJournal}
-use Rattle.capture_laws.specs.Fronts.{IsFront, SeesFirstOfJournal}
+use Rattle.script_rules.specs.CaptureText.{run_at_first, sent_from, encoder_frames}
+use Rattle.headline.specs.Headline.{steps_of, confirmed_in, EveryViewerSeesTheJournal}
+use Rattle.headline.specs.Fronts.{IsFront, SeesFirstOfJournal}
 use Rattle.answer_run.specs.Asking.{owners_head, client}
 use Rattle.answer_run.specs.Service.{asked_of_stream, replies_of_stream, frames_of_stream, written_of_stream, end_so_far_of_stream, answer_of_stream}
 

@@ -10,8 +10,7 @@ use Rattle.session_core.specs.declared.faults.InputRefusal.TheVariants as refusa
 use Rattle.frame_rules.specs.Encoder.{Encoder}
 use Rattle.viewer_sender.specs.Senders.{IsIdle, Follows}
 use Rattle.script_rules.specs.Script.{Asked, is_invited}
-use Rattle.script_rules.specs.CaptureText.{Run, run_at_first, run_after, sent_by}
-use Rattle.script_rules.specs.Headline.{encoder_frames}
+use Rattle.script_rules.specs.CaptureText.{Run, run_at_first, run_after, sent_by, encoder_frames}
 use Rattle.answer_run.specs.Asking.{client, asks_to_join, asks_for_frame}
 use Rattle.answer_run.specs.declared.seat.Seat.{Seat}
 

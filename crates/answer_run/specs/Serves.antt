@@ -7,19 +7,19 @@ use Rattle.std.specs.declared.result.Result.{Result}
 use Rattle.std.specs.declared.result.Result.TheVariants.{Ok, Err}
 use Rattle.px_core.specs.declared.surface.Size.{Size}
 use Rattle.edge_io.specs.Sink.{WritesFront}
-use Rattle.capture_laws.specs.Fronts.{IsFront}
+use Rattle.headline.specs.Fronts.{IsFront}
 use Rattle.session_rules.specs.Journal.{Head}
-use Rattle.script_rules.specs.CaptureText.{Run, run_at_first, sent_from}
-use Rattle.script_rules.specs.Headline.{encoder_frames, ConfirmAllCaches, EveryViewerSeesTheJournal}
+use Rattle.script_rules.specs.CaptureText.{Run, run_at_first, sent_from, encoder_frames}
+use Rattle.headline.specs.Headline.{ConfirmAllCaches, EveryViewerSeesTheJournal}
 use Rattle.conn_rules.specs.Hearing.{is_over, silent, heard}
-use Rattle.out_of_memory.specs.declared.OutOfMemory.{OutOfMemory}
+use Rattle.wire_num.specs.declared.out_of_memory.OutOfMemory.{OutOfMemory}
 use Rattle.conn_core.specs.declared.conn_fault.ConnFault.{ConnFault}
 use Rattle.conn_core.specs.declared.conn_fault.ConnFault.TheVariants as conn
 use Rattle.conn_core.specs.Kept.{IsUnrefused}
-use Rattle.conn_laws.specs.Placed.{AreBytes}
-use Rattle.conn_laws.specs.Sound.{IsRefusalNumber, IsSound}
-use Rattle.conn_laws.specs.Progress.{Progress, progress_of}
-use Rattle.conn_laws.specs.Progress.Progress.{Connecting, Ready, Ended}
+use Rattle.conn_rules.specs.Placed.{AreBytes}
+use Rattle.conn_rules.specs.Sound.{IsRefusalNumber, IsSound}
+use Rattle.conn_rules.specs.Progress.{Progress, progress_of}
+use Rattle.conn_rules.specs.Progress.Progress.{Connecting, Ready, Ended}
 use Rattle.answer_run.specs.Asking.{Guest, owners_head, guest_after_all}
 use Rattle.answer_run.specs.Asking.Guest.{Coming, Viewing, TurnedAway}
 use Rattle.answer_run.specs.Service.{Service, heard_of, last_word, asked_of, written_of, service_after, ultimatum_of, ending_of, answer_of, asked_of_stream, ending_of_stream, answer_of_stream}

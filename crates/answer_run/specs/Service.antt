@@ -4,8 +4,7 @@ use Rattle.px_core.specs.declared.surface.Size.{Size}
 use Rattle.session_rules.specs.Journal.{Head}
 use Rattle.frame_rules.specs.Encoder.{Encoder}
 use Rattle.script_rules.specs.Script.{Asked}
-use Rattle.script_rules.specs.CaptureText.{Run, run_at_first, run_after_all, sent_from}
-use Rattle.script_rules.specs.Headline.{encoder_frames}
+use Rattle.script_rules.specs.CaptureText.{Run, run_at_first, run_after_all, sent_from, encoder_frames}
 use Rattle.mcs_dom.specs.Ultimatum.{ultimatum_packet}
 use Rattle.conn_rules.specs.declared.conn_step.ConnStep.{ConnStep}
 use Rattle.conn_rules.specs.declared.conn_step.ConnStep.TheVariants as step

@@ -10,8 +10,7 @@ use Rattle.edge_io.specs.Sink.{WritesFront}
 use Rattle.session_rules.specs.Journal.{Head}
 use Rattle.frame_rules.specs.Encoder.{Encoder}
 use Rattle.frame_rules.specs.Describes.{HasAllCaches}
-use Rattle.script_rules.specs.CaptureText.{Run, run_at_first, run_after_all, sent_from}
-use Rattle.script_rules.specs.Headline.{encoder_frames}
+use Rattle.script_rules.specs.CaptureText.{Run, run_at_first, run_after_all, sent_from, encoder_frames}
 use Rattle.conn_rules.specs.declared.conn_step.ConnStep.{ConnStep}
 use Rattle.conn_rules.specs.declared.conn_step.ConnStep.TheVariants as step
 use Rattle.answer_run.specs.Asking.{Guest, client, asked_from, guest_after_all}

@@ -14,9 +14,9 @@ use crate::{AnswerFault, Ending};
 use conn_core::Conn;
 use edge_io::{Sink, Source};
 use info_lic::Name;
-use out_of_memory::OutOfMemory;
 use px_core::Size;
 use std::alloc::Global;
+use wire_num::OutOfMemory;
 
 /// How many bytes are read at once.
 const ROOM: usize = 16_384;

@@ -32,10 +32,10 @@ pub enum AnswerFault {
     OutOfMemory,
 }
 
-impl From<out_of_memory::OutOfMemory> for AnswerFault {
+impl From<wire_num::OutOfMemory> for AnswerFault {
     ghost from_gives = { λ _ fault. fault ≡ OutOfMemory };
 
-    fn from(_: out_of_memory::OutOfMemory) -> AnswerFault {
+    fn from(_: wire_num::OutOfMemory) -> AnswerFault {
         AnswerFault::OutOfMemory
     }
 }

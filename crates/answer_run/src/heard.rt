@@ -3,7 +3,7 @@
 ghost use Rattle.std.specs.Prelude.{◌≡◌, ◌≢◌, [], None, IsTrue, IfOk, IfErr, All};
 ghost use Rattle.px_core.specs.Rectangle.{is_session_size};
 ghost use Rattle.frame_rules.specs.Describes.{HasAllCaches};
-ghost use Rattle.conn_laws.specs.Placed.{ArePlaced};
+ghost use Rattle.conn_rules.specs.Placed.{ArePlaced};
 ghost use Rattle.answer_run.specs.Asking.{owners_head};
 ghost use Rattle.answer_run.specs.Service.{last_word};
 ghost use Rattle.answer_run.specs.Visits.{IsReady, HasCaches, WritesCause, IsWriteFault};

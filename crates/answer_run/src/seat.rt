@@ -9,12 +9,12 @@ ghost use Rattle.answer_run.specs.Seats.{IsSeated, Does, Takes, Joins, IsSettled
 
 use caps_sets::Confirmed;
 use info_lic::Name;
-use input_events::Event;
-use out_of_memory::OutOfMemory;
+use input_pdu::Event;
 use px_core::{Rect, Size};
 use session_core::{InputRefusal, Invite, JoinFault, Role, Session};
 use std::alloc::Global;
 use viewer_sender::{SendFault, Sender, Taken};
+use wire_num::OutOfMemory;
 
 /// The client's number: it is the first that joins.
 const CLIENT: u32 = 1;

@@ -3,7 +3,7 @@
 ghost use Rattle.std.specs.Prelude.{◌≡◌, ◌≢◌, ◌<◌, ◌≤◌, [], length, take, IsTrue, IfOk, IfErr};
 ghost use Rattle.px_core.specs.Rectangle.{is_session_size};
 ghost use Rattle.session_rules.specs.Journal.{Head};
-ghost use Rattle.conn_laws.specs.Placed.{AreBytes};
+ghost use Rattle.conn_rules.specs.Placed.{AreBytes};
 ghost use Rattle.answer_run.specs.Asking.{owners_head};
 ghost use Rattle.answer_run.specs.Service.{Service, ending_of};
 ghost use Rattle.answer_run.specs.Cut.{read_room};
@@ -16,9 +16,9 @@ use crate::{AnswerFault, Ending};
 use conn_core::{Conn, ConnFault};
 use edge_io::{Got, Sink, Source};
 use info_lic::Name;
-use out_of_memory::OutOfMemory;
 use px_core::Size;
 use std::alloc::Global;
+use wire_num::OutOfMemory;
 
 /// A client's service: its connection, and who it is.
 #[derive(Drop)]

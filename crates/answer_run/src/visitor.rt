@@ -2,7 +2,7 @@
 
 ghost use Rattle.std.specs.Prelude.{◌≡◌, ◌≢◌, [], ◌∷◌, IsTrue, IfOk, IfErr, OnOk, IfSome};
 ghost use Rattle.px_core.specs.Rectangle.{is_session_size};
-ghost use Rattle.conn_laws.specs.Placed.{IsStepPlaced, ArePlaced};
+ghost use Rattle.conn_rules.specs.Placed.{IsStepPlaced, ArePlaced};
 ghost use Rattle.answer_run.specs.Asking.{owners_head};
 ghost use Rattle.answer_run.specs.Seats.{IsSeated};
 ghost use Rattle.answer_run.specs.Visits.{IsReady, Visits, Comes, Asks, WritesCause, IsWriteFault};
@@ -13,9 +13,9 @@ use crate::seat::{Seat, input, join, refresh, suppress, take};
 use conn_rules::ConnStep;
 use edge_io::Sink;
 use info_lic::Name;
-use out_of_memory::OutOfMemory;
 use px_core::Size;
 use std::alloc::Global;
+use wire_num::OutOfMemory;
 
 /// A client.
 #[derive(Drop)]

@@ -1,7 +1,6 @@
 //! Places that were worked out by hand.
 
-use save_plan::{Blocks, PlaceFault};
-use saved_blocks::Place;
+use save_plan::{Blocks, Place, PlaceFault};
 use std::process::Abort;
 use std::test::Fail;
 

@@ -1,14 +1,14 @@
 -- How many bytes a tile's pixels are, and that its packed bytes are what they go as.
 use Rattle.std.proofs.Common.{◌≡◌, ℕ, ◌*◌, List, ◌∷◌, ◌++◌, length, refl, sym, ap, ◌∙◌}
 use Rattle.std.specs.Prelude.{Bool, Option, Some, None, Vec, is_some}
-use Rattle.byte_fields.specs.Pixels.{pixels_bytes}
-use Rattle.byte_fields.proofs.Pixels.{length-pixels_bytes}
+use Rattle.wire_num.specs.Pixels.{pixels_bytes}
+use Rattle.wire_num.proofs.Pixels.{length-pixels_bytes}
 use Rattle.px_core.specs.declared.rectangle.Rect.{Rect}
 use Rattle.px_core.specs.Picture.{nat_of}
-use Rattle.host_bytes.specs.WirePixels.{turned_over, PixelData, pixel_data, data_of}
-use Rattle.host_bytes.specs.UpdateBodies.{tile_data_bytes, tile_body}
-use Rattle.wire_pixels.specs.Packed.{data_with}
-use Rattle.wire_pixels.proofs.Turned.{length-turned_over}
+use Rattle.order_means.specs.WirePixels.{turned_over, PixelData, pixel_data, data_of}
+use Rattle.order_means.specs.UpdateBodies.{tile_data_bytes, tile_body}
+use Rattle.bitmap_upd.specs.Packed.{data_with}
+use Rattle.bitmap_upd.proofs.Turned.{length-turned_over}
 
 pub raw_length : (w h : ℕ) (pixels : List ℕ) → length pixels ≡ w * h → length (pixels_bytes (turned_over w h pixels)) ≡ 3 * length pixels
 raw_length w h pixels e = length-pixels_bytes (turned_over w h pixels) ∙ ap (λ n. 3 * n) (length-turned_over w h pixels e ∙ sym e)

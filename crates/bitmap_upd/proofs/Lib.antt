@@ -1,1 +1,4 @@
 pub mod Body
+pub mod Turned
+pub mod Shorter
+pub mod Bytes

@@ -17,8 +17,8 @@
 
 ghost use Rattle.std.specs.Prelude.{◌≡◌, ◌≤◌, ◌++◌, ◌∷◌, length, List, ℕ, pos, ◌≤ℤ◌};
 ghost use Rattle.px_core.specs.Picture.{nat_of};
-ghost use Rattle.host_bytes.specs.WirePixels.{pixel_data};
-ghost use Rattle.host_bytes.specs.UpdateBodies.{tile_flags, tile_data_bytes};
+ghost use Rattle.order_means.specs.WirePixels.{pixel_data};
+ghost use Rattle.order_means.specs.UpdateBodies.{tile_flags, tile_data_bytes};
 
 /// BITMAP_COMPRESSION and NO_BITMAP_COMPRESSION_HDR.
 const PACKED: u16 = 0x0401;

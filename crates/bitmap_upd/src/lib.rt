@@ -1,8 +1,14 @@
 //! A bitmap update of one rectangle ([MS-RDPBCGR] 2.2.9.1.1.3.1.2).
 #![tactic(auto)]
 
+mod data;
+mod front;
 mod head;
+mod rows;
 mod tile;
 
-pub use out_of_memory::OutOfMemory;
+pub use data::{PixelBytes, packed_pixels, pixel_data, put_turned, raw_bytes};
+pub use front::put_both;
+pub use rows::{pad_rows, padded_width, turn_over};
 pub use tile::{TileBody, write_tile};
+pub use wire_num::OutOfMemory;

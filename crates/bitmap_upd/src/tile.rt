@@ -3,18 +3,17 @@
 ghost use Rattle.std.specs.Prelude.{◌≡◌, ◌≤◌, ◌*◌, ◌++◌, [], length, List, ℕ, IfOk, OnOk, OnErr, IsTrue};
 ghost use Rattle.wire_num.specs.Written.{AppendsFront};
 ghost use Rattle.px_core.specs.Colors.{are_colors};
-ghost use Rattle.byte_fields.specs.Pixels.{pixels_bytes};
-ghost use Rattle.host_bytes.specs.WirePixels.{data_of, turned_over};
-ghost use Rattle.wire_pixels.specs.Packed.{data_with};
-ghost use Rattle.host_bytes.specs.UpdateBodies.{tile_body};
+ghost use Rattle.wire_num.specs.Pixels.{pixels_bytes};
+ghost use Rattle.order_means.specs.WirePixels.{data_of, turned_over};
+ghost use Rattle.bitmap_upd.specs.Packed.{data_with};
+ghost use Rattle.order_means.specs.UpdateBodies.{tile_body};
 ghost use Rattle.bitmap_upd.specs.Place.{IsUpdated};
 
-use crate::OutOfMemory;
 use crate::head::{place, tile_head};
+use crate::{OutOfMemory, packed_pixels, put_both, put_turned, turn_over};
 use px_core::Rect;
 use std::alloc::Global;
 use std::marker::Model;
-use wire_pixels::{packed_pixels, put_both, put_turned, turn_over};
 
 /// The bytes of a pixel.
 const BYTES: usize = 3;
@@ -56,9 +55,9 @@ pub struct TileBody<'a> {
 
 impl<'a> Model for TileBody<'a> {
     ghost use Rattle.std.specs.Prelude.{◌≡◌, ◌≤◌, ◌*◌, ◌++◌, List, [], ℕ, length};
-    ghost use Rattle.byte_fields.specs.Pixels.{pixels_bytes};
-    ghost use Rattle.host_bytes.specs.WirePixels.{turned_over};
-    ghost use Rattle.wire_pixels.specs.Packed.{data_with};
+    ghost use Rattle.wire_num.specs.Pixels.{pixels_bytes};
+    ghost use Rattle.order_means.specs.WirePixels.{turned_over};
+    ghost use Rattle.bitmap_upd.specs.Packed.{data_with};
 
     ghost Value = { List ℕ };
 

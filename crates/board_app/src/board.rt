@@ -7,7 +7,7 @@ use crate::OutOfMemory;
 use crate::reaction::Reacted;
 use crate::signs::Signs;
 use draw_ops::Drawing;
-use input_events::Event;
+use input_pdu::Event;
 use px_core::Size;
 use std::alloc::Global;
 

@@ -1,1 +1,5 @@
 pub mod UseSteps
+pub mod UseFacts
+pub mod Recency
+pub mod Steps
+pub mod Indices

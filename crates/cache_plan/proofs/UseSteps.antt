@@ -5,9 +5,9 @@ use Rattle.std.proofs.lemmas.Bool.Decides.{eqb_tells, nat_tests}
 use Rattle.std.proofs.lemmas.List.{length-map}
 use Rattle.std.specs.Map.{lookup, lookup_entry, remove_entry}
 use Rattle.lru.specs.LruCache.{promoted, put_entries, lru_cache, last_entry}
-use Rattle.cache_use.specs.CacheUse.{is_used, distinct_keys, misses, held_keys, last_key, new_index, miss_index, index_after, last_index}
-use Rattle.cache_use.proofs.Recency.{not_both, other_way, held_are_first}
-use Rattle.cache_use.proofs.Steps.{remove_key, held_is_no_miss, held_after_hit, held_after_miss, index_after_hit, index_after_miss, index_of_others, unused_among_first}
+use Rattle.cache_plan.specs.CacheUse.{is_used, distinct_keys, misses, held_keys, last_key, new_index, miss_index, index_after, last_index}
+use Rattle.cache_plan.proofs.Recency.{not_both, other_way, held_are_first}
+use Rattle.cache_plan.proofs.Steps.{remove_key, held_is_no_miss, held_after_hit, held_after_miss, index_after_hit, index_after_miss, index_of_others, unused_among_first}
 use Rattle.cache_plan.specs.declared.uses.Use.TheVariants.{Hit, Miss}
 use Rattle.cache_plan.specs.Answers.{use_by, use_of}
 

@@ -1,6 +1,6 @@
 -- What a cache answers to a use, and which caches a history of uses leads to.
 use Rattle.std.specs.Prelude.{◌≡◌, ℕ, Bool, true, false, List, map}
-use Rattle.cache_use.specs.CacheUse.{misses, cache_index, last_index, held_keys}
+use Rattle.cache_plan.specs.CacheUse.{misses, cache_index, last_index, held_keys}
 use Rattle.cache_plan.specs.Kept.{Kept}
 use Rattle.cache_plan.specs.declared.uses.Use.{Use}
 use Rattle.cache_plan.specs.declared.uses.Use.TheVariants.{Hit, Miss}

@@ -2,7 +2,7 @@
 
 ghost use Rattle.std.specs.Prelude.{◌≡◌, ℕ, ◌<◌, ◌≤◌, List, [], ◌∷◌, length, IfOk, IfErr, IsOk, OnErr, OnOk};
 ghost use Rattle.lru.specs.LruCache.{last_entry};
-ghost use Rattle.cache_use.specs.CacheUse.{IsMiss};
+ghost use Rattle.cache_plan.specs.CacheUse.{IsMiss};
 ghost use Rattle.cache_plan.specs.Answers.{use_of, IsAfterUses};
 
 use crate::{CacheFault, OutOfMemory, Use};

@@ -1,4 +1,4 @@
-//! The entries of a client's cache: which uses of a key miss, and at which index ([MS-RDPEGDI]
+//! A client's cache: which uses of a key miss, and at which index, by the history of its uses, and in code ([MS-RDPEGDI]
 //! 2.2.2.2.1.2, cache orders).
 #![tactic(auto)]
 
@@ -8,5 +8,5 @@ mod uses;
 
 pub use cache::Cache;
 pub use fault::CacheFault;
-pub use out_of_memory::OutOfMemory;
 pub use uses::Use;
+pub use wire_num::OutOfMemory;

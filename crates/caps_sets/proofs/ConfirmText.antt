@@ -2,8 +2,8 @@
 use Rattle.std.proofs.Common.{◌≡◌, inl, inr, ℕ, zero, suc, ◌+◌, ◌<◌, List, [], ◌∷◌, ◌++◌, length, refl, ap, sym, ◌∙◌, subst, arith, length-append}
 use Rattle.std.specs.Prelude.{slice_index, Result, Ok, Err}
 use Rattle.byteorder.specs.Endian.{little_number}
-use Rattle.byte_fields.specs.Field.{Read, then_read, place_in}
-use Rattle.wire_num.specs.Field.{placed}
+use Rattle.wire_num.specs.Field.{Read, then_read, place_in}
+use Rattle.wire_num.specs.FieldValue.{placed}
 use Rattle.wire_num.specs.Layout.{fields_at}
 use Rattle.wire_num.specs.Grammar.{IsText}
 use Rattle.wire_num.proofs.Steps.{then_ok}

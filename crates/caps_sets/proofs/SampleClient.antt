@@ -1,7 +1,7 @@
 -- The definitions on the sample client's Confirm Active PDU, and on others.
 use Rattle.std.proofs.Common.{◌≡◌, ℕ, List, [], ◌∷◌, ◌++◌, replicate, refl, true}
 use Rattle.std.specs.Prelude.{Ok, Err}
-use Rattle.wire_num.specs.Field.{passing_at}
+use Rattle.wire_num.specs.FieldValue.{passing_at}
 use Rattle.caps_sets.specs.declared.caps_fault.CapsFault.TheVariants.{BadCaps}
 use Rattle.caps_sets.specs.Confirmed.{plain, full}
 use Rattle.caps_sets.specs.CapabilitySets.{says_bitmaps, says_glyphs, nothing}

@@ -2,7 +2,7 @@
 use Rattle.std.proofs.Common.{◌≡◌, ℕ, suc, ◌+◌, ◌-◌, ◌<◌, List, length, ap, sym, ◌∙◌, arith}
 use Rattle.std.specs.Prelude.{Ok, Err}
 use Rattle.std.proofs.lemmas.List.{length-take-le}
-use Rattle.byte_fields.specs.Field.{then_read, bytes_at}
+use Rattle.wire_num.specs.Field.{then_read, bytes_at}
 use Rattle.wire_num.proofs.ReadIsText.{bytes_ok}
 use Rattle.caps_sets.specs.declared.confirmed.Confirmed.{Confirmed}
 use Rattle.caps_sets.specs.ConfirmActive.{set_at, sets_at}

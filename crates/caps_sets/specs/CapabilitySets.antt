@@ -2,7 +2,7 @@
 -- in its table there.
 use Rattle.std.specs.Prelude.{ℕ, zero, suc, ◌+◌, ◌-◌, ◌==◌, Bool, false, ◌&&◌, ◌||◌, not, List, [], ◌∷◌, drop, replicate, if◌then◌else◌}
 use Rattle.byteorder.specs.Endian.{little_number}
-use Rattle.wire_num.specs.Field.{has_bits}
+use Rattle.wire_num.specs.FieldValue.{has_bits}
 use Rattle.caps_sets.specs.declared.cache_size.CacheSize.{CacheSize}
 use Rattle.caps_sets.specs.declared.confirmed.Confirmed.{Confirmed}
 use Rattle.caps_sets.specs.declared.set_kind.SetKind.{SetKind}

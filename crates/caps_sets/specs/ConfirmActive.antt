@@ -1,8 +1,8 @@
 -- The Confirm Active PDU ([MS-RDPBCGR] 2.2.1.13.2.1), behind its share control header.
 use Rattle.std.specs.Prelude.{ℕ, zero, suc, ◌+◌, ◌-◌, nat_le, ◌&&◌, List, length, slice_index, Result, Ok, Err, if◌then◌else◌}
-use Rattle.wire_num.specs.Field.{is_any, placed}
+use Rattle.wire_num.specs.FieldValue.{is_any, placed}
 use Rattle.wire_num.specs.Layout.{Layout, Open, Any, Little, ◌▸◌, fields_at}
-use Rattle.byte_fields.specs.Field.{Read, then_read, map_read, bytes_at}
+use Rattle.wire_num.specs.Field.{Read, then_read, map_read, bytes_at}
 use Rattle.caps_sets.specs.declared.confirmed.Confirmed.{Confirmed}
 use Rattle.caps_sets.specs.declared.set_kind.SetKind.{SetKind}
 use Rattle.caps_sets.specs.declared.caps_fault.CapsFault.{CapsFault}

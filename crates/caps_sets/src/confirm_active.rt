@@ -72,7 +72,7 @@ fn read_confirm_active(cursor: &mut Cursor<'_>) -> Result<Confirmed, Short>
 }
 
 /// Reads how many bytes the source descriptor has.
-#[tactic(auto, unfolding(crate::specs::ConfirmActive::confirm_lengths, wire_num::specs::Field::passing_at))]
+#[tactic(auto, unfolding(crate::specs::ConfirmActive::confirm_lengths, wire_num::specs::FieldValue::passing_at))]
 fn read_lengths(cursor: &mut Cursor<'_>) -> Result<u16, Short>
     ensures { ReadsFieldsAs (λ source. source ∷ []) (fields_at confirm_lengths) result cursor.old cursor.new }
 {
@@ -84,7 +84,7 @@ fn read_lengths(cursor: &mut Cursor<'_>) -> Result<u16, Short>
 }
 
 /// Reads how many sets there are, behind a source descriptor of so many bytes.
-#[tactic(auto, unfolding(crate::specs::ConfirmActive::confirm_counts, wire_num::specs::Field::passing_at))]
+#[tactic(auto, unfolding(crate::specs::ConfirmActive::confirm_counts, wire_num::specs::FieldValue::passing_at))]
 fn read_counts(source: u16, cursor: &mut Cursor<'_>) -> Result<u16, Short>
     ensures { ReadsFieldsAs (λ count. count ∷ []) (fields_at (confirm_counts source)) result cursor.old cursor.new }
 {
@@ -122,7 +122,7 @@ fn read_set(confirmed: Confirmed, cursor: &mut Cursor<'_>) -> Result<Confirmed, 
 }
 
 /// Reads a set's type and length.
-#[tactic(auto, unfolding(crate::specs::ConfirmActive::set_header, wire_num::specs::Field::passing_at))]
+#[tactic(auto, unfolding(crate::specs::ConfirmActive::set_header, wire_num::specs::FieldValue::passing_at))]
 fn read_header(cursor: &mut Cursor<'_>) -> Result<(u16, u16), Short>
     ensures { ReadsFieldsAs (λ header. header.0 ∷ header.1 ∷ []) (fields_at set_header) result cursor.old cursor.new }
 {

@@ -12,7 +12,7 @@
 
 ghost use Rattle.std.specs.Prelude.{◌≡◌, ◌≤◌, ◌<◌, length};
 ghost use Rattle.caps_sets.specs.CapabilitySets.{number_in, says_support, says_zero_bounds, says_marker, with_orders};
-ghost use Rattle.wire_num.specs.Field.{has_bits};
+ghost use Rattle.wire_num.specs.FieldValue.{has_bits};
 
 use crate::Confirmed;
 use crate::set_kind::HEADER_SIZE;

@@ -3,9 +3,9 @@ use Rattle.std.proofs.Common.{◌≡◌, ℕ, suc, ◌+◌, ◌<◌, Bool, true,
 use Rattle.std.specs.declared.option.Option.{Option}
 use Rattle.std.specs.Io.KnownBytes.{Keeps, Consumes, IsAtEnd, prepend_known}
 use Rattle.line_text.specs.Lines.{Line, lines_of}
-use Rattle.line_read.specs.Reading.{TakesLine}
+use Rattle.edge_io.specs.Reading.{TakesLine}
 use Rattle.capture_read.specs.Long.{HasNoFeed, LosesFront}
-use Rattle.line_read.proofs.LineLemmas.{is_feed, IsPlain, FeedAt, feed_found, feed_missing, line_ended, line_unended}
+use Rattle.edge_io.proofs.LineLemmas.{is_feed, IsPlain, FeedAt, feed_found, feed_missing, line_ended, line_unended}
 
 plain_append : (xs ys : List ℕ) → IsPlain xs → IsPlain ys → IsPlain (xs ++ ys)
 plain_append [] ys px py = py

@@ -2,11 +2,11 @@
 use Rattle.std.proofs.Common.{◌≡◌, ◌∙◌, ◌+◌, ◌-◌, ◌^◌, min, ℕ, List, Result, Ok, Err, IfOk, arith}
 use Rattle.std.specs.declared.option.Option.{Option}
 use Rattle.line_text.specs.Lines.{Line}
-use Rattle.line_read.specs.Reading.{TakesLine}
+use Rattle.edge_io.specs.Reading.{TakesLine}
 use Rattle.capture_read.specs.declared.capture_reader.Told.{Told}
 use Rattle.capture_read.specs.declared.capture_reader.Told.TheVariants as told
 use Rattle.capture_read.specs.Reading.{CaptureReading, JudgesLine, Finds, FindCause, IsAnswer, StandsBefore, counted}
-use Rattle.out_of_memory.specs.declared.OutOfMemory.{OutOfMemory}
+use Rattle.wire_num.specs.declared.out_of_memory.OutOfMemory.{OutOfMemory}
 use Rattle.std.specs.Io.KnownBytes.{prepend_known}
 use Rattle.capture_read.specs.Long.{LosesFront}
 use Rattle.capture_read.specs.Reading.{ahead}

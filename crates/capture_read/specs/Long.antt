@@ -6,8 +6,8 @@ use Rattle.std.specs.Io.KnownBytes.{prepend_known, Keeps, IsAtEnd}
 use Rattle.edge_io.specs.Faults.{Rose}
 use Rattle.edge_io.specs.declared.source.Got.{Got}
 use Rattle.edge_io.specs.declared.source.Got.TheVariants as got
-use Rattle.line_read.specs.Reading.{TakesLine}
-use Rattle.out_of_memory.specs.declared.OutOfMemory.{OutOfMemory}
+use Rattle.edge_io.specs.Reading.{TakesLine}
+use Rattle.wire_num.specs.declared.out_of_memory.OutOfMemory.{OutOfMemory}
 use Rattle.capture_read.specs.declared.long_lines.Cut.{Cut}
 use Rattle.capture_read.specs.declared.long_lines.Cut.TheVariants as cut
 

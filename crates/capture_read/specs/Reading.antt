@@ -5,11 +5,11 @@ use Rattle.std.specs.declared.option.Option.TheVariants.{Some, None}
 use Rattle.std.specs.Io.KnownBytes.{prepend_known, Keeps, IsAtEnd}
 use Rattle.edge_io.specs.Faults.{Rose, last_count}
 use Rattle.line_text.specs.Lines.{Line}
-use Rattle.line_read.specs.Reading.{TakesLine}
+use Rattle.edge_io.specs.Reading.{TakesLine}
 use Rattle.px_core.specs.declared.surface.Size.{Size}
 use Rattle.caps_sets.specs.declared.confirmed.Confirmed.{Confirmed}
 use Rattle.script_rules.specs.Capture.{CaptureLine, JoinedAs, may_stand, joined_after, has_joined, line_read, first_broken_by, bytes_of_line, joined_in_line}
-use Rattle.out_of_memory.specs.declared.OutOfMemory.{OutOfMemory}
+use Rattle.wire_num.specs.declared.out_of_memory.OutOfMemory.{OutOfMemory}
 use Rattle.capture_read.specs.Long.{LosesFront}
 use Rattle.capture_read.specs.declared.capture_reader.Told.{Told}
 use Rattle.capture_read.specs.declared.capture_reader.Told.TheVariants as told

@@ -9,4 +9,4 @@ mod refusals;
 mod said;
 
 pub use capture_reader::{CaptureReader, Told};
-pub use out_of_memory::OutOfMemory;
+pub use wire_num::OutOfMemory;

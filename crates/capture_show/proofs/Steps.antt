@@ -7,9 +7,9 @@ use Rattle.std.proofs.lemmas.Bool.Decides.{nat_tests}
 use Rattle.std.specs.declared.option.Option.{Option}
 use Rattle.std.specs.declared.option.Option.TheVariants.{Some, None}
 use Rattle.std.specs.Io.KnownBytes.{Keeps, IsAtEnd, prepend_known}
-use Rattle.byte_fields.specs.Field.{bind}
+use Rattle.wire_num.specs.Field.{bind}
 use Rattle.line_text.specs.Lines.{Line, lines_of}
-use Rattle.line_read.specs.Reading.{TakesLine}
+use Rattle.edge_io.specs.Reading.{TakesLine}
 use Rattle.script_rules.specs.Capture.{CaptureLine, JoinedAs, may_stand, joined_after, has_joined, line_read, first_broken_line, first_broken_by, first_broken_from, bytes_of_line, bytes_of_lines, joined_in_line, joined_in_lines, joined_or_later, joined_as, viewer_bytes}
 use Rattle.script_rules.specs.Capture.CaptureLine.{JoinedLine, OtherLine, BytesLine, NobodyLine}
 use Rattle.order_means.specs.FrameMarks.{ClientReading, Refusal, read_stream, read_on, first_reading}
@@ -27,7 +27,7 @@ use Rattle.capture_show.specs.Shown.Shown.{BrokenAt, NeverJoined, RefusedAt}
 use Rattle.capture_show.specs.Answers.{Tells}
 use Rattle.capture_show.specs.Steps.{Advances, Joins, FeedsClient, Feeds, Breaks, ReadsFirst, ReadsOn, RefusesFor}
 use Rattle.std.proofs.Common.{IfOk}
-use Rattle.out_of_memory.specs.declared.OutOfMemory.{OutOfMemory}
+use Rattle.wire_num.specs.declared.out_of_memory.OutOfMemory.{OutOfMemory}
 use Rattle.order_means.specs.ClientState.Fault.{Broken, Oversized, Empty}
 use Rattle.client_view.specs.declared.client_fault.ClientFault.{ClientFault}
 use Rattle.client_view.specs.declared.client_fault.ClientFault.TheVariants as fault

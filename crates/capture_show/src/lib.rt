@@ -9,7 +9,7 @@ mod stage;
 mod text;
 mod writing;
 
-pub use out_of_memory::OutOfMemory;
 pub use show::show_capture;
 pub use show_fault::ShowFault;
+pub use wire_num::OutOfMemory;
 pub use writing::put;

@@ -12,10 +12,10 @@ pub enum ShowFault {
     OutOfMemory,
 }
 
-impl From<out_of_memory::OutOfMemory> for ShowFault {
+impl From<wire_num::OutOfMemory> for ShowFault {
     ghost from_gives = { λ _ fault. fault ≡ OutOfMemory };
 
-    fn from(_: out_of_memory::OutOfMemory) -> ShowFault {
+    fn from(_: wire_num::OutOfMemory) -> ShowFault {
         ShowFault::OutOfMemory
     }
 }

@@ -1,7 +1,7 @@
 -- Runs of glyphs, pair by pair.
 use Rattle.std.proofs.Common.{◌≡◌, ◌≤◌, ℕ, Bool, true, false, List, [], ◌∷◌, length, get_or, drop, refl, Some, None, arith}
 use Rattle.std.specs.Prelude.{Option, Result, is_some, nat_lt, ◌&&◌}
-use Rattle.byte_fields.specs.Field.{bind}
+use Rattle.wire_num.specs.Field.{bind}
 use Rattle.draw_ops.specs.Content.{GlyphOf}
 use Rattle.order_means.specs.ClientState.{Fault, pairs_of, pairs_if, onto_pairs}
 use Rattle.client_caches.specs.Runs.{run_used}

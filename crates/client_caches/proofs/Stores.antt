@@ -1,8 +1,8 @@
 -- What a client keeps of cache orders, test by test.
 use Rattle.std.proofs.Common.{◌≡◌, ℕ, zero, suc, ◌*◌, Bool, true, false, List, [], ◌∷◌, get_or, refl, ap, ◌∙◌}
 use Rattle.std.specs.Prelude.{Result, Ok, Err}
-use Rattle.byte_fields.specs.Field.{bind}
-use Rattle.host_bytes.specs.WirePixels.{turned_over}
+use Rattle.wire_num.specs.Field.{bind}
+use Rattle.order_means.specs.WirePixels.{turned_over}
 use Rattle.draw_ops.specs.Content.{ImageOf}
 use Rattle.caps_sets.specs.declared.cache_size.CacheSize.{CacheSize}
 use Rattle.caps_sets.specs.declared.confirmed.Confirmed.{Confirmed}

@@ -2,8 +2,8 @@
 use Rattle.std.specs.Prelude.{◌≡◌, ℕ, Bool, List, map, length, Result, Ok}
 use Rattle.draw_ops.specs.Content.{ImageOf, GlyphOf}
 use Rattle.draw_ops.specs.Slots.{Slots, empty_slots}
-use Rattle.byte_fields.specs.Field.{bind}
-use Rattle.host_bytes.specs.WirePixels.{turned_over}
+use Rattle.wire_num.specs.Field.{bind}
+use Rattle.order_means.specs.WirePixels.{turned_over}
 use Rattle.caps_sets.specs.declared.confirmed.Confirmed.{Confirmed}
 use Rattle.order_means.specs.ClientState.{ClientState, Fault, empty_cache, brush_entries, wire_pixels}
 use Rattle.client_caches.specs.declared.obey_fault.ObeyFault.{ObeyFault}

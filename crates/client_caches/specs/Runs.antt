@@ -1,6 +1,6 @@
 -- What an order uses of a run of glyphs.
 use Rattle.std.specs.Prelude.{ℕ, List, Option, Result, Ok}
-use Rattle.byte_fields.specs.Field.{bind}
+use Rattle.wire_num.specs.Field.{bind}
 use Rattle.draw_ops.specs.Content.{GlyphOf}
 use Rattle.order_means.specs.ClientState.{Fault, found, with_glyphs}
 use Rattle.order_means.specs.ClientState.Fault.{Broken}

@@ -4,9 +4,9 @@ ghost use Rattle.std.specs.Prelude.{◌≡◌, ◌≤◌, ◌<◌, ◌∷◌, []
 ghost use Rattle.order_means.specs.ClientState.{positions, are_apart, apart_from, block_at};
 ghost use Rattle.client_caches.specs.Blocks.{is_that, capped};
 
-use out_of_memory::OutOfMemory;
 use std::alloc::Global;
 use std::marker::Model;
+use wire_num::OutOfMemory;
 
 /// Positions are rounded up to this many rows.
 const ROW_UNIT: u64 = 20;

@@ -17,10 +17,10 @@ use crate::slots::{no_slots, set_slot};
 use crate::{KeptImage, ObeyFault};
 use caps_sets::{CacheSize, Confirmed};
 use draw_ops::{Brush, Glyph};
-use out_of_memory::OutOfMemory;
 use px_core::{Rect, Size, is_inside};
 use std::alloc::Global;
 use std::marker::Model;
+use wire_num::OutOfMemory;
 
 /// The number of the brush cache, and that of the first glyph cache, in refusals.
 const BRUSH_CACHE: u8 = 13;

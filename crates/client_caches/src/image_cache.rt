@@ -3,9 +3,9 @@ ghost use Rattle.draw_ops.specs.Slots.{empty_slots, filled_slot, lookup};
 
 use crate::KeptImage;
 use crate::slots::{no_slots, set_slot};
-use out_of_memory::OutOfMemory;
 use std::alloc::Global;
 use std::marker::Model;
+use wire_num::OutOfMemory;
 
 /// The entries of one bitmap cache, by their indices.
 #[derive(Drop)]

@@ -23,6 +23,6 @@ pub use drawings::{drawing_of, fill_of};
 pub use kept_image::KeptImage;
 pub use named::Named;
 pub use obey_fault::ObeyFault;
-pub use out_of_memory::OutOfMemory;
 pub use run::check_run;
 pub use wire::upright_pixels;
+pub use wire_num::OutOfMemory;

@@ -3,7 +3,7 @@
 ghost use Rattle.std.specs.Prelude.{◌≡◌};
 ghost use Rattle.client_caches.specs.declared.obey_fault.ObeyFault.TheVariants.{OutOfMemory as NoMemory};
 
-use out_of_memory::OutOfMemory;
+use wire_num::OutOfMemory;
 
 /// Why an order isn't obeyed.
 #[derive(Clone, Copy, Debug, PartialEq, Eq)]

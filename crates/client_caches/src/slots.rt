@@ -3,8 +3,8 @@
 ghost use Rattle.std.specs.Prelude.{◌≡◌, IfOk, option_copied};
 ghost use Rattle.draw_ops.specs.Slots.{empty_slots, filled_slot, lookup};
 
-use out_of_memory::OutOfMemory;
 use std::alloc::Global;
+use wire_num::OutOfMemory;
 
 /// So many empty slots.
 pub fn no_slots<T: Drop>(alloc: Global, count: usize) -> Result<Vec<Option<T>>, OutOfMemory>

@@ -7,7 +7,7 @@ use Rattle.px_core.specs.declared.surface.Size.{Size}
 use Rattle.px_core.specs.declared.rectangle.Rect.{Rect}
 use Rattle.px_core.specs.Picture.{Area, Formula, both, pixel_at, painted, where_chosen}
 use Rattle.px_core.specs.Rectangle.{in_rect}
-use Rattle.draw_laws.proofs.Painted.{length-painted_from, pixel_at-painted}
+use Rattle.draw_ops.proofs.Painted.{length-painted_from, pixel_at-painted}
 use Rattle.client_picture.specs.declared.touched.Columns.{Columns}
 use Rattle.client_picture.specs.Pictures.{Pictures}
 use Rattle.client_picture.specs.Touched.{AreKept, AddsRows, AddsColumns}

@@ -7,7 +7,7 @@ use Rattle.px_core.specs.Picture.{Area, Formula, pixel_count, pixel_at, where_ch
 use Rattle.px_core.specs.Rectangle.{in_rect}
 use Rattle.px_core.proofs.Pictures.{same_pixels}
 use Rattle.draw_ops.specs.Formulas.{Painting, over_rect, painted_area, picture_after}
-use Rattle.draw_laws.proofs.Painted.{length-painted_from, pixel_at-painted}
+use Rattle.draw_ops.proofs.Painted.{length-painted_from, pixel_at-painted}
 use Rattle.client_picture.specs.Parts.{Pixels, IsRepainted}
 use Rattle.client_picture.proofs.Repaint.{none_painted}
 

@@ -16,6 +16,6 @@ mod rows;
 mod source;
 mod touched;
 
-pub use out_of_memory::OutOfMemory;
 pub use picture::ClientPicture;
 pub use source::Source;
+pub use wire_num::OutOfMemory;

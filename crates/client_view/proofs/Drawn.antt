@@ -5,7 +5,7 @@ use Rattle.px_core.specs.declared.surface.Size.{Size}
 use Rattle.px_core.specs.declared.rectangle.Rect.{Rect}
 use Rattle.px_core.specs.Picture.{rows_of, item}
 use Rattle.rop3_core.specs.Palette.{client_colors}
-use Rattle.byte_fields.specs.Field.{bind}
+use Rattle.wire_num.specs.Field.{bind}
 use Rattle.draw_ops.specs.Content.{ImageOf, GlyphOf}
 use Rattle.draw_ops.specs.Slots.{Slots, lookup}
 use Rattle.draw_ops.specs.Formulas.{Operand, brushed, imaged, image_rows}

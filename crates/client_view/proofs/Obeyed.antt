@@ -6,7 +6,7 @@ use Rattle.std.proofs.Math.Seq.{drop-cons}
 use Rattle.std.proofs.Common.{add-one}
 use Rattle.px_core.specs.declared.surface.Size.{Size}
 use Rattle.px_core.specs.declared.rectangle.Rect.{Rect}
-use Rattle.byte_fields.specs.Field.{bind}
+use Rattle.wire_num.specs.Field.{bind}
 use Rattle.caps_sets.specs.declared.confirmed.Confirmed.{Confirmed}
 use Rattle.order_fields.specs.OrderTable.{FieldList}
 use Rattle.order_fields.specs.Secondary.{Cached}

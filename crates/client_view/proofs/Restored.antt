@@ -5,7 +5,7 @@ use Rattle.px_core.specs.declared.surface.Size.{Size}
 use Rattle.px_core.specs.declared.rectangle.Rect.{Rect}
 use Rattle.px_core.specs.Picture.{rows_of}
 use Rattle.px_core.specs.Rectangle.{is_inside}
-use Rattle.byte_fields.specs.Field.{bind}
+use Rattle.wire_num.specs.Field.{bind}
 use Rattle.draw_ops.specs.Formulas.{replaced, shifted, over_rect}
 use Rattle.caps_sets.specs.declared.confirmed.Confirmed.{Confirmed}
 use Rattle.order_fields.specs.NamedDrawing.NamedDrawing.{RestoreBlock}

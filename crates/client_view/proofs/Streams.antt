@@ -3,16 +3,16 @@ use Rattle.std.proofs.Common.{◌≡◌, ◌<◌, ℕ, ◌+◌, List, [], ◌∷
 use Rattle.std.specs.Prelude.{Option, Result, Ok, Err, OnErr, is_ok, true, false}
 use Rattle.std.proofs.Math.Seq.{drop-cons}
 use Rattle.px_core.specs.declared.surface.Size.{Size}
-use Rattle.byte_fields.specs.Field.{bind, Read as Field}
+use Rattle.wire_num.specs.Field.{bind, Read as Field}
 use Rattle.caps_sets.specs.declared.confirmed.Confirmed.{Confirmed}
 use Rattle.order_means.specs.ClientState.Fault.{Broken, Oversized, Empty}
 use Rattle.order_means.specs.Updates.{Body, Cutting, Updates, updates, updates_by, updates_from, refusal_in}
 use Rattle.order_means.specs.FrameMarks.{View, Refusal, Update as Meaning, ClientReading, reading, reading_after, read_on, view_after_body, view_after_bodies, update_at, unless_refused_at}
 use Rattle.order_means.proofs.Pieces.{read_joined}
-use Rattle.host_updates.specs.declared.state.State.{State}
-use Rattle.host_updates.specs.declared.state.State.TheVariants.{Open, Whole, Refused as RefusedAt}
-use Rattle.host_updates.specs.declared.step.Step.TheVariants.{More, Update, Refused as RefusedStep}
-use Rattle.host_updates.specs.Cutters.{CutterOf, Stands, StandsBy, Gives, GoesOn, AreBodies, stage_of, step_by, body_by}
+use Rattle.update_read.specs.declared.state.State.{State}
+use Rattle.update_read.specs.declared.state.State.TheVariants.{Open, Whole, Refused as RefusedAt}
+use Rattle.update_read.specs.declared.step.Step.TheVariants.{More, Update, Refused as RefusedStep}
+use Rattle.update_read.specs.Cutters.{CutterOf, Stands, StandsBy, Gives, GoesOn, AreBodies, stage_of, step_by, body_by}
 use Rattle.client_view.specs.declared.client_fault.ClientFault.{ClientFault}
 use Rattle.client_view.specs.declared.client_fault.ClientFault.TheVariants.{Refused, Named, OutOfMemory}
 use Rattle.client_view.specs.declared.viewer.Viewer.{Viewer}

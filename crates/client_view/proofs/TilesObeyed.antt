@@ -3,8 +3,8 @@ use Rattle.std.proofs.Common.{◌≡◌, ◌<◌, ℕ, ◌+◌, Bool, true, List
 use Rattle.std.specs.Prelude.{Option, Result, Ok, Err}
 use Rattle.std.proofs.Math.Seq.{drop-cons}
 use Rattle.px_core.specs.declared.surface.Size.{Size}
-use Rattle.byte_fields.specs.Field.{bind}
-use Rattle.host_bytes.specs.WirePixels.{turned_over}
+use Rattle.wire_num.specs.Field.{bind}
+use Rattle.order_means.specs.WirePixels.{turned_over}
 use Rattle.order_means.specs.ClientState.{Fault, needs, after_painting, wire_pixels}
 use Rattle.order_means.specs.ClientState.Fault.{Broken}
 use Rattle.order_means.specs.FrameMarks.{View, Tile as Rectangle, is_tile, is_packed_tile, tile_pixels, showing, view_after_tile, view_after_tiles}

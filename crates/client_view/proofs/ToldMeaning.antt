@@ -6,7 +6,7 @@ use Rattle.px_core.specs.Picture.{rows_of}
 use Rattle.px_core.specs.Rectangle.{in_rect, is_inside}
 use Rattle.std.specs.Prelude.{nat_lt}
 use Rattle.rop3_core.specs.Palette.{client_colors}
-use Rattle.byte_fields.specs.Field.{bind}
+use Rattle.wire_num.specs.Field.{bind}
 use Rattle.draw_ops.specs.Content.{ImageOf}
 use Rattle.draw_ops.specs.Formulas.{solid, brushed, shifted, imaged, image_rows, Painting, over_rect}
 use Rattle.caps_sets.specs.declared.confirmed.Confirmed.{Confirmed}

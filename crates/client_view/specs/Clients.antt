@@ -2,7 +2,7 @@
 use Rattle.std.specs.Prelude.{◌≡◌, Option, Some, None, Result, Ok, Err}
 use Rattle.order_means.specs.Updates.{refusal_in}
 use Rattle.order_means.specs.FrameMarks.{ClientReading, Refusal}
-use Rattle.host_updates.specs.Cutters.{CutterOf, Stands}
+use Rattle.update_read.specs.Cutters.{CutterOf, Stands}
 use Rattle.client_view.specs.declared.client_fault.ClientFault.{ClientFault}
 use Rattle.client_view.specs.declared.viewer.Viewer.{Viewer}
 use Rattle.client_view.specs.Views.{StandsFor}

@@ -1,7 +1,7 @@
 -- The views that a viewer comes to on its way through a host's bytes: before each update, and after each of its orders or rectangles.
 use Rattle.std.specs.Prelude.{◌≡◌, ◌⊎◌, ℕ, List, [], ◌∷◌, ◌++◌, length, take, None, Ok, Err}
 use Rattle.px_core.specs.declared.surface.Size.{Size}
-use Rattle.byte_fields.specs.Field.{Read}
+use Rattle.wire_num.specs.Field.{Read}
 use Rattle.caps_sets.specs.declared.confirmed.Confirmed.{Confirmed}
 use Rattle.order_fields.specs.OrderStream.{Order, Stream, orders_in}
 use Rattle.order_means.specs.Updates.{Body, updates_by}

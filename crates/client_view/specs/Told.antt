@@ -5,7 +5,7 @@ use Rattle.px_core.specs.declared.rectangle.Rect.{Rect}
 use Rattle.px_core.specs.Picture.{rows_of}
 use Rattle.px_core.specs.Rectangle.{is_inside, in_clip}
 use Rattle.rop3_core.specs.Palette.{client_colors}
-use Rattle.byte_fields.specs.Field.{bind}
+use Rattle.wire_num.specs.Field.{bind}
 use Rattle.draw_ops.specs.Formulas.{solid, brushed, shifted, imaged, image_rows, Painting, over_rect, picture_after}
 use Rattle.caps_sets.specs.declared.confirmed.Confirmed.{Confirmed}
 use Rattle.order_fields.specs.Secondary.{Cached}

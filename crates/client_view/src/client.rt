@@ -12,10 +12,10 @@ use crate::reading::read_bytes;
 use crate::viewer::Viewer;
 use crate::{ClientFault, OutOfMemory};
 use caps_sets::Confirmed;
-use host_updates::Cutter;
 use px_core::Size;
 use std::alloc::Global;
 use std::marker::Model;
+use update_read::Cutter;
 
 /// What a viewer is shown: it reads the host's bytes from the first update on, and keeps the picture of its last mark.
 #[derive(Drop)]

@@ -15,4 +15,4 @@ mod viewer;
 
 pub use client::Client;
 pub use client_fault::ClientFault;
-pub use out_of_memory::OutOfMemory;
+pub use wire_num::OutOfMemory;

@@ -9,8 +9,8 @@ ghost use Rattle.client_view.specs.OnTheWay.{Stops, ComesNext, ComesTo};
 use crate::ClientFault;
 use crate::update::obey_update;
 use crate::viewer::Viewer;
-use host_updates::{Cutter, Step};
 use std::alloc::Global;
+use update_read::{Cutter, Step};
 
 /// Reads the next byte, and obeys the update whose packet it ends. An `Err` leaves the marks and the counts of what was obeyed.
 fn read_byte(

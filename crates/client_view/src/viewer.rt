@@ -7,9 +7,9 @@ use caps_sets::Confirmed;
 use client_caches::{ClientBlocks, ClientCaches};
 use client_picture::ClientPicture;
 use order_fields::Regs;
-use out_of_memory::OutOfMemory;
 use px_core::Size;
 use std::alloc::Global;
+use wire_num::OutOfMemory;
 
 /// What a viewer confirmed; its registers, its caches, its saved blocks, its pictures; and the counts of its marks, of primary orders and of rectangles of Bitmap updates, which stand still at 2^64 - 1.
 #[derive(Drop)]

@@ -1,7 +1,7 @@
 -- The areas of a Refresh Rect, as steps.
 use Rattle.std.proofs.Common.{◌≡◌, ℕ, ◌+◌, ◌<◌, ◌-◌, List, [], ◌∷◌, ◌++◌, refl, ap, ◌∙◌, sym, arith}
 use Rattle.std.specs.Prelude.{Option, Some, None, Ok, IsOk}
-use Rattle.byte_fields.specs.Field.{Read}
+use Rattle.wire_num.specs.Field.{Read}
 use Rattle.px_core.specs.declared.rectangle.Rect.{Rect}
 use Rattle.share_pdu.specs.Bodies.{area_at, areas_at, areas_by}
 use Rattle.share_pdu.proofs.Areas.{areas_listed}

@@ -10,10 +10,10 @@ use crate::conn_fault::ConnFault;
 use crate::hear::{Room, hear};
 use crate::talk::Talk;
 use conn_rules::{ConnStep, Stage};
-use out_of_memory::OutOfMemory;
 use px_core::Size;
 use std::alloc::Global;
 use std::marker::Model;
+use wire_num::OutOfMemory;
 
 /// The most bytes of a packet.
 const MOST_PACKET: usize = 65_535;

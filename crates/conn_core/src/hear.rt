@@ -17,8 +17,8 @@ use crate::talk::Talk;
 use crate::told::tell;
 use conn_rules::{Answer, ConnStep, Stage};
 use input_pdu::Event;
-use out_of_memory::OutOfMemory;
 use tpkt_x224::{Packet, next_packet};
+use wire_num::OutOfMemory;
 
 /// The bytes of a TPKT header.
 const TPKT_SIZE: usize = 4;

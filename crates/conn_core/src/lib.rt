@@ -21,4 +21,4 @@ mod told;
 pub use conn::Conn;
 pub use conn_fault::ConnFault;
 pub use conn_rules::ConnStep;
-pub use out_of_memory::OutOfMemory;
+pub use wire_num::OutOfMemory;

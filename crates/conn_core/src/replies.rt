@@ -17,10 +17,10 @@ use gcc_per::write_server;
 use info_lic::LICENCE;
 use mcs_ber::write_response;
 use mcs_dom::{write_attach, write_indication, write_join};
-use out_of_memory::OutOfMemory;
 use px_core::Size;
 use share_pdu::{Final, write_final};
 use tpkt_x224::write_confirm;
+use wire_num::OutOfMemory;
 
 /// Writes a reply of a session with a picture of this size at the end. `body` is taken for the data of a packet. An `Err` leaves a
 /// front of the reply there.

@@ -13,9 +13,8 @@ use crate::packets::read_headers;
 use conn_rules::{ConnStep, News, SharePhase, Stage};
 use input_pdu::{Event, InputFault, read_events};
 use mcs_dom::{DomainPdu, read_domain};
-use out_of_memory::OutOfMemory;
 use share_pdu::{ClientPdu, find_areas, read_area, read_share};
-use wire_num::Cursor;
+use wire_num::{Cursor, OutOfMemory};
 
 /// Appends what a packet tells that came at this stage. `events` is taken for the events of an Input PDU. An `Err` leaves a front of
 /// the steps there.

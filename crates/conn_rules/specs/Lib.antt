@@ -11,3 +11,6 @@ pub mod Packets
 pub mod Replies
 pub mod Told
 pub mod Hearing
+pub mod Progress
+pub mod Placed
+pub mod Sound

@@ -1,7 +1,7 @@
 -- What the host makes of a whole packet, by what the client is to send next ([MS-RDPBCGR] 1.3.1.1).
 use Rattle.std.specs.Prelude.{ℕ, Bool, true, false, List, Result, Ok, Err}
 use Rattle.std.specs.List.{slice_range}
-use Rattle.byte_fields.specs.Field.{Read, bind, place_in}
+use Rattle.wire_num.specs.Field.{Read, bind, place_in}
 use Rattle.wire_num.specs.declared.range.Range.{Range}
 use Rattle.wire_num.specs.Layout.{fields_at}
 use Rattle.tpkt_x224.specs.Request.{request_of}

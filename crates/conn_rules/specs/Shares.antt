@@ -2,12 +2,12 @@
 -- the Font List: what each asks for, if it is expected.
 use Rattle.std.specs.Prelude.{ℕ, ◌==◌, List, Option, Some, None, Result, Ok, Err, if◌then◌else◌}
 use Rattle.std.specs.List.{slice_range}
-use Rattle.byte_fields.specs.Field.{bind}
+use Rattle.wire_num.specs.Field.{bind}
 use Rattle.caps_sets.specs.declared.confirmed.Confirmed.{Confirmed}
 use Rattle.caps_sets.specs.declared.caps_fault.CapsFault.{CapsFault}
 use Rattle.caps_sets.specs.declared.caps_fault.CapsFault.TheVariants.{BadCaps}
 use Rattle.caps_sets.specs.ConfirmActive.{confirmed_of}
-use Rattle.input_events.specs.declared.event.Event.{Event}
+use Rattle.input_pdu.specs.declared.event.Event.{Event}
 use Rattle.input_pdu.specs.Events.{events_of}
 use Rattle.share_pdu.specs.declared.client_pdu.ClientPdu.{ClientPdu}
 use Rattle.share_pdu.specs.declared.client_pdu.ClientPdu.TheVariants as pdu

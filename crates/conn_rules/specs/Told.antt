@@ -1,10 +1,10 @@
 -- What a packet tells, step by step.
 use Rattle.std.specs.Prelude.{ℕ, Bool, true, false, List, [], ◌∷◌, ◌++◌, map, Result, Ok, Err}
 use Rattle.std.specs.List.{slice_range}
-use Rattle.byte_fields.specs.Field.{Read}
+use Rattle.wire_num.specs.Field.{Read}
 use Rattle.wire_num.specs.Layout.{fields_at}
 use Rattle.px_core.specs.declared.rectangle.Rect.{Rect}
-use Rattle.input_events.specs.declared.event.Event.{Event}
+use Rattle.input_pdu.specs.declared.event.Event.{Event}
 use Rattle.input_pdu.specs.Events.{events_of}
 use Rattle.mcs_dom.specs.declared.bad_domain.BadDomain.{BadDomain}
 use Rattle.mcs_dom.specs.declared.domain_pdu.DomainPdu.{DomainPdu}

@@ -2,7 +2,7 @@
 
 use caps_sets::Confirmed;
 use info_lic::Name;
-use input_events::Event;
+use input_pdu::Event;
 use px_core::Rect;
 
 /// What a client's stream says, one thing after the other.

@@ -5,6 +5,7 @@
 #![tactic(auto)]
 
 mod answer;
+mod conn_laws;
 mod conn_step;
 mod deed;
 mod laws;
@@ -12,6 +13,10 @@ mod refusal;
 mod stage;
 
 pub use answer::{Answer, News, Reply};
+pub use conn_laws::{
+    areas_lie_near, nothing_follows_the_end, once_ready_nothing_is_replied, steps_come_in_order,
+    streams_are_sound,
+};
 pub use conn_step::ConnStep;
 pub use deed::Deed;
 pub use laws::streams_are_heard_in_any_pieces;

@@ -12,8 +12,8 @@ use Rattle.frame_rules.specs.Describes.{HasAllCaches}
 use Rattle.frame_rules.specs.Encoder.{Encoder}
 use Rattle.script_rules.specs.Script.{Asked, without_preset}
 use Rattle.script_rules.specs.Capture.{viewer_of}
-use Rattle.script_rules.specs.CaptureText.{Run, run_at_first, run_after, bytes_of_answer}
-use Rattle.script_rules.specs.Headline.{encoder_frames, steps_of, is_by_present_viewer, AreByPresentViewers, ConfirmAllCaches}
+use Rattle.script_rules.specs.CaptureText.{Run, run_at_first, run_after, bytes_of_answer, encoder_frames}
+use Rattle.headline.specs.Headline.{steps_of, is_by_present_viewer, AreByPresentViewers, ConfirmAllCaches}
 use Rattle.script_lines.specs.declared.step.ViewerStep.{ViewerStep}
 use Rattle.script_lines.specs.declared.step.ViewerStep.TheVariants as asks
 use Rattle.script_lines.specs.Keywords.{step_of}
@@ -23,8 +23,8 @@ use Rattle.script_host.specs.declared.answer.StepAnswer.TheVariants as says
 use Rattle.script_host.specs.Answers.{Says, SaysOutcome}
 use Rattle.script_host.specs.Hosts.{HostModel}
 use Rattle.script_host.specs.Runs.{IsRunOf, IsInCourse}
-use Rattle.demo_rules.specs.Scene.{demo_size, demo_head}
-use Rattle.demo_rules.specs.Counts.{refused_count, kept}
+use Rattle.demo_run.specs.Scene.{demo_size, demo_head}
+use Rattle.demo_run.specs.Counts.{refused_count, kept}
 use Rattle.demo_run.specs.declared.watcher.Watcher.{Watcher}
 use Rattle.demo_run.specs.declared.demo.Demo.{Demo}
 use Rattle.demo_run.specs.Asks.{IsViewer, IsDrawn}

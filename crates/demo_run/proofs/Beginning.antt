@@ -1,9 +1,9 @@
 -- The watchers of viewers who have just joined.
 use Rattle.std.proofs.Common.{◌≡◌, ◌∙◌, ℕ, [], length, refl, ap, sym}
 use Rattle.order_means.specs.FrameMarks.{first_reading, read_stream}
-use Rattle.script_rules.specs.Headline.{confirmed_in}
-use Rattle.demo_rules.specs.Scene.{demo_size, demo_head, preset_of, joins}
-use Rattle.demo_rules.specs.Counts.{sent_to, kept}
+use Rattle.headline.specs.Headline.{confirmed_in}
+use Rattle.demo_run.specs.Scene.{demo_size, demo_head, preset_of, joins}
+use Rattle.demo_run.specs.Counts.{sent_to, kept}
 use Rattle.demo_run.specs.declared.watcher.Watcher.{Watcher}
 use Rattle.demo_run.specs.Asks.{IsViewer}
 use Rattle.demo_run.specs.Watching.{IsNew}

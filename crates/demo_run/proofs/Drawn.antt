@@ -4,8 +4,8 @@ use Rattle.std.specs.Prelude.{Bool, ◌&&◌, nat_lt, true, false, ◌==◌, Opt
 use Rattle.std.proofs.lemmas.Bool.Decides.{nat_tests}
 use Rattle.px_core.specs.Picture.{listed}
 use Rattle.caps_sets.specs.declared.confirmed.Confirmed.{Confirmed}
-use Rattle.input_events.specs.declared.event.Event.{Event}
-use Rattle.input_events.specs.declared.event.Event.TheVariants.{Scan}
+use Rattle.input_pdu.specs.declared.event.Event.{Event}
+use Rattle.input_pdu.specs.declared.event.Event.TheVariants.{Scan}
 use Rattle.draw_ops.specs.declared.shape.Drawing.{Drawing}
 use Rattle.session_rules.specs.declared.entry.Entry.{Entry}
 use Rattle.session_rules.specs.declared.entry.Entry.TheVariants.{Give, Draw}
@@ -20,7 +20,7 @@ use Rattle.script_rules.specs.CaptureText.{confirmed_after}
 use Rattle.script_lines.specs.declared.step.ViewerStep.{ViewerStep}
 use Rattle.script_lines.specs.declared.step.ViewerStep.TheVariants as asks
 use Rattle.script_lines.specs.Keywords.{step_of}
-use Rattle.demo_rules.specs.Scene.{role_of}
+use Rattle.demo_run.specs.Scene.{role_of}
 use Rattle.demo_run.specs.Asks.{IsViewer, IsDrawn}
 use Rattle.demo_run.specs.Standing.{all_viewers}
 

@@ -3,7 +3,7 @@ use Rattle.std.proofs.Common.{◌≡◌, ◌≢◌, ℕ, zero, suc, ◌+◌, ◌
 use Rattle.std.proofs.lemmas.List.{length-map}
 use Rattle.std.specs.Prelude.{Bool, true, false, ◌==◌, IsTrue, Some, None, slice_get, slice_set, if◌then◌else◌, Option, Result, Ok, Err, min, ◌^◌, ◌-◌}
 use Rattle.std.proofs.lemmas.Bool.Decides.{nat_tests}
-use Rattle.byte_fields.specs.Field.{bind}
+use Rattle.wire_num.specs.Field.{bind}
 use Rattle.px_core.specs.declared.surface.Size.{Size}
 use Rattle.caps_sets.specs.declared.confirmed.Confirmed.{Confirmed}
 use Rattle.order_means.specs.FrameMarks.{ClientReading, Refusal, first_reading, read_on, read_stream, pictures_at_marks}
@@ -14,11 +14,11 @@ use Rattle.session_rules.specs.Steps.Answer.{Joined, Left, Accepted, Refused, No
 use Rattle.frame_rules.specs.Encoder.{Encoder}
 use Rattle.script_rules.specs.Script.{Asked}
 use Rattle.script_rules.specs.Capture.{viewer_of}
-use Rattle.script_rules.specs.CaptureText.{Run, run_at_first, run_after, bytes_of_answer, sent_by}
-use Rattle.script_rules.specs.Headline.{encoder_frames, steps_of, confirmed_in, AreByPresentViewers, ConfirmAllCaches}
-use Rattle.host_shows.proofs.Interleaved.{every_viewer_sees}
-use Rattle.demo_rules.specs.Scene.{demo_size, demo_head}
-use Rattle.demo_rules.specs.Counts.{sent_to, takes_of, read_by, kept}
+use Rattle.script_rules.specs.CaptureText.{Run, run_at_first, run_after, bytes_of_answer, sent_by, encoder_frames}
+use Rattle.headline.specs.Headline.{steps_of, confirmed_in, AreByPresentViewers, ConfirmAllCaches}
+use Rattle.headline.proofs.Interleaved.{every_viewer_sees}
+use Rattle.demo_run.specs.Scene.{demo_size, demo_head}
+use Rattle.demo_run.specs.Counts.{sent_to, takes_of, read_by, kept}
 use Rattle.demo_run.specs.declared.watcher.Watcher.{Watcher}
 use Rattle.demo_run.specs.Watching.{read_behind, IsAccepted, ReadsOn}
 use Rattle.demo_run.specs.Standing.{run_of, Watches, AreWatching}

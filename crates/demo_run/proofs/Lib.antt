@@ -6,3 +6,5 @@ pub mod Asked
 pub mod Beginning
 pub mod Loops
 pub mod Sums
+mod Rows
+mod Meanings

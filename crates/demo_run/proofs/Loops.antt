@@ -6,11 +6,11 @@ use Rattle.px_core.specs.Picture.{listed}
 use Rattle.session_rules.specs.Steps.{Step, Play, play_at_first, outcome, session_after}
 use Rattle.session_rules.proofs.Journals.{session_after-append}
 use Rattle.script_rules.specs.Script.{Asked, without_preset}
-use Rattle.script_rules.specs.CaptureText.{run_at_first}
-use Rattle.script_rules.specs.Headline.{encoder_frames, steps_of}
-use Rattle.demo_rules.specs.Scene.{demo_size, demo_head}
-use Rattle.demo_rules.specs.Steps.{step_drawn}
-use Rattle.demo_rules.specs.Load.{play_after, steps_from}
+use Rattle.script_rules.specs.CaptureText.{run_at_first, encoder_frames}
+use Rattle.headline.specs.Headline.{steps_of}
+use Rattle.demo_run.specs.Scene.{demo_size, demo_head}
+use Rattle.demo_run.specs.Steps.{step_drawn}
+use Rattle.demo_run.specs.Load.{play_after, steps_from}
 use Rattle.demo_run.specs.declared.demo.Demo.{Demo}
 use Rattle.demo_run.specs.Standing.{run_of, Stands, Goes}
 use Rattle.demo_run.proofs.Runs.{steps-append, play_is}

@@ -9,9 +9,9 @@ use Rattle.session_rules.proofs.Takes.{takes_from-append}
 use Rattle.frame_rules.specs.Describes.{HasAllCaches}
 use Rattle.frame_rules.specs.Encoder.{Encoder}
 use Rattle.script_rules.specs.Script.{Asked}
-use Rattle.script_rules.specs.CaptureText.{Run, run_after, run_after_all, sent_by, sent_from}
-use Rattle.script_rules.specs.Headline.{encoder_frames, steps_of, is_by_present_viewer, AreByPresentFrom, ConfirmAllCaches}
-use Rattle.demo_rules.specs.Counts.{refused_count}
+use Rattle.script_rules.specs.CaptureText.{Run, run_after, run_after_all, sent_by, sent_from, encoder_frames}
+use Rattle.headline.specs.Headline.{steps_of, is_by_present_viewer, AreByPresentFrom, ConfirmAllCaches}
+use Rattle.demo_run.specs.Counts.{refused_count}
 
 pub steps-append : (xs ys : List Asked) → steps_of (xs ++ ys) ≡ steps_of xs ++ steps_of ys
 steps-append [] ys = refl

@@ -10,11 +10,11 @@ use Rattle.session_rules.specs.Journal.{is_present}
 use Rattle.session_rules.specs.Steps.{Play, play_at_first, outcome, answers_of_steps}
 use Rattle.frame_rules.specs.Describes.{HasAllCaches}
 use Rattle.script_rules.specs.Script.{Asked, is_name, is_invited}
-use Rattle.script_rules.specs.Headline.{steps_of, AreByPresentFrom, AreByPresentViewers, ConfirmAllCaches, confirmed_in}
+use Rattle.headline.specs.Headline.{steps_of, AreByPresentFrom, AreByPresentViewers, ConfirmAllCaches, confirmed_in}
 use Rattle.script_host.specs.Hosts.{HostModel}
 use Rattle.script_host.specs.Runs.{IsRunOf}
-use Rattle.demo_rules.specs.Scene.{Preset, demo_size, demo_head, name_of, row_of, preset_of, join_of, joins}
-use Rattle.demo_rules.specs.Counts.{sent_to, takes_of, refused_count, kept}
+use Rattle.demo_run.specs.Scene.{Preset, demo_size, demo_head, name_of, row_of, preset_of, join_of, joins}
+use Rattle.demo_run.specs.Counts.{sent_to, takes_of, refused_count, kept}
 use Rattle.demo_run.specs.Asks.{IsViewer}
 use Rattle.demo_run.specs.Standing.{run_of, all_viewers}
 

@@ -6,7 +6,7 @@ use Rattle.px_core.specs.Picture.{listed}
 use Rattle.order_means.specs.FrameMarks.{View, ClientReading, Refusal}
 use Rattle.client_view.specs.Clients.{IsReading}
 use Rattle.script_rules.specs.Script.{Asked}
-use Rattle.demo_rules.specs.Counts.{Counts as Meaning, counts_of, read_by, counted_in, sent_to, takes_of, marks_of, orders_of, tiles_of, kept, line_of as meant_line}
+use Rattle.demo_run.specs.Counts.{Counts as Meaning, counts_of, read_by, counted_in, sent_to, takes_of, marks_of, orders_of, tiles_of, kept, line_of as meant_line}
 use Rattle.demo_run.specs.declared.watcher.Watcher.{Watcher}
 use Rattle.demo_run.specs.declared.counts.Counts.{Counts}
 use Rattle.demo_run.specs.declared.counts.Shown.{Shown}

@@ -1,6 +1,6 @@
 -- What is asked of the demonstration's session by code.
 use Rattle.std.specs.Prelude.{◌≡◌, ℕ, ◌≤◌, false, ⊤}
-use Rattle.input_events.specs.declared.event.Event.TheVariants.{Scan}
+use Rattle.input_pdu.specs.declared.event.Event.TheVariants.{Scan}
 use Rattle.draw_ops.specs.Ranges.{HasColors}
 use Rattle.session_rules.specs.Journal.{f12}
 use Rattle.script_lines.specs.declared.step.ViewerStep.{ViewerStep}

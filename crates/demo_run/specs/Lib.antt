@@ -2,3 +2,8 @@ pub mod Asks
 pub mod Watching
 pub mod Standing
 pub mod Sums
+pub mod Numbers
+pub mod Scene
+pub mod Steps
+pub mod Load
+pub mod Counts

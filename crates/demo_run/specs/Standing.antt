@@ -7,11 +7,11 @@ use Rattle.session_rules.specs.Steps.{answers_of_steps}
 use Rattle.frame_rules.specs.Encoder.{Encoder}
 use Rattle.client_view.specs.Clients.{IsReading}
 use Rattle.script_rules.specs.Script.{Asked}
-use Rattle.script_rules.specs.CaptureText.{Run, run_at_first, run_after_all}
-use Rattle.script_rules.specs.Headline.{encoder_frames, steps_of, confirmed_in, AreByPresentViewers, ConfirmAllCaches}
+use Rattle.script_rules.specs.CaptureText.{Run, run_at_first, run_after_all, encoder_frames}
+use Rattle.headline.specs.Headline.{steps_of, confirmed_in, AreByPresentViewers, ConfirmAllCaches}
 use Rattle.script_host.specs.Runs.{IsRunOf}
-use Rattle.demo_rules.specs.Scene.{demo_size, demo_head, viewer_count, role_of, preset_of, joins}
-use Rattle.demo_rules.specs.Counts.{sent_to, takes_of, read_by, refused_count, kept}
+use Rattle.demo_run.specs.Scene.{demo_size, demo_head, viewer_count, role_of, preset_of, joins}
+use Rattle.demo_run.specs.Counts.{sent_to, takes_of, read_by, refused_count, kept}
 use Rattle.demo_run.specs.declared.watcher.Watcher.{Watcher}
 use Rattle.demo_run.specs.declared.demo.Demo.{Demo}
 use Rattle.demo_run.specs.Asks.{IsViewer}

@@ -2,7 +2,7 @@
 use Rattle.std.specs.Prelude.{◌≡◌, ℕ, List, length, sum, decimal, ◌++◌, ◌∷◌, [], codes}
 use Rattle.px_core.specs.Picture.{listed}
 use Rattle.script_rules.specs.Script.{Asked}
-use Rattle.demo_rules.specs.Counts.{Counts as Meaning, counts_of, sent_to, takes_of, marks_of, orders_of, tiles_of, kept}
+use Rattle.demo_run.specs.Counts.{Counts as Meaning, counts_of, sent_to, takes_of, marks_of, orders_of, tiles_of, kept}
 use Rattle.demo_run.specs.declared.counts.Counts.{Counts}
 use Rattle.demo_run.specs.declared.counts.Shown.{Shown}
 use Rattle.demo_run.specs.declared.watcher.Watcher.{Watcher}

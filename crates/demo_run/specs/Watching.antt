@@ -5,7 +5,7 @@ use Rattle.caps_sets.specs.declared.confirmed.Confirmed.{Confirmed}
 use Rattle.order_means.specs.FrameMarks.{ClientReading, Refusal, first_reading, read_on}
 use Rattle.client_view.specs.Clients.{IsReading}
 use Rattle.client_view.specs.Views.{SameViewer}
-use Rattle.demo_rules.specs.Counts.{kept}
+use Rattle.demo_run.specs.Counts.{kept}
 use Rattle.script_host.specs.declared.answer.StepAnswer.{StepAnswer}
 use Rattle.script_host.specs.declared.answer.StepAnswer.TheVariants as says
 use Rattle.demo_run.specs.declared.watcher.Watcher.{Watcher}

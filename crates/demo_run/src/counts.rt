@@ -2,7 +2,7 @@
 
 ghost use Rattle.std.specs.Prelude.{◌≡◌, ◌+◌, ◌++◌, ℕ, List, length, decimal, IfOk, OnOk};
 ghost use Rattle.script_rules.specs.Script.{Asked};
-ghost use Rattle.demo_rules.specs.Counts.{counts_of};
+ghost use Rattle.demo_run.specs.Counts.{counts_of};
 ghost use Rattle.demo_run.specs.Standing.{Stands, Watches, AreWatching};
 ghost use Rattle.demo_run.specs.Sums.{AreShown, AreCounts, line_of};
 

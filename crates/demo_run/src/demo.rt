@@ -4,9 +4,9 @@ ghost use Rattle.std.specs.Prelude.{◌≡◌, ◌<◌, ◌++◌, ◌∷◌, [],
 ghost use Rattle.px_core.specs.Picture.{listed};
 ghost use Rattle.script_lines.specs.Keywords.{step_of};
 ghost use Rattle.script_rules.specs.Script.{Asked, without_preset};
-ghost use Rattle.demo_rules.specs.Numbers.{generator_of};
-ghost use Rattle.demo_rules.specs.Scene.{joins, draw_by, image_load, brush_load, glyph_load, loads};
-ghost use Rattle.demo_rules.specs.Load.{play_after, steps_from, last_takes};
+ghost use Rattle.demo_run.specs.Numbers.{generator_of};
+ghost use Rattle.demo_run.specs.Scene.{joins, draw_by, image_load, brush_load, glyph_load, loads};
+ghost use Rattle.demo_run.specs.Load.{play_after, steps_from, last_takes};
 ghost use Rattle.demo_run.specs.Asks.{IsDrawn, IsViewer};
 ghost use Rattle.demo_run.specs.Watching.{refusals_in, IsAcceptedAt, IsNoted};
 ghost use Rattle.demo_run.specs.Standing.{Stands, Goes};

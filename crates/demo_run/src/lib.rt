@@ -11,10 +11,12 @@ mod numbers;
 mod rects;
 mod run;
 mod seats;
+mod step_kind;
 mod stepping;
 mod watcher;
 
 pub use line::demo_line;
-pub use out_of_memory::OutOfMemory;
 pub use run::run_demo;
 pub use script_run::ScriptFault;
+pub use step_kind::StepKind;
+pub use wire_num::OutOfMemory;

@@ -1,5 +1,5 @@
 ghost use Rattle.std.specs.Prelude.{◌≡◌, IfOk};
-ghost use Rattle.demo_rules.specs.Counts.{demo_line};
+ghost use Rattle.demo_run.specs.Counts.{demo_line};
 
 use crate::OutOfMemory;
 use crate::counts::count_run;

@@ -4,7 +4,7 @@ ghost use Rattle.std.specs.Prelude.{◌≡◌, ◌<◌, ◌≤◌, ◌+◌, ◌*
 ghost use Rattle.px_core.specs.Colors.{are_colors};
 ghost use Rattle.draw_ops.specs.Ranges.{colors_of};
 ghost use Rattle.session_rules.specs.Board.{sign_of};
-ghost use Rattle.demo_rules.specs.Scene.{image_color, image_load, brush_load, glyph_load};
+ghost use Rattle.demo_run.specs.Scene.{image_color, image_load, brush_load, glyph_load};
 
 use crate::OutOfMemory;
 use draw_ops::{Brush, Glyph, Image, Shape, SharedBrush};

@@ -1,7 +1,7 @@
 //! The numbers that are drawn.
 
 ghost use Rattle.std.specs.Prelude.{◌≡◌, ◌<◌};
-ghost use Rattle.demo_rules.specs.Numbers.{generator_of, number_below, after_word};
+ghost use Rattle.demo_run.specs.Numbers.{generator_of, number_below, after_word};
 
 use rand_core::utils::NextWord;
 use rand_pcg::Lcg64Xsh32;
@@ -17,7 +17,7 @@ pub(crate) fn generator_of(seed: u64) -> Lcg64Xsh32
 }
 
 /// The next word modulo `k`.
-#[tactic(auto, unfolding(demo_rules::specs::Numbers::number_below, demo_rules::specs::Numbers::after_word))]
+#[tactic(auto, unfolding(crate::specs::Numbers::number_below, crate::specs::Numbers::after_word))]
 pub(crate) fn below(words: &mut Lcg64Xsh32, k: u32) -> u32
     requires { 0 < k }
     ensures value { result ≡ number_below k words.old }

@@ -1,8 +1,8 @@
 //! Rectangles that are drawn by their numbers.
 
 ghost use Rattle.std.specs.Prelude.{◌≡◌, ◌≤◌, pos};
-ghost use Rattle.demo_rules.specs.Numbers.{number_below, after_word};
-ghost use Rattle.demo_rules.specs.Steps.{sides_drawn, rect_drawn, inner_drawn};
+ghost use Rattle.demo_run.specs.Numbers.{number_below, after_word};
+ghost use Rattle.demo_run.specs.Steps.{sides_drawn, rect_drawn, inner_drawn};
 
 use crate::numbers::below;
 use px_core::{Rect, Size};

@@ -3,7 +3,7 @@ ghost use Rattle.std.specs.Io.KnownBytes.{Appends};
 ghost use Rattle.edge_io.specs.Sink.{WritesFront};
 ghost use Rattle.script_run.specs.Run.{WritesCause};
 ghost use Rattle.script_run.specs.Steps.{IsWriteFault};
-ghost use Rattle.demo_rules.specs.Counts.{demo_line};
+ghost use Rattle.demo_run.specs.Counts.{demo_line};
 
 use crate::OutOfMemory;
 use crate::line::demo_line;

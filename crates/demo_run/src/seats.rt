@@ -6,10 +6,9 @@ ghost use Rattle.caps_sets.specs.Presets.{presets, confirmed_by};
 ghost use Rattle.frame_rules.specs.Encoder.{Encoder};
 ghost use Rattle.px_core.specs.Picture.{listed};
 ghost use Rattle.script_rules.specs.Script.{is_name};
-ghost use Rattle.script_rules.specs.CaptureText.{Run, run_at_first};
-ghost use Rattle.script_rules.specs.Headline.{encoder_frames};
+ghost use Rattle.script_rules.specs.CaptureText.{Run, run_at_first, encoder_frames};
 ghost use Rattle.script_host.specs.Runs.{IsRunOf};
-ghost use Rattle.demo_rules.specs.Scene.{demo_size, demo_head, name_of, role_of, preset_of, joins};
+ghost use Rattle.demo_run.specs.Scene.{demo_size, demo_head, name_of, role_of, preset_of, joins};
 ghost use Rattle.demo_run.specs.Asks.{IsViewer};
 ghost use Rattle.demo_run.specs.Standing.{run_of, AreNew};
 

@@ -3,18 +3,17 @@
 ghost use Rattle.std.specs.Prelude.{◌≡◌, true, false, None, IfOk, OnOk};
 ghost use Rattle.px_core.specs.Colors.{are_colors};
 ghost use Rattle.draw_ops.specs.Ranges.{colors_of};
-ghost use Rattle.input_events.specs.declared.event.Event.TheVariants.{Scan};
+ghost use Rattle.input_pdu.specs.declared.event.Event.TheVariants.{Scan};
 ghost use Rattle.session_rules.specs.Journal.{f12};
 ghost use Rattle.session_rules.specs.Steps.Step.{InputStep, DrawStep};
 ghost use Rattle.script_lines.specs.Keywords.{step_of};
-ghost use Rattle.demo_rules.specs.Numbers.{Drawn};
-ghost use Rattle.demo_rules.specs.Steps.{kind_of, take_drawn, step_of_kind, step_drawn};
+ghost use Rattle.demo_run.specs.Numbers.{Drawn};
+ghost use Rattle.demo_run.specs.Steps.{kind_of, take_drawn, step_of_kind, step_drawn};
 ghost use Rattle.demo_run.specs.Asks.{IsDrawn, IsViewer};
 
-use crate::OutOfMemory;
 use crate::drawing::{blit, copy, dst, fill, line, pat, restore, save, text};
 use crate::numbers::below;
-use demo_rules::StepKind;
+use crate::{OutOfMemory, StepKind};
 use draw_ops::{Drawing, Shape};
 use rand_pcg::Lcg64Xsh32;
 use script_lines::ViewerStep;

@@ -3,8 +3,8 @@
 ghost use Rattle.std.specs.Prelude.{◌≡◌, ◌+◌, List, length, IfOk, OnOk};
 ghost use Rattle.order_means.specs.FrameMarks.{ClientReading, first_reading, read_on};
 ghost use Rattle.client_view.specs.Clients.{IsReading};
-ghost use Rattle.demo_rules.specs.Scene.{demo_size};
-ghost use Rattle.demo_rules.specs.Counts.{kept};
+ghost use Rattle.demo_run.specs.Scene.{demo_size};
+ghost use Rattle.demo_run.specs.Counts.{kept};
 ghost use Rattle.demo_run.specs.Watching.{IsAccepted, ReadsOn, IsNew};
 
 use crate::OutOfMemory;

@@ -1,1 +1,4 @@
 pub mod Broken
+pub mod Painted
+pub mod Rows
+pub mod KeptColors

@@ -1,2 +1,7 @@
 pub mod Lists
 pub mod Gates
+mod FeedLemmas
+mod Rows
+pub mod BufferLemmas
+pub mod LineLemmas
+pub mod FindLemmas

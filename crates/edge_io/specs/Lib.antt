@@ -7,3 +7,5 @@ pub mod Plan
 pub mod PlannedSource
 pub mod PlannedSink
 pub mod PlannedGate
+pub mod Reading
+pub mod Finding

@@ -1,19 +1,21 @@
-//! The outside of the host: sources, sinks, links and gates, each with a count of its faults (profile).
+//! The outside of the host: sources, sinks, links and gates, each with a count of its faults, and lines from a source that gives its
+//! bytes in pieces (profile).
 #![tactic(auto)]
 
+mod buffer;
 mod bytes;
-#[cfg(test)]
-mod checks;
 mod file_in;
 mod file_out;
 mod gate;
 mod keep;
+pub mod laws;
 mod link;
 mod mem_link;
 mod plan;
 mod plan_gate;
 mod plan_sink;
 mod plan_source;
+mod reader;
 mod sink;
 mod source;
 
@@ -24,9 +26,13 @@ pub use gate::{Gate, Next};
 pub use keep::Keep;
 pub use link::Link;
 pub use mem_link::MemLink;
-pub use out_of_memory::OutOfMemory;
 pub use plan_gate::PlanGate;
 pub use plan_sink::PlanSink;
 pub use plan_source::PlanSource;
+pub use reader::{Found, LineReader};
 pub use sink::{Sink, Wrote};
 pub use source::{Got, Source};
+pub use wire_num::OutOfMemory;
+
+#[cfg(test)]
+mod checks;

@@ -14,7 +14,7 @@ use Rattle.draw_ops.specs.Content.{ImageOf}
 use Rattle.draw_ops.specs.Formulas.{Operand, Painting, painted_area, picture_after, over_rect, solid, rastered, absent, image_rows, shifted}
 use Rattle.draw_ops.specs.Slots.{SurfaceState, lookup}
 use Rattle.draw_ops.specs.Drawing.{content_of, source_of, source_in, pattern_in, painting_of, state_after_drawing}
-use Rattle.frame_rules.specs.Pending.{Pending, pending_of}
+use Rattle.session_rules.specs.Pending.{Pending, pending_of}
 use Rattle.frame_rules.specs.Cautious.{area_of, changes_nothing, moved, unless, cut_to, is_cut, with_shape, cut_by, cut}
 use Rattle.frame_laws.specs.Agreement.{drawn}
 use Rattle.frame_laws.proofs.Cut.{cut_picture, shifted_moved}

@@ -9,7 +9,7 @@ use Rattle.draw_ops.specs.declared.shape.Shape.TheVariants.{Fill, Dst, Pat, Copy
 use Rattle.draw_ops.specs.Slots.{SurfaceState}
 use Rattle.draw_ops.specs.Drawing.{state_after_drawing, state_after_drawings}
 use Rattle.order_means.specs.ClientState.{ClientState}
-use Rattle.frame_rules.specs.Pending.{pending_of, pending_drawings}
+use Rattle.session_rules.specs.Pending.{pending_of, pending_drawings}
 use Rattle.frame_rules.specs.Frame.{Walk, jumped_one, jumped, touched_tiles}
 use Rattle.px_core.specs.Tiles.{either_tiles}
 use Rattle.px_core.specs.Rectangle.{in_clip}

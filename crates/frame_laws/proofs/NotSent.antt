@@ -14,7 +14,7 @@ use Rattle.draw_ops.specs.Formulas.{Painting, no_painting, painted_area, picture
 use Rattle.draw_ops.specs.Slots.{SurfaceState, Slots, lookup, filled_slot, flattened}
 use Rattle.draw_ops.specs.Drawing.{painting_of, slots_after, state_after_drawing}
 use Rattle.order_means.specs.ClientState.{ClientState}
-use Rattle.frame_rules.specs.Pending.{pending_of, touched_rect}
+use Rattle.session_rules.specs.Pending.{pending_of, touched_rect}
 use Rattle.frame_rules.specs.Blocks.{Place, Held, place_of, without_slot}
 use Rattle.frame_rules.specs.Frame.{Walk, skipped}
 use Rattle.frame_rules.specs.Shown.{tile_of_place, ShowsOutside}

@@ -12,7 +12,7 @@ use Rattle.draw_ops.specs.Content.{ImageOf}
 use Rattle.draw_ops.specs.Slots.{SurfaceState, lookup}
 use Rattle.draw_ops.specs.Drawing.{painting_of, state_after_drawing}
 use Rattle.caps_sets.specs.declared.confirmed.Confirmed.{Confirmed}
-use Rattle.byte_fields.specs.Field.{bind}
+use Rattle.wire_num.specs.Field.{bind}
 use Rattle.order_fields.specs.NamedDrawing.NamedDrawing.{RestoreBlock}
 use Rattle.order_means.specs.ClientState.{ClientState, Block, needs, found, block_at, restoring, after_painting}
 use Rattle.order_means.specs.ClientState.Fault.{Broken}

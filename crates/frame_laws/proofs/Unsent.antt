@@ -9,7 +9,7 @@ use Rattle.draw_ops.specs.Slots.{SurfaceState}
 use Rattle.draw_ops.specs.Drawing.{state_after_drawing, block_of}
 use Rattle.caps_sets.specs.declared.confirmed.Confirmed.{Confirmed}
 use Rattle.order_means.specs.ClientState.{ClientState}
-use Rattle.frame_rules.specs.Pending.{pending_of}
+use Rattle.session_rules.specs.Pending.{pending_of}
 use Rattle.frame_rules.specs.Support.{supports}
 use Rattle.frame_rules.specs.Blocks.{Place, least_free, positions_of, without_slot}
 use Rattle.frame_rules.specs.Frame.{Walk, skipped, sent_if, saved_if, given_up, restored_from, block_if, reads_clean_tiles, touched_tiles, walked}

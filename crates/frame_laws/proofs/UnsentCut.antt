@@ -17,7 +17,7 @@ use Rattle.draw_ops.specs.Slots.{SurfaceState}
 use Rattle.draw_ops.specs.Drawing.{painting_of, drawn_picture, state_after_drawing}
 use Rattle.caps_sets.specs.declared.confirmed.Confirmed.{Confirmed}
 use Rattle.order_means.specs.ClientState.{ClientState}
-use Rattle.frame_rules.specs.Pending.{Pending, pending_of}
+use Rattle.session_rules.specs.Pending.{Pending, pending_of}
 use Rattle.frame_rules.specs.Frame.{Walk, walked, walked_as, walked_pending}
 use Rattle.frame_rules.specs.Cautious.{area_of, changes_nothing, unless, cut_to, with_shape, cut_by, cut, cut_if}
 use Rattle.frame_rules.proofs.TileLaws.{has_pixel-in_rect, column_below, row_below, true_is_not_false}

@@ -15,7 +15,7 @@ ghost use Rattle.draw_ops.specs.Drawing.{state_after_drawing, state_after_drawin
 ghost use Rattle.caps_sets.specs.declared.confirmed.Confirmed.{Confirmed};
 ghost use Rattle.order_means.specs.ClientState.{ClientState};
 ghost use Rattle.order_fields.specs.NamedDrawing.NamedDrawing.{Opaque, Dst as DstBlt, Scr, SaveBlock, RestoreBlock};
-ghost use Rattle.frame_rules.specs.Pending.{pending_of, pending_drawings};
+ghost use Rattle.session_rules.specs.Pending.{pending_of, pending_drawings};
 ghost use Rattle.frame_rules.specs.Frame.{Walk, walked, walked_pending, jumped, with_block, given_up};
 ghost use Rattle.frame_rules.specs.Blocks.{placed, positions_of, least_free, place_of, without_slot};
 ghost use Rattle.frame_rules.specs.FrameOrders.{bounds_of};

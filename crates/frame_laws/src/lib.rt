@@ -1,4 +1,7 @@
-//! Laws of frames: how the agreement of session and client goes on from drawing to drawing ([MS-RDPEGDI] 2.2.2.2.1 for what the client makes of orders; which drawings go as orders is profile).
+//! Laws of frames: each order that a frame sends is obeyed, whatever a cache holds still has its content, a tile is read, and every state of
+//! a legal journal is sound.
 #![tactic(auto)]
 
+pub mod cache_laws;
 pub mod laws;
+pub mod state_laws;

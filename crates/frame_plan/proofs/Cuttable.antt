@@ -19,12 +19,12 @@ use Rattle.draw_ops.specs.Fits.{rules_of, broken_if, clip_rule, no_clip_rule, re
 use Rattle.session_rules.specs.declared.entry.Entry.{Entry}
 use Rattle.session_rules.specs.Journal.{Head, state_after, IsLegalJournal}
 use Rattle.session_rules.proofs.OwnSteps.{AllNone}
-use Rattle.frame_rules.specs.Pending.{touched_rect, pending_of, pending_drawings, pending_between}
-use Rattle.sound_states.specs.SoundState.{IsSound}
-use Rattle.sound_states.specs.Drawings.{Suits, AllSound, drawings_between}
-use Rattle.sound_states.proofs.Rules.{IsPlainRect, rules_kept, plain_rect, kept_test}
-use Rattle.sound_states.proofs.Entries.{pending_between_is}
-use Rattle.sound_states.proofs.Journals.{between_sound}
+use Rattle.session_rules.specs.Pending.{touched_rect, pending_of, pending_drawings, pending_between}
+use Rattle.frame_laws.specs.SoundState.{IsSound}
+use Rattle.frame_laws.specs.Drawings.{Suits, AllSound, drawings_between}
+use Rattle.frame_laws.proofs.Rules.{IsPlainRect, rules_kept, plain_rect, kept_test}
+use Rattle.frame_laws.proofs.Entries.{pending_between_is}
+use Rattle.frame_laws.proofs.Journals.{between_sound}
 use Rattle.frame_shows.proofs.SentKeeps.{GoodShape}
 use Rattle.frame_shows.proofs.SoundGood.{good_of}
 use Rattle.frame_shows.proofs.TextRect.{IsNear, text_near}

@@ -8,8 +8,8 @@ use Rattle.px_core.specs.declared.rectangle.Rect.{Rect}
 use Rattle.px_core.specs.Rectangle.{boxed, has_pixel, is_inside, is_session_size, IsPlaced}
 use Rattle.draw_ops.specs.declared.shape.Shape.{Shape}
 use Rattle.draw_ops.specs.declared.shape.Shape.TheVariants.{Fill, Dst, Pat, Copy, Blit, Blit3, Text, Line, Save, Restore, LoadImage, LoadBrush, LoadGlyph}
-use Rattle.board_laws.proofs.Fitting.{sides_of}
-use Rattle.frame_rules.specs.Pending.{Pending}
+use Rattle.session_rules.proofs.Fitting.{sides_of}
+use Rattle.session_rules.specs.Pending.{Pending}
 use Rattle.frame_rules.specs.Cautious.{area_of, changes_nothing, moved, unless, cut_to, is_cut}
 use Rattle.frame_laws.proofs.CutSource.{cut_inside}
 use Rattle.frame_plan.specs.Cuts.{ReadsPlaced, IsWalkable, CanMove, IsCuttable, NearSource}

@@ -2,11 +2,11 @@
 use Rattle.std.proofs.Common.{◌≡◌, ◌≢◌, ℕ, zero, suc, ◌+◌, ◌-◌, ◌<◌, eqb, List, [], ◌∷◌, length, take, drop, drop-cons, get_or, map, sym, refl, ap, ◌∙◌, subst, ⊎_elim, arith}
 use Rattle.std.specs.Prelude.{Bool, true, false}
 use Rattle.std.proofs.lemmas.Bool.Decides.{eqb_tells}
-use Rattle.cache_use.specs.CacheUse.{is_used, other_keys, distinct_keys}
+use Rattle.cache_plan.specs.CacheUse.{is_used, other_keys, distinct_keys}
 use Rattle.draw_ops.specs.Content.{GlyphOf}
 use Rattle.draw_ops.specs.Slots.{Loaded}
 use Rattle.frame_rules.specs.Support.{distinct_loads}
-use Rattle.cache_use.proofs.Recency.{NoRepeats, no_repeats, others_of_unused, used_among_distinct}
+use Rattle.cache_plan.proofs.Recency.{NoRepeats, no_repeats, others_of_unused, used_among_distinct}
 
 -- of keys that differ, one less is other than one of them
 others_of_used : (k : ℕ) (xs : List ℕ) → NoRepeats xs → is_used k xs ≡ true → suc (length (other_keys k xs)) ≡ length xs

@@ -3,8 +3,8 @@ use Rattle.std.proofs.Common.{◌≡◌, ℕ, zero, suc, ◌+◌, ◌≤◌, Lis
 use Rattle.px_core.specs.declared.surface.Size.{Size}
 use Rattle.session_rules.specs.declared.entry.Entry.{Entry}
 use Rattle.session_rules.specs.Journal.{State, opening_state, state_after_entry, state_after, reached_at_first, drawings_of}
-use Rattle.frame_rules.specs.Pending.{Pending, pending_drawings, pending_from, pending_between}
-use Rattle.sound_states.proofs.Entries.{state_from, reached_is, state_from-append, cut_again}
+use Rattle.session_rules.specs.Pending.{Pending, pending_drawings, pending_from, pending_between}
+use Rattle.frame_laws.proofs.Entries.{state_from, reached_is, state_from-append, cut_again}
 
 pending_from-append : (size : Size) (xs ys : List Entry) (st : State) → pending_from size st (xs ++ ys) ≡ pending_from size st xs ++ pending_from size (state_from size st xs) ys
 pending_from-append size [] ys st = refl

@@ -4,9 +4,9 @@ use Rattle.std.specs.Prelude.{Bool, true, Option, Some, None}
 use Rattle.px_core.specs.declared.surface.Size.{Size}
 use Rattle.px_core.specs.declared.rectangle.Rect.{Rect}
 use Rattle.px_core.specs.TileFlags.{tiles}
-use Rattle.saved_blocks.specs.Blocks.{Held, placed, positions_of, least_free, without_slot, IsFree}
-use Rattle.saved_blocks.proofs.LeastFree.{none_is_computed}
-use Rattle.frame_rules.specs.Pending.{Pending}
+use Rattle.save_plan.specs.Blocks.{Held, placed, positions_of, least_free, without_slot, IsFree}
+use Rattle.save_plan.proofs.LeastFree.{none_is_computed}
+use Rattle.session_rules.specs.Pending.{Pending}
 use Rattle.frame_rules.specs.Frame.{Walk, skipped, saved_at, saved_if, given_up}
 use Rattle.frame_plan.specs.declared.walk.Walker.{Walker}
 use Rattle.frame_plan.specs.Walks.{walk_of, HasDecided}

@@ -4,7 +4,7 @@ use Rattle.std.specs.Prelude.{Bool, true, false, Option, Some, None, ifâ—Œthenâ—
 use Rattle.std.proofs.Math.Seq.{drop-cons}
 use Rattle.px_core.specs.declared.surface.Size.{Size}
 use Rattle.caps_sets.specs.declared.confirmed.Confirmed.{Confirmed}
-use Rattle.frame_rules.specs.Pending.{Pending, onto_optional}
+use Rattle.session_rules.specs.Pending.{Pending, onto_optional}
 use Rattle.frame_rules.specs.Cautious.{cut, cut_if}
 use Rattle.frame_rules.specs.Frame.{Walk, Sent, walked, walked_as, walked_pending, walk_after, sent_from, jumped, jumped_one}
 use Rattle.frame_plan.specs.declared.walk.Walker.{Walker}

@@ -1,6 +1,6 @@
 -- Drawings that go as orders, among those that were walked.
 use Rattle.std.specs.Prelude.{ℕ, List, [], ◌∷◌, ◌++◌, Option, Some, None}
-use Rattle.frame_rules.specs.Pending.{Pending}
+use Rattle.session_rules.specs.Pending.{Pending}
 use Rattle.frame_rules.specs.Frame.{Sent}
 
 -- a drawing goes as an order where it has a position

@@ -2,7 +2,7 @@
 use Rattle.std.specs.Prelude.{◌≡◌, ◌==◌, nat_lt, Bool, true, false, List, [], length}
 use Rattle.px_core.specs.declared.surface.Size.{Size}
 use Rattle.caps_sets.specs.declared.confirmed.Confirmed.{Confirmed}
-use Rattle.frame_rules.specs.Pending.{Pending, pending_between}
+use Rattle.session_rules.specs.Pending.{Pending, pending_between}
 use Rattle.frame_rules.specs.Frame.{Walk, Sent, first_dirty, sent_from, walk_after, jumped, most_orders}
 use Rattle.session_core.specs.SessionModel.{SessionModel}
 use Rattle.frame_plan.specs.Takes.{DeskModel, TakenFrame}

@@ -4,7 +4,7 @@ use Rattle.px_core.specs.declared.surface.Size.{Size}
 use Rattle.px_core.specs.Rectangle.{cut_out}
 use Rattle.px_core.specs.Tiles.{tile_on}
 use Rattle.caps_sets.specs.declared.confirmed.Confirmed.{Confirmed}
-use Rattle.saved_blocks.specs.Blocks.{Held}
+use Rattle.save_plan.specs.Blocks.{Held}
 use Rattle.frame_rules.specs.Frame.{Sent, FrameOf}
 
 -- a viewer and what it confirmed; the number of its last frame, the blocks that it holds, and how many frames it was given

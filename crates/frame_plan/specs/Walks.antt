@@ -3,7 +3,7 @@ use Rattle.std.specs.Prelude.{◌≡◌, ℕ, Option, List, [], ◌∷◌, ◌++
 use Rattle.px_core.specs.declared.surface.Size.{Size}
 use Rattle.px_core.specs.TileFlags.{tiles}
 use Rattle.caps_sets.specs.declared.confirmed.Confirmed.{Confirmed}
-use Rattle.frame_rules.specs.Pending.{Pending, onto_optional}
+use Rattle.session_rules.specs.Pending.{Pending, onto_optional}
 use Rattle.frame_rules.specs.Cautious.{cut}
 use Rattle.frame_rules.specs.Frame.{Walk, Walked, Sent, walked, walk_after, sent_from}
 use Rattle.frame_plan.specs.Orders.{sent_to, orders_at}

@@ -1,6 +1,6 @@
 //! What is kept of a viewer between its takes.
 ghost use Rattle.std.specs.Prelude.{◌≡◌, Ok};
-ghost use Rattle.saved_blocks.specs.Blocks.{AreApart};
+ghost use Rattle.save_plan.specs.Blocks.{AreApart};
 ghost use Rattle.frame_plan.specs.Takes.{first_desk};
 
 use crate::OutOfMemory;
@@ -64,10 +64,10 @@ impl Desk {
     }
 
     /// What holds of the blocks of every desk; it does nothing.
-    pub fn are_apart(&self)
+    pub fn recall_apart(&self)
         ensures { AreApart self.now.held }
     {
-        self.held.are_apart();
+        self.held.recall_apart();
     }
 
     /// How many frames it was given.

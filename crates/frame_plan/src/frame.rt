@@ -3,7 +3,7 @@ ghost use Rattle.std.specs.Prelude.{◌≡◌, ◌≤◌, length, IfOk, OnOk, On
 ghost use Rattle.px_core.specs.Rectangle.{is_session_size};
 ghost use Rattle.px_core.specs.Tiles.{all_tiles, share_tile};
 ghost use Rattle.px_core.specs.TileFlags.{tiles};
-ghost use Rattle.frame_rules.specs.Pending.{pending_between};
+ghost use Rattle.session_rules.specs.Pending.{pending_between};
 ghost use Rattle.session_core.specs.SessionModel.{is_here, asked_by};
 ghost use Rattle.frame_plan.specs.Takes.{taken_as};
 ghost use Rattle.frame_plan.specs.Plans.{is_work, frame_at, taken_if, desk_if, asked_if};
@@ -80,7 +80,7 @@ fn is_work(session: &Session, desk: &Desk) -> bool
     requires { IsTrue (is_here session.now desk.now.v) }
     ensures { result ≡ is_work session.now desk.now }
 {
-    session.is_legal();
+    session.recall_legal();
     let size = session.size();
     !session.suppressed(desk.v)
         && (desk.number != session.length() || is_asked(size, session.asked(desk.v)))
@@ -100,7 +100,7 @@ fn plan_frame(alloc: Global, session: &Session, desk: &Desk) -> Result<Planned, 
     requires seen { desk.now.number ≤ length session.now.journal }
     ensures { IfOk result (λ planned. planned_as planned ≡ taken_as session.now.head.size (frame_at session.now desk.now)) }
 {
-    session.is_legal();
+    session.recall_legal();
     let (walker, sent) = walked(alloc, session, desk)?;
     let tiles = cut_tiles(alloc, session.look(), &walker.dirty, session.asked(desk.v))?;
     Ok(Planned {
@@ -116,7 +116,7 @@ fn walked(alloc: Global, session: &Session, desk: &Desk) -> Result<(Walker, Orde
     requires { desk.now.number ≤ length session.now.journal }
     ensures { IfOk result (λ both. HasPlanned session.now desk.now both.0 both.1) }
 {
-    session.is_legal();
+    session.recall_legal();
     let size = session.size();
     let mut walker = Walker::begin(alloc, size, desk.number == 0, &desk.confirmed, &desk.held)?;
     let all = session.drawings_before(session.length());
@@ -142,7 +142,7 @@ fn walk_over(
     requires { desk.now.number ≤ length session.now.journal }
     ensures { IfOk result (λ sent. HasWalkedAll session.now.head.size desk.now.confirmed walker.old (pending_between session.now.head.size session.now.journal desk.now.number (length session.now.journal)) sent walker.new) }
 {
-    session.is_legal();
+    session.recall_legal();
     let mut pending = Vec::with_capacity(alloc, count)?;
     for entry in desk.number..session.length() {
         session.put_pending(entry, &mut pending)?;
@@ -177,7 +177,7 @@ fn jump_over(
     requires { before ≤ length session.now.journal }
     ensures { OnOk result (HasJumped walker.old (jumped session.now.head.size (walk_of walker.old) (pending_between session.now.head.size session.now.journal before (length session.now.journal))) walker.new) }
 {
-    session.is_legal();
+    session.recall_legal();
     let size = session.size();
     let mut pending = Vec::new(alloc);
     for entry in before..session.length() {

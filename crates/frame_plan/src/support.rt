@@ -1,6 +1,6 @@
 //! Which drawings a viewer can be sent as orders, by what it confirmed (profile).
 ghost use Rattle.std.specs.Prelude.{◌≡◌, ℕ, ◌*◌, ◌&&◌, not, is_some, map};
-ghost use Rattle.cache_use.specs.CacheUse.{is_used};
+ghost use Rattle.cache_plan.specs.CacheUse.{is_used};
 ghost use Rattle.caps_sets.specs.Confirmed.{first_cache};
 ghost use Rattle.frame_rules.specs.Support.{serves_image, greatest_cell, distinct_loads, image_cache, run_cache, has_glyph_level};
 

@@ -15,7 +15,7 @@ use Rattle.session_rules.specs.Journal.{state_after}
 use Rattle.session_rules.specs.Steps.{TakeOf}
 use Rattle.session_rules.proofs.Journals.{reached_at-append}
 use Rattle.frame_rules.specs.Blocks.{Held}
-use Rattle.frame_rules.specs.Pending.{pending_from, pending_between}
+use Rattle.session_rules.specs.Pending.{pending_from, pending_between}
 use Rattle.frame_rules.specs.Frame.{frame_over, frame_of, is_first}
 use Rattle.frame_rules.specs.FrameBytes.{frame_bytes}
 use Rattle.frame_rules.specs.Encoder.{Encoder, first_encoder, take_bytes, encoder_after, encoder_after_frame}

@@ -8,18 +8,18 @@ use Rattle.order_fields.specs.OrderDelta.{edges_of_optional}
 use Rattle.order_fields.specs.Secondary.Cached.{Bitmap}
 use Rattle.order_fields.proofs.OrderBack.{order_back}
 use Rattle.order_fields.specs.NamedDrawing.{drawing_fields}
-use Rattle.host_bytes.specs.WirePixels.{pixel_data, padded_image, padded_glyph, turned_over}
-use Rattle.byte_fields.specs.Pixels.{pixels_bytes}
-use Rattle.host_bytes.specs.CacheOrders.{cache_bitmap_body, cache_bitmap_data}
+use Rattle.order_means.specs.WirePixels.{pixel_data, padded_image, padded_glyph, turned_over}
+use Rattle.wire_num.specs.Pixels.{pixels_bytes}
+use Rattle.order_means.specs.CacheOrders.{cache_bitmap_body, cache_bitmap_data}
 use Rattle.order_means.specs.ClientState.{bitmap_flags}
 use Rattle.byteorder.specs.Endian.{little_bytes}
-use Rattle.byte_fields.specs.Number.{little_signed}
+use Rattle.wire_num.specs.Number.{little_signed}
 use Rattle.frame_rules.specs.FrameOrders.{SentOrder}
 use Rattle.frame_rules.specs.FrameOrders.SentOrder.{Drawn, CacheImage, CacheGlyph, CacheBrush, FrameMarker}
 use Rattle.frame_rules.specs.FrameBytes.{bytes_of_order, registers_after_order, bytes_of_orders, registers_after_orders, joined_bytes}
 use Rattle.frame_rules.specs.FrameRead.{image_data, as_read, FitsOrder, FitOrders}
 use Rattle.frame_rules.proofs.SecondaryBack.{secondary_back, bitmap_back, glyph_order_back, brush_back}
-use Rattle.byte_fields.proofs.Pixels.{length-pixels_bytes}
+use Rattle.wire_num.proofs.Pixels.{length-pixels_bytes}
 use Rattle.frame_rules.proofs.RegistersKept.{registers_kept}
 
 bitmap_order_back : (regs : Registers) (cache index w h : ℕ) (packed : Bool) (bytes rest : List ℕ) → index < 2 ^ 16 → length bytes < 2 ^ 15

@@ -4,7 +4,7 @@ use Rattle.std.specs.Prelude.{◌==◌, nat_lt, nat_le, ◌&&◌, Option, None, 
 use Rattle.px_core.specs.declared.surface.Size.{Size}
 use Rattle.caps_sets.specs.declared.confirmed.Confirmed.{Confirmed}
 use Rattle.draw_ops.specs.Content.{ImageOf, GlyphOf}
-use Rattle.byte_fields.specs.Field.{bind}
+use Rattle.wire_num.specs.Field.{bind}
 use Rattle.order_fields.specs.OrderTable.{Registers, Edges}
 use Rattle.order_fields.specs.Secondary.{Cached}
 use Rattle.order_fields.specs.Secondary.Cached.{Bitmap, Glyph, Brush, Marker}
@@ -14,7 +14,7 @@ use Rattle.order_fields.specs.NamedDrawing.{NamedDrawing, drawing_of}
 use Rattle.order_fields.specs.NamedDrawing.NamedDrawing.{Dst, Pat, Scr, Opaque, SaveBlock, RestoreBlock, Mem, Mem3, Glyphs}
 use Rattle.order_means.specs.ClientState.{ClientState, Block, Fault, needs, found, pairs_of, with_glyphs, client_after_drawing, client_after_cached, client_after_order, after_painting, no_operand, brush_used, image_used, glyph_used, source_rect, with_block, block_of, block_at, positions, restoring, writing, cached, with_cached, holds, is_bitmap, bitmap_flags, wire_pixels, glyph_of, brush_entries}
 use Rattle.order_means.specs.ClientState.Fault.{Broken, Oversized}
-use Rattle.host_bytes.specs.WirePixels.{turned_over}
+use Rattle.order_means.specs.WirePixels.{turned_over}
 use Rattle.draw_ops.specs.Slots.{filled_slot}
 use Rattle.draw_ops.specs.Formulas.{over_rect, rastered, brushed, shifted, imaged, image_rows}
 use Rattle.rop3_core.specs.Palette.{client_colors}

@@ -1,19 +1,19 @@
 -- Cache orders and markers that are written are read back.
 use Rattle.std.proofs.Common.{◌≡◌, ℕ, ◌+◌, ◌-◌, ◌*◌, ◌^◌, ◌<◌, ◌≤◌, List, [], ◌∷◌, ◌++◌, length, refl, ap, ◌∙◌, arith, Bool, true}
 use Rattle.std.specs.Prelude.{Ok, Err, ℤ, pos, All}
-use Rattle.byte_fields.specs.Number.{little_signed_at, little_at, little_signed}
-use Rattle.byte_fields.specs.Field.{Read, then_read, map_read, taken}
+use Rattle.wire_num.specs.Number.{little_signed_at, little_at, little_signed}
+use Rattle.wire_num.specs.Field.{Read, then_read, map_read, taken}
 use Rattle.byteorder.specs.Endian.{little_bytes}
-use Rattle.byte_fields.specs.Pixels.{pixels_of, pixels_bytes}
+use Rattle.wire_num.specs.Pixels.{pixels_of, pixels_bytes}
 use Rattle.order_fields.specs.OrderTable.{Registers, fits_coordinate}
 use Rattle.order_fields.specs.OrderStream.{seen_others, order_at}
 use Rattle.order_fields.specs.Secondary.{Cached, secondary_kind, secondary_body, within_total, bitmap_at, glyph_at, glyph_length, glyphs_at, glyph_order_at, brush_at}
 use Rattle.order_fields.specs.Secondary.Cached.{Bitmap, Glyph, Brush}
 use Rattle.order_fields.proofs.Numbers.{signed_back}
-use Rattle.byte_fields.proofs.Bytes.{taken_back, taken_all}
-use Rattle.byte_fields.proofs.Numbers.{little_back, little_at_back, byte_at_back}
-use Rattle.byte_fields.proofs.Pixels.{pixels_back, length-pixels_bytes}
-use Rattle.host_bytes.specs.CacheOrders.{secondary_bytes, cache_bitmap_body}
+use Rattle.wire_num.proofs.Bytes.{taken_back, taken_all}
+use Rattle.wire_num.proofs.Numbers.{little_back, little_at_back, byte_at_back}
+use Rattle.wire_num.proofs.Pixels.{pixels_back, length-pixels_bytes}
+use Rattle.order_means.specs.CacheOrders.{secondary_bytes, cache_bitmap_body}
 
 inside_bytes : ℕ → ℕ → List ℕ → List ℕ
 inside_bytes flags kind body = little_bytes 2 flags ++ kind ∷ body

@@ -4,13 +4,13 @@ use Rattle.std.specs.Prelude.{Result, Ok, Err, not, ◌&&◌, if◌then◌else�
 use Rattle.std.proofs.lemmas.Bool.Decides.{nat_tests}
 use Rattle.px_core.specs.declared.surface.Size.{Size}
 use Rattle.caps_sets.specs.declared.confirmed.Confirmed.{Confirmed}
-use Rattle.byte_fields.specs.Field.{bind}
+use Rattle.wire_num.specs.Field.{bind}
 use Rattle.order_fields.specs.OrderTable.{Registers, AreRegisters}
 use Rattle.order_fields.specs.OrderStream.{Order}
-use Rattle.byte_fields.proofs.Numbers.{little_back}
-use Rattle.host_bytes.specs.UpdateBodies.{orders_body, synchronize_body, synchronize_packet}
+use Rattle.wire_num.proofs.Numbers.{little_back}
+use Rattle.order_means.specs.UpdateBodies.{orders_body, synchronize_body, synchronize_packet}
 use Rattle.share_pdu.specs.Packet.{update_packet}
-use Rattle.host_bytes.specs.CacheOrders.{frame_marker_bytes}
+use Rattle.order_means.specs.CacheOrders.{frame_marker_bytes}
 use Rattle.order_means.specs.Updates.{Body, cutting}
 use Rattle.order_means.specs.Updates.Stage.{Between}
 use Rattle.order_means.specs.ClientState.{Fault}

@@ -7,7 +7,7 @@ use Rattle.draw_ops.specs.declared.shape.Drawing.{Drawing}
 use Rattle.draw_ops.specs.declared.shape.Shape.{Shape}
 use Rattle.draw_ops.specs.declared.shape.Shape.TheVariants.{Fill, Dst, Pat, Copy, Blit, Blit3, Text, Line, Save, Restore, LoadImage, LoadBrush, LoadGlyph}
 use Rattle.caps_sets.specs.declared.confirmed.Confirmed.{Confirmed}
-use Rattle.frame_rules.specs.Pending.{Pending}
+use Rattle.session_rules.specs.Pending.{Pending}
 
 -- the pixels of a drawing's rectangle, its clip and the surface
 abbrev pub area_of : Size → Pending → Rect

@@ -10,13 +10,13 @@ use Rattle.draw_ops.specs.Content.{ImageOf, GlyphOf}
 use Rattle.draw_ops.specs.Slots.{SurfaceState, lookup}
 use Rattle.caps_sets.specs.declared.confirmed.Confirmed.{Confirmed}
 use Rattle.order_fields.specs.OrderTable.{AreRegisters}
-use Rattle.host_bytes.specs.WirePixels.{padded_image, padded_glyph}
+use Rattle.order_means.specs.WirePixels.{padded_image, padded_glyph}
 use Rattle.order_means.specs.ClientState.{ClientState, Block, cached, block_at, brush_entries}
 use Rattle.order_means.specs.Updates.{cutting}
 use Rattle.order_means.specs.Updates.Stage.{Between}
 use Rattle.order_means.specs.FrameMarks.{View, reading, read_on}
-use Rattle.cache_use.specs.CacheUse.{misses, last_index, uses_of}
-use Rattle.saved_blocks.specs.Blocks.{AreApart}
+use Rattle.cache_plan.specs.CacheUse.{misses, last_index, uses_of}
+use Rattle.save_plan.specs.Blocks.{AreApart}
 use Rattle.session_rules.specs.declared.entry.Entry.{Entry}
 use Rattle.session_rules.specs.Board.{Board, opening_board}
 use Rattle.session_rules.specs.Journal.{Head, state_after, drawings_of, board_after, IsLegalJournal}

@@ -10,7 +10,7 @@ use Rattle.caps_sets.specs.declared.confirmed.Confirmed.{Confirmed}
 use Rattle.session_rules.specs.declared.entry.Entry.{Entry}
 use Rattle.session_rules.specs.Journal.{state_after}
 use Rattle.session_rules.specs.Steps.{TakeOf}
-use Rattle.frame_rules.specs.Pending.{Pending, pending_between}
+use Rattle.session_rules.specs.Pending.{Pending, pending_between}
 use Rattle.frame_rules.specs.Blocks.{Place, placed, Held, positions_of, least_free, place_of, without_slot}
 use Rattle.frame_rules.specs.Support.{supports}
 use Rattle.frame_rules.specs.Cautious.{as_walked}

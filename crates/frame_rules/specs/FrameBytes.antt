@@ -7,8 +7,8 @@ use Rattle.caps_sets.specs.declared.confirmed.Confirmed.{Confirmed}
 use Rattle.order_fields.specs.OrderTable.{Registers, registers_after}
 use Rattle.order_fields.specs.OrderDelta.{order_bytes, edges_of_optional}
 use Rattle.order_fields.specs.NamedDrawing.{drawing_fields}
-use Rattle.host_bytes.specs.UpdateBodies.{orders_user_data, orders_packet, tile_packet, synchronize_packet}
-use Rattle.host_bytes.specs.CacheOrders.{cache_bitmap_bytes, cache_glyph_bytes, cache_brush_bytes, frame_marker_bytes}
+use Rattle.order_means.specs.UpdateBodies.{orders_user_data, orders_packet, tile_packet, synchronize_packet}
+use Rattle.order_means.specs.CacheOrders.{cache_bitmap_bytes, cache_glyph_bytes, cache_brush_bytes, frame_marker_bytes}
 use Rattle.frame_rules.specs.Frame.{FrameOf}
 use Rattle.frame_rules.specs.FrameOrders.{SentOrder, Uses, orders_before_tiles}
 use Rattle.frame_rules.specs.FrameOrders.SentOrder.{Drawn, CacheImage, CacheGlyph, CacheBrush, FrameMarker}

@@ -10,7 +10,7 @@ use Rattle.draw_ops.specs.Content.{ImageOf, GlyphOf}
 use Rattle.draw_ops.specs.Slots.{Loaded}
 use Rattle.caps_sets.specs.declared.confirmed.Confirmed.{Confirmed}
 use Rattle.caps_sets.specs.Confirmed.{cache_size}
-use Rattle.cache_use.specs.CacheUse.{misses, cache_index, uses_of}
+use Rattle.cache_plan.specs.CacheUse.{misses, cache_index, uses_of}
 use Rattle.frame_rules.specs.Support.{used_bitmap_entries, used_glyph_entries, image_cache, run_cache}
 use Rattle.frame_rules.specs.Frame.{Sent, FrameOf}
 use Rattle.order_fields.specs.NamedDrawing.{NamedDrawing}

@@ -9,7 +9,7 @@ use Rattle.order_fields.specs.OrderDelta.{edges_of_optional}
 use Rattle.order_fields.specs.Secondary.{Cached, glyph_length}
 use Rattle.order_fields.specs.Secondary.Cached.{Bitmap, Glyph, Brush, Marker}
 use Rattle.order_fields.specs.NamedDrawing.{drawing_fields}
-use Rattle.host_bytes.specs.WirePixels.{turned_over, padded_image, padded_glyph, PixelData, data_of}
+use Rattle.order_means.specs.WirePixels.{turned_over, padded_image, padded_glyph, PixelData, data_of}
 use Rattle.order_means.specs.ClientState.{bitmap_flags}
 use Rattle.frame_rules.specs.FrameOrders.{SentOrder}
 use Rattle.order_fields.specs.OrderTable.{Registers}

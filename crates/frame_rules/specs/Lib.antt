@@ -1,4 +1,3 @@
-pub mod Pending
 pub mod Blocks
 pub mod Support
 pub mod Frame

@@ -6,11 +6,11 @@ use Rattle.px_core.specs.declared.rectangle.Rect.{Rect}
 use Rattle.px_core.specs.Picture.{nat_of}
 use Rattle.px_core.specs.Rectangle.{is_session_size}
 use Rattle.caps_sets.specs.declared.confirmed.Confirmed.{Confirmed}
-use Rattle.byte_fields.specs.Field.{Read}
+use Rattle.wire_num.specs.Field.{Read}
 use Rattle.order_fields.specs.OrderTable.{Registers, AreRegisters}
 use Rattle.order_fields.specs.OrderStream.{Order, Stream, orders_in}
-use Rattle.host_bytes.specs.WirePixels.{PixelData, data_of, turned_over}
-use Rattle.host_bytes.specs.UpdateBodies.{tile_flags}
+use Rattle.order_means.specs.WirePixels.{PixelData, data_of, turned_over}
+use Rattle.order_means.specs.UpdateBodies.{tile_flags}
 use Rattle.order_means.specs.Updates.{Body, Stage, updates_in}
 use Rattle.order_means.specs.Updates.Stage.{Between, One, Two, Three, Inside, Refused}
 use Rattle.order_means.specs.FrameMarks.{Update, update_at}

@@ -7,9 +7,9 @@ use Rattle.draw_ops.specs.Slots.{Loaded}
 use Rattle.caps_sets.specs.declared.cache_size.CacheSize.{CacheSize}
 use Rattle.caps_sets.specs.declared.confirmed.Confirmed.{Confirmed}
 use Rattle.caps_sets.specs.Confirmed.{first_cache}
-use Rattle.host_bytes.specs.WirePixels.{image_cell, glyph_cell_bytes}
-use Rattle.cache_use.specs.CacheUse.{distinct_keys}
-use Rattle.frame_rules.specs.Pending.{Pending}
+use Rattle.order_means.specs.WirePixels.{image_cell, glyph_cell_bytes}
+use Rattle.cache_plan.specs.CacheUse.{distinct_keys}
+use Rattle.session_rules.specs.Pending.{Pending}
 
 -- how many entries of a bitmap cache and of a glyph cache are used
 abbrev pub used_bitmap_entries : CacheSize → ℕ

@@ -11,18 +11,18 @@ use Rattle.draw_ops.specs.Fits.{is_offset}
 use Rattle.caps_sets.specs.declared.confirmed.Confirmed.{Confirmed}
 use Rattle.caps_sets.specs.Confirmed.{cache_size}
 use Rattle.order_fields.specs.OrderTable.{fits_coordinate}
-use Rattle.host_bytes.specs.WirePixels.{turned_over, padded, padded_image, padded_glyph, PixelData}
-use Rattle.host_bytes.specs.CacheOrders.{secondary_bytes, cache_bitmap_body, cache_bitmap_data}
-use Rattle.cache_use.specs.CacheUse.{misses, cache_index, uses_of}
-use Rattle.cache_use.proofs.Indices.{cache_index_below}
+use Rattle.order_means.specs.WirePixels.{turned_over, padded, padded_image, padded_glyph, PixelData}
+use Rattle.order_means.specs.CacheOrders.{secondary_bytes, cache_bitmap_body, cache_bitmap_data}
+use Rattle.cache_plan.specs.CacheUse.{misses, cache_index, uses_of}
+use Rattle.cache_plan.proofs.Indices.{cache_index_below}
 use Rattle.frame_rules.specs.FrameOrders.{SentOrder, Uses, Use, use_by, entries_of, image_use, brush_use, glyph_use, run_use, first_glyph_cache, brush_cache}
 use Rattle.frame_rules.specs.FrameOrders.SentOrder.{CacheImage, CacheGlyph, CacheBrush}
 use Rattle.frame_rules.specs.FrameRead.{image_data}
-use Rattle.cache_laws.specs.Sound.{AreColors, IsSoundImage}
-use Rattle.cache_laws.proofs.TurnedOver.{length-turned_over, colors_turned_over, padded_facts}
-use Rattle.byte_fields.proofs.Pixels.{length-pixels_bytes}
-use Rattle.cache_laws.proofs.WireBack.{data_short}
-use Rattle.sound_states.specs.SoundState.{IsSoundGlyph}
+use Rattle.frame_laws.specs.Sound.{AreColors, IsSoundImage}
+use Rattle.frame_laws.proofs.TurnedOver.{length-turned_over, colors_turned_over, padded_facts}
+use Rattle.wire_num.proofs.Pixels.{length-pixels_bytes}
+use Rattle.frame_laws.proofs.WireBack.{data_short}
+use Rattle.frame_laws.specs.SoundState.{IsSoundGlyph}
 use Rattle.frame_shows.proofs.OrderValues.{GoesWhole, AllGoWhole, whole_append, coordinate}
 
 -- ---- an image

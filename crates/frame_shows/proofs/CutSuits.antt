@@ -16,14 +16,14 @@ use Rattle.draw_ops.specs.Slots.{SurfaceState, Loaded, lookup}
 use Rattle.draw_ops.specs.Fits.{Misfit, FitsState, first_some, broken_if, broken_rule, rules_of, slot_misfit, slot_tests, rect_rule, is_side, is_corner, copied_rule, source_test, too_small_if}
 use Rattle.draw_ops.specs.Fits.Misfit.{Rule}
 use Rattle.session_rules.proofs.OwnSteps.{AllNone}
-use Rattle.board_laws.proofs.Fitting.{Sides, side, corner}
-use Rattle.frame_rules.specs.Pending.{Pending, pending_of}
+use Rattle.session_rules.proofs.Fitting.{Sides, side, corner}
+use Rattle.session_rules.specs.Pending.{Pending, pending_of}
 use Rattle.frame_rules.specs.Cautious.{area_of, changes_nothing, moved, unless, cut_to, is_cut, with_shape, cut_by, cut}
 use Rattle.frame_laws.specs.Agreement.{drawn}
 use Rattle.frame_laws.proofs.Cut.{common-in_rect}
 use Rattle.frame_laws.proofs.CutSource.{Nested, nested, cut_inside}
-use Rattle.sound_states.specs.Drawings.{HasValues, Suits}
-use Rattle.sound_states.proofs.Rules.{rules_kept, tests_passed, kept_test}
+use Rattle.frame_laws.specs.Drawings.{HasValues, Suits}
+use Rattle.frame_laws.proofs.Rules.{rules_kept, tests_passed, kept_test}
 
 -- ---- a drawing fits where each of its tests is passed
 

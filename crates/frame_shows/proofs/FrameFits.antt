@@ -11,15 +11,15 @@ use Rattle.draw_ops.specs.Drawing.{state_after_drawing}
 use Rattle.caps_sets.specs.declared.confirmed.Confirmed.{Confirmed}
 use Rattle.session_rules.specs.declared.entry.Entry.{Entry}
 use Rattle.order_fields.specs.NamedDrawing.NamedDrawing.{Opaque}
-use Rattle.saved_blocks.specs.Blocks.{AreApart}
+use Rattle.save_plan.specs.Blocks.{AreApart}
 use Rattle.frame_rules.specs.Blocks.{Held}
-use Rattle.frame_rules.specs.Pending.{pending_of, pending_drawings}
+use Rattle.session_rules.specs.Pending.{pending_of, pending_drawings}
 use Rattle.frame_rules.specs.Frame.{Walk, Sent, walked_pending, sent_from, first_dirty, framed_by, frame_over, most_orders}
 use Rattle.frame_rules.specs.FrameOrders.{SentOrder, Uses, sending_of, orders_from, start_orders, black_orders, orders_before_tiles}
 use Rattle.frame_rules.specs.Describes.{HasAllCaches}
-use Rattle.board_laws.proofs.Fitting.{Sides}
-use Rattle.sound_states.specs.Drawings.{AllSound}
-use Rattle.sound_states.proofs.Rules.{rules_kept}
+use Rattle.session_rules.proofs.Fitting.{Sides}
+use Rattle.frame_laws.specs.Drawings.{AllSound}
+use Rattle.frame_laws.proofs.Rules.{rules_kept}
 use Rattle.frame_shows.proofs.WalkKeeps.{NoneOrOne, none_or_one_pending, AllGood}
 use Rattle.frame_shows.proofs.HeldApart.{walked_apart}
 use Rattle.frame_shows.proofs.OrderValues.{AllGoWhole, whole_append, drawn_whole, side_fits}

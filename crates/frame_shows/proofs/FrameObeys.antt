@@ -13,11 +13,11 @@ use Rattle.draw_ops.specs.Slots.{SurfaceState}
 use Rattle.draw_ops.specs.Drawing.{state_after_drawings}
 use Rattle.caps_sets.specs.declared.confirmed.Confirmed.{Confirmed}
 use Rattle.session_rules.specs.declared.entry.Entry.{Entry}
-use Rattle.byte_fields.specs.Field.{bind}
+use Rattle.wire_num.specs.Field.{bind}
 use Rattle.order_fields.specs.NamedDrawing.NamedDrawing.{Opaque}
 use Rattle.order_means.specs.ClientState.{ClientState, in_bounds, after_painting}
 use Rattle.frame_rules.specs.Blocks.{Held}
-use Rattle.frame_rules.specs.Pending.{pending_drawings}
+use Rattle.session_rules.specs.Pending.{pending_drawings}
 use Rattle.frame_rules.specs.Frame.{Walk, FrameOf, sent_from, walk_after, jumped, first_dirty, framed_by, frame_over, most_orders}
 use Rattle.frame_rules.specs.FrameOrders.{Uses, start_orders, black_orders, orders_from, uses_after, orders_before_tiles}
 use Rattle.frame_rules.specs.FrameOrders.SentOrder.{Drawn}
@@ -26,11 +26,11 @@ use Rattle.frame_rules.specs.Describes.{CachesAgree, IsSized, BlocksAgree, HasAl
 use Rattle.frame_rules.proofs.Paint.{painted_at, item-painted_from, length-painted_from}
 use Rattle.frame_rules.proofs.TileLaws.{column_below, row_below, in_rect-whole, tiles_of-in_rect}
 use Rattle.frame_laws.specs.Agreement.{Agrees, AreFilled}
-use Rattle.board_laws.proofs.Fitting.{Sides}
+use Rattle.session_rules.proofs.Fitting.{Sides}
 use Rattle.frame_laws.proofs.Jump.{jumped_agrees}
 use Rattle.frame_laws.proofs.Sent.{obeyed_as}
-use Rattle.cache_laws.specs.Uses.{client_after_sent, ObeyedThrough}
-use Rattle.cache_laws.proofs.BlitSent.{orders_then}
+use Rattle.frame_laws.specs.Uses.{client_after_sent, ObeyedThrough}
+use Rattle.frame_laws.proofs.BlitSent.{orders_then}
 use Rattle.frame_shows.proofs.WalkKeeps.{AllGood, walk_keeps}
 use Rattle.frame_shows.proofs.SentOrCut.{Found, sent_keeps, unsent_keeps}
 

@@ -10,8 +10,8 @@ use Rattle.px_core.specs.Rectangle.{pixel_of, cut_out, is_session_size}
 use Rattle.px_core.specs.Tiles.{Tiles, tile_on}
 use Rattle.caps_sets.specs.declared.confirmed.Confirmed.{Confirmed}
 use Rattle.order_fields.specs.OrderTable.{Registers, AreRegisters}
-use Rattle.byte_fields.proofs.Numbers.{little_back}
-use Rattle.host_bytes.specs.UpdateBodies.{orders_body, tile_body, synchronize_body}
+use Rattle.wire_num.proofs.Numbers.{little_back}
+use Rattle.order_means.specs.UpdateBodies.{orders_body, tile_body, synchronize_body}
 use Rattle.share_pdu.specs.Packet.{update_packet}
 use Rattle.order_means.specs.Updates.{Stage, Updates, cutting, updates_from}
 use Rattle.order_means.specs.Updates.Stage.{Between, One, Two, Three, Inside, Refused}
@@ -19,7 +19,7 @@ use Rattle.order_means.specs.FrameMarks.{update_at}
 use Rattle.order_means.specs.FrameMarks.Update.{Orders}
 use Rattle.order_means.proofs.Packet.{update_cut}
 use Rattle.session_rules.specs.Journal.{Head, state_after}
-use Rattle.frame_rules.specs.Pending.{Pending, pending_between}
+use Rattle.session_rules.specs.Pending.{Pending, pending_between}
 use Rattle.frame_rules.specs.Frame.{Walk, first_dirty, framed_by, frame_over, is_first, most_orders}
 use Rattle.frame_rules.specs.FrameOrders.{SentOrder, FrameOrder, tile_order, end_mark, orders_before_tiles}
 use Rattle.frame_rules.specs.FrameOrders.FrameOrder.{Ordered}
@@ -32,13 +32,13 @@ use Rattle.frame_rules.specs.OrdersOfBytes.{ReadOrder, OrdersRead, orders_read, 
 use Rattle.frame_rules.specs.OrdersOfBytes.{read_if_whole, orders_of_bytes, frame_order_read, FramesReadAsTheirOrders}
 use Rattle.frame_rules.specs.OrdersOfBytes.ReadOrder.{OrderRead}
 use Rattle.frame_rules.proofs.OrdersBack.{orders_back, sent_registers_all}
-use Rattle.board_laws.proofs.Fitting.{sides_of}
-use Rattle.cache_laws.specs.Sound.{AreColors}
-use Rattle.cache_laws.proofs.TileBack.{body_back, body_short}
-use Rattle.sound_states.specs.Drawings.{drawings_between}
-use Rattle.sound_states.proofs.Colored.{length-listed, colors_cut}
-use Rattle.sound_states.proofs.Entries.{pending_between_is}
-use Rattle.sound_states.proofs.Journals.{between_sound, state_sound}
+use Rattle.session_rules.proofs.Fitting.{sides_of}
+use Rattle.frame_laws.specs.Sound.{AreColors}
+use Rattle.frame_laws.proofs.TileBack.{body_back, body_short}
+use Rattle.frame_laws.specs.Drawings.{drawings_between}
+use Rattle.frame_laws.proofs.Colored.{length-listed, colors_cut}
+use Rattle.frame_laws.proofs.Entries.{pending_between_is}
+use Rattle.frame_laws.proofs.Journals.{between_sound, state_sound}
 use Rattle.frame_shows.proofs.FrameShown.{AreTiles}
 use Rattle.frame_shows.proofs.OrderValues.{whole_fit, whole_short}
 use Rattle.frame_shows.proofs.FrameFits.{FewWhole, frame_fits}

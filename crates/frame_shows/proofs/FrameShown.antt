@@ -11,10 +11,10 @@ use Rattle.caps_sets.specs.declared.confirmed.Confirmed.{Confirmed}
 use Rattle.session_rules.specs.declared.entry.Entry.{Entry}
 use Rattle.session_rules.specs.Journal.{state_after}
 use Rattle.session_rules.specs.Steps.{TakeOf}
-use Rattle.byte_fields.specs.Field.{bind}
+use Rattle.wire_num.specs.Field.{bind}
 use Rattle.order_fields.specs.OrderTable.{Registers, AreRegisters}
 use Rattle.order_means.specs.ClientState.{ClientState, Fault, cached, block_at, client_after_order}
-use Rattle.host_bytes.specs.UpdateBodies.{tile_packet}
+use Rattle.order_means.specs.UpdateBodies.{tile_packet}
 use Rattle.order_means.specs.FrameMarks.{View, marked_if, counted_order, view_with, view_after_orders, with_registers}
 use Rattle.frame_rules.specs.Frame.{Walk, FrameOf}
 use Rattle.frame_rules.specs.FrameOrders.{SentOrder, first_glyph_cache, brush_cache, orders_before_tiles}
@@ -25,16 +25,16 @@ use Rattle.frame_rules.specs.Shown.{ShowsOutside, canvas_after_tiles}
 use Rattle.frame_rules.specs.Encoder.{Encoder, encoder_frame, take_bytes, encoder_after}
 use Rattle.frame_rules.specs.Describes.{DescribesClient, ShowsFrame, CachesAgree, index_of}
 use Rattle.frame_rules.specs.Blocks.{place_of}
-use Rattle.saved_blocks.specs.Blocks.{AreApart}
+use Rattle.save_plan.specs.Blocks.{AreApart}
 use Rattle.frame_rules.proofs.OrdersBack.{sent_registers_all}
 use Rattle.frame_rules.proofs.TilePhase.{canvas_after_dirty_tiles}
 use Rattle.frame_rules.proofs.UpdatesBack.{reads_nothing, reads_then, updates_obeyed, mark_obeyed}
 use Rattle.frame_laws.proofs.NotSent.{ShowsOutside-more}
-use Rattle.cache_laws.specs.Sound.{AreColors}
-use Rattle.sound_states.proofs.Colored.{length-listed, colors_cut}
-use Rattle.cache_laws.specs.Uses.{client_after_sent, ObeyedThrough}
-use Rattle.cache_laws.specs.Tile.{IsTileRect, view_after_cut}
-use Rattle.cache_laws.proofs.TileBack.{tile_obeyed}
+use Rattle.frame_laws.specs.Sound.{AreColors}
+use Rattle.frame_laws.proofs.Colored.{length-listed, colors_cut}
+use Rattle.frame_laws.specs.Uses.{client_after_sent, ObeyedThrough}
+use Rattle.frame_laws.specs.Tile.{IsTileRect, view_after_cut}
+use Rattle.frame_laws.proofs.TileBack.{tile_obeyed}
 
 -- ---- orders without an end marker change the client alone
 

@@ -13,21 +13,21 @@ use Rattle.session_rules.specs.declared.entry.Entry.{Entry}
 use Rattle.session_rules.specs.Journal.{state_after}
 use Rattle.session_rules.specs.Steps.{TakeOf}
 use Rattle.order_means.specs.FrameMarks.{View}
-use Rattle.frame_rules.specs.Pending.{Pending, pending_between}
+use Rattle.session_rules.specs.Pending.{Pending, pending_between}
 use Rattle.frame_rules.specs.Frame.{Walk, framed_by, frame_over, is_first, first_dirty, most_orders}
 use Rattle.frame_rules.specs.FrameOrders.{orders_before_tiles}
 use Rattle.frame_rules.specs.FrameRead.{FitOrders, AreShort}
 use Rattle.frame_rules.specs.Encoder.{Encoder, encoder_frame, encoder_after}
 use Rattle.frame_rules.specs.Describes.{DescribesClient, ShowsFrame, HasAllCaches}
-use Rattle.board_laws.proofs.Fitting.{sides_of}
+use Rattle.session_rules.proofs.Fitting.{sides_of}
 use Rattle.frame_laws.specs.Agreement.{AreFilled}
-use Rattle.cache_laws.specs.Sound.{AreColors}
-use Rattle.cache_laws.specs.Uses.{ObeyedThrough}
+use Rattle.frame_laws.specs.Sound.{AreColors}
+use Rattle.frame_laws.specs.Uses.{ObeyedThrough}
 use Rattle.frame_shows.proofs.WalkKeeps.{AllGood}
 use Rattle.frame_shows.proofs.SentOrCut.{Found}
 use Rattle.frame_shows.proofs.FrameObeys.{Before, Obeys, frame_obeys}
-use Rattle.sound_states.specs.Drawings.{drawings_between}
-use Rattle.sound_states.proofs.Entries.{pending_between_is, state_between_is}
+use Rattle.frame_laws.specs.Drawings.{drawings_between}
+use Rattle.frame_laws.proofs.Entries.{pending_between_is, state_between_is}
 use Rattle.frame_shows.proofs.TileRects.{are_tiles}
 use Rattle.frame_shows.proofs.HeldApart.{frame_apart}
 use Rattle.frame_shows.proofs.FrameShown.{NoMarks, frame_shown}

@@ -7,11 +7,11 @@ use Rattle.px_core.specs.Tiles.{Tiles, either_tiles}
 use Rattle.draw_ops.specs.declared.shape.Shape.{Shape}
 use Rattle.draw_ops.specs.declared.shape.Shape.TheVariants.{Fill, Dst, Pat, Copy, Blit, Blit3, Text, Line, Save, Restore, LoadImage, LoadBrush, LoadGlyph}
 use Rattle.caps_sets.specs.declared.confirmed.Confirmed.{Confirmed}
-use Rattle.saved_blocks.specs.Blocks.{all_positions, AreApart}
-use Rattle.saved_blocks.proofs.Apart.{apart_without}
-use Rattle.saved_blocks.proofs.LeastFree.{computed_is_least}
+use Rattle.save_plan.specs.Blocks.{all_positions, AreApart}
+use Rattle.save_plan.proofs.Apart.{apart_without}
+use Rattle.save_plan.proofs.LeastFree.{computed_is_least}
 use Rattle.frame_rules.specs.Blocks.{Place, Held, positions_of, end_of, least_free, place_if, place_of}
-use Rattle.frame_rules.specs.Pending.{Pending}
+use Rattle.session_rules.specs.Pending.{Pending}
 use Rattle.frame_rules.specs.Cautious.{as_walked}
 use Rattle.frame_rules.specs.Support.{supports}
 use Rattle.frame_rules.specs.Frame.{Walk, touched_tiles, given_up, sent_if, saved_at, saved_if, restored_from, block_if, reads_clean_tiles, walked, walked_as}

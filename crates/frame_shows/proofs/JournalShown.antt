@@ -10,19 +10,19 @@ use Rattle.caps_sets.specs.declared.confirmed.Confirmed.{Confirmed}
 use Rattle.session_rules.specs.declared.entry.Entry.{Entry}
 use Rattle.session_rules.specs.Journal.{Head, state_after, IsLegalJournal}
 use Rattle.session_rules.specs.Steps.{TakeOf}
-use Rattle.board_laws.proofs.Fitting.{Sides, sides_of}
+use Rattle.session_rules.proofs.Fitting.{Sides, sides_of}
 use Rattle.order_means.specs.ClientState.{ClientState}
 use Rattle.frame_rules.specs.Blocks.{Held, positions_of}
-use Rattle.frame_rules.specs.Pending.{Pending}
+use Rattle.session_rules.specs.Pending.{Pending}
 use Rattle.frame_rules.specs.Frame.{is_first, frame_over}
 use Rattle.frame_rules.specs.FrameOrders.{orders_before_tiles}
 use Rattle.frame_rules.specs.Encoder.{Encoder, encoder_frame}
 use Rattle.frame_rules.specs.Describes.{BlocksAgree, DescribesClient, HasAllCaches, FrameShowsJournal}
 use Rattle.frame_laws.specs.Agreement.{AreFilled}
-use Rattle.sound_states.specs.SoundState.{IsSound}
-use Rattle.sound_states.specs.Drawings.{drawings_between}
-use Rattle.sound_states.proofs.Entries.{pending_between_is}
-use Rattle.sound_states.proofs.Journals.{between_sound, state_sound}
+use Rattle.frame_laws.specs.SoundState.{IsSound}
+use Rattle.frame_laws.specs.Drawings.{drawings_between}
+use Rattle.frame_laws.proofs.Entries.{pending_between_is}
+use Rattle.frame_laws.proofs.Journals.{between_sound, state_sound}
 use Rattle.frame_shows.proofs.OrderValues.{whole_fit, whole_short, whole_marks}
 use Rattle.frame_shows.proofs.FrameFits.{FewWhole, all_good, frame_fits}
 use Rattle.frame_shows.proofs.FrameWhole.{IsSoundTake, take_shows}

@@ -16,8 +16,8 @@ use Rattle.frame_rules.specs.FrameOrders.{SentOrder, is_within, bounds_if, bound
 use Rattle.frame_rules.specs.FrameOrders.SentOrder.{Drawn}
 use Rattle.frame_rules.specs.FrameBytes.{bytes_of_order, registers_after_order}
 use Rattle.frame_rules.specs.FrameRead.{FitsOrder, FitOrders, AreShort}
-use Rattle.cache_laws.proofs.OrderShort.{drawing_short}
-use Rattle.sound_states.proofs.Rules.{kept_test}
+use Rattle.frame_laws.proofs.OrderShort.{drawing_short}
+use Rattle.frame_laws.proofs.Rules.{kept_test}
 use Rattle.frame_shows.proofs.FrameShown.{NoMark, NoMarks}
 
 -- ---- orders

@@ -22,10 +22,10 @@ use Rattle.order_fields.specs.OrderTable.{fits_coordinate, IsFieldList}
 use Rattle.order_means.specs.ClientState.{source_rect}
 use Rattle.order_fields.specs.NamedDrawing.{drawing_fields}
 use Rattle.order_fields.specs.NamedDrawing.NamedDrawing.{Dst as DstBlt, Pat as PatBlt, Scr as ScrBlt, Opaque as OpaqueRect, SaveBlock, RestoreBlock, Mem as MemBlt, Mem3 as Mem3Blt, Glyphs as GlyphIndex}
-use Rattle.saved_blocks.specs.Blocks.{AreApart}
-use Rattle.saved_blocks.proofs.LeastFree.{computed_is_least}
+use Rattle.save_plan.specs.Blocks.{AreApart}
+use Rattle.save_plan.proofs.LeastFree.{computed_is_least}
 use Rattle.frame_rules.specs.Blocks.{Place, positions_of, least_free, place_of, without_slot}
-use Rattle.frame_rules.specs.Pending.{pending_of, run_glyphs}
+use Rattle.session_rules.specs.Pending.{pending_of, run_glyphs}
 use Rattle.frame_rules.specs.Support.{supports, serves_image, serves_run, has_glyph_level, image_cache, run_cache, used_glyph_entries, greatest_cell}
 use Rattle.frame_rules.specs.Support.{distinct_loads}
 use Rattle.frame_rules.specs.Frame.{Walk, Sent, saved_at, saved_if, given_up, restored_from, block_if, reads_clean_tiles, walked}
@@ -34,11 +34,11 @@ use Rattle.frame_rules.specs.FrameOrders.{run_pairs}
 use Rattle.frame_rules.specs.FrameOrders.SentOrder.{Drawn}
 use Rattle.frame_rules.specs.Describes.{HasAllCaches}
 use Rattle.frame_laws.specs.Agreement.{drawn}
-use Rattle.cache_laws.proofs.GlyphUse.{glyph_entries}
-use Rattle.cache_laws.specs.Run.{AreGlyphs}
-use Rattle.sound_states.specs.SoundState.{IsSound}
-use Rattle.sound_states.specs.Drawings.{HasValues}
-use Rattle.sound_states.proofs.Rules.{IsPlainRect, plain_rect, kept_test}
+use Rattle.frame_laws.proofs.GlyphUse.{glyph_entries}
+use Rattle.frame_laws.specs.Run.{AreGlyphs}
+use Rattle.frame_laws.specs.SoundState.{IsSound}
+use Rattle.frame_laws.specs.Drawings.{HasValues}
+use Rattle.frame_laws.proofs.Rules.{IsPlainRect, plain_rect, kept_test}
 use Rattle.frame_shows.proofs.SentKeeps.{passed, only_one, some_cache, first_serves, glyphs_are, some_keys, GoodShape, image_served}
 use Rattle.frame_shows.proofs.HeldApart.{place_ends}
 use Rattle.frame_shows.proofs.OrderValues.{GoesWhole, AllGoWhole, whole_append, drawn_whole, coordinate, corner_fits, side_fits, inside_fits, bounds_fit}

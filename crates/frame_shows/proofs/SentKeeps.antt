@@ -17,8 +17,8 @@ use Rattle.caps_sets.specs.declared.cache_size.CacheSize.{CacheSize}
 use Rattle.caps_sets.specs.declared.confirmed.Confirmed.{Confirmed}
 use Rattle.caps_sets.specs.Confirmed.{cache_size, first_cache_from, first_cache}
 use Rattle.session_rules.specs.declared.entry.Entry.{Entry}
-use Rattle.byte_fields.specs.Field.{bind}
-use Rattle.host_bytes.specs.WirePixels.{glyph_cell_bytes}
+use Rattle.wire_num.specs.Field.{bind}
+use Rattle.order_means.specs.WirePixels.{glyph_cell_bytes}
 use Rattle.draw_ops.specs.Formulas.{Painting}
 use Rattle.draw_ops.specs.Drawing.{painting_of, restoring}
 use Rattle.order_fields.specs.OrderTable.{Edges}
@@ -29,7 +29,7 @@ use Rattle.order_means.specs.ClientState.{ClientState, Fault, needs, found, cach
 use Rattle.order_means.specs.ClientState.{after_painting, client_after_drawing, client_after_order, source_rect}
 use Rattle.order_means.specs.ClientState.Fault.{Broken}
 use Rattle.frame_rules.specs.Blocks.{Place, placed, positions_of, least_free, place_of, without_slot}
-use Rattle.frame_rules.specs.Pending.{Pending, pending_of, run_glyphs, onto_optional}
+use Rattle.session_rules.specs.Pending.{Pending, pending_of, run_glyphs, onto_optional}
 use Rattle.frame_rules.specs.Support.{supports, serves_image, serves_run, has_glyph_level, image_cache, run_cache, used_glyph_entries, greatest_cell}
 use Rattle.frame_rules.specs.Support.{distinct_loads}
 use Rattle.frame_rules.specs.Frame.{Walk, Sent, sent_if, saved_at, saved_if, given_up, with_block, restored_from, block_if, reads_clean_tiles, walked}
@@ -42,14 +42,14 @@ use Rattle.frame_laws.specs.Agreement.{Agrees, ObeyedAndAgrees, drawn}
 use Rattle.frame_laws.proofs.Sent.{fill_agrees, dst_agrees, copy_agrees}
 use Rattle.frame_laws.proofs.SentSave.{save_agrees}
 use Rattle.frame_laws.proofs.SentRestore.{restore_agrees}
-use Rattle.cache_laws.specs.Sound.{IsSoundImage}
-use Rattle.cache_laws.specs.Uses.{client_after_sent, ObeyedThrough, IsServed}
-use Rattle.cache_laws.proofs.BlitSent.{blit_agrees}
-use Rattle.cache_laws.proofs.BrushUse.{pat_agrees, blit3_agrees}
-use Rattle.cache_laws.specs.Run.{AreServed}
-use Rattle.cache_laws.proofs.GlyphUse.{glyph_entries}
-use Rattle.cache_laws.specs.Run.{AreGlyphs, AreDeltas}
-use Rattle.cache_laws.proofs.TextSent.{text_agrees}
+use Rattle.frame_laws.specs.Sound.{IsSoundImage}
+use Rattle.frame_laws.specs.Uses.{client_after_sent, ObeyedThrough, IsServed}
+use Rattle.frame_laws.proofs.BlitSent.{blit_agrees}
+use Rattle.frame_laws.proofs.BrushUse.{pat_agrees, blit3_agrees}
+use Rattle.frame_laws.specs.Run.{AreServed}
+use Rattle.frame_laws.proofs.GlyphUse.{glyph_entries}
+use Rattle.frame_laws.specs.Run.{AreGlyphs, AreDeltas}
+use Rattle.frame_laws.proofs.TextSent.{text_agrees}
 
 -- ---- which cache serves
 

@@ -8,10 +8,10 @@ use Rattle.draw_ops.specs.Slots.{SurfaceState}
 use Rattle.draw_ops.specs.Drawing.{state_after_drawing}
 use Rattle.caps_sets.specs.declared.confirmed.Confirmed.{Confirmed}
 use Rattle.session_rules.specs.declared.entry.Entry.{Entry}
-use Rattle.board_laws.proofs.Fitting.{Sides}
+use Rattle.session_rules.proofs.Fitting.{Sides}
 use Rattle.order_means.specs.ClientState.{ClientState}
-use Rattle.saved_blocks.specs.Blocks.{AreApart}
-use Rattle.frame_rules.specs.Pending.{Pending, pending_of}
+use Rattle.save_plan.specs.Blocks.{AreApart}
+use Rattle.session_rules.specs.Pending.{Pending, pending_of}
 use Rattle.frame_rules.specs.Cautious.{cut, cut_if, as_walked}
 use Rattle.frame_rules.specs.Frame.{Walk, Sent, Walked, walked, walked_as, walked_pending}
 use Rattle.frame_rules.specs.FrameOrders.{Uses, sending_of}
@@ -19,11 +19,11 @@ use Rattle.frame_rules.specs.Describes.{CachesAgree, IsSized, HasAllCaches}
 use Rattle.frame_laws.specs.Agreement.{Agrees}
 use Rattle.frame_laws.proofs.CutDrawing.{DoesWhat, cut_does}
 use Rattle.frame_laws.proofs.UnsentCut.{unsent_or_cut_agrees}
-use Rattle.cache_laws.specs.Uses.{ObeyedThrough}
-use Rattle.cache_laws.proofs.TurnedOver.{color_item}
-use Rattle.sound_states.specs.SoundState.{IsSound}
-use Rattle.sound_states.specs.Drawings.{Suits}
-use Rattle.sound_states.proofs.Rules.{rules_kept}
+use Rattle.frame_laws.specs.Uses.{ObeyedThrough}
+use Rattle.frame_laws.proofs.TurnedOver.{color_item}
+use Rattle.frame_laws.specs.SoundState.{IsSound}
+use Rattle.frame_laws.specs.Drawings.{Suits}
+use Rattle.frame_laws.proofs.Rules.{rules_kept}
 use Rattle.frame_shows.proofs.WalkKeeps.{SentKeeps, UnsentKeeps}
 use Rattle.frame_shows.proofs.SentKeeps.{sent_by}
 use Rattle.frame_shows.proofs.SoundGood.{good_of}

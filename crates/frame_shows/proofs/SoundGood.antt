@@ -16,10 +16,10 @@ use Rattle.draw_ops.specs.Fits.{source_test, block_test}
 use Rattle.session_rules.specs.declared.entry.Entry.{Entry}
 use Rattle.session_rules.proofs.OwnSteps.{AllNone, first_some-each}
 use Rattle.order_means.specs.ClientState.{source_rect}
-use Rattle.cache_laws.specs.Run.{AreGlyphs, AreDeltas}
-use Rattle.sound_states.specs.SoundState.{IsSound}
-use Rattle.sound_states.specs.Drawings.{Suits}
-use Rattle.sound_states.proofs.Rules.{rules_kept, tests_passed, plain_rect, kept_test, below_limit}
+use Rattle.frame_laws.specs.Run.{AreGlyphs, AreDeltas}
+use Rattle.frame_laws.specs.SoundState.{IsSound}
+use Rattle.frame_laws.specs.Drawings.{Suits}
+use Rattle.frame_laws.proofs.Rules.{rules_kept, tests_passed, plain_rect, kept_test, below_limit}
 use Rattle.frame_shows.proofs.SentKeeps.{HasImage, HasBrush, AreLoaded, HasGlyphs, HasBlock, GoodShape, Good}
 
 -- ---- what slot tests say

@@ -14,8 +14,8 @@ use Rattle.draw_ops.specs.Formulas.{glyph_cell, cell_of, run_cells, joint_of}
 use Rattle.draw_ops.specs.Drawing.{content_of, glyphs_in}
 use Rattle.draw_ops.specs.Fits.{is_offset, is_corner}
 use Rattle.session_rules.specs.declared.entry.Entry.{Entry}
-use Rattle.cache_laws.specs.Run.{AreGlyphs, AreDeltas}
-use Rattle.sound_states.specs.SoundState.{IsSoundGlyph, IsSound}
+use Rattle.frame_laws.specs.Run.{AreGlyphs, AreDeltas}
+use Rattle.frame_laws.specs.SoundState.{IsSoundGlyph, IsSound}
 
 -- a rectangle near the surface
 pub record IsNear (r : Rect) : Type 0 where

@@ -11,7 +11,7 @@ use Rattle.px_core.specs.Picture.{nat_of, listed}
 use Rattle.px_core.specs.Rectangle.{whole, is_session_size}
 use Rattle.px_core.specs.Tiles.{Tiles, tile_on, tiles_of, picture_tiles, tiles_in}
 use Rattle.frame_rules.proofs.TileLaws.{pos-nat_of, int_le_from}
-use Rattle.cache_laws.specs.Tile.{IsTileRect}
+use Rattle.frame_laws.specs.Tile.{IsTileRect}
 use Rattle.frame_shows.proofs.FrameShown.{AreTiles}
 
 abbrev AllPass : Tiles → List ℕ → Type 0

@@ -12,7 +12,7 @@ use Rattle.caps_sets.specs.declared.confirmed.Confirmed.{Confirmed}
 use Rattle.session_rules.specs.declared.entry.Entry.{Entry}
 use Rattle.order_means.specs.ClientState.{ClientState}
 use Rattle.frame_rules.specs.Blocks.{Place, least_free, positions_of}
-use Rattle.frame_rules.specs.Pending.{Pending, pending_of, pending_drawings}
+use Rattle.session_rules.specs.Pending.{Pending, pending_of, pending_drawings}
 use Rattle.frame_rules.specs.Cautious.{as_walked}
 use Rattle.frame_rules.specs.Support.{supports}
 use Rattle.frame_rules.specs.Frame.{Walk, Sent, sent_if, saved_at, saved_if, given_up, restored_from, block_if, reads_clean_tiles, walked, walked_as, walked_pending}
@@ -20,8 +20,8 @@ use Rattle.frame_rules.specs.Frame.{sent_from, walk_after}
 use Rattle.frame_rules.specs.FrameOrders.{Uses, sending_of, orders_from, uses_after}
 use Rattle.frame_rules.specs.Describes.{CachesAgree, IsSized}
 use Rattle.frame_laws.specs.Agreement.{Agrees}
-use Rattle.cache_laws.specs.Uses.{ObeyedThrough}
-use Rattle.cache_laws.proofs.BlitSent.{orders_then}
+use Rattle.frame_laws.specs.Uses.{ObeyedThrough}
+use Rattle.frame_laws.proofs.BlitSent.{orders_then}
 
 -- a drawing sends nothing, or is sent once
 abbrev pub NoneOrOne : List Sent → Type 0

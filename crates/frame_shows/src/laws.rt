@@ -12,15 +12,15 @@ ghost use Rattle.session_rules.specs.declared.entry.Entry.{Entry};
 ghost use Rattle.session_rules.specs.Journal.{Head, IsLegalJournal};
 ghost use Rattle.session_rules.specs.Steps.{TakeOf};
 ghost use Rattle.order_means.specs.ClientState.{ClientState};
-ghost use Rattle.frame_rules.specs.Pending.{Pending, pending_of};
+ghost use Rattle.session_rules.specs.Pending.{Pending, pending_of};
 ghost use Rattle.frame_rules.specs.Cautious.{cut};
 ghost use Rattle.frame_rules.specs.FrameOrders.{orders_before_tiles};
 ghost use Rattle.frame_rules.specs.FrameRead.{FitOrders, AreShort};
 ghost use Rattle.frame_rules.specs.Encoder.{Encoder, encoder_frame};
 ghost use Rattle.frame_rules.specs.Describes.{DescribesClient, HasAllCaches, FrameShowsJournal};
 ghost use Rattle.frame_rules.specs.OrdersOfBytes.{FramesReadAsTheirOrders};
-ghost use Rattle.sound_states.specs.SoundState.{IsSound};
-ghost use Rattle.sound_states.specs.Drawings.{Suits};
+ghost use Rattle.frame_laws.specs.SoundState.{IsSound};
+ghost use Rattle.frame_laws.specs.Drawings.{Suits};
 
 /// Every frame shows the journal: for every session and every viewer, what a take sends is read without a refusal and without a rest, has one mark,
 /// which shows the picture after the entries that the take found, and leaves a client that the encoder describes.

@@ -5,9 +5,9 @@ use Rattle.std.specs.Prelude.{nat_le, ◌&&◌, Option, Some, None, Ok, Err}
 use Rattle.std.proofs.lemmas.Bool.Decides.{nat_tests}
 use Rattle.std.proofs.lemmas.List.{length-take-le}
 use Rattle.byteorder.specs.Endian.{little_number}
-use Rattle.wire_num.specs.Field.{passing_at}
-use Rattle.byte_fields.specs.Field.{Read, then_read, bytes_at}
-use Rattle.byte_fields.specs.Number.{little_at}
+use Rattle.wire_num.specs.FieldValue.{passing_at}
+use Rattle.wire_num.specs.Field.{Read, then_read, bytes_at}
+use Rattle.wire_num.specs.Number.{little_at}
 use Rattle.wire_num.specs.Layout.{fields_at}
 use Rattle.wire_num.specs.Refusal.{Missing}
 use Rattle.wire_num.proofs.Steps.{little_taken}
@@ -24,13 +24,13 @@ use Rattle.gcc_per.specs.declared.client_blocks.BlockKind.{BlockKind}
 use Rattle.gcc_per.specs.declared.client_blocks.BlockKind.TheVariants.{ClientCore, ClientNetwork, Other}
 use Rattle.gcc_per.specs.declared.client_blocks.ClientBlocks.{ClientBlocks}
 use Rattle.gcc_per.specs.Checked.{Checked, plain}
-use Rattle.byte_fields.specs.Caused.{then_caused, map_caused, before_caused}
+use Rattle.wire_num.specs.Caused.{then_caused, map_caused, before_caused}
 use Rattle.gcc_per.specs.ClientCore.{desktop_of}
 use Rattle.gcc_per.specs.ClientNetwork.{channel_definitions, channel_count_at, channels_at}
 use Rattle.gcc_per.specs.ClientBlocks.{kind_of, least_length, is_new, kind_at, length_at, with_core, with_channels, with_block, block_at}
 use Rattle.gcc_per.specs.Grammar.{Block}
 use Rattle.gcc_per.specs.Faults.{IsType, IsSize, HasBadHeader, HasNetworkFault, BeginsWith, HasBlockFault}
-use Rattle.byte_fields.proofs.Caused.{Same, go_on, then_err, map_err, before_err}
+use Rattle.wire_num.proofs.Caused.{Same, go_on, then_err, map_err, before_err}
 use Rattle.gcc_per.proofs.Checked.{go_on_plain, stop_plain, plain_err, plain_step}
 use Rattle.gcc_per.proofs.Blocks.{with_content, with_length, to_block, kind_ok, length_ok, Header, header_ok, grouped}
 use Rattle.gcc_per.proofs.BlockText.{count_ok, kind_there, size_there, length_there}

@@ -4,9 +4,9 @@ use Rattle.std.specs.Prelude.{nat_le, ◌&&◌, Option, Some, None, is_none, Ok,
 use Rattle.std.proofs.lemmas.Bool.Decides.{nat_tests}
 use Rattle.std.proofs.lemmas.List.{length-take-le}
 use Rattle.byteorder.specs.Endian.{little_number}
-use Rattle.wire_num.specs.Field.{passing_at}
-use Rattle.byte_fields.specs.Field.{then_read, map_read}
-use Rattle.byte_fields.specs.Number.{little_at}
+use Rattle.wire_num.specs.FieldValue.{passing_at}
+use Rattle.wire_num.specs.Field.{then_read, map_read}
+use Rattle.wire_num.specs.Number.{little_at}
 use Rattle.wire_num.specs.Layout.{fields_at}
 use Rattle.wire_num.specs.Grammar.{IsText}
 use Rattle.wire_num.proofs.Steps.{little_taken}
@@ -19,12 +19,12 @@ use Rattle.gcc_per.specs.declared.client_blocks.ClientBlocks.{ClientBlocks}
 use Rattle.gcc_per.specs.declared.gcc_fault.Cause.{Cause}
 use Rattle.gcc_per.specs.declared.gcc_fault.Cause.TheVariants.{Crowded}
 use Rattle.gcc_per.specs.Checked.{plain}
-use Rattle.byte_fields.specs.Caused.{map_caused, before_caused}
+use Rattle.wire_num.specs.Caused.{map_caused, before_caused}
 use Rattle.gcc_per.specs.ClientCore.{desktop_of}
 use Rattle.gcc_per.specs.ClientNetwork.{channel_definitions, channel_count_at, channels_at}
 use Rattle.gcc_per.specs.ClientBlocks.{kind_of, least_length, is_new, kind_at, length_at, with_desktop, with_core, with_channels, with_block, block_at}
 use Rattle.gcc_per.specs.Grammar.{Block, block_bytes, kind_in, IsBlock, HasChannels}
-use Rattle.byte_fields.proofs.Caused.{then_ok, map_ok, before_ok, go_on}
+use Rattle.wire_num.proofs.Caused.{then_ok, map_ok, before_ok, go_on}
 use Rattle.gcc_per.proofs.Checked.{plain_ok, go_on_plain}
 use Rattle.gcc_per.proofs.Blocks.{grouped, block_ok, to_block}
 

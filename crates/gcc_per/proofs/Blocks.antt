@@ -4,9 +4,9 @@ use Rattle.std.specs.Prelude.{nat_le, ◌&&◌, Option, Some, None, Ok, Err}
 use Rattle.std.proofs.lemmas.Bool.Decides.{nat_tests}
 use Rattle.std.proofs.lemmas.List.{length-take-le}
 use Rattle.byteorder.specs.Endian.{little_number}
-use Rattle.wire_num.specs.Field.{passing_at}
-use Rattle.byte_fields.specs.Field.{bytes_at}
-use Rattle.byte_fields.specs.Number.{little_at}
+use Rattle.wire_num.specs.FieldValue.{passing_at}
+use Rattle.wire_num.specs.Field.{bytes_at}
+use Rattle.wire_num.specs.Number.{little_at}
 use Rattle.wire_num.proofs.Steps.{passed_ok, little_taken}
 use Rattle.wire_num.proofs.Steps as steps
 use Rattle.wire_num.proofs.ReadIsText.{bytes_ok, little_ok, passing_ok, regroup}
@@ -16,12 +16,12 @@ use Rattle.gcc_per.specs.declared.client_blocks.BlockKind.{BlockKind}
 use Rattle.gcc_per.specs.declared.client_blocks.BlockKind.TheVariants.{ClientCore, ClientNetwork, Other}
 use Rattle.gcc_per.specs.declared.client_blocks.ClientBlocks.{ClientBlocks}
 use Rattle.gcc_per.specs.Checked.{Checked, plain}
-use Rattle.byte_fields.specs.Caused.{then_caused, map_caused, before_caused}
+use Rattle.wire_num.specs.Caused.{then_caused, map_caused, before_caused}
 use Rattle.gcc_per.specs.ClientCore.{desktop_of}
 use Rattle.gcc_per.specs.ClientNetwork.{channels_at}
 use Rattle.gcc_per.specs.ClientBlocks.{kind_of, least_length, is_new, kind_at, length_at, with_desktop, with_core, with_channels, with_block, block_at}
 use Rattle.gcc_per.specs.Grammar.{IsBlock}
-use Rattle.byte_fields.proofs.Caused.{then_ok, map_ok, before_ok}
+use Rattle.wire_num.proofs.Caused.{then_ok, map_ok, before_ok}
 use Rattle.gcc_per.proofs.Checked.{go_on_plain, plain_ok}
 use Rattle.gcc_per.proofs.Within.{content_size}
 

@@ -13,12 +13,12 @@ use Rattle.gcc_per.specs.declared.client_blocks.BlockKind.TheVariants.{ClientCor
 use Rattle.gcc_per.specs.declared.client_blocks.ClientBlocks.{ClientBlocks}
 use Rattle.gcc_per.specs.declared.client_data.ClientData.{ClientData}
 use Rattle.gcc_per.specs.Checked.{Checked}
-use Rattle.byte_fields.specs.Caused.{then_caused}
+use Rattle.wire_num.specs.Caused.{then_caused}
 use Rattle.gcc_per.specs.ClientBlocks.{kind_of, block_at, blocks_from, no_blocks, blocks_at}
 use Rattle.gcc_per.specs.ClientData.{channels_of, data_with, client_blocks_at}
 use Rattle.gcc_per.specs.Grammar.{Block, block_bytes, IsBlock, core_blocks, network_blocks, IsCore, IsNetwork}
 use Rattle.gcc_per.specs.Faults.{IsType, HasBadHeader, BeginsWith, HasBlockFault, MayFollow}
-use Rattle.byte_fields.proofs.Caused.{Same, go_on, then_err}
+use Rattle.wire_num.proofs.Caused.{Same, go_on, then_err}
 use Rattle.gcc_per.proofs.BlockText.{none_is, block_stands, block_again}
 use Rattle.gcc_per.proofs.BlocksText.{AddAll, CoreAfter, NetworkAfter, blocks_stand, blocks_again, one_more, core_side, network_side, both_sides, one_core}
 use Rattle.gcc_per.proofs.BlocksText.{is_network_of, network_of}

@@ -6,12 +6,12 @@ use Rattle.gcc_per.specs.declared.client_core.Desktop.{Desktop}
 use Rattle.gcc_per.specs.declared.client_blocks.BlockKind.{BlockKind}
 use Rattle.gcc_per.specs.declared.client_blocks.BlockKind.TheVariants.{ClientCore, ClientNetwork, Other}
 use Rattle.gcc_per.specs.declared.client_blocks.ClientBlocks.{ClientBlocks}
-use Rattle.byte_fields.specs.Caused.{then_caused}
+use Rattle.wire_num.specs.Caused.{then_caused}
 use Rattle.gcc_per.specs.ClientCore.{desktop_of}
 use Rattle.gcc_per.specs.ClientBlocks.{with_desktop, with_channels, block_at, blocks_from}
 use Rattle.gcc_per.specs.ClientData.{channels_of}
 use Rattle.gcc_per.specs.Grammar.{Block, block_bytes, kind_in, IsBlock, is_core, is_network, core_blocks, network_blocks, HasChannels, IsCore, IsNetwork}
-use Rattle.byte_fields.proofs.Caused.{then_ok, go_on}
+use Rattle.wire_num.proofs.Caused.{then_ok, go_on}
 use Rattle.gcc_per.proofs.Blocks.{block_shorter}
 use Rattle.gcc_per.proofs.BlockText.{Adds, block_stands, block_again}
 

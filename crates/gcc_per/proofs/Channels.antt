@@ -1,7 +1,7 @@
 -- Channels one by one.
 use Rattle.std.proofs.Common.{◌≡◌, ℕ, suc, ◌+◌, ◌<◌, ◌-◌, List, ap, ◌∙◌, sym, arith}
 use Rattle.std.specs.Prelude.{Ok, Err}
-use Rattle.byte_fields.specs.Field.{then_read, bytes_at}
+use Rattle.wire_num.specs.Field.{then_read, bytes_at}
 use Rattle.wire_num.specs.Layout.{Any, fields_at}
 use Rattle.gcc_per.specs.ClientNetwork.{channel_definitions}
 

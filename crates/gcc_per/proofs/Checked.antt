@@ -1,9 +1,9 @@
 -- Steps of reading where a field is refused because it is broken.
 use Rattle.std.proofs.Common.{◌≡◌, ℕ, ◌⊎◌, List}
 use Rattle.std.specs.Prelude.{Ok, Err}
-use Rattle.byte_fields.specs.Field.{Read}
-use Rattle.byte_fields.specs.Caused.{then_caused}
-use Rattle.byte_fields.proofs.Caused.{go_on_caused, stop_caused, caused_ok, caused_err, caused_step}
+use Rattle.wire_num.specs.Field.{Read}
+use Rattle.wire_num.specs.Caused.{then_caused}
+use Rattle.wire_num.proofs.Caused.{go_on_caused, stop_caused, caused_ok, caused_err, caused_step}
 use Rattle.gcc_per.specs.declared.gcc_fault.Cause.{Cause}
 use Rattle.gcc_per.specs.declared.gcc_fault.Cause.TheVariants.{Broken}
 use Rattle.gcc_per.specs.Checked.{Checked, plain}

@@ -3,7 +3,7 @@ use Rattle.std.proofs.Common.{◌≡◌, ℕ, zero, suc, ◌≤◌, ◌<◌, Lis
 use Rattle.std.specs.Prelude.{Ok, Err}
 use Rattle.gcc_per.specs.declared.gcc_fault.Cause.{Cause}
 use Rattle.gcc_per.specs.declared.client_blocks.ClientBlocks.{ClientBlocks}
-use Rattle.byte_fields.specs.Caused.{then_caused}
+use Rattle.wire_num.specs.Caused.{then_caused}
 use Rattle.gcc_per.specs.ClientBlocks.{block_at, blocks_from, no_blocks, blocks_at}
 use Rattle.gcc_per.proofs.Blocks.{block_shorter}
 

@@ -2,8 +2,8 @@
 use Rattle.std.proofs.Common.{◌≡◌, ℕ, ◌<◌, inl, inr, List, [], ◌++◌, length, refl, ap, ◌∙◌, sym}
 use Rattle.std.proofs.Common.{append-nil, subst}
 use Rattle.std.specs.Prelude.{None, Ok, Err, flat_map}
-use Rattle.wire_num.specs.Field.{is_any, passing_at, end_at}
-use Rattle.byte_fields.specs.Field.{Read, then_read, bytes_at}
+use Rattle.wire_num.specs.FieldValue.{is_any, passing_at, end_at}
+use Rattle.wire_num.specs.Field.{Read, then_read, bytes_at}
 use Rattle.wire_num.specs.Length.{per_len_at}
 use Rattle.wire_num.specs.Layout.{Packed, count_at, fields_at}
 use Rattle.wire_num.specs.Grammar.{IsText, IsPacked}
@@ -17,12 +17,12 @@ use Rattle.gcc_per.specs.declared.gcc_fault.Cause.TheVariants.{Broken}
 use Rattle.gcc_per.specs.declared.client_core.Desktop.{Desktop}
 use Rattle.gcc_per.specs.declared.client_data.ClientData.{ClientData}
 use Rattle.gcc_per.specs.Checked.{Checked, plain}
-use Rattle.byte_fields.specs.Caused.{then_caused, map_caused, before_caused}
+use Rattle.wire_num.specs.Caused.{then_caused, map_caused, before_caused}
 use Rattle.gcc_per.specs.ClientBlocks.{no_blocks}
 use Rattle.gcc_per.specs.ClientData.{create_request, client_blocks_at, user_data_at, client_data_at}
 use Rattle.gcc_per.specs.Grammar.{Block, block_bytes, core_blocks, IsCore}
 use Rattle.gcc_per.specs.Faults.{IsFront, counted_bytes, HasBadFrame, HasUserFault, HasFault}
-use Rattle.byte_fields.proofs.Caused.{then_err, map_err, before_ok, before_err}
+use Rattle.wire_num.proofs.Caused.{then_err, map_err, before_ok, before_err}
 use Rattle.gcc_per.proofs.Checked.{go_on_plain, stop_plain, plain_err, plain_step}
 use Rattle.gcc_per.proofs.Within.{content_size}
 use Rattle.gcc_per.proofs.Blocks.{content_of}

@@ -3,8 +3,8 @@ use Rattle.std.proofs.Common.{◌≡◌, ℕ, ◌≤◌, true, false, List, [], 
 use Rattle.std.specs.Prelude.{nat_lt, Option, Some, None, Ok, Err, flat_map}
 use Rattle.std.specs.List.{AllByRecursion}
 use Rattle.std.proofs.lemmas.Bool.Decides.{nat_tests}
-use Rattle.wire_num.specs.Field.{end_at}
-use Rattle.byte_fields.specs.Field.{bytes_at}
+use Rattle.wire_num.specs.FieldValue.{end_at}
+use Rattle.wire_num.specs.Field.{bytes_at}
 use Rattle.wire_num.specs.Length.{per_len_at}
 use Rattle.wire_num.specs.Layout.{Packed, fields_at}
 use Rattle.wire_num.specs.Grammar.{IsText, IsPacked}
@@ -14,12 +14,12 @@ use Rattle.gcc_per.specs.declared.client_core.Desktop.{Desktop}
 use Rattle.gcc_per.specs.declared.client_blocks.ClientBlocks.{ClientBlocks}
 use Rattle.gcc_per.specs.declared.client_data.ClientData.{ClientData}
 use Rattle.gcc_per.specs.Checked.{Checked, plain, placed_checked}
-use Rattle.byte_fields.specs.Caused.{then_caused, map_caused, before_caused}
+use Rattle.wire_num.specs.Caused.{then_caused, map_caused, before_caused}
 use Rattle.gcc_per.specs.ClientBlocks.{blocks_from, no_blocks, blocks_at}
 use Rattle.gcc_per.specs.ClientData.{create_request, channels_of, data_with, client_blocks_at, user_data_at, client_data_at, client_data_of}
 use Rattle.gcc_per.specs.Grammar.{Block, block_bytes, IsBlock, core_blocks, network_blocks, IsNetwork, IsRequest}
 use Rattle.gcc_per.proofs.UserData.{to_end, in_content, counted}
-use Rattle.byte_fields.proofs.Caused.{then_ok, map_ok, before_ok, go_on}
+use Rattle.wire_num.proofs.Caused.{then_ok, map_ok, before_ok, go_on}
 use Rattle.gcc_per.proofs.Checked.{plain_ok, go_on_plain}
 use Rattle.gcc_per.proofs.Within.{content_size}
 use Rattle.gcc_per.proofs.Blocks.{content_of}

@@ -1,13 +1,13 @@
 -- The user data of a request, where a field in the client's data blocks is refused.
 use Rattle.std.proofs.Common.{◌≡◌, ℕ, List, ◌++◌, ap, ◌∙◌}
 use Rattle.std.specs.Prelude.{Ok, Err}
-use Rattle.wire_num.specs.Field.{end_at}
-use Rattle.byte_fields.specs.Field.{bytes_at}
+use Rattle.wire_num.specs.FieldValue.{end_at}
+use Rattle.wire_num.specs.Field.{bytes_at}
 use Rattle.wire_num.specs.Length.{per_len_at}
 use Rattle.gcc_per.specs.declared.gcc_fault.Cause.{Cause}
 use Rattle.gcc_per.specs.declared.client_data.ClientData.{ClientData}
 use Rattle.gcc_per.specs.Checked.{Checked, plain}
-use Rattle.byte_fields.specs.Caused.{then_caused, map_caused, before_caused}
+use Rattle.wire_num.specs.Caused.{then_caused, map_caused, before_caused}
 use Rattle.gcc_per.specs.ClientData.{client_blocks_at, user_data_at}
 use Rattle.gcc_per.proofs.Checked.{go_on_plain}
 

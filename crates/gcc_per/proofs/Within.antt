@@ -2,7 +2,7 @@
 use Rattle.std.proofs.Common.{◌≡◌, ℕ, ◌+◌, ◌≤◌, List, ◌++◌, length, take, drop, ap, sym, ◌∙◌, arith}
 use Rattle.std.specs.Prelude.{Ok}
 use Rattle.std.proofs.lemmas.List.{length-take-le}
-use Rattle.byte_fields.specs.Field.{bytes_at}
+use Rattle.wire_num.specs.Field.{bytes_at}
 use Rattle.wire_num.specs.Cursor.{CursorOf, rest}
 use Rattle.wire_num.proofs.Content.{rest_of_content}
 use Rattle.wire_num.proofs.ReadIsText.{bytes_ok}

@@ -1,7 +1,7 @@
 -- Reading client data: a refusal has one of three causes.
 use Rattle.std.specs.Prelude.{ℕ, List, Result}
-use Rattle.byte_fields.specs.Field.{Read}
-use Rattle.byte_fields.specs.Caused.{Caused, caused, placed_caused}
+use Rattle.wire_num.specs.Field.{Read}
+use Rattle.wire_num.specs.Caused.{Caused, caused, placed_caused}
 use Rattle.gcc_per.specs.declared.gcc_fault.GccFault.{GccFault}
 use Rattle.gcc_per.specs.declared.gcc_fault.GccFault.TheVariants.{BadGcc, DepthNotOffered, TooManyChannels}
 use Rattle.gcc_per.specs.declared.gcc_fault.Cause.{Cause}

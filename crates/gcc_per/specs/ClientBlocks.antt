@@ -1,15 +1,15 @@
 -- The client's data blocks ([MS-RDPBCGR] 2.2.1.3.1), each a header and its content.
 use Rattle.std.specs.Prelude.{ℕ, zero, suc, ◌+◌, ◌-◌, ◌==◌, nat_le, Bool, true, ◌&&◌, List, [], ◌∷◌, length, Option, Some, None, is_none, Ok, Err, if◌then◌else◌}
-use Rattle.wire_num.specs.Field.{passing_at}
-use Rattle.byte_fields.specs.Field.{Read, then_read, map_read, bytes_at}
-use Rattle.byte_fields.specs.Number.{little_at}
+use Rattle.wire_num.specs.FieldValue.{passing_at}
+use Rattle.wire_num.specs.Field.{Read, then_read, map_read, bytes_at}
+use Rattle.wire_num.specs.Number.{little_at}
 use Rattle.gcc_per.specs.declared.gcc_fault.Cause.TheVariants.{NoDepth}
 use Rattle.gcc_per.specs.declared.client_core.Desktop.{Desktop}
 use Rattle.gcc_per.specs.declared.client_blocks.BlockKind.{BlockKind}
 use Rattle.gcc_per.specs.declared.client_blocks.BlockKind.TheVariants.{ClientCore, ClientNetwork, Other}
 use Rattle.gcc_per.specs.declared.client_blocks.ClientBlocks.{ClientBlocks}
 use Rattle.gcc_per.specs.Checked.{Checked, plain}
-use Rattle.byte_fields.specs.Caused.{then_caused, map_caused, before_caused}
+use Rattle.wire_num.specs.Caused.{then_caused, map_caused, before_caused}
 use Rattle.gcc_per.specs.ClientCore.{desktop_of}
 use Rattle.gcc_per.specs.ClientNetwork.{channels_at}
 

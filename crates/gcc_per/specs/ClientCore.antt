@@ -1,7 +1,7 @@
 -- Client Core Data ([MS-RDPBCGR] 2.2.1.3.2). Offsets count from behind the header of four bytes.
 use Rattle.std.specs.Prelude.{ℕ, ◌+◌, ◌==◌, nat_le, Bool, false, List, length, drop, Option, Some, None, if◌then◌else◌}
 use Rattle.byteorder.specs.Endian.{little_number}
-use Rattle.wire_num.specs.Field.{has_bits}
+use Rattle.wire_num.specs.FieldValue.{has_bits}
 use Rattle.gcc_per.specs.declared.client_core.Desktop.{Desktop}
 
 -- the number of two bytes at an offset, where it is wholly there

@@ -1,8 +1,8 @@
 -- The GCC Conference Create Request (T.124, 8.7; [MS-RDPBCGR] 2.2.1.3): the key of T.124, the request with its fixed
 -- choices, and the client's data blocks as its user data.
 use Rattle.std.specs.Prelude.{ℕ, List, [], ◌∷◌, Option, Some, None, Result, Ok, Err}
-use Rattle.wire_num.specs.Field.{end_at}
-use Rattle.byte_fields.specs.Field.{bytes_at}
+use Rattle.wire_num.specs.FieldValue.{end_at}
+use Rattle.wire_num.specs.Field.{bytes_at}
 use Rattle.wire_num.specs.Length.{per_len_at}
 use Rattle.wire_num.specs.Layout.{Layout, Open, Bytes, Length, Packed, ◌▸◌, fields_at}
 use Rattle.gcc_per.specs.declared.gcc_fault.GccFault.{GccFault}
@@ -10,7 +10,7 @@ use Rattle.gcc_per.specs.declared.gcc_fault.Cause.TheVariants.{Broken}
 use Rattle.gcc_per.specs.declared.client_core.Desktop.{Desktop}
 use Rattle.gcc_per.specs.declared.client_data.ClientData.{ClientData}
 use Rattle.gcc_per.specs.Checked.{Checked, plain, placed_checked}
-use Rattle.byte_fields.specs.Caused.{then_caused, map_caused, before_caused}
+use Rattle.wire_num.specs.Caused.{then_caused, map_caused, before_caused}
 use Rattle.gcc_per.specs.ClientBlocks.{blocks_at}
 
 -- the key, object 0.0.20.124.0.1; the length of the connectPDU; conferenceCreateRequest with its conference name "1"

@@ -1,9 +1,9 @@
 -- Client Network Data ([MS-RDPBCGR] 2.2.1.3.4), behind the header.
 use Rattle.std.specs.Prelude.{ℕ, zero, suc, nat_le, List, Ok, Err, if◌then◌else◌}
-use Rattle.byte_fields.specs.Number.{little_at}
+use Rattle.wire_num.specs.Number.{little_at}
 use Rattle.wire_num.specs.Layout.{Layout, Open, Any, ◌▸◌, fields_at}
 use Rattle.gcc_per.specs.Checked.{Checked, plain}
-use Rattle.byte_fields.specs.Caused.{then_caused, map_caused}
+use Rattle.wire_num.specs.Caused.{then_caused, map_caused}
 use Rattle.gcc_per.specs.declared.gcc_fault.Cause.TheVariants.{Crowded}
 
 -- so many channels of twelve bytes; what follows them isn't read

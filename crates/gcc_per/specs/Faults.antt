@@ -3,7 +3,7 @@
 use Rattle.std.specs.Prelude.{◌≡◌, ◌≤◌, ◌<◌, ◌⊎◌, ℕ, ◌+◌, None, List, [], ◌++◌, length, flat_map}
 use Rattle.std.specs.List.{AllByRecursion}
 use Rattle.byteorder.specs.Endian.{little_number}
-use Rattle.wire_num.specs.Field.{is_any}
+use Rattle.wire_num.specs.FieldValue.{is_any}
 use Rattle.wire_num.specs.Layout.{Layout, Open, Counted, Packed, ◌▸◌}
 use Rattle.wire_num.specs.Grammar.{IsText, IsPacked}
 use Rattle.wire_num.specs.Refusal.{Missing, IsRefusedAt}

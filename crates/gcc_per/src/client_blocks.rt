@@ -7,8 +7,8 @@
 //! | 4 | | content | by the type |
 
 ghost use Rattle.std.specs.Prelude.{◌≡◌, ◌≤◌, IfOk};
-ghost use Rattle.wire_num.specs.Field.{passing_at};
-ghost use Rattle.byte_fields.specs.Number.{little_at};
+ghost use Rattle.wire_num.specs.FieldValue.{passing_at};
+ghost use Rattle.wire_num.specs.Number.{little_at};
 ghost use Rattle.wire_num.specs.Cursor.{rest, ReadsField, ReadsCaused};
 ghost use Rattle.gcc_per.specs.ClientBlocks.{kind_of, least_length, is_new, kind_at, length_at, block_at, blocks_at};
 
@@ -93,7 +93,7 @@ fn read_block(found: ClientBlocks, cursor: &mut Cursor<'_>) -> Result<ClientBloc
 }
 
 /// Reads the type of a block, which isn't repeated.
-#[tactic(auto, unfolding(crate::specs::ClientBlocks::kind_at, wire_num::specs::Field::passing_at))]
+#[tactic(auto, unfolding(crate::specs::ClientBlocks::kind_at, wire_num::specs::FieldValue::passing_at))]
 fn read_kind(found: ClientBlocks, cursor: &mut Cursor<'_>) -> Result<BlockKind, Short>
     ensures { ReadsField (kind_at found) result cursor.old cursor.new }
 {

@@ -14,6 +14,6 @@ mod turn;
 
 pub use grows::Grows;
 pub use lock::GrowLock;
-pub use out_of_memory::OutOfMemory;
 pub use pass::Pass;
 pub use turn::Turn;
+pub use wire_num::OutOfMemory;

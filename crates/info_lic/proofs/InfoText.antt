@@ -3,8 +3,8 @@ use Rattle.std.proofs.Common.{◌≡◌, ◌⊎◌, inl, inr, ℕ, ◌+◌, ◌�
 use Rattle.std.specs.Prelude.{Result, Ok, Err}
 use Rattle.std.proofs.lemmas.List.{take-append-drop, length-take-le, length-drop}
 use Rattle.std.proofs.Math.Seq.{take-append_seam, drop-append_seam}
-use Rattle.byte_fields.specs.Field.{Read, then_read, map_read, place_in}
-use Rattle.wire_num.specs.Field.{placed}
+use Rattle.wire_num.specs.Field.{Read, then_read, map_read, place_in}
+use Rattle.wire_num.specs.FieldValue.{placed}
 use Rattle.wire_num.specs.Layout.{fields_at}
 use Rattle.wire_num.specs.Grammar.{IsText}
 use Rattle.wire_num.proofs.Steps.{then_ok, map_ok}

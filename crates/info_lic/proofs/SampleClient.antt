@@ -1,7 +1,7 @@
 -- The definitions on the sample client's Client Info PDU, and on others.
 use Rattle.std.proofs.Common.{◌≡◌, ℕ, List, [], ◌∷◌, ◌++◌, replicate, refl, codes}
 use Rattle.std.specs.Prelude.{Result, Ok, Err}
-use Rattle.wire_num.specs.Field.{passing_at}
+use Rattle.wire_num.specs.FieldValue.{passing_at}
 use Rattle.info_lic.specs.declared.info_fault.InfoFault.{InfoFault}
 use Rattle.info_lic.specs.declared.info_fault.InfoFault.TheVariants.{BadInfo}
 use Rattle.info_lic.specs.ClientInfo.{info_start, other_texts, info_texts, info_at, name_of}

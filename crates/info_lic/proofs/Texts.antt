@@ -3,7 +3,7 @@ use Rattle.std.proofs.Common.{◌≡◌, ℕ, ◌+◌, List, [], ◌++◌, lengt
 use Rattle.std.specs.Prelude.{Ok}
 use Rattle.std.proofs.lemmas.List.{drop-drop}
 use Rattle.std.proofs.Math.Seq.{drop-append-add}
-use Rattle.byte_fields.specs.Field.{bytes_at, wanted}
+use Rattle.wire_num.specs.Field.{bytes_at, wanted}
 use Rattle.wire_num.specs.Layout.{Layout, Open, ◌▸◌}
 use Rattle.wire_num.proofs.ReadIsText.{bytes_ok, wanted_ok}
 use Rattle.info_lic.specs.declared.client_info.Counts.{Counts}

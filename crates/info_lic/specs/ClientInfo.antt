@@ -2,9 +2,9 @@
 -- user name is read.
 use Rattle.std.specs.Prelude.{ℕ, ◌+◌, ◌*◌, nat_le, nat_lt, Bool, true, false, ◌&&◌, List, [], ◌∷◌, length, take, drop, replicate, slice_index, Option, Some, None, Result, if◌then◌else◌}
 use Rattle.std.specs.Option.{option_map}
-use Rattle.wire_num.specs.Field.{is_any, has_bits, placed}
+use Rattle.wire_num.specs.FieldValue.{is_any, has_bits, placed}
 use Rattle.wire_num.specs.Layout.{Layout, Open, Bytes, Any, Little, ◌▸◌, fields_at}
-use Rattle.byte_fields.specs.Field.{Read, then_read, map_read}
+use Rattle.wire_num.specs.Field.{Read, then_read, map_read}
 use Rattle.info_lic.specs.declared.client_info.Counts.{Counts}
 use Rattle.info_lic.specs.declared.info_fault.InfoFault.{InfoFault}
 use Rattle.info_lic.specs.declared.info_fault.InfoFault.TheVariants.{BadInfo}

@@ -19,9 +19,9 @@
 ghost use Rattle.std.specs.Prelude.{◌≡◌, ◌↔◌, ◌≤◌, ◌+◌, ℕ, List, [], Ok, Err, IfOk, OnOk, length, take, drop};
 ghost use Rattle.wire_num.specs.Layout.{fields_at};
 ghost use Rattle.wire_num.specs.Cursor.{rest, ReadsField, ReadsFieldAs, ReadsFields, ReadsFieldsAs, ReadsRows};
-ghost use Rattle.byte_fields.specs.Field.{map_read, wanted};
-ghost use Rattle.byte_fields.specs.Number.{little_at};
-ghost use Rattle.wire_num.specs.Field.{passing_at, has_bits};
+ghost use Rattle.wire_num.specs.Field.{map_read, wanted};
+ghost use Rattle.wire_num.specs.Number.{little_at};
+ghost use Rattle.wire_num.specs.FieldValue.{passing_at, has_bits};
 ghost use Rattle.info_lic.specs.ClientInfo.{info_start, counts_of, terminator, text, other_texts, info_texts, user_in, named, utf16_units, named_by, name_in, info_at, name_of};
 ghost use Rattle.info_lic.specs.Grammar.{IsClientInfo};
 ghost use Rattle.info_lic.specs.Faults.{IsFirstFault};
@@ -90,7 +90,7 @@ fn read_client_info(cursor: &mut Cursor<'_>) -> Result<Name, Short>
 }
 
 /// Reads what stands before the texts.
-#[tactic(auto, unfolding(crate::specs::ClientInfo::info_start, wire_num::specs::Field::passing_at))]
+#[tactic(auto, unfolding(crate::specs::ClientInfo::info_start, wire_num::specs::FieldValue::passing_at))]
 fn read_counts(cursor: &mut Cursor<'_>) -> Result<Counts, Short>
     ensures { ReadsFields (λ bs. map_read counts_of (fields_at info_start bs)) result cursor.old cursor.new }
 {
@@ -109,7 +109,7 @@ fn read_counts(cursor: &mut Cursor<'_>) -> Result<Counts, Short>
 }
 
 /// Reads the flags of the security header.
-#[tactic(auto, unfolding(wire_num::specs::Field::passing_at))]
+#[tactic(auto, unfolding(wire_num::specs::FieldValue::passing_at))]
 fn read_security_flags(cursor: &mut Cursor<'_>) -> Result<u16, Short>
     ensures { ReadsField (passing_at (has_bits 64) (little_at 2)) result cursor.old cursor.new }
 {

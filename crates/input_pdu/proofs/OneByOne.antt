@@ -1,9 +1,9 @@
 -- Events one by one.
 use Rattle.std.proofs.Common.{◌≡◌, ℕ, suc, ◌+◌, ◌<◌, ◌-◌, List, [], ◌++◌, refl, ap, ◌∙◌, sym, subst, append_assoc, append-nil, arith}
 use Rattle.std.specs.Prelude.{length, Option, Result, Ok, Err, IsOk, option_to_list}
-use Rattle.wire_num.specs.Field.{placed}
-use Rattle.byte_fields.specs.Field.{Read, then_read, map_read}
-use Rattle.input_events.specs.declared.event.Event.{Event}
+use Rattle.wire_num.specs.FieldValue.{placed}
+use Rattle.wire_num.specs.Field.{Read, then_read, map_read}
+use Rattle.input_pdu.specs.declared.event.Event.{Event}
 use Rattle.input_pdu.specs.declared.input_fault.InputFault.{InputFault}
 use Rattle.input_pdu.specs.declared.input_fault.InputFault.TheVariants.{BadInput, OutOfMemory}
 use Rattle.input_pdu.specs.Events.{event_at, events_at, passed_events_at, event_count_at, body_at, Pushes, ReadsFrom, Reads}

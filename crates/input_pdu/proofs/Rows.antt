@@ -1,7 +1,7 @@
 -- The definitions on bodies worked out by hand.
 use Rattle.std.proofs.Common.{◌≡◌, [], ◌∷◌, refl}
 use Rattle.std.specs.Prelude.{Ok, Err, true, false}
-use Rattle.input_events.specs.declared.event.Event.TheVariants.{Sync, Scan, Unicode, Mouse, MouseX}
+use Rattle.input_pdu.specs.declared.event.Event.TheVariants.{Sync, Scan, Unicode, Mouse, MouseX}
 use Rattle.input_pdu.specs.Events.{event_at, event_count_at, events_of}
 
 -- the mouse with button 1 down at (20, 20)

@@ -1,13 +1,13 @@
 -- The body of a slow-path input PDU ([MS-RDPBCGR] 2.2.8.1.1.3), behind the share data header.
 use Rattle.std.specs.Prelude.{◌≡◌, ℕ, zero, suc, ◌==◌, Bool, List, [], ◌++◌, drop, Option, Some, None, option_to_list, Result, Ok, Err, IsOk, if◌then◌else◌}
 use Rattle.byteorder.specs.Endian.{little_number}
-use Rattle.wire_num.specs.Field.{has_bits, placed}
-use Rattle.byte_fields.specs.Field.{Read, then_read, map_read, bytes_at}
-use Rattle.byte_fields.specs.Number.{little_at}
+use Rattle.wire_num.specs.FieldValue.{has_bits, placed}
+use Rattle.wire_num.specs.Field.{Read, then_read, map_read, bytes_at}
+use Rattle.wire_num.specs.Number.{little_at}
 use Rattle.wire_num.specs.Cursor.{CursorOf, rest}
 use Rattle.wire_num.specs.declared.short.Short.{Short}
-use Rattle.input_events.specs.declared.event.Event.{Event}
-use Rattle.input_events.specs.declared.event.Event.TheVariants.{Sync, Scan, Unicode, Mouse, MouseX}
+use Rattle.input_pdu.specs.declared.event.Event.{Event}
+use Rattle.input_pdu.specs.declared.event.Event.TheVariants.{Sync, Scan, Unicode, Mouse, MouseX}
 use Rattle.input_pdu.specs.declared.input_fault.InputFault.{InputFault}
 use Rattle.input_pdu.specs.declared.input_fault.InputFault.TheVariants.{BadInput, OutOfMemory}
 

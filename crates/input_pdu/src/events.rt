@@ -11,9 +11,9 @@ ghost use Rattle.std.specs.Prelude.{◌≡◌, IsOk, OnOk, OnErr, []};
 ghost use Rattle.wire_num.specs.Cursor.{ReadsFieldsAs, ReadsFields, rest};
 ghost use Rattle.input_pdu.specs.Events.{event_count_at, events_at, passed_events_at, FindsEvents, Reads, Pushes};
 
-use crate::event::read_event;
+use crate::Event;
 use crate::input_fault::InputFault;
-use input_events::Event;
+use crate::one_event::read_event;
 use wire_num::{Cursor, Short};
 
 /// The bytes of pad2Octets.

@@ -8,6 +8,6 @@ mod word;
 
 pub use hexadecimal::{read_hexadecimal, read_hexadecimals};
 pub use number::{read_coordinate, read_number, write_decimal};
-pub use out_of_memory::OutOfMemory;
 pub use parts::Parts;
+pub use wire_num::OutOfMemory;
 pub use word::{find_byte, is_same_word};

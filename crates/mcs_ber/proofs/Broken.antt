@@ -2,8 +2,8 @@
 use Rattle.std.proofs.Common.{◌≡◌, ℕ, ◌-◌, List, length, refl, ap, ◌∙◌}
 use Rattle.std.specs.Prelude.{Result, Ok, Err}
 use Rattle.wire_num.specs.declared.range.Range.{Range}
-use Rattle.wire_num.specs.Field.{placed}
-use Rattle.byte_fields.specs.Field.{Read, map_read}
+use Rattle.wire_num.specs.FieldValue.{placed}
+use Rattle.wire_num.specs.Field.{Read, map_read}
 use Rattle.wire_num.specs.Layout.{fields_at}
 use Rattle.tpkt_x224.specs.Grammar.{IsBrokenAt}
 use Rattle.tpkt_x224.proofs.Broken.{broken, broken_there, offset_of}

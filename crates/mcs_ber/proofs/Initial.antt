@@ -1,8 +1,8 @@
 -- A Connect-Initial, from its outer fields to its inner ones.
 use Rattle.std.proofs.Common.{◌≡◌, ℕ, List, [], ◌∷◌, ◌++◌, ap, ◌∙◌}
 use Rattle.std.specs.Prelude.{Ok, Err}
-use Rattle.wire_num.specs.Field.{end_at}
-use Rattle.byte_fields.specs.Field.{Read, then_read, map_read, bytes_at, wanted}
+use Rattle.wire_num.specs.FieldValue.{end_at}
+use Rattle.wire_num.specs.Field.{Read, then_read, map_read, bytes_at, wanted}
 use Rattle.wire_num.specs.Length.{ber_len_at}
 use Rattle.wire_num.specs.Layout.{Layout, End, Within, Basic, fields_at}
 use Rattle.mcs_ber.specs.DomainParameters.{domain_parameters}

@@ -4,8 +4,8 @@ use Rattle.std.specs.Prelude.{◌↔◌, ◌&&◌, nat_le, flat_map, Result, Ok,
 use Rattle.std.specs.List.{AllByRecursion}
 use Rattle.std.proofs.lemmas.Bool.Decides.{nat_tests}
 use Rattle.wire_num.specs.declared.range.Range.{Range}
-use Rattle.wire_num.specs.Field.{placed}
-use Rattle.byte_fields.specs.Field.{Read, map_read}
+use Rattle.wire_num.specs.FieldValue.{placed}
+use Rattle.wire_num.specs.Field.{Read, map_read}
 use Rattle.wire_num.specs.Layout.{Layout, fields_at}
 use Rattle.wire_num.specs.Grammar.{IsText}
 use Rattle.wire_num.proofs.Steps.{map_ok}

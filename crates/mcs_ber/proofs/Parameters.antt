@@ -1,7 +1,7 @@
 -- Domain parameters, field by field.
 use Rattle.std.proofs.Common.{◌≡◌, ℕ, suc, ◌+◌, ◌<◌, ◌-◌, List, [], ◌∷◌, ◌++◌, ap, sym, ◌∙◌, arith}
 use Rattle.std.specs.Prelude.{Ok, Err}
-use Rattle.byte_fields.specs.Field.{then_read, bytes_at, wanted}
+use Rattle.wire_num.specs.Field.{then_read, bytes_at, wanted}
 use Rattle.wire_num.specs.Length.{ber_len_at}
 use Rattle.wire_num.specs.Layout.{Layout, Within, Basic, fields_at}
 use Rattle.mcs_ber.specs.DomainParameters.{integer, integers, domain_parameters}

@@ -1,7 +1,7 @@
 -- The definitions on a sample client's Connect-Initial, and on texts that break a rule.
 use Rattle.std.proofs.Common.{◌≡◌, ℕ, List, [], ◌∷◌, ◌++◌, replicate, refl}
 use Rattle.std.specs.Prelude.{Ok, Err}
-use Rattle.wire_num.specs.Field.{passing_at}
+use Rattle.wire_num.specs.FieldValue.{passing_at}
 use Rattle.mcs_ber.specs.ConnectInitial.{user_data, three_parameters, upward_flag, initial_fields, connect_initial, user_data_of}
 use Rattle.mcs_ber.specs.ConnectResponse.{connect_response}
 

@@ -3,8 +3,8 @@ use Rattle.std.proofs.Common.{◌≡◌, ℕ, ◌+◌, ◌≤◌, List, [], ◌�
 use Rattle.std.specs.Prelude.{Result, Ok, Err, OnOk}
 use Rattle.std.proofs.lemmas.List.{length-take-le}
 use Rattle.wire_num.specs.declared.short.Short.{Short}
-use Rattle.wire_num.specs.Field.{end_at}
-use Rattle.byte_fields.specs.Field.{Read, then_read, map_read, bytes_at}
+use Rattle.wire_num.specs.FieldValue.{end_at}
+use Rattle.wire_num.specs.Field.{Read, then_read, map_read, bytes_at}
 use Rattle.wire_num.specs.Length.{ber_len_at}
 use Rattle.wire_num.specs.Layout.{Layout, Within, Basic, before, fields_at}
 use Rattle.wire_num.specs.Cursor.{CursorOf, rest, ReadsFieldAs, ReadsFieldsAs}

@@ -1,8 +1,8 @@
 -- The MCS Connect-Initial (T.125, 7, Connect-Initial; MS-RDPBCGR, 2.2.1.3).
 use Rattle.std.specs.Prelude.{ℕ, ◌-◌, List, [], ◌∷◌, length, slice_index, Result}
 use Rattle.wire_num.specs.declared.range.Range.{Range}
-use Rattle.wire_num.specs.Field.{placed, is_any}
-use Rattle.byte_fields.specs.Field.{map_read}
+use Rattle.wire_num.specs.FieldValue.{placed, is_any}
+use Rattle.wire_num.specs.Field.{map_read}
 use Rattle.wire_num.specs.Layout.{Layout, End, Bytes, Any, Content, Counted, Within, Basic, ◌▸◌, fields_at}
 use Rattle.mcs_ber.specs.declared.bad_ber.BadBer.{BadBer}
 use Rattle.mcs_ber.specs.DomainParameters.{domain_parameters}

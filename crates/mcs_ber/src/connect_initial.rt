@@ -66,7 +66,7 @@ fn read_connect_initial(cursor: &mut Cursor<'_>) -> Result<usize, Short>
 }
 
 /// Reads all fields, and gives the size of the user data.
-#[tactic(auto, unfolding(crate::specs::ConnectInitial::initial_fields, wire_num::specs::Field::passing_at))]
+#[tactic(auto, unfolding(crate::specs::ConnectInitial::initial_fields, wire_num::specs::FieldValue::passing_at))]
 fn read_initial_fields(cursor: &mut Cursor<'_>) -> Result<usize, Short>
     ensures fields { ReadsFieldsAs (λ size. size ∷ []) (fields_at initial_fields) result cursor.old cursor.new }
     ensures fits { IfOk result (λ size. size ≤ length cursor.old.bytes) }

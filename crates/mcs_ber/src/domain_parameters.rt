@@ -7,7 +7,7 @@
 //! | 8 times 1, 1 to 3, 1 to 4 | integer | `02`, length 1 to 4, that many bytes of any value |
 
 ghost use Rattle.std.specs.Prelude.{◌≡◌, [], OnOk};
-ghost use Rattle.wire_num.specs.Field.{passing_at};
+ghost use Rattle.wire_num.specs.FieldValue.{passing_at};
 ghost use Rattle.wire_num.specs.Length.{ber_len_at};
 ghost use Rattle.wire_num.specs.Layout.{fields_at};
 ghost use Rattle.wire_num.specs.Cursor.{ReadsField, ReadsFieldsAs, ReadsRows, rest};
@@ -52,7 +52,7 @@ fn read_integers(cursor: &mut Cursor<'_>) -> Result<(), Short>
 }
 
 /// Reads an integer of one to four bytes.
-#[tactic(auto, unfolding(wire_num::specs::Field::passing_at))]
+#[tactic(auto, unfolding(wire_num::specs::FieldValue::passing_at))]
 fn read_integer(cursor: &mut Cursor<'_>) -> Result<(), Short>
     ensures { ReadsRows integer result cursor.old cursor.new }
 {
@@ -63,7 +63,7 @@ fn read_integer(cursor: &mut Cursor<'_>) -> Result<(), Short>
 }
 
 /// Reads the length of an integer.
-#[tactic(auto, unfolding(wire_num::specs::Field::passing_at))]
+#[tactic(auto, unfolding(wire_num::specs::FieldValue::passing_at))]
 fn read_size(cursor: &mut Cursor<'_>) -> Result<u16, Short>
     ensures { ReadsField (passing_at is_integer_size ber_len_at) result cursor.old cursor.new }
 {

@@ -3,8 +3,8 @@ use Rattle.std.proofs.Common.{◌≡◌, ℕ, ◌+◌, ◌-◌, ◌≤◌, Bool,
 use Rattle.std.specs.Prelude.{◌==◌, nat_le, slice_index, Ok, Err}
 use Rattle.std.proofs.lemmas.Bool.Decides.{nat_tests}
 use Rattle.byteorder.specs.Endian.{big_number}
-use Rattle.wire_num.specs.Field.{placed}
-use Rattle.byte_fields.specs.Field.{Read}
+use Rattle.wire_num.specs.FieldValue.{placed}
+use Rattle.wire_num.specs.Field.{Read}
 use Rattle.wire_num.specs.Layout.{fields_at}
 use Rattle.wire_num.specs.Grammar.{IsOneByte, IsText}
 use Rattle.wire_num.proofs.Steps.{map_ok}

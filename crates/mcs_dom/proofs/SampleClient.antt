@@ -1,7 +1,7 @@
 -- The definitions on a sample client's packets, and on texts that break a rule.
 use Rattle.std.proofs.Common.{◌≡◌, [], ◌∷◌, drop, refl}
 use Rattle.std.specs.Prelude.{Ok, Err}
-use Rattle.wire_num.specs.Field.{passing_at}
+use Rattle.wire_num.specs.FieldValue.{passing_at}
 use Rattle.wire_num.specs.Layout.{exactly_at}
 use Rattle.mcs_dom.specs.declared.domain_pdu.DomainPdu.TheVariants.{Erect, Attach, Join, Data, Bye}
 use Rattle.mcs_dom.specs.ErectDomain.{erect_domain_request}

@@ -4,8 +4,8 @@ use Rattle.std.specs.Prelude.{◌↔◌, Result, Ok, Err, IsErr, IfOk}
 use Rattle.std.proofs.lemmas.Bool.Decides.{nat_tests}
 use Rattle.byteorder.specs.Endian.{big_number}
 use Rattle.wire_num.specs.declared.range.Range.{Range}
-use Rattle.wire_num.specs.Field.{placed, has_bits}
-use Rattle.byte_fields.specs.Field.{Read, map_read}
+use Rattle.wire_num.specs.FieldValue.{placed, has_bits}
+use Rattle.wire_num.specs.Field.{Read, map_read}
 use Rattle.wire_num.specs.Grammar.{IsText}
 use Rattle.wire_num.proofs.TextIsRead.{text_is_read}
 use Rattle.mcs_dom.specs.declared.bad_domain.BadDomain.{BadDomain}

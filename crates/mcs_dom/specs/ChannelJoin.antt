@@ -1,7 +1,7 @@
 -- The Channel Join Request and Confirm (T.125, 7, ChannelJoinRequest and ChannelJoinConfirm; MS-RDPBCGR, 2.2.1.8 and 2.2.1.9).
 use Rattle.std.specs.Prelude.{ℕ, ◌+◌, List, [], ◌∷◌, ◌++◌, slice_index}
 use Rattle.byteorder.specs.Endian.{big_bytes}
-use Rattle.wire_num.specs.Field.{is_any}
+use Rattle.wire_num.specs.FieldValue.{is_any}
 use Rattle.wire_num.specs.Layout.{Layout, End, Bytes, Big, ◌▸◌}
 use Rattle.tpkt_x224.specs.Data.{data_packet}
 use Rattle.mcs_dom.specs.declared.domain_pdu.DomainPdu.{DomainPdu}

@@ -1,7 +1,7 @@
 -- The domain PDUs of a client (T.125, 7, DomainMCSPDU, by the packed encoding rules).
 use Rattle.std.specs.Prelude.{◌≡◌, ◌≤◌, ℕ, ◌==◌, List, [], ◌∷◌, length, Result, Err, if◌then◌else◌}
-use Rattle.wire_num.specs.Field.{placed}
-use Rattle.byte_fields.specs.Field.{Read, map_read}
+use Rattle.wire_num.specs.FieldValue.{placed}
+use Rattle.wire_num.specs.Field.{Read, map_read}
 use Rattle.wire_num.specs.Layout.{fields_at}
 use Rattle.mcs_dom.specs.declared.bad_domain.BadDomain.{BadDomain}
 use Rattle.mcs_dom.specs.declared.domain_pdu.DomainPdu.{DomainPdu}

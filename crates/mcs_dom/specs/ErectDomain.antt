@@ -1,6 +1,6 @@
 -- The Erect Domain Request (T.125, 7, ErectDomainRequest; MS-RDPBCGR, 2.2.1.5).
 use Rattle.std.specs.Prelude.{[], ◌∷◌}
-use Rattle.wire_num.specs.Field.{is_any}
+use Rattle.wire_num.specs.FieldValue.{is_any}
 use Rattle.wire_num.specs.Layout.{Layout, Rest, Bytes, Counted, OneByte, ◌▸◌}
 
 -- choice; subHeight; subInterval; what follows is dropped, since one client writes two plain numbers of two bytes here

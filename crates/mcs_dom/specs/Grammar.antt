@@ -2,7 +2,7 @@
 use Rattle.std.specs.Prelude.{◌≡◌, ◌≤◌, ℕ, ◌+◌, ◌*◌, ◌/◌, ◌%◌, true, List, [], ◌∷◌, ◌++◌, length}
 use Rattle.byteorder.specs.Endian.{big_number}
 use Rattle.wire_num.specs.declared.range.Range.{Range}
-use Rattle.wire_num.specs.Field.{has_bits}
+use Rattle.wire_num.specs.FieldValue.{has_bits}
 use Rattle.wire_num.specs.Grammar.{IsPacked}
 use Rattle.tpkt_x224.specs.Grammar.{IsBrokenAt}
 use Rattle.mcs_dom.specs.declared.domain_pdu.DomainPdu.{DomainPdu}

@@ -1,7 +1,7 @@
 -- The Send Data Request and Indication (T.125, 7, SendDataRequest and SendDataIndication; MS-RDPBCGR, 2.2.1.11 and later).
 use Rattle.std.specs.Prelude.{ℕ, ◌+◌, ◌-◌, List, [], ◌∷◌, ◌++◌, length, slice_index}
 use Rattle.byteorder.specs.Endian.{big_bytes}
-use Rattle.wire_num.specs.Field.{is_any, has_bits}
+use Rattle.wire_num.specs.FieldValue.{is_any, has_bits}
 use Rattle.wire_num.specs.Length.{per_len_of}
 use Rattle.wire_num.specs.Layout.{Layout, Bytes, Big, Body, Packed, ◌▸◌}
 use Rattle.tpkt_x224.specs.Data.{data_header, data_packet}

@@ -1,7 +1,7 @@
 -- The Disconnect Provider Ultimatum (T.125, 7, DisconnectProviderUltimatum; MS-RDPBCGR, 2.2.2.1). Six bits choose it, three
 -- have the reason, and seven are padding.
 use Rattle.std.specs.Prelude.{ℕ, ◌+◌, ◌*◌, ◌/◌, ◌%◌, Bool, List, [], ◌∷◌, slice_index}
-use Rattle.wire_num.specs.Field.{is_at_most}
+use Rattle.wire_num.specs.FieldValue.{is_at_most}
 use Rattle.wire_num.specs.Layout.{Layout, End, Bytes, Big, ◌▸◌}
 use Rattle.tpkt_x224.specs.Data.{data_packet}
 use Rattle.mcs_dom.specs.declared.domain_pdu.DomainPdu.{DomainPdu}

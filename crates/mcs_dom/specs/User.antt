@@ -1,7 +1,7 @@
 -- User channels (T.125, 7: UserId): a number from 1001 on, written as what it is above it, in two bytes.
 use Rattle.std.specs.Prelude.{ℕ, ◌-◌, Bool, List}
 use Rattle.byteorder.specs.Endian.{big_bytes}
-use Rattle.wire_num.specs.Field.{is_at_most}
+use Rattle.wire_num.specs.FieldValue.{is_at_most}
 
 abbrev pub first_user : ℕ
 first_user = 1001

@@ -11,7 +11,7 @@
 //! | 2 | 2 | initiator | the user channel less 1001, big-endian |
 
 ghost use Rattle.std.specs.Prelude.{◌≡◌, ◌≤◌, ◌++◌, OnOk, OnErr};
-ghost use Rattle.byte_fields.specs.Field.{map_read};
+ghost use Rattle.wire_num.specs.Field.{map_read};
 ghost use Rattle.wire_num.specs.Layout.{fields_at};
 ghost use Rattle.wire_num.specs.Cursor.{ReadsFields, rest};
 ghost use Rattle.wire_num.specs.Written.{AppendsFront};

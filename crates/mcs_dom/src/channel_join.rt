@@ -15,7 +15,7 @@
 //! | 6 | 2 | channelId | the same |
 
 ghost use Rattle.std.specs.Prelude.{◌≡◌, ◌≤◌, ◌++◌, OnOk, OnErr};
-ghost use Rattle.byte_fields.specs.Field.{map_read};
+ghost use Rattle.wire_num.specs.Field.{map_read};
 ghost use Rattle.wire_num.specs.Layout.{fields_at};
 ghost use Rattle.wire_num.specs.Cursor.{ReadsFields, rest};
 ghost use Rattle.wire_num.specs.Written.{AppendsFront};
@@ -29,7 +29,7 @@ use wire_num::{Cursor, OutOfMemory, Short};
 pub const CHANNEL_JOIN_REQUEST: u8 = 0x38;
 
 /// Reads a Channel Join Request.
-#[tactic(auto, unfolding(crate::specs::ChannelJoin::channel_join_request, wire_num::specs::Field::passing_at))]
+#[tactic(auto, unfolding(crate::specs::ChannelJoin::channel_join_request, wire_num::specs::FieldValue::passing_at))]
 pub fn read_channel_join(cursor: &mut Cursor<'_>) -> Result<DomainPdu, Short>
     ensures { ReadsFields (λ bs. map_read join_of (fields_at channel_join_request bs)) result cursor.old cursor.new }
 {

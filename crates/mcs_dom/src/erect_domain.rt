@@ -11,7 +11,7 @@
 //! an integer of one byte, and a byte that is left over.
 
 ghost use Rattle.std.specs.Prelude.{◌≡◌, []};
-ghost use Rattle.byte_fields.specs.Field.{map_read};
+ghost use Rattle.wire_num.specs.Field.{map_read};
 ghost use Rattle.wire_num.specs.Layout.{Rest, fields_at};
 ghost use Rattle.wire_num.specs.Cursor.{ReadsFields, ReadsFieldsAs, rest};
 ghost use Rattle.mcs_dom.specs.ErectDomain.{erect_domain_request};
@@ -23,7 +23,7 @@ use wire_num::{Cursor, Short};
 pub const ERECT_DOMAIN_REQUEST: u8 = 0x04;
 
 /// Reads an Erect Domain Request. What follows its integers is dropped.
-#[tactic(auto, unfolding(crate::specs::ErectDomain::erect_domain_request, wire_num::specs::Field::passing_at))]
+#[tactic(auto, unfolding(crate::specs::ErectDomain::erect_domain_request, wire_num::specs::FieldValue::passing_at))]
 pub fn read_erect_domain(cursor: &mut Cursor<'_>) -> Result<DomainPdu, Short>
     ensures { ReadsFields (λ bs. map_read (λ _. DomainPdu.Erect) (fields_at erect_domain_request bs)) result cursor.old cursor.new }
 {
@@ -37,7 +37,7 @@ pub fn read_erect_domain(cursor: &mut Cursor<'_>) -> Result<DomainPdu, Short>
 }
 
 /// Reads the bytes that are left, whatever they are.
-#[tactic(auto, using(byte_fields::proofs::Bytes::bytes_at_is))]
+#[tactic(auto, using(wire_num::proofs::Bytes::bytes_at_is))]
 fn read_rest(cursor: &mut Cursor<'_>) -> Result<(), Short>
     ensures { ReadsFieldsAs (λ _. []) (fields_at Rest) result cursor.old cursor.new }
 {

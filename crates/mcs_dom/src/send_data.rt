@@ -10,7 +10,7 @@
 //! | | | userData | to the packet's end |
 
 ghost use Rattle.std.specs.Prelude.{◌≡◌, ◌≤◌, ◌++◌, length, OnOk, OnErr};
-ghost use Rattle.byte_fields.specs.Field.{map_read};
+ghost use Rattle.wire_num.specs.Field.{map_read};
 ghost use Rattle.wire_num.specs.Layout.{fields_at};
 ghost use Rattle.wire_num.specs.Cursor.{ReadsFields, rest};
 ghost use Rattle.wire_num.specs.Written.{AppendsFront};
@@ -45,7 +45,7 @@ const PACKET_LENGTH: usize = 2;
 const LENGTH: usize = 13;
 
 /// Reads a Send Data Request.
-#[tactic(auto, unfolding(crate::specs::SendData::send_data_request, wire_num::specs::Field::passing_at))]
+#[tactic(auto, unfolding(crate::specs::SendData::send_data_request, wire_num::specs::FieldValue::passing_at))]
 pub fn read_send_data(cursor: &mut Cursor<'_>) -> Result<DomainPdu, Short>
     ensures { ReadsFields (λ bs. map_read (data_of (length cursor.old.bytes)) (fields_at send_data_request bs)) result cursor.old cursor.new }
 {

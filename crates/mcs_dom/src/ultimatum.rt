@@ -6,9 +6,9 @@
 //! | 1 | 1 | the reason's low bit, and padding | the bit is the top one |
 
 ghost use Rattle.std.specs.Prelude.{◌≡◌, ◌<◌, ◌++◌, OnOk, OnErr};
-ghost use Rattle.wire_num.specs.Field.{passing_at};
-ghost use Rattle.byte_fields.specs.Field.{map_read};
-ghost use Rattle.byte_fields.specs.Number.{big_at};
+ghost use Rattle.wire_num.specs.FieldValue.{passing_at};
+ghost use Rattle.wire_num.specs.Field.{map_read};
+ghost use Rattle.wire_num.specs.Number.{big_at};
 ghost use Rattle.wire_num.specs.Layout.{fields_at};
 ghost use Rattle.wire_num.specs.Cursor.{ReadsFields, ReadsField, rest};
 ghost use Rattle.wire_num.specs.Written.{AppendsFront};
@@ -38,7 +38,7 @@ pub fn read_ultimatum(first: u8, cursor: &mut Cursor<'_>) -> Result<DomainPdu, S
 }
 
 /// The byte with the reason's last bit, behind this first byte.
-#[tactic(auto, using(byte_fields::proofs::Numbers::big_at_is), unfolding(wire_num::specs::Field::passing_at))]
+#[tactic(auto, using(wire_num::proofs::Numbers::big_at_is), unfolding(wire_num::specs::FieldValue::passing_at))]
 fn read_second(first: u8, cursor: &mut Cursor<'_>) -> Result<u8, Short>
     ensures { ReadsField (passing_at (has_reason first) (big_at 1)) result cursor.old cursor.new }
 {

@@ -4,7 +4,7 @@ use Rattle.std.specs.Prelude.{Ok, Option, ◌==◌, ◌&&◌, ◌-ℤ◌}
 use Rattle.std.specs.Ordering.{int_eq}
 use Rattle.std.specs.Cmp.{signed_Decides}
 use Rattle.std.proofs.lemmas.Bool.{false≢true}
-use Rattle.byte_fields.specs.Field.{map_read}
+use Rattle.wire_num.specs.Field.{map_read}
 use Rattle.order_fields.specs.OrderTable.{Edges, FitEdges, FitBounds, fits_coordinate}
 use Rattle.order_fields.specs.OrderStream.{edge_at, edges_at, bounds_at}
 use Rattle.order_fields.specs.OrderDelta.{change, change_by, is_anew, is_moved, is_byte, edge_bytes, edges_bytes, flags_between, same_edges, keeps_bounds, bounds_bytes, has_bounds}

@@ -7,13 +7,13 @@ use Rattle.std.proofs.lemmas.Bool.{false≢true}
 use Rattle.std.proofs.lemmas.Bool.Decides.{nat_tests}
 use Rattle.order_fields.specs.declared.kind.FieldKind.{FieldKind}
 use Rattle.order_fields.specs.declared.kind.FieldKind.TheVariants.{Coordinate, Number, Signed, Color}
-use Rattle.byte_fields.specs.Field.{map_read, taken}
+use Rattle.wire_num.specs.Field.{map_read, taken}
 use Rattle.order_fields.specs.OrderTable.{values, FitsKind, FitKinds, BytesFit}
 use Rattle.order_fields.specs.OrderStream.{value_at, field_at, counted_at, values_at}
 use Rattle.order_fields.specs.OrderDelta.{Field, fields_of, is_unchanged, is_near, all_near, is_byte, is_coordinate, flag, flags_of, same_list, keeps_bytes, value_bytes, field_bytes, unless_same, counted_bytes, present_bytes}
 use Rattle.order_fields.proofs.Numbers.{signed_back, moved_back}
-use Rattle.byte_fields.proofs.Bytes.{taken_back}
-use Rattle.byte_fields.proofs.Numbers.{little_at_back}
+use Rattle.wire_num.proofs.Bytes.{taken_back}
+use Rattle.wire_num.proofs.Numbers.{little_at_back}
 
 color_back : (m : ℕ) → m < 16777216 → 256 * (256 * (256 * 0 + (m / 65536) % 256) + (m / 256) % 256) + m % 256 ≡ m
 color_back m h = omega arith

@@ -3,8 +3,8 @@ use Rattle.std.proofs.Common.{◌≡◌, ℕ, ℤ, pos, negsuc, List, ◌++◌, 
 use Rattle.std.specs.Prelude.{Ok, ◌+ℤ◌, ◌-ℤ◌}
 use Rattle.std.proofs.lemmas.Int.{ints}
 use Rattle.std.proofs.lemmas.Bool.Decides.{nat_tests}
-use Rattle.byte_fields.specs.Field.{then_read, given}
-use Rattle.byte_fields.specs.Number.{little_signed, little_signed_at}
+use Rattle.wire_num.specs.Field.{then_read, given}
+use Rattle.wire_num.specs.Number.{little_signed, little_signed_at}
 use Rattle.order_fields.specs.OrderTable.{fits_coordinate}
 use Rattle.order_fields.specs.OrderStream.{moved_at}
 use Rattle.order_fields.specs.OrderDelta.{is_byte}

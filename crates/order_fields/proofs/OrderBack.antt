@@ -3,14 +3,14 @@ use Rattle.std.proofs.Common.{◌≡◌, ℕ, zero, suc, ◌+◌, ◌-◌, ◌*�
 use Rattle.std.specs.Prelude.{Ok, Option, nat_lt, nat_le, ◌==◌, ◌&&◌, not, if◌then◌else◌}
 use Rattle.std.proofs.lemmas.Bool.{false≢true}
 use Rattle.std.proofs.lemmas.Bool.Decides.{nat_tests}
-use Rattle.byte_fields.specs.Field.{then_read}
+use Rattle.wire_num.specs.Field.{then_read}
 use Rattle.byteorder.specs.Endian.{little_bytes}
 use Rattle.order_fields.specs.OrderTable.{Row, row_of, Values, FieldList, Edges, Registers, last_values, AreRegisters, FitRow, FitsRow, IsFieldList, FitBounds}
 use Rattle.order_fields.specs.OrderStream.{has_bit, type_at, bounds_at, values_at, body_at, typed_at, primary_at, form_of, order_by, order_at, seen_primary}
 use Rattle.order_fields.specs.OrderStream.Form.{PrimaryForm}
 use Rattle.order_fields.specs.OrderDelta.{Field, takes_deltas, all_near, any_coordinate, flags_of, present_bytes, shown, keeps_bounds, bounds_bytes, has_bounds, bit, control_byte, type_bytes, tail_bytes, fields_in, keeps_bytes_in, is_typed, omitted_in, row_bytes, bytes_by_row, order_bytes}
 use Rattle.order_fields.proofs.Rows.{sound_row, code_of_row, last_fits}
-use Rattle.byte_fields.proofs.Numbers.{little_at_back}
+use Rattle.wire_num.proofs.Numbers.{little_at_back}
 use Rattle.order_fields.proofs.FieldsBack.{values_back, flags_below, fields_length}
 use Rattle.order_fields.proofs.BoundsBack.{bounds_back}
 

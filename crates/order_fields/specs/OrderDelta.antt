@@ -8,7 +8,7 @@ use Rattle.order_fields.specs.declared.change.Change.TheVariants.{Same, Moved, A
 use Rattle.order_fields.specs.declared.kind.FieldKind.{FieldKind}
 use Rattle.order_fields.specs.declared.kind.FieldKind.TheVariants.{Coordinate, Number, Signed, Color}
 use Rattle.byteorder.specs.Endian.{little_bytes, big_bytes}
-use Rattle.byte_fields.specs.Number.{little_signed}
+use Rattle.wire_num.specs.Number.{little_signed}
 use Rattle.order_fields.specs.OrderTable.{Row, row_of, Values, FieldList, Edges, edges, Registers, last_values}
 
 -- a field of an order: how it stands in bytes, its last value, and its new one

@@ -2,8 +2,8 @@
 use Rattle.std.specs.Prelude.{ℕ, zero, suc, ◌-◌, ◌/◌, ◌%◌, ◌==◌, nat_le, Bool, true, false, ◌&&◌, ℤ, pos, ◌+ℤ◌, List, [], ◌∷◌, ◌++◌, map, Option, Some, None, Ok, Err, if◌then◌else◌}
 use Rattle.order_fields.specs.declared.kind.FieldKind.{FieldKind}
 use Rattle.order_fields.specs.declared.kind.FieldKind.TheVariants.{Coordinate, Number, Signed, Color}
-use Rattle.byte_fields.specs.Field.{Read, then_read, map_read, taken, given, kept}
-use Rattle.byte_fields.specs.Number.{little_at, big_at, little_signed_at}
+use Rattle.wire_num.specs.Field.{Read, then_read, map_read, taken, given, kept}
+use Rattle.wire_num.specs.Number.{little_at, big_at, little_signed_at}
 use Rattle.order_fields.specs.OrderTable.{Row, row_of, Values, values, FieldList, Edges, edges, Registers, last_values, registers_after, fits_coordinate}
 use Rattle.order_fields.specs.Secondary.{Cached, secondary_at, marker_at}
 

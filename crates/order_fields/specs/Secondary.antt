@@ -1,8 +1,8 @@
 -- Secondary orders and the frame marker as they stand in bytes ([MS-RDPEGDI] 2.2.2.2.1.2 and 2.2.2.2.1.3.7).
 use Rattle.std.specs.Prelude.{ℕ, zero, suc, ◌+◌, ◌*◌, ◌/◌, ◌==◌, nat_lt, Bool, true, false, ℤ, List, [], ◌∷◌, ◌++◌, Ok, Err, if◌then◌else◌}
-use Rattle.byte_fields.specs.Field.{Read, then_read, map_read, bytes_at, given, taken, wanted}
-use Rattle.byte_fields.specs.Number.{little_at, little_signed_at}
-use Rattle.byte_fields.specs.Pixels.{pixels_of}
+use Rattle.wire_num.specs.Field.{Read, then_read, map_read, bytes_at, given, taken, wanted}
+use Rattle.wire_num.specs.Number.{little_at, little_signed_at}
+use Rattle.wire_num.specs.Pixels.{pixels_of}
 
 -- a cached bitmap; its pixels are looked at by the client, which also tests its depth and flags
 pub record BitmapOrder : Type 0 where

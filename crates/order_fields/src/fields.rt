@@ -128,7 +128,7 @@ impl Fields {
     }
 
     /// What holds of every field list; it does nothing.
-    pub fn is_field_list(&self)
+    pub fn recall_field_list(&self)
         ensures { IsFieldList self.now }
     {
         let _count = self.count;

@@ -1,5 +1,5 @@
 ghost use Rattle.std.specs.Prelude.{◌≡◌, true, ◌-ℤ◌};
-ghost use Rattle.byte_fields.specs.Number.{unsigned};
+ghost use Rattle.wire_num.specs.Number.{unsigned};
 ghost use Rattle.order_fields.specs.OrderTable.{fits_coordinate};
 ghost use Rattle.order_fields.specs.OrderDelta.{is_byte};
 

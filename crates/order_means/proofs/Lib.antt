@@ -1,3 +1,5 @@
 pub mod Pieces
 pub mod Packet
 pub mod Orders
+mod Cut
+mod Indication

@@ -7,7 +7,7 @@ use Rattle.share_pdu.specs.Share.{share_bytes}
 use Rattle.share_pdu.specs.Packet.{update_packet, indication_at}
 use Rattle.share_pdu.proofs.Share.{length_share}
 use Rattle.share_pdu.proofs.Packet.{carried, indication_back, per_short}
-use Rattle.host_bytes.specs.WirePixels.{turned}
+use Rattle.order_means.specs.WirePixels.{turned}
 use Rattle.order_means.specs.Updates.{cutting, updates_from, before_updates, whole_packet}
 use Rattle.order_means.specs.Updates.Stage.{Between, Inside}
 

@@ -3,7 +3,7 @@ use Rattle.std.proofs.Common.{◌≡◌, ℕ, ◌+◌, List, [], ◌∷◌, ◌+
 use Rattle.std.specs.Prelude.{Ok, Err, Result}
 use Rattle.px_core.specs.declared.surface.Size.{Size}
 use Rattle.caps_sets.specs.declared.confirmed.Confirmed.{Confirmed}
-use Rattle.byte_fields.specs.Field.{bind}
+use Rattle.wire_num.specs.Field.{bind}
 use Rattle.order_means.specs.Updates.{Body, Stage, Cutting, cutting, Updates, updates, updates_by, before_updates, updates_from, refusal_in}
 use Rattle.order_means.specs.Updates.Stage.{Between, One, Two, Three, Inside, Refused}
 use Rattle.order_means.specs.FrameMarks.{View, ClientReading, reading, refused, unless_refused_at, view_after_body, view_after_bodies, reading_after, read_on}

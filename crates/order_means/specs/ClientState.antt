@@ -12,14 +12,14 @@ use Rattle.caps_sets.specs.Confirmed.{cache_size}
 use Rattle.draw_ops.specs.Content.{ImageOf, GlyphOf}
 use Rattle.draw_ops.specs.Slots.{Slots, empty_slots, filled_slot, lookup}
 use Rattle.draw_ops.specs.Formulas.{Operand, solid, rastered, replaced, absent, brushed, shifted, imaged, image_rows, run_area, run_cells, joint_of, Painting, over_rect, picture_after}
-use Rattle.byte_fields.specs.Field.{bind}
-use Rattle.byte_fields.specs.Pixels.{pixels_of}
+use Rattle.wire_num.specs.Field.{bind}
+use Rattle.wire_num.specs.Pixels.{pixels_of}
 use Rattle.order_fields.specs.OrderTable.{Edges, Registers, first_registers}
 use Rattle.order_fields.specs.Secondary.{Cached, BitmapOrder, GlyphOrder, BrushOrder}
 use Rattle.order_fields.specs.Secondary.Cached.{Bitmap, Glyph, Brush, Marker}
 use Rattle.order_fields.specs.OrderStream.{Order}
 use Rattle.order_fields.specs.OrderStream.Order.{Primary, Other}
-use Rattle.host_bytes.specs.WirePixels.{turned_over}
+use Rattle.order_means.specs.WirePixels.{turned_over}
 use Rattle.order_fields.specs.NamedDrawing.{NamedDrawing, drawing_of}
 use Rattle.order_fields.specs.NamedDrawing.NamedDrawing.{Dst, Pat, Scr, Opaque, SaveBlock, RestoreBlock, Mem, Mem3, Glyphs}
 

@@ -7,14 +7,14 @@ use Rattle.px_core.specs.Rectangle.{boxed, is_inside}
 use Rattle.rop3_core.specs.Palette.{client_colors}
 use Rattle.caps_sets.specs.declared.confirmed.Confirmed.{Confirmed}
 use Rattle.draw_ops.specs.Formulas.{replaced, imaged, Painting, over_rect}
-use Rattle.byte_fields.specs.Field.{Read, bind, then_read, map_read, bytes_at, wanted, all_of}
-use Rattle.byte_fields.specs.Number.{little_at}
+use Rattle.wire_num.specs.Field.{Read, bind, then_read, map_read, bytes_at, wanted, all_of}
+use Rattle.wire_num.specs.Number.{little_at}
 use Rattle.order_fields.specs.OrderTable.{Registers}
 use Rattle.order_fields.specs.Secondary.{Cached}
 use Rattle.order_fields.specs.Secondary.Cached.{Bitmap, Glyph, Brush, Marker}
 use Rattle.order_fields.specs.OrderStream.{Order, Stream, orders_in}
 use Rattle.order_fields.specs.OrderStream.Order.{Primary, Other}
-use Rattle.host_bytes.specs.WirePixels.{turned_over}
+use Rattle.order_means.specs.WirePixels.{turned_over}
 use Rattle.order_means.specs.ClientState.{ClientState, Fault, first_client, client_after_order, after_painting, needs, is_bitmap, wire_pixels}
 use Rattle.order_means.specs.ClientState.Fault.{Broken}
 use Rattle.order_means.specs.Updates.{Body, Cutting, cutting, Updates, updates_from, updates_in, refusal_in, rest_of}

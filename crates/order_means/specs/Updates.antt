@@ -1,9 +1,9 @@
 -- The updates of a host's bytes: each whole packet is a Send Data Indication on channel 1003 with a share data PDU of an update ([RFC 1006] 6, [X.224] 13.7, [T.125] 11.33, [MS-RDPBCGR] 2.2.8.1.1.1 and 2.2.9.1.1).
 use Rattle.std.specs.Prelude.{ℕ, zero, suc, ◌+◌, ◌-◌, ◌*◌, ◌==◌, nat_le, Bool, true, false, List, [], ◌∷◌, ◌++◌, length, Option, Some, None, Ok, Err}
-use Rattle.byte_fields.specs.Field.{Read}
+use Rattle.wire_num.specs.Field.{Read}
 use Rattle.share_pdu.specs.Share.{Within}
 use Rattle.share_pdu.specs.Packet.{indication_at}
-use Rattle.host_bytes.specs.WirePixels.{turned}
+use Rattle.order_means.specs.WirePixels.{turned}
 
 -- how far a packet has come: none has begun; one, two or three of its header bytes are there; so many bytes are missing after the next one, and those behind the header are there, the latest first. Or the stream is refused at a place
 pub data Stage : Type 0 where

@@ -1,7 +1,7 @@
 ghost use Rattle.std.specs.Prelude.{◌≡◌, ◌<◌, ◌+◌, ◌-◌, ◌++◌, ◌∷◌, [], length, ℕ, suc, Bool, List, Option};
 ghost use Rattle.px_core.specs.declared.surface.Size.{Size};
 ghost use Rattle.caps_sets.specs.declared.confirmed.Confirmed.{Confirmed};
-ghost use Rattle.byte_fields.specs.Field.{bind};
+ghost use Rattle.wire_num.specs.Field.{bind};
 ghost use Rattle.order_fields.specs.OrderTable.{Registers, FieldList, Edges, AreRegisters, IsFieldList, FitBounds, registers_after};
 ghost use Rattle.order_fields.specs.OrderStream.{orders_in, with_orders};
 ghost use Rattle.order_fields.specs.OrderStream.Order.{Primary};

@@ -4,8 +4,10 @@
 #![tactic(auto)]
 
 mod laws;
+mod packet_laws;
 
 pub use laws::{
     order_is_read_before_others, pieces_are_read_as_joined, update_is_read_from_its_packet,
     updates_of_pieces_are_those_joined,
 };
+pub use packet_laws::{indications_are_read_by_their_fields, updates_are_cut_as_packets};

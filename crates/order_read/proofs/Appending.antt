@@ -2,8 +2,8 @@
 use Rattle.std.proofs.Common.{◌≡◌, ◌≤◌, ◌-◌, ◌+◌, ℕ, List, [], ◌∷◌, ◌++◌, length, take, drop, refl, ap, sym, subst, ◌∙◌, append_assoc, append-nil, arith}
 use Rattle.std.specs.Prelude.{Ok, Err, nat_lt, Result}
 use Rattle.std.proofs.lemmas.List.{map-append, length-drop, length-take-le, drop-take, take-take}
-use Rattle.byte_fields.specs.Field.{Read as Field, map_read, bytes_at}
-use Rattle.byte_fields.proofs.Bytes.{bytes_at_is}
+use Rattle.wire_num.specs.Field.{Read as Field, map_read, bytes_at}
+use Rattle.wire_num.proofs.Bytes.{bytes_at_is}
 use Rattle.wire_num.proofs.Steps.{short_ok, fits}
 use Rattle.wire_num.specs.Cursor.{CursorOf, rest}
 use Rattle.order_fields.specs.OrderStream.{Order}

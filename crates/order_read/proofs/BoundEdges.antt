@@ -1,8 +1,8 @@
 -- Bounds, edge by edge.
 use Rattle.std.proofs.Common.{◌≡◌, ℕ, ℤ, List, true, false, refl, Some, subst}
 use Rattle.std.specs.Prelude.{Ok, Err}
-use Rattle.byte_fields.specs.Field.{Read}
-use Rattle.byte_fields.specs.Number.{little_at}
+use Rattle.wire_num.specs.Field.{Read}
+use Rattle.wire_num.specs.Number.{little_at}
 use Rattle.order_fields.specs.OrderTable.{Edges, edges}
 use Rattle.order_fields.specs.OrderStream.{has_bit, edge_at, edges_at, bounds_at}
 

@@ -2,7 +2,7 @@
 use Rattle.std.proofs.Common.{◌≡◌, ◌≤◌, ◌<◌, ◌%◌, ℕ, ℤ, List, [], length, refl, ap, sym, subst, ◌∙◌, arith, Bool, true, false, Some, None}
 use Rattle.std.specs.Prelude.{Option, is_some, ◌==◌, ◌&&◌, Ok, Err}
 use Rattle.std.proofs.lemmas.Bool.Decides.{nat_tests}
-use Rattle.byte_fields.specs.Field.{map_read}
+use Rattle.wire_num.specs.Field.{map_read}
 use Rattle.order_fields.specs.declared.kind.FieldKind.{FieldKind}
 use Rattle.order_fields.specs.OrderTable.{Row, row_of, values, field_list, FitKinds, FitsRow, BytesFit, IsFieldList, Registers, AreRegisters, last_values}
 use Rattle.order_fields.specs.OrderStream.{values_at, counted_at}

@@ -9,9 +9,9 @@ use Rattle.std.proofs.Math.Nat.{pow-le-pow_right}
 use Rattle.std.specs.Prelude.{Ok, slice_index, nat_lt, ◌-ℤ◌, if◌then◌else◌}
 use Rattle.std.proofs.lemmas.Grind.{common_steps}
 use Rattle.byteorder.specs.Endian.{little_number, little_from, twos_complement}
-use Rattle.byte_fields.specs.Field.{map_read, bytes_at}
-use Rattle.byte_fields.specs.Number.{little_value, little_at, big_at, little_signed_at}
-use Rattle.byte_fields.proofs.Bytes.{bytes_at_is}
+use Rattle.wire_num.specs.Field.{map_read, bytes_at}
+use Rattle.wire_num.specs.Number.{little_value, little_at, big_at, little_signed_at}
+use Rattle.wire_num.proofs.Bytes.{bytes_at_is}
 
 -- so many bytes of any value are so many
 pub counted : (n : ℕ) (bs part more : List ℕ) → bytes_at n bs ≡ Ok (part, more) → length part ≡ n

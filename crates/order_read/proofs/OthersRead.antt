@@ -3,10 +3,10 @@ use Rattle.std.proofs.Common.{◌≡◌, ◌≤◌, ◌<◌, ◌+◌, ◌-◌, �
 use Rattle.std.specs.Prelude.{Ok, Err, map, nat_lt, ◌==◌}
 use Rattle.std.proofs.lemmas.List.{length-take-le}
 use Rattle.std.proofs.lemmas.Bool.Decides.{nat_tests}
-use Rattle.byte_fields.specs.Field.{Read, then_read, map_read, given, bytes_at, wanted, taken}
-use Rattle.byte_fields.specs.Number.{little_at, little_signed_at}
-use Rattle.byte_fields.specs.Pixels.{pixels_of}
-use Rattle.wire_num.specs.Field.{as_one_field}
+use Rattle.wire_num.specs.Field.{Read, then_read, map_read, given, bytes_at, wanted, taken}
+use Rattle.wire_num.specs.Number.{little_at, little_signed_at}
+use Rattle.wire_num.specs.Pixels.{pixels_of}
+use Rattle.wire_num.specs.FieldValue.{as_one_field}
 use Rattle.wire_num.specs.Cursor.{CursorOf, rest}
 use Rattle.wire_num.proofs.Content.{rest_of_content}
 use Rattle.order_fields.specs.Secondary.{Cached, bitmap_at, glyph_at, glyphs_at, glyph_length, glyph_order_at, brush_at, secondary_at, secondary_body, secondary_kind, marker_at, within_total, filled}

@@ -2,8 +2,8 @@
 use Rattle.std.proofs.Common.{◌≡◌, ◌≤◌, ◌<◌, ◌*◌, ◌+◌, ◌/◌, ℕ, List, [], ◌∷◌, ◌++◌, length, drop, refl, ap, sym, ◌∙◌, append_assoc, append-nil, arith}
 use Rattle.std.proofs.lemmas.List.{length-drop, drop-drop}
 use Rattle.byteorder.specs.Endian.{little_number}
-use Rattle.byte_fields.specs.Pixels.{pixels_of}
-use Rattle.byte_fields.proofs.Numbers.{little_front}
+use Rattle.wire_num.specs.Pixels.{pixels_of}
+use Rattle.wire_num.proofs.Numbers.{little_front}
 
 one_pixel : (bs : List ℕ) → 3 ≤ length bs → pixels_of bs ≡ little_number 3 bs ∷ pixels_of (drop 3 bs)
 one_pixel [] h = absurd (omega arith)

@@ -4,8 +4,8 @@ use Rattle.std.specs.Prelude.{Option, Result, is_some, nat_le, Ok, Err}
 use Rattle.std.proofs.Math.Nat.{pow-le-pow_right}
 use Rattle.std.proofs.lemmas.Bool.Decides.{nat_tests}
 use Rattle.wire_num.specs.Cursor.{CursorOf, rest}
-use Rattle.byte_fields.specs.Field.{Read, map_read, then_read, kept}
-use Rattle.byte_fields.specs.Number.{little_at}
+use Rattle.wire_num.specs.Field.{Read, map_read, then_read, kept}
+use Rattle.wire_num.specs.Number.{little_at}
 use Rattle.order_fields.specs.OrderTable.{Row, row_of, FieldList, Edges, Registers, last_values}
 use Rattle.order_fields.specs.OrderStream.{Seen, seen_primary, values_at, bounds_at, has_bit, body_at, typed_at, primary_at, type_at}
 use Rattle.order_fields.specs.Kept.{row_flags}

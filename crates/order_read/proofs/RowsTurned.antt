@@ -8,7 +8,7 @@ use Rattle.px_core.specs.Colors.{is_color, are_colors}
 use Rattle.px_core.proofs.Colors.{are_colors-append}
 use Rattle.px_core.proofs.Pictures.{rows_joined}
 use Rattle.px_core.specs.Picture.{front, skipped, rows_of}
-use Rattle.host_bytes.specs.WirePixels.{turned, joined, turned_over}
+use Rattle.order_means.specs.WirePixels.{turned, joined, turned_over}
 
 front-all : {A : Type 0} (n : ℕ) (xs : List A) → length xs ≡ n → front n xs ≡ xs
 front-all zero [] e = refl

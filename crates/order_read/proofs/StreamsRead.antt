@@ -2,7 +2,7 @@
 use Rattle.std.proofs.Common.{◌≡◌, ◌≤◌, ◌<◌, ◌+◌, ◌*◌, ◌-◌, ◌%◌, ℕ, suc, List, [], ◌∷◌, ◌++◌, length, refl, ap, sym, subst, ◌∙◌, append_assoc, append-nil, arith, true, zero, Some, None}
 use Rattle.std.specs.Prelude.{Result, Ok, Err, ◌==◌, if◌then◌else◌}
 use Rattle.std.proofs.lemmas.Bool.Decides.{nat_tests}
-use Rattle.byte_fields.specs.Number.{little_at}
+use Rattle.wire_num.specs.Number.{little_at}
 use Rattle.wire_num.specs.Cursor.{CursorOf, rest}
 use Rattle.order_fields.specs.OrderTable.{Registers}
 use Rattle.order_fields.specs.OrderStream.{Order, Stream, seen, order_at, order_by, primary_at, form_of, orders_in, then_orders, with_orders, stream_end, Form}

@@ -5,9 +5,9 @@ use Rattle.std.proofs.Math.ListN.{set, drop_of_length-le}
 use Rattle.std.proofs.Math.Seq.{drop-cons, take-suc-set}
 use Rattle.std.proofs.lemmas.List.{drop-set-lt, take_all}
 use Rattle.std.proofs.lemmas.Bool.Decides.{nat_tests}
-use Rattle.byte_fields.specs.Field.{Read, map_read, then_read, bytes_at, taken}
-use Rattle.byte_fields.specs.Number.{little_at}
-use Rattle.wire_num.specs.Field.{as_one_field}
+use Rattle.wire_num.specs.Field.{Read, map_read, then_read, bytes_at, taken}
+use Rattle.wire_num.specs.Number.{little_at}
+use Rattle.wire_num.specs.FieldValue.{as_one_field}
 use Rattle.order_fields.specs.declared.kind.FieldKind.{FieldKind}
 use Rattle.order_fields.specs.declared.kind.FieldKind.TheVariants.{Coordinate, Number, Signed, Color}
 use Rattle.order_fields.specs.OrderTable.{Row, table, row_of, row_in, chosen_row, Values, values, FitKinds, FitsKind}

@@ -1,7 +1,7 @@
 -- Parts of secondary orders.
 use Rattle.std.specs.Prelude.{ℕ, List, [], ◌∷◌, map}
-use Rattle.byte_fields.specs.Field.{Read, then_read, map_read, wanted}
-use Rattle.byte_fields.specs.Number.{little_at, little_signed_at}
+use Rattle.wire_num.specs.Field.{Read, then_read, map_read, wanted}
+use Rattle.wire_num.specs.Number.{little_at, little_signed_at}
 use Rattle.order_fields.specs.Secondary.{Cached, glyph_at, secondary_kind, secondary_body}
 use Rattle.order_fields.specs.OrderStream.{Order}
 use Rattle.order_fields.specs.OrderStream.Order.{Other}

@@ -1,7 +1,7 @@
 -- Parts of a primary order.
 use Rattle.std.specs.Prelude.{◌≡◌, ◌≤◌, ⊤, ℕ, ◌%◌, ◌==◌, Bool, ◌&&◌, ℤ, List, [], ◌∷◌, Option, Some, None, Result, Ok, Err}
-use Rattle.byte_fields.specs.Field.{Read, then_read, map_read}
-use Rattle.byte_fields.specs.Number.{little_at}
+use Rattle.wire_num.specs.Field.{Read, then_read, map_read}
+use Rattle.wire_num.specs.Number.{little_at}
 use Rattle.wire_num.specs.Cursor.{CursorOf, rest}
 use Rattle.wire_num.specs.declared.short.Short.{Short}
 use Rattle.order_fields.specs.declared.kind.FieldKind.{FieldKind}

@@ -1,6 +1,6 @@
 -- What the calls say that read orders.
 use Rattle.std.specs.Prelude.{◌≡◌, ◌≤◌, ℕ, ◌+◌, List, ◌++◌, length, take, Option, Some, None, Result, Ok, Err, Vec, ⊤}
-use Rattle.byte_fields.specs.Field.{Read as Field}
+use Rattle.wire_num.specs.Field.{Read as Field}
 use Rattle.wire_num.specs.Cursor.{CursorOf, rest}
 use Rattle.order_fields.specs.OrderTable.{Registers}
 use Rattle.order_fields.specs.OrderStream.{Order, Stream, order_at, orders_in, seen}

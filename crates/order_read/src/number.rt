@@ -1,8 +1,8 @@
 //! Numbers of fields.
 
 ghost use Rattle.std.specs.Prelude.{◌≡◌, ◌≤◌, ◌<◌, ◌^◌, length, pos, true, IfOk};
-ghost use Rattle.byte_fields.specs.Field.{map_read};
-ghost use Rattle.byte_fields.specs.Number.{little_at, big_at, little_signed_at, little_value, big_value};
+ghost use Rattle.wire_num.specs.Field.{map_read};
+ghost use Rattle.wire_num.specs.Number.{little_at, big_at, little_signed_at, little_value, big_value};
 ghost use Rattle.byteorder.specs.Endian.{twos_complement};
 ghost use Rattle.wire_num.specs.Cursor.{ReadsField};
 ghost use Rattle.order_fields.specs.OrderTable.{fits_coordinate, IsBelow};

@@ -2,8 +2,8 @@
 
 ghost use Rattle.std.specs.Prelude.{◌≡◌, ◌≤◌, ◌<◌, ◌*◌, ◌/◌, ◌^◌, length, IfOk, IsTrue};
 ghost use Rattle.byteorder.specs.Endian.{little_number};
-ghost use Rattle.byte_fields.specs.Pixels.{pixels_of};
-ghost use Rattle.host_bytes.specs.WirePixels.{turned_over};
+ghost use Rattle.wire_num.specs.Pixels.{pixels_of};
+ghost use Rattle.order_means.specs.WirePixels.{turned_over};
 ghost use Rattle.px_core.specs.Colors.{are_colors};
 
 use byteorder::{ByteOrder, LittleEndian};

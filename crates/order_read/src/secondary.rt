@@ -10,9 +10,9 @@
 
 ghost use Rattle.std.specs.Prelude.{◌≡◌, ◌≤◌, Err, IfOk, length};
 ghost use Rattle.wire_num.specs.Cursor.{ReadsField, ReadsFields};
-ghost use Rattle.byte_fields.specs.Number.{little_at, little_signed_at};
-ghost use Rattle.byte_fields.specs.Pixels.{pixels_of};
-ghost use Rattle.host_bytes.specs.WirePixels.{turned_over};
+ghost use Rattle.wire_num.specs.Number.{little_at, little_signed_at};
+ghost use Rattle.wire_num.specs.Pixels.{pixels_of};
+ghost use Rattle.order_means.specs.WirePixels.{turned_over};
 ghost use Rattle.order_fields.specs.Secondary.{bitmap_at, brush_at, glyph_at, glyphs_at, glyph_order_at, glyph_length, secondary_at, marker_at};
 ghost use Rattle.order_read.specs.declared.order_fault.OrderFault.TheVariants.{BadOrder};
 ghost use Rattle.order_read.specs.Reading.{ReadsOnto};

@@ -15,12 +15,12 @@
 
 ghost use Rattle.std.specs.Prelude.{◌≡◌, ◌++◌, length, OnOk, OnErr};
 ghost use Rattle.wire_num.specs.Written.{AppendsFront};
-ghost use Rattle.host_bytes.specs.CacheOrders.{cache_brush_bytes};
+ghost use Rattle.order_means.specs.CacheOrders.{cache_brush_bytes};
 
 use crate::OutOfMemory;
+use bitmap_upd::{put_both, raw_bytes, turn_over};
 use draw_ops::Brush;
 use std::alloc::Global;
-use wire_pixels::{put_both, raw_bytes, turn_over};
 
 /// The order's type.
 const CACHE_BRUSH: u8 = 7;

@@ -18,15 +18,15 @@
 ghost use Rattle.std.specs.Prelude.{◌≡◌, ◌≤◌, ◌++◌, ◌-◌, ◌∷◌, ◌≤ℤ◌, length, replicate, List, ℕ, pos, negsuc, OnOk, OnErr, IfOk, None};
 ghost use Rattle.wire_num.specs.Written.{AppendsFront};
 ghost use Rattle.byteorder.specs.Endian.{little_bytes};
-ghost use Rattle.byte_fields.specs.Number.{unsigned};
+ghost use Rattle.wire_num.specs.Number.{unsigned};
 ghost use Rattle.draw_ops.specs.Fits.{glyph_rule};
-ghost use Rattle.host_bytes.specs.WirePixels.{padded};
-ghost use Rattle.host_bytes.specs.CacheOrders.{secondary_bytes, cache_glyph_bytes};
+ghost use Rattle.order_means.specs.WirePixels.{padded};
+ghost use Rattle.order_means.specs.CacheOrders.{secondary_bytes, cache_glyph_bytes};
 
 use crate::OutOfMemory;
+use bitmap_upd::put_both;
 use draw_ops::Glyph;
 use std::alloc::Global;
-use wire_pixels::put_both;
 
 /// The order's type.
 const CACHE_GLYPH: u8 = 3;

@@ -19,13 +19,13 @@ ghost use Rattle.std.specs.Prelude.{◌≡◌, ◌≤◌, ◌++◌, length, List
 ghost use Rattle.wire_num.specs.Written.{AppendsFront};
 ghost use Rattle.px_core.specs.Colors.{are_colors};
 ghost use Rattle.draw_ops.specs.Fits.{image_rule};
-ghost use Rattle.host_bytes.specs.WirePixels.{pixel_data};
-ghost use Rattle.host_bytes.specs.CacheOrders.{secondary_bytes, cache_bitmap_body, cache_bitmap_data, cache_bitmap_bytes};
+ghost use Rattle.order_means.specs.WirePixels.{pixel_data};
+ghost use Rattle.order_means.specs.CacheOrders.{secondary_bytes, cache_bitmap_body, cache_bitmap_data, cache_bitmap_bytes};
 
 use crate::OutOfMemory;
+use bitmap_upd::{pad_rows, padded_width, pixel_data, put_both, turn_over};
 use draw_ops::Image;
 use std::alloc::Global;
-use wire_pixels::{pad_rows, padded_width, pixel_data, put_both, turn_over};
 
 /// The type of a raw bitmap.
 const RAW: u8 = 0;

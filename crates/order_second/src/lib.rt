@@ -10,4 +10,4 @@ pub use brush::cache_brush;
 pub use glyph::cache_glyph;
 pub use image::cache_bitmap;
 pub use marker::frame_marker;
-pub use out_of_memory::OutOfMemory;
+pub use wire_num::OutOfMemory;

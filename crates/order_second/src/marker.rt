@@ -7,7 +7,7 @@
 
 ghost use Rattle.std.specs.Prelude.{◌≡◌, ◌++◌, OnOk, OnErr};
 ghost use Rattle.wire_num.specs.Written.{AppendsFront};
-ghost use Rattle.host_bytes.specs.CacheOrders.{frame_marker_bytes};
+ghost use Rattle.order_means.specs.CacheOrders.{frame_marker_bytes};
 
 use crate::OutOfMemory;
 

@@ -3,7 +3,7 @@ use Rattle.std.proofs.Common.{◌≡◌, ℕ, ◌+◌, ◌-◌, ◌*◌, ◌<◌
 use Rattle.std.specs.Prelude.{nat_lt, unwrap_or}
 use Rattle.run_lengths.specs.declared.codes.Before.{Before}
 use Rattle.run_lengths.specs.declared.strokes.Stroke.{Stroke}
-use Rattle.byte_fields.specs.Field.{Read, place_in}
+use Rattle.wire_num.specs.Field.{Read, place_in}
 use Rattle.run_lengths.specs.RunLength.{Order, run_size, drawn_over, order_at, onto_orders, orders_after, run_orders_in, Drawn, drawn_after, order_strokes, strokes_from, strokes_of, nothing_drawn, Decompresses, unrle, first_bad_run, pixels_of_orders, refused_place, follows_background, is_first_row, background_stroke, foreground_stroke, foreground_of, run_strokes, before_next}
 use Rattle.run_lengths.proofs.Laws.{orders_in_next, order_leaves, Leaves, OrderDraws, length-run_strokes, decompressed_is_unrle}
 use Rattle.rle_dec.specs.Drawing.{drawn_onto, drawn_rest, drawn_whole}

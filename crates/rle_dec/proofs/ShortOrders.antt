@@ -6,7 +6,7 @@ use Rattle.std.proofs.lemmas.List.{take_all}
 use Rattle.run_lengths.specs.declared.codes.RunKind.{RunKind}
 use Rattle.run_lengths.specs.declared.codes.RunKind.TheVariants.{BackgroundRun, ForegroundRun, MaskImage, ColorRun, ColorImage}
 use Rattle.run_lengths.specs.declared.codes.Row.{Row}
-use Rattle.byte_fields.specs.Field.{map_read, then_read}
+use Rattle.wire_num.specs.Field.{map_read, then_read}
 use Rattle.run_lengths.specs.Codes.{row, row_of, row_among, code_table, run, mask}
 use Rattle.run_lengths.specs.RunLength.{greatest_length, length_at, length_if, order_at, order_in_row, run_at}
 use Rattle.rle_dec.specs.Orders.{short_order}

@@ -1,7 +1,7 @@
 -- The orders that the reader's own stand for.
 use Rattle.std.specs.Prelude.{ℕ, List, None}
-use Rattle.byte_fields.specs.Field.{Read, map_read, then_read}
-use Rattle.byte_fields.specs.Pixels.{pixels_of}
+use Rattle.wire_num.specs.Field.{Read, map_read, then_read}
+use Rattle.wire_num.specs.Pixels.{pixels_of}
 use Rattle.run_lengths.specs.RunLength as runs
 use Rattle.run_lengths.specs.RunLength.{bits_of, greatest_length, length_if, mask_bits, run_at}
 use Rattle.run_lengths.specs.declared.codes.RunKind.{RunKind}

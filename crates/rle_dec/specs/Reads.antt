@@ -1,7 +1,7 @@
 -- What the readers' answers stand for.
 use Rattle.std.specs.Prelude.{ℕ, List, Option, Result, Ok, Err}
 use denote.Ref.{Bor}
-use Rattle.byte_fields.specs.Field.{Read}
+use Rattle.wire_num.specs.Field.{Read}
 
 -- a value and slices, as a value and bytes
 abbrev pub read_of : {A B : Type 0} → (A → B) → Result (A × Bor (List ℕ)) (Bor (List ℕ)) → Read B

@@ -1,6 +1,6 @@
 //! Draws runs of pixels after the first `at` of a bitmap, which are drawn ([MS-RDPBCGR] 3.1.9).
 ghost use Rattle.std.specs.Prelude.{◌≡◌, ◌+◌, ◌*◌, ◌<◌, ◌≤◌, [], ◌∷◌, ◌++◌, length, replicate, take};
-ghost use Rattle.byte_fields.specs.Pixels.{pixels_of};
+ghost use Rattle.wire_num.specs.Pixels.{pixels_of};
 ghost use Rattle.run_lengths.specs.RunLength.{bits_of, dithered_strokes, background_stroke, foreground_stroke, mask_bits};
 ghost use Rattle.rle_dec.specs.Drawing.{drawn_onto, masked, pixels_before};
 

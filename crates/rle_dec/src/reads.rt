@@ -1,7 +1,7 @@
 //! Reads the fields of orders from the front of a stream. A refusal carries the bytes from the refused field on.
 ghost use Rattle.std.specs.Prelude.{◌≡◌, ◌≤◌, [], ◌∷◌, IfOk};
-ghost use Rattle.byte_fields.specs.Number.{little_at, little_value};
-ghost use Rattle.byte_fields.specs.Field.{bytes_at};
+ghost use Rattle.wire_num.specs.Number.{little_at, little_value};
+ghost use Rattle.wire_num.specs.Field.{bytes_at};
 ghost use Rattle.run_lengths.specs.RunLength.{length_if, length_at};
 ghost use Rattle.rle_dec.specs.Reads.{read_of, itself, list_of};
 

@@ -6,8 +6,8 @@ use Rattle.std.proofs.lemmas.List.{length-replicate, length-drop, take_all, drop
 use Rattle.run_lengths.specs.RunLength.{Run, run_size}
 use Rattle.run_lengths.specs.RunLength.Run.{Background, Foreground, Mask, Color, Image, Dithered}
 use Rattle.run_lengths.specs.Packer.{Spot, background_count, color_count, first_run, runs_past, onto_runs, joined_images, packed_runs, first_stretch, later_stretch, packed, run_bytes, length_bytes, color_runs, color_runs_after, color_runs_in}
-use Rattle.byte_fields.specs.Pixels.{pixel_bytes}
-use Rattle.byte_fields.proofs.Pixels.{length-pixels_bytes}
+use Rattle.wire_num.specs.Pixels.{pixel_bytes}
+use Rattle.wire_num.proofs.Pixels.{length-pixels_bytes}
 use Rattle.rle_enc.proofs.Runs.{pixels, chosen}
 use Rattle.rle_enc.proofs.Stretches.{pixels-zip}
 

@@ -5,11 +5,11 @@ use Rattle.std.proofs.lemmas.Bool.Decides.{nat_tests}
 use Rattle.std.proofs.lemmas.Bool.{cases_lt}
 use Rattle.px_core.specs.Colors.{is_color, are_colors}
 use Rattle.px_core.proofs.Colors.{color_below, colors_are_below}
-use Rattle.byte_fields.specs.Field.{Read, then_read, map_read, given, bytes_at}
-use Rattle.byte_fields.specs.Pixels.{pixels_of, pixel_bytes}
-use Rattle.byte_fields.specs.Number.{little_value}
-use Rattle.byte_fields.proofs.Bytes.{taken_back}
-use Rattle.byte_fields.proofs.Pixels.{pixels_back, length-pixels_bytes}
+use Rattle.wire_num.specs.Field.{Read, then_read, map_read, given, bytes_at}
+use Rattle.wire_num.specs.Pixels.{pixels_of, pixel_bytes}
+use Rattle.wire_num.specs.Number.{little_value}
+use Rattle.wire_num.proofs.Bytes.{taken_back}
+use Rattle.wire_num.proofs.Pixels.{pixels_back, length-pixels_bytes}
 use Rattle.byteorder.specs.Endian.{little_bytes}
 use Rattle.run_lengths.specs.Codes.{row_of, row, run}
 use Rattle.run_lengths.specs.declared.codes.RunKind.TheVariants.{BackgroundRun, ColorRun, ColorImage}

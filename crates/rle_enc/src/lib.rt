@@ -7,4 +7,4 @@ mod orders;
 mod stretch;
 
 pub use bitmap::{Packed, pack};
-pub use out_of_memory::OutOfMemory;
+pub use wire_num::OutOfMemory;

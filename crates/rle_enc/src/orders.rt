@@ -1,7 +1,7 @@
 //! Writes the orders of the packer: background runs, colour runs and colour images.
 ghost use Rattle.std.specs.Prelude.{◌≡◌, ◌/◌, ◌%◌, ◌<◌, ◌≤◌, ◌++◌, OnOk, flat_map, length};
 ghost use Rattle.run_lengths.specs.Packer.{length_bytes, run_bytes};
-ghost use Rattle.byte_fields.specs.Pixels.{pixel_bytes};
+ghost use Rattle.wire_num.specs.Pixels.{pixel_bytes};
 ghost use Rattle.rle_enc.specs.Stretch.{literal_bytes};
 ghost use Rattle.run_lengths.specs.RunLength as runs;
 

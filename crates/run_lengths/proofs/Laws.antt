@@ -3,10 +3,10 @@ use Rattle.std.proofs.Common.{◌≡◌, ℕ, zero, suc, ◌+◌, ◌-◌, ◌*�
 use Rattle.std.proofs.lemmas.List.{length-drop, length-map, length-replicate, take-append-drop, length-take-le, drop_at, get_or_append_left, get_or-replicate, get_or-append_right}
 use Rattle.std.proofs.lemmas.Bool.Decides.{nat_tests}
 use Rattle.std.specs.Prelude.{flat_map, IfOk, IfErr, MatchResult, nat_le, nat_lt, ◌&&◌}
-use Rattle.byte_fields.specs.Field.{Read, then_read, map_read, given, taken, bytes_at}
-use Rattle.byte_fields.specs.Number.{little_at, little_value}
-use Rattle.byte_fields.specs.Pixels.{pixels_of}
-use Rattle.byte_fields.proofs.Pixels.{length-pixels_of}
+use Rattle.wire_num.specs.Field.{Read, then_read, map_read, given, taken, bytes_at}
+use Rattle.wire_num.specs.Number.{little_at, little_value}
+use Rattle.wire_num.specs.Pixels.{pixels_of}
+use Rattle.wire_num.proofs.Pixels.{length-pixels_of}
 use Rattle.run_lengths.specs.Codes.{row_of}
 use Rattle.run_lengths.specs.declared.codes.RunKind.{RunKind}
 use Rattle.run_lengths.specs.declared.codes.Length.{Length}

@@ -1,7 +1,7 @@
 -- The packer (profile): the bytes that stand for pixels of rows of w, the bottom row first.
 use Rattle.std.specs.Prelude.{ℕ, zero, suc, ◌+◌, ◌-◌, ◌==◌, nat_lt, nat_le, ◌&&◌, List, [], ◌∷◌, ◌++◌, length, flat_map, take, drop, zip, replicate, if◌then◌else◌}
 use Rattle.byteorder.specs.Endian.{little_bytes}
-use Rattle.byte_fields.specs.Pixels.{pixel_bytes, pixels_bytes}
+use Rattle.wire_num.specs.Pixels.{pixel_bytes, pixels_bytes}
 use Rattle.run_lengths.specs.RunLength.{Run, run_size}
 use Rattle.run_lengths.specs.RunLength.Run.{Background, Foreground, Mask, Color, Image, Dithered}
 

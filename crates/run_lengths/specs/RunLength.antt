@@ -1,8 +1,8 @@
 -- Run-length bitmaps ([MS-RDPBCGR] 2.2.9.1.1.3.1.2.4 and 3.1.9): the orders that a byte stream is cut into, and the pixels that they draw, the bottom row first.
 use Rattle.std.specs.Prelude.{◌≡◌, ℕ, zero, suc, ◌+◌, ◌-◌, ◌*◌, ◌/◌, ◌%◌, ◌==◌, nat_lt, nat_le, Bool, true, false, ◌&&◌, List, [], ◌∷◌, ◌++◌, length, map, flat_map, take, drop, replicate, Option, Some, None, unwrap_or, Result, Ok, Err, bit_xor, if◌then◌else◌}
-use Rattle.byte_fields.specs.Field.{Read, then_read, map_read, given, bytes_at, place_in}
-use Rattle.byte_fields.specs.Number.{little_at}
-use Rattle.byte_fields.specs.Pixels.{pixels_of}
+use Rattle.wire_num.specs.Field.{Read, then_read, map_read, given, bytes_at, place_in}
+use Rattle.wire_num.specs.Number.{little_at}
+use Rattle.wire_num.specs.Pixels.{pixels_of}
 use Rattle.run_lengths.specs.Codes.{row_of, white}
 use Rattle.run_lengths.specs.declared.codes.RunKind.{RunKind}
 use Rattle.run_lengths.specs.declared.codes.Length.{Length}

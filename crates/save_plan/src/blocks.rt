@@ -1,11 +1,10 @@
 //! The blocks that a client holds for the host, by their slots.
 
 ghost use Rattle.std.specs.Prelude.{◌≡◌, ℕ, [], ◌∷◌, IfOk, OnErr};
-ghost use Rattle.saved_blocks.specs.Blocks.{placed, positions_of, place_of, without_slot, IsFree, IsLeastFree, AreApart};
+ghost use Rattle.save_plan.specs.Blocks.{placed, positions_of, place_of, without_slot, IsFree, IsLeastFree, AreApart};
 
-use crate::OutOfMemory;
 use crate::room::room_for;
-use saved_blocks::Place;
+use crate::{OutOfMemory, Place};
 use std::alloc::Global;
 use std::marker::Model;
 
@@ -25,7 +24,7 @@ pub struct Blocks {
 }
 
 impl Model for Blocks {
-    ghost use Rattle.saved_blocks.specs.Blocks.{Held, AreApart};
+    ghost use Rattle.save_plan.specs.Blocks.{Held, AreApart};
 
     ghost Value = { Held };
 
@@ -79,7 +78,7 @@ impl Blocks {
     }
 
     /// What holds of all blocks; it does nothing.
-    pub fn are_apart(&self)
+    pub fn recall_apart(&self)
         ensures { AreApart self.now }
     {
         let _ = &self.held;

@@ -3,7 +3,9 @@
 #![tactic(auto)]
 
 mod blocks;
+mod place;
 mod room;
 
 pub use blocks::{Blocks, PlaceFault};
-pub use out_of_memory::OutOfMemory;
+pub use place::Place;
+pub use wire_num::OutOfMemory;

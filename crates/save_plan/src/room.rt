@@ -3,9 +3,9 @@
 //! A block of w by h takes `w * (h rounded up to a multiple of 20)` positions in a row, of 57,600.
 
 ghost use Rattle.std.specs.Prelude.{◌≡◌, ℕ, ◌+◌, ◌<◌, ◌≤◌, MatchOption, false};
-ghost use Rattle.saved_blocks.specs.Blocks.{positions_of, end_of, is_taken, IsFree, IsLeastFree, AreApart};
+ghost use Rattle.save_plan.specs.Blocks.{positions_of, end_of, is_taken, IsFree, IsLeastFree, AreApart};
 
-use saved_blocks::Place;
+use crate::Place;
 
 /// The positions that there are.
 const ALL_POSITIONS: u32 = 57_600;

@@ -11,8 +11,8 @@ use Rattle.session_rules.specs.Journal.{Head, Reached, Refusal, Viewer, refusal_
 use Rattle.session_rules.specs.Steps.{Answer, Outcome, Play, row_role, join_effect, entered, outcome, outcome_of}
 use Rattle.session_rules.specs.Steps.Step.{JoinStep}
 use Rattle.session_rules.specs.Steps.Answer.{Joined, Refused}
-use Rattle.session_laws.specs.Entering.{entry_of_step, answer_at}
-use Rattle.session_laws.proofs.Entered.{entry_of_outcome, answer_of_outcome}
+use Rattle.session_rules.specs.Entering.{entry_of_step, answer_at}
+use Rattle.session_rules.proofs.Entered.{entry_of_outcome, answer_of_outcome}
 use Rattle.session_core.specs.declared.faults.JoinFault.{JoinFault}
 use Rattle.session_core.specs.declared.faults.JoinFault.TheVariants as fault
 use Rattle.session_core.specs.Faults.{join_answer}
@@ -21,8 +21,7 @@ use Rattle.frame_rules.specs.Encoder.{Encoder, first_encoder}
 use Rattle.viewer_sender.specs.Senders.{SenderModel, StandsFor}
 use Rattle.script_rules.specs.Script.{Asked}
 use Rattle.script_rules.specs.Capture.{joined_line}
-use Rattle.script_rules.specs.CaptureText.{Run, run_after, run_by, line_by, line_in_run}
-use Rattle.script_rules.specs.Headline.{encoder_frames}
+use Rattle.script_rules.specs.CaptureText.{Run, run_after, run_by, line_by, line_in_run, encoder_frames}
 use Rattle.script_host.specs.declared.answer.StepAnswer.{StepAnswer}
 use Rattle.script_host.specs.declared.answer.StepAnswer.TheVariants as says
 use Rattle.script_host.specs.Answers.{answer_of, IsVerdict}

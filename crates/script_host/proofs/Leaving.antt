@@ -10,16 +10,15 @@ use Rattle.session_rules.specs.Journal.{Reached, Viewer, is_present, without_vie
 use Rattle.session_rules.specs.Steps.{Outcome, replaced_for, entered, outcome}
 use Rattle.session_rules.specs.Steps.Step.{LeaveStep}
 use Rattle.session_rules.specs.Steps.Answer.{Left}
-use Rattle.session_laws.specs.Reaching.{IsSoundReached}
-use Rattle.session_laws.proofs.Sound.{sound_reached}
+use Rattle.session_rules.specs.Reaching.{IsSoundReached}
+use Rattle.session_rules.proofs.Sound.{sound_reached}
 use Rattle.session_core.specs.SessionModel.{reached_by, is_here, asked_by, is_suppressed}
 use Rattle.session_core.proofs.Sessions.{reached_at_end}
 use Rattle.session_core.proofs.Leaving.{leave_legal, gone}
 use Rattle.frame_rules.specs.Encoder.{Encoder}
 use Rattle.script_rules.specs.Script.{Asked}
 use Rattle.script_rules.specs.Capture.{of_viewer}
-use Rattle.script_rules.specs.CaptureText.{Run, run_after, run_by, line_by, line_in_run}
-use Rattle.script_rules.specs.Headline.{encoder_frames}
+use Rattle.script_rules.specs.CaptureText.{Run, run_after, run_by, line_by, line_in_run, encoder_frames}
 use Rattle.script_host.specs.Hosts.{HostModel, sender_of}
 use Rattle.script_host.specs.Runs.{IsViewerOf, IsRunOf}
 use Rattle.script_host.proofs.StepsOn.{session_reached, StaysFor, viewer_stays, later_stays, is_no_later, replaced_other}

@@ -7,7 +7,7 @@ use Rattle.px_core.specs.declared.surface.Size.{Size}
 use Rattle.px_core.specs.declared.rectangle.Rect.{Rect}
 use Rattle.px_core.specs.Tiles.{either_tiles, tiles_of}
 use Rattle.px_core.specs.TileFlags.{tiles}
-use Rattle.input_events.specs.declared.event.Event.{Event}
+use Rattle.input_pdu.specs.declared.event.Event.{Event}
 use Rattle.draw_ops.specs.declared.shape.Drawing.{Drawing}
 use Rattle.session_rules.specs.declared.entry.Entry.{Entry}
 use Rattle.session_rules.specs.declared.entry.Entry.TheVariants.{Join, Leave, Give, Input, Draw}
@@ -23,8 +23,7 @@ use Rattle.session_core.proofs.Sessions.{reached_at_end}
 use Rattle.frame_rules.specs.Encoder.{Encoder}
 use Rattle.script_rules.specs.Script.{Asked}
 use Rattle.script_rules.specs.Capture.{viewer_of}
-use Rattle.script_rules.specs.CaptureText.{Run, run_after, confirmed_after, encoders_after}
-use Rattle.script_rules.specs.Headline.{encoder_frames}
+use Rattle.script_rules.specs.CaptureText.{Run, run_after, confirmed_after, encoders_after, encoder_frames}
 use Rattle.script_host.specs.Hosts.{HostModel, sender_of}
 use Rattle.script_host.specs.Runs.{IsViewerOf, IsYetToCome, IsRunOf}
 

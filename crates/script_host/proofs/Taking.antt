@@ -20,8 +20,7 @@ use Rattle.frame_plan.proofs.TakeSteps.{work_of_steps, take_of_steps}
 use Rattle.viewer_sender.specs.Senders.{SenderModel, desk_of, Follows, IsIdle}
 use Rattle.script_rules.specs.Script.{Asked}
 use Rattle.script_rules.specs.Capture.{of_viewer}
-use Rattle.script_rules.specs.CaptureText.{Run, run_after, run_by, line_by, line_in_run, bytes_of_answer}
-use Rattle.script_rules.specs.Headline.{encoder_frames}
+use Rattle.script_rules.specs.CaptureText.{Run, run_after, run_by, line_by, line_in_run, bytes_of_answer, encoder_frames}
 use Rattle.script_host.specs.declared.answer.StepAnswer.{StepAnswer}
 use Rattle.script_host.specs.declared.answer.StepAnswer.TheVariants as says
 use Rattle.script_host.specs.Answers.{answer_text, Says, SaysOutcome}

@@ -2,15 +2,14 @@
 use Rattle.std.proofs.Common.{◌≡◌, ℕ, List, ◌++◌, ap, sym, ◌∙◌}
 use Rattle.std.specs.Prelude.{false, Option, Some, option_to_list}
 use Rattle.session_rules.specs.Steps.{Answer, outcome}
-use Rattle.session_laws.specs.Entering.{is_take, entry_of_step, answer_at}
-use Rattle.session_laws.proofs.Entered.{entry_of_outcome, answer_of_outcome}
+use Rattle.session_rules.specs.Entering.{is_take, entry_of_step, answer_at}
+use Rattle.session_rules.proofs.Entered.{entry_of_outcome, answer_of_outcome}
 use Rattle.session_core.specs.Outcomes.{IsAnswered, GoesOn}
 use Rattle.session_core.specs.SessionModel.{reached_by, asked_by, is_suppressed}
 use Rattle.frame_rules.specs.Encoder.{Encoder}
 use Rattle.script_rules.specs.Script.{Asked}
 use Rattle.script_rules.specs.Capture.{viewer_of}
-use Rattle.script_rules.specs.CaptureText.{Run, bytes_of_answer}
-use Rattle.script_rules.specs.Headline.{encoder_frames}
+use Rattle.script_rules.specs.CaptureText.{Run, bytes_of_answer, encoder_frames}
 use Rattle.script_host.specs.declared.answer.StepAnswer.{StepAnswer}
 use Rattle.script_host.specs.Answers.{answer_text, answer_of, IsVerdict, SaysOutcome}
 use Rattle.script_host.specs.Hosts.{HostModel}

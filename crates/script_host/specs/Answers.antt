@@ -7,8 +7,7 @@ use Rattle.session_rules.specs.Steps.{Step, Answer, TakeOf, outcome}
 use Rattle.session_rules.specs.Steps.Answer.{Joined, Left, Accepted, Refused, Nothing, Frame}
 use Rattle.frame_rules.specs.Encoder.{Encoder}
 use Rattle.script_rules.specs.Capture.{of_viewer, viewer_of, joined_line, refusal_line}
-use Rattle.script_rules.specs.CaptureText.{Run, bytes_of_answer}
-use Rattle.script_rules.specs.Headline.{encoder_frames}
+use Rattle.script_rules.specs.CaptureText.{Run, bytes_of_answer, encoder_frames}
 use Rattle.script_lines.specs.Answers.{refusal_of}
 use Rattle.script_host.specs.declared.answer.StepAnswer.{StepAnswer}
 use Rattle.script_host.specs.declared.answer.StepAnswer.TheVariants as says

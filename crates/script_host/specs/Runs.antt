@@ -6,8 +6,7 @@ use Rattle.session_core.specs.SessionModel.{reached_by, is_here, asked_by, is_su
 use Rattle.frame_rules.specs.Encoder.{Encoder, first_encoder}
 use Rattle.viewer_sender.specs.Senders.{SenderModel, IsIdle, Follows}
 use Rattle.script_rules.specs.Script.{Asked}
-use Rattle.script_rules.specs.CaptureText.{Run, run_after, line_in_run}
-use Rattle.script_rules.specs.Headline.{encoder_frames}
+use Rattle.script_rules.specs.CaptureText.{Run, run_after, line_in_run, encoder_frames}
 use Rattle.script_host.specs.Hosts.{HostModel, sender_of}
 
 -- of a viewer that is present the run says what the session and the viewer's sender do: what it asked for, whether it is suppressed, what it confirmed, the

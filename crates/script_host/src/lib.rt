@@ -8,4 +8,4 @@ mod seats;
 
 pub use answer::StepAnswer;
 pub use host::ScriptHost;
-pub use out_of_memory::OutOfMemory;
+pub use wire_num::OutOfMemory;

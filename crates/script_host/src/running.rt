@@ -24,7 +24,7 @@ use crate::{OutOfMemory, StepAnswer};
 use caps_sets::Confirmed;
 use draw_ops::Drawing;
 use info_lic::Name;
-use input_events::Event;
+use input_pdu::Event;
 use px_core::{Rect, Size};
 use script_lines::ViewerStep;
 use session_core::{Invite, Session};
@@ -137,7 +137,7 @@ impl Running {
             → Advances self.old.session.head run (without_preset (LeaveStep viewer)) (answer_text self.old.session.head.size viewer preset answer) self.new) }
         ensures told { IfOk result (λ answer. (run : Run Encoder) → IsRunOf self.old run → SaysOutcome self.old.session.head run (LeaveStep viewer) answer) }
     {
-        self.session.is_legal();
+        self.session.recall_legal();
         let i = place_here(&self.seats, viewer);
         self.session.leave(viewer);
         self.seats.remove(i);

@@ -8,8 +8,8 @@ use Rattle.line_text.specs.Hexadecimal.{hexadecimal_of}
 use Rattle.px_core.specs.declared.rectangle.Rect.{Rect}
 use Rattle.draw_ops.specs.declared.shape.Shape.{Shape}
 use Rattle.draw_ops.specs.declared.shape.Drawing.{Drawing}
-use Rattle.input_events.specs.declared.event.Event.{Event}
-use Rattle.input_events.specs.declared.event.Event.TheVariants.{Scan, Unicode}
+use Rattle.input_pdu.specs.declared.event.Event.{Event}
+use Rattle.input_pdu.specs.declared.event.Event.TheVariants.{Scan, Unicode}
 use Rattle.session_rules.specs.Steps.{Step}
 use Rattle.session_rules.specs.Steps.Step.{LeaveStep, InputStep, RefreshStep, SuppressStep, TakeStep}
 use Rattle.script_rules.specs.Fields.{Field, Values, Pairs, values_of, rect_of, pairs_of, text_by, with_clip, without_clip, fill_by, dst_by, pat_by, copy_by, blit_by, blit3_by, line_by, save_by, restore_by, image_by, brush_by, glyph_by}

@@ -6,8 +6,8 @@ use Rattle.std.specs.Option.{option_map, option_and_then}
 use Rattle.line_text.specs.Numbers.{number_up_to}
 use Rattle.line_text.specs.Hexadecimal.{hexadecimal_of}
 use Rattle.px_core.specs.Picture.{nat_of}
-use Rattle.input_events.specs.declared.event.Event.{Event}
-use Rattle.input_events.specs.declared.event.Event.TheVariants.{Scan, Unicode, Mouse}
+use Rattle.input_pdu.specs.declared.event.Event.{Event}
+use Rattle.input_pdu.specs.declared.event.Event.TheVariants.{Scan, Unicode, Mouse}
 use Rattle.script_rules.specs.Forms.{is_up, unicode_limit}
 use Rattle.script_rules.specs.Fields.{values_of}
 use Rattle.script_rules.specs.Fields.Field.{Count, Digits}

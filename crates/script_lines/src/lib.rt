@@ -22,7 +22,7 @@ pub use answer::{AnswerLine, Cause, write_answer, write_broken};
 pub use form::{LineForm, line_form};
 pub use name::is_name;
 pub use opening::{is_invite, size_of_line};
-pub use out_of_memory::OutOfMemory;
 pub use rule::LineRule;
 pub use step::ViewerStep;
+pub use wire_num::OutOfMemory;
 pub use words::is_text_line;

@@ -5,7 +5,7 @@ use Rattle.std.specs.Option.{option_map, option_and_then}
 use Rattle.draw_ops.specs.Fits.{first_some}
 use Rattle.draw_ops.specs.declared.shape.Shape.{Shape}
 use Rattle.draw_ops.specs.declared.shape.Drawing.{Drawing}
-use Rattle.input_events.specs.declared.event.Event.TheVariants.{Scan, Unicode}
+use Rattle.input_pdu.specs.declared.event.Event.TheVariants.{Scan, Unicode}
 use Rattle.session_rules.specs.Steps.{Step}
 use Rattle.line_text.specs.Words.{is_same_word}
 use Rattle.session_rules.specs.Steps.Step.{JoinStep, LeaveStep, InputStep, DrawStep, RefreshStep, SuppressStep, TakeStep}

@@ -8,7 +8,7 @@ use Rattle.line_text.specs.Numbers.{number_up_to}
 use Rattle.line_text.specs.Hexadecimal.{hexadecimal_of}
 use Rattle.draw_ops.specs.declared.shape.Shape.{Shape}
 use Rattle.draw_ops.specs.declared.shape.Drawing.{Drawing}
-use Rattle.input_events.specs.declared.event.Event.TheVariants.{Scan, Unicode, Mouse}
+use Rattle.input_pdu.specs.declared.event.Event.TheVariants.{Scan, Unicode, Mouse}
 use Rattle.session_rules.specs.Steps.{Step}
 use Rattle.line_text.specs.Words.{is_same_word}
 use Rattle.session_rules.specs.Steps.Step.{LeaveStep, InputStep, DrawStep, RefreshStep, SuppressStep, TakeStep}

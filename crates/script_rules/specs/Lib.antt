@@ -3,4 +3,3 @@ pub mod Forms
 pub mod Script
 pub mod Capture
 pub mod CaptureText
-pub mod Headline

@@ -1,4 +1,2 @@
 //! What scripts ask for and what captures say (both profile). Definitions, and laws about them.
 #![tactic(auto)]
-
-pub mod laws;

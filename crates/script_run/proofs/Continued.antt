@@ -5,7 +5,7 @@ use Rattle.std.specs.Io.KnownBytes.{Appends}
 use Rattle.std.proofs.KnownBytes.{Appends-trans}
 use Rattle.line_text.specs.Lines.{Line, lines_of}
 use Rattle.script_rules.specs.Script.{LineRefusal}
-use Rattle.capture_laws.specs.Fronts.{IsFront}
+use Rattle.headline.specs.Fronts.{IsFront}
 use Rattle.script_run.specs.Run.{Tells, EndsWhereTold}
 use Rattle.script_run.specs.Reading.{CaptureByLines, Follows, Moment, ahead_of, TakesLines, TakesLinesOf, WroteSomeLines, AllLinesGive, WroteAllLines}
 use Rattle.script_run.specs.Reading.{with_next, WroteDoneLines, StopsInALine, StopsReading}

@@ -14,15 +14,14 @@ use Rattle.line_text.specs.Lines.{Line, line_bytes, lines_of, is_past_limits}
 use Rattle.line_text.specs.Words.{words_of, is_same_word}
 use Rattle.line_text.specs.Numbers.{number_of}
 use Rattle.line_text.proofs.NumberLemmas.{number_is_short, length-three_words}
-use Rattle.line_read.specs.Reading.{new_reading, HandsOut, IsPastLimits, first_is_past}
-use Rattle.line_read.specs.declared.reader.Found.{Found}
-use Rattle.line_read.specs.Finding.{Finds, FindsLine}
-use Rattle.line_read.specs.declared.reader.Found.TheVariants as found
+use Rattle.edge_io.specs.Reading.{new_reading, HandsOut, IsPastLimits, first_is_past}
+use Rattle.edge_io.specs.declared.reader.Found.{Found}
+use Rattle.edge_io.specs.Finding.{Finds, FindsLine}
+use Rattle.edge_io.specs.declared.reader.Found.TheVariants as found
 use Rattle.script_rules.specs.Script.{Opening, opening_by, opening_of_lines, size_rule, text_rule, size_with, size_of_words}
 use Rattle.script_rules.specs.Script.Opening.{NoSize, Unended}
 use Rattle.script_rules.specs.Capture.{broken_line}
-use Rattle.script_rules.specs.CaptureText.{capture_of_opening}
-use Rattle.script_rules.specs.Headline.{encoder_frames}
+use Rattle.script_rules.specs.CaptureText.{capture_of_opening, encoder_frames}
 use Rattle.script_run.specs.declared.opening.FirstLine.{FirstLine}
 use Rattle.script_run.specs.Done.{capture_of_lines, text_of_opening, text_of_first}
 use Rattle.script_run.specs.Run.{Tells, refusal_at, refusal_of}

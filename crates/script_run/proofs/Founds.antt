@@ -2,15 +2,14 @@
 use Rattle.std.proofs.Common.{◌≡◌, ℕ, List, [], ◌++◌, refl, ap, sym, ◌∙◌, subst, Some, None, Bool}
 use Rattle.std.specs.Prelude.{Option, Err}
 use Rattle.std.specs.Io.KnownBytes.{Appends}
-use Rattle.line_read.specs.declared.reader.Found.{Found}
-use Rattle.line_read.specs.declared.reader.Found.TheVariants as found
+use Rattle.edge_io.specs.declared.reader.Found.{Found}
+use Rattle.edge_io.specs.declared.reader.Found.TheVariants as found
 use Rattle.edge_io.specs.Sink.{WritesFront}
 use Rattle.frame_rules.specs.Encoder.{Encoder}
 use Rattle.script_rules.specs.Script.{ScriptReading, LineOutcome}
 use Rattle.script_rules.specs.Script.LineOutcome.{Breaks, Invites, Asks}
 use Rattle.script_rules.specs.Capture.{broken_line}
-use Rattle.script_rules.specs.CaptureText.{Run, line_in_run}
-use Rattle.script_rules.specs.Headline.{encoder_frames}
+use Rattle.script_rules.specs.CaptureText.{Run, line_in_run, encoder_frames}
 use Rattle.script_lines.specs.Lines.{number_of_rule}
 use Rattle.script_lines.specs.declared.rule.LineRule.{LineRule}
 use Rattle.script_lines.specs.declared.rule.LineRule.TheVariants as rule

@@ -4,16 +4,16 @@ use Rattle.std.specs.Prelude.{Option, Result, Ok, Err, ◌==◌}
 use Rattle.std.specs.Io.KnownBytes.{Appends, Keeps, IsAtEnd}
 use Rattle.std.proofs.KnownBytes.{Appends-nil, Appends-trans}
 use Rattle.line_text.specs.Lines.{Line, line_bytes, lines_of, is_past_limits, script_limit}
-use Rattle.line_read.specs.Reading.{LineReading}
-use Rattle.line_read.specs.Finding.{Finds, FindsLine, FindCause}
-use Rattle.line_read.specs.declared.reader.Found.{Found}
-use Rattle.line_read.specs.declared.reader.Found.TheVariants as found
+use Rattle.edge_io.specs.Reading.{LineReading}
+use Rattle.edge_io.specs.Finding.{Finds, FindsLine, FindCause}
+use Rattle.edge_io.specs.declared.reader.Found.{Found}
+use Rattle.edge_io.specs.declared.reader.Found.TheVariants as found
 use Rattle.frame_rules.specs.Encoder.{Encoder}
 use Rattle.script_rules.specs.Script.{ScriptReading, LineOutcome, line_outcome, script_from}
 use Rattle.script_rules.specs.Script.LineOutcome.{Breaks, Invites, Asks}
 use Rattle.script_rules.specs.Capture.{broken_line}
 use Rattle.script_rules.specs.CaptureText.{Run}
-use Rattle.capture_laws.specs.Fronts.{IsFront}
+use Rattle.headline.specs.Fronts.{IsFront}
 use Rattle.script_host.specs.Hosts.{HostModel}
 use Rattle.script_run.specs.declared.fault.ScriptFault.{ScriptFault}
 use Rattle.script_run.specs.declared.fault.ScriptFault.TheVariants as fault

@@ -6,10 +6,10 @@ use Rattle.std.specs.Io.KnownBytes.{IsAtEnd}
 use Rattle.std.proofs.lemmas.Bool.Decides.{nat_tests}
 use Rattle.line_text.specs.Lines.{Line, line_bytes, lines_of, is_past_limits, script_limit, line_limit}
 use Rattle.line_text.specs.Words.{words_of}
-use Rattle.line_read.specs.Reading.{LineReading, HandsOut, IsPastLimits, first_is_past}
-use Rattle.line_read.specs.Finding.{Finds}
-use Rattle.line_read.specs.declared.reader.Found.{Found}
-use Rattle.line_read.specs.declared.reader.Found.TheVariants as found
+use Rattle.edge_io.specs.Reading.{LineReading, HandsOut, IsPastLimits, first_is_past}
+use Rattle.edge_io.specs.Finding.{Finds}
+use Rattle.edge_io.specs.declared.reader.Found.{Found}
+use Rattle.edge_io.specs.declared.reader.Found.TheVariants as found
 use Rattle.script_rules.specs.Script.{ScriptReading, LineOutcome, line_form, form_outcome, line_outcome, unless_broken, broken_if, all_bytes, is_ascii, text_rule}
 use Rattle.script_rules.specs.Script.LineOutcome.{Breaks, Invites, Asks}
 use Rattle.script_run.specs.Run.{Tells}

@@ -5,12 +5,12 @@ use Rattle.std.specs.Io.KnownBytes.{Appends}
 use Rattle.px_core.specs.declared.surface.Size.{Size}
 use Rattle.line_text.specs.Lines.{Line, is_past_limits}
 use Rattle.line_text.specs.Words.{words_of}
-use Rattle.line_read.specs.Finding.{Finds}
-use Rattle.line_read.specs.declared.reader.Found.{Found}
-use Rattle.line_read.specs.declared.reader.Found.TheVariants as found
+use Rattle.edge_io.specs.Finding.{Finds}
+use Rattle.edge_io.specs.declared.reader.Found.{Found}
+use Rattle.edge_io.specs.declared.reader.Found.TheVariants as found
 use Rattle.edge_io.specs.Sink.{WritesFront}
 use Rattle.script_rules.specs.Script.{begins_with_invite, invite_form, opened_reading}
-use Rattle.capture_laws.specs.Fronts.{IsFront}
+use Rattle.headline.specs.Fronts.{IsFront}
 use Rattle.script_host.specs.Hosts.{HostModel}
 use Rattle.script_run.specs.declared.fault.ScriptFault.{ScriptFault}
 use Rattle.script_run.specs.declared.fault.ScriptFault.TheVariants as fault

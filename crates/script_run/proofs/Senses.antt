@@ -17,9 +17,8 @@ use Rattle.script_rules.specs.Script.LineForm.{InviteForm, JoinForm, StepForm}
 use Rattle.script_rules.specs.Script.LineOutcome.{Breaks, Invites, Asks}
 use Rattle.script_rules.specs.Script.Opening.{Unended, Opened}
 use Rattle.script_rules.specs.Capture.{broken_line, last_line}
-use Rattle.script_rules.specs.CaptureText.{Run, run_after, run_at_first, lines_from, line_in_run, capture_of_opening, capture_of_script}
-use Rattle.script_rules.specs.Headline.{encoder_frames}
-use Rattle.capture_laws.specs.Fronts.{IsFront}
+use Rattle.script_rules.specs.CaptureText.{Run, run_after, run_at_first, lines_from, line_in_run, capture_of_opening, capture_of_script, encoder_frames}
+use Rattle.headline.specs.Fronts.{IsFront}
 use Rattle.script_run.specs.Done.{capture_of_lines, text_of_opening, text_of_first, text_with_next}
 use Rattle.script_run.specs.Solo.{first_run, solo_head, solo_reading, solo_run, joined}
 use Rattle.script_run.specs.Run.{refusal_at}

@@ -7,8 +7,7 @@ use Rattle.frame_rules.specs.Encoder.{Encoder}
 use Rattle.session_rules.specs.declared.entry.Role.TheVariants.{Owner}
 use Rattle.script_rules.specs.Script.{form_outcome, opened_reading, solo_name, solo_rows, solo_join}
 use Rattle.script_rules.specs.Script.LineForm.{InviteForm, JoinForm}
-use Rattle.script_rules.specs.CaptureText.{Run, run_after, line_in_run}
-use Rattle.script_rules.specs.Headline.{encoder_frames}
+use Rattle.script_rules.specs.CaptureText.{Run, run_after, line_in_run, encoder_frames}
 use Rattle.script_lines.specs.declared.rule.LineRule.{LineRule}
 use Rattle.script_host.specs.Hosts.{HostModel}
 use Rattle.script_run.specs.Solo.{solo_head, solo_reading}

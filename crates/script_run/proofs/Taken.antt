@@ -3,8 +3,8 @@ use Rattle.std.proofs.Common.{◌≡◌, ℕ, List, [], ◌∷◌, ◌++◌, ref
 use Rattle.std.specs.Prelude.{Option}
 use Rattle.std.specs.Io.KnownBytes.{Consumes, Keeps}
 use Rattle.line_text.specs.Lines.{Line, line_bytes, lines_of}
-use Rattle.line_read.specs.Reading.{HandsOut}
-use Rattle.line_read.proofs.LineLemmas.{is_feed, IsPlain, FeedAt, feed_found, feed_missing, line_ended, line_unended}
+use Rattle.edge_io.specs.Reading.{HandsOut}
+use Rattle.edge_io.proofs.LineLemmas.{is_feed, IsPlain, FeedAt, feed_found, feed_missing, line_ended, line_unended}
 use Rattle.script_run.specs.Done.{bytes_of_lines, ended_lines}
 use Rattle.script_run.specs.Reading.{TakesLinesOf, TakesLines}
 

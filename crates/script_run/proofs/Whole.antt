@@ -6,13 +6,13 @@ use Rattle.std.proofs.KnownBytes.{prepend_known-nil, Appends-nil}
 use Rattle.edge_io.specs.Sink.{WritesFront}
 use Rattle.px_core.specs.declared.surface.Size.{Size}
 use Rattle.line_text.specs.Lines.{Line, lines_of}
-use Rattle.line_read.specs.Reading.{LineReading, new_reading, ahead}
+use Rattle.edge_io.specs.Reading.{LineReading, new_reading, ahead}
 use Rattle.script_rules.specs.Script.{LineRefusal}
 use Rattle.script_rules.specs.Capture.{broken_line}
-use Rattle.script_rules.specs.CaptureText.{capture_of}
-use Rattle.script_rules.specs.Headline.{encoder_frames, EveryViewerOfCapture}
-use Rattle.capture_laws.specs.Fronts.{IsFront}
-use Rattle.script_shows.proofs.Scripts.{capture_sees, capture_front_sees}
+use Rattle.script_rules.specs.CaptureText.{capture_of, encoder_frames}
+use Rattle.headline.specs.Headline.{EveryViewerOfCapture}
+use Rattle.headline.specs.Fronts.{IsFront}
+use Rattle.headline.proofs.Scripts.{capture_sees, capture_front_sees}
 use Rattle.script_lines.specs.Lines.{number_of_rule}
 use Rattle.script_lines.specs.declared.rule.LineRule.{LineRule}
 use Rattle.script_run.specs.declared.fault.ScriptFault.{ScriptFault}

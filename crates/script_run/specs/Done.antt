@@ -4,8 +4,7 @@ use Rattle.line_text.specs.Lines.{Line, line_bytes}
 use Rattle.script_rules.specs.Script.{Opening, opening_of_lines, size_rule, text_rule}
 use Rattle.script_rules.specs.Script.Opening.{NoSize, Unended, Opened}
 use Rattle.script_rules.specs.Capture.{broken_line}
-use Rattle.script_rules.specs.CaptureText.{capture_of_opening}
-use Rattle.script_rules.specs.Headline.{encoder_frames}
+use Rattle.script_rules.specs.CaptureText.{capture_of_opening, encoder_frames}
 
 -- the capture of some lines, where they are all lines of a script
 abbrev pub capture_of_lines : List Line → List ℕ

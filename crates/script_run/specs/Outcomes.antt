@@ -3,15 +3,14 @@ use Rattle.std.specs.Prelude.{ℕ, List, [], Bool, false, ◌&&◌, not, is_some
 use Rattle.std.specs.declared.option.Option.{Option}
 use Rattle.std.specs.declared.option.Option.TheVariants.{Some, None}
 use Rattle.line_text.specs.Words.{words_of}
-use Rattle.line_read.specs.declared.reader.Found.{Found}
-use Rattle.line_read.specs.declared.reader.Found.TheVariants as found
+use Rattle.edge_io.specs.declared.reader.Found.{Found}
+use Rattle.edge_io.specs.declared.reader.Found.TheVariants as found
 use Rattle.session_rules.specs.Journal.{Head}
 use Rattle.frame_rules.specs.Encoder.{Encoder}
 use Rattle.script_rules.specs.Script.{ScriptReading, LineOutcome, line_form, form_outcome, unless_broken, broken_if, all_bytes, is_ascii, text_rule, invite_form, with_row, after_step}
 use Rattle.script_rules.specs.Script.LineOutcome.{Breaks, Invites, Asks}
 use Rattle.script_rules.specs.Capture.{broken_line}
-use Rattle.script_rules.specs.CaptureText.{Run, run_after, line_in_run}
-use Rattle.script_rules.specs.Headline.{encoder_frames}
+use Rattle.script_rules.specs.CaptureText.{Run, run_after, line_in_run, encoder_frames}
 
 -- what a line within the limits does
 abbrev pub outcome_within : ScriptReading → List ℕ → Bool → LineOutcome

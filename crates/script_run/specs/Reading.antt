@@ -6,14 +6,13 @@ use Rattle.std.specs.declared.option.Option.TheVariants.{Some, None}
 use Rattle.px_core.specs.declared.surface.Size.{Size}
 use Rattle.px_core.specs.Rectangle.{is_session_size}
 use Rattle.line_text.specs.Lines.{Line, lines_of}
-use Rattle.line_read.specs.Reading.{LineReading, ahead}
+use Rattle.edge_io.specs.Reading.{LineReading, ahead}
 use Rattle.edge_io.specs.Faults.{Rose}
 use Rattle.frame_rules.specs.Encoder.{Encoder}
 use Rattle.script_rules.specs.Script.{ScriptReading, Script, LineRefusal, script_from, script_after, opening_of_lines}
 use Rattle.script_rules.specs.Capture.{broken_line, last_line}
-use Rattle.script_rules.specs.CaptureText.{Run, lines_from, capture_of_script}
-use Rattle.script_rules.specs.Headline.{encoder_frames}
-use Rattle.capture_laws.specs.Fronts.{IsFront}
+use Rattle.script_rules.specs.CaptureText.{Run, lines_from, capture_of_script, encoder_frames}
+use Rattle.headline.specs.Fronts.{IsFront}
 use Rattle.script_run.specs.declared.opening.FirstLine.{FirstLine}
 use Rattle.script_run.specs.declared.opening.FirstLine.TheVariants as first
 use Rattle.script_lines.specs.Lines.{number_of_rule}

@@ -9,9 +9,9 @@ use Rattle.edge_io.specs.Faults.{Rose}
 use Rattle.line_text.specs.Lines.{Line, lines_of}
 use Rattle.script_rules.specs.Script.{LineRefusal, Opening, opening_of, size_rule, text_rule}
 use Rattle.script_rules.specs.Script.Opening.{NoSize, Unended, Opened}
-use Rattle.script_rules.specs.CaptureText.{capture_of}
-use Rattle.script_rules.specs.Headline.{encoder_frames, EveryViewerOfCapture}
-use Rattle.capture_laws.specs.Fronts.{IsFront, EveryViewerOfOpeningFront}
+use Rattle.script_rules.specs.CaptureText.{capture_of, encoder_frames}
+use Rattle.headline.specs.Headline.{EveryViewerOfCapture}
+use Rattle.headline.specs.Fronts.{IsFront, EveryViewerOfOpeningFront}
 use Rattle.script_run.specs.Done.{text_of_first, text_with_next, ended_lines}
 use Rattle.script_run.specs.declared.fault.ScriptFault.{ScriptFault}
 use Rattle.script_run.specs.declared.fault.ScriptFault.TheVariants as fault

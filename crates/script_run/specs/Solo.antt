@@ -4,8 +4,7 @@ use Rattle.px_core.specs.declared.surface.Size.{Size}
 use Rattle.session_rules.specs.Journal.{Head}
 use Rattle.frame_rules.specs.Encoder.{Encoder}
 use Rattle.script_rules.specs.Script.{ScriptReading, opened_reading, after_step, solo_rows, solo_join}
-use Rattle.script_rules.specs.CaptureText.{Run, run_at_first, run_after, line_in_run}
-use Rattle.script_rules.specs.Headline.{encoder_frames}
+use Rattle.script_rules.specs.CaptureText.{Run, run_at_first, run_after, line_in_run, encoder_frames}
 
 -- a run before its first step
 abbrev pub first_run : Size → Run Encoder

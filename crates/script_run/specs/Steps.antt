@@ -6,14 +6,13 @@ use Rattle.std.specs.declared.option.Option.TheVariants.{Some, None}
 use Rattle.std.specs.declared.result.Result.{Result}
 use Rattle.std.specs.declared.result.Result.TheVariants.{Ok, Err}
 use Rattle.edge_io.specs.Sink.{WritesFront}
-use Rattle.line_read.specs.declared.reader.Found.{Found}
-use Rattle.line_read.specs.declared.reader.Found.TheVariants as found
+use Rattle.edge_io.specs.declared.reader.Found.{Found}
+use Rattle.edge_io.specs.declared.reader.Found.TheVariants as found
 use Rattle.frame_rules.specs.Encoder.{Encoder}
 use Rattle.script_rules.specs.Script.{ScriptReading, LineOutcome, with_row, after_step}
 use Rattle.script_rules.specs.Script.LineOutcome.{Breaks, Invites, Asks}
 use Rattle.script_rules.specs.Capture.{broken_line}
-use Rattle.script_rules.specs.CaptureText.{Run, run_after, line_in_run}
-use Rattle.script_rules.specs.Headline.{encoder_frames}
+use Rattle.script_rules.specs.CaptureText.{Run, run_after, line_in_run, encoder_frames}
 use Rattle.script_lines.specs.Lines.{number_of_rule}
 use Rattle.script_lines.specs.declared.rule.LineRule.{LineRule}
 use Rattle.script_host.specs.Hosts.{HostModel}

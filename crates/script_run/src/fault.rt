@@ -25,10 +25,10 @@ pub enum ScriptFault {
     OutOfMemory,
 }
 
-impl From<out_of_memory::OutOfMemory> for ScriptFault {
+impl From<wire_num::OutOfMemory> for ScriptFault {
     ghost from_gives = { λ _ fault. fault ≡ OutOfMemory };
 
-    fn from(_: out_of_memory::OutOfMemory) -> ScriptFault {
+    fn from(_: wire_num::OutOfMemory) -> ScriptFault {
         ScriptFault::OutOfMemory
     }
 }

@@ -14,8 +14,7 @@ ghost use Rattle.script_run.specs.Steps.{DoesFound, FaultCause, IsWriteFault, Re
 
 use crate::fault::ScriptFault;
 use crate::line::do_line;
-use edge_io::{Sink, Wrote};
-use line_read::Found;
+use edge_io::{Found, Sink, Wrote};
 use script_host::ScriptHost;
 use script_lines::{LineRule, write_broken};
 use std::alloc::Global;

@@ -10,5 +10,5 @@ mod script;
 
 pub use fault::ScriptFault;
 pub use found::put;
-pub use out_of_memory::OutOfMemory;
 pub use script::run_script;
+pub use wire_num::OutOfMemory;

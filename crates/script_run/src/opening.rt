@@ -1,9 +1,8 @@
 ghost use Rattle.std.specs.Prelude.{◌≡◌, ℕ, List, Option};
-ghost use Rattle.line_read.specs.Reading.{new_reading};
+ghost use Rattle.edge_io.specs.Reading.{new_reading};
 ghost use Rattle.script_run.specs.Reading.{Opens, OpensCause, first_of, moment};
 
-use edge_io::Source;
-use line_read::{Found, LineReader};
+use edge_io::{Found, LineReader, Source};
 use px_core::Size;
 use script_lines::{LineRule, size_of_line};
 

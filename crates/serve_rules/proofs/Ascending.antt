@@ -3,8 +3,8 @@ use Rattle.std.proofs.Common.{◌≡◌, ℕ, ◌≤◌, List, [], ◌∷◌, �
 use Rattle.std.specs.Prelude.{Option}
 use Rattle.session_rules.specs.declared.entry.Entry.{Entry}
 use Rattle.session_rules.specs.Journal.{Head, reached_at}
-use Rattle.session_laws.specs.Entering.{IsOfEvent}
-use Rattle.session_laws.proofs.Joins.{event_is}
+use Rattle.session_rules.specs.Entering.{IsOfEvent}
+use Rattle.session_rules.proofs.Joins.{event_is}
 use Rattle.serve_rules.specs.Events.{Act, entry_at, HasAt, next_low, HappenFrom, place_if, places_of, Ascend, AreOfEvents}
 
 module _ (head : Head) (v : ℕ) (j : List Entry) where

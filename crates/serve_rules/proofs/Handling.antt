@@ -3,10 +3,10 @@ use Rattle.std.proofs.Common.{◌≡◌, ℕ, ◌≤◌, List, [], ◌∷◌, �
 use Rattle.std.proofs.lemmas.List.{map-append}
 use Rattle.std.specs.Prelude.{Option, option_to_list}
 use Rattle.std.specs.List.{range_with_len}
-use Rattle.input_events.specs.declared.event.Event.{Event}
+use Rattle.input_pdu.specs.declared.event.Event.{Event}
 use Rattle.session_rules.specs.declared.entry.Entry.{Entry}
 use Rattle.session_rules.specs.Journal.{Head, reached_at}
-use Rattle.session_laws.specs.Entering.{entry_of_event}
+use Rattle.session_rules.specs.Entering.{entry_of_event}
 use Rattle.session_rules.proofs.Journals.{reached_at-append}
 use Rattle.grow_lock.specs.Journal.{StartsWith}
 use Rattle.grow_lock.proofs.Lists.{starts_itself, starts_trans, length_starts}

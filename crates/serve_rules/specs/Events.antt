@@ -1,9 +1,9 @@
 -- What becomes of a viewer's input events, each of which is handled in a turn of its own.
 use Rattle.std.specs.Prelude.{◌≡◌, ℕ, ◌≤◌, suc, List, [], ◌∷◌, ◌++◌, length, map, slice_get, Option, Some, None, ⊤, ◌⊎◌}
-use Rattle.input_events.specs.declared.event.Event.{Event}
+use Rattle.input_pdu.specs.declared.event.Event.{Event}
 use Rattle.session_rules.specs.declared.entry.Entry.{Entry}
 use Rattle.session_rules.specs.Journal.{Head, reached_at}
-use Rattle.session_laws.specs.Entering.{entry_of_event, IsOfEvent}
+use Rattle.session_rules.specs.Entering.{entry_of_event, IsOfEvent}
 use Rattle.grow_lock.specs.Journal.{StartsWith}
 use Rattle.serve_rules.specs.Turns.{SessionPass}
 

@@ -1,6 +1,6 @@
 -- What a client's steps ask for and announce.
 use Rattle.std.specs.Prelude.{Bool, true, List, [], ◌∷◌, flat_map}
-use Rattle.input_events.specs.declared.event.Event.{Event}
+use Rattle.input_pdu.specs.declared.event.Event.{Event}
 use Rattle.conn_rules.specs.declared.conn_step.ConnStep.{ConnStep}
 use Rattle.conn_rules.specs.declared.conn_step.ConnStep.TheVariants as step
 use Rattle.serve_rules.specs.declared.told.Told.{Told}

@@ -1,10 +1,10 @@
 -- One turn of a pass at the session's lock.
 use Rattle.std.specs.Prelude.{◌≡◌, ℕ, List, [], ◌∷◌, ◌++◌, length, Option, Some, None, option_to_list}
 use Rattle.std.specs.List.{range_with_len}
-use Rattle.input_events.specs.declared.event.Event.{Event}
+use Rattle.input_pdu.specs.declared.event.Event.{Event}
 use Rattle.session_rules.specs.declared.entry.Entry.{Entry}
 use Rattle.session_rules.specs.Journal.{Head, reached_at}
-use Rattle.session_laws.specs.Entering.{entry_of_event}
+use Rattle.session_rules.specs.Entering.{entry_of_event}
 use Rattle.grow_lock.specs.Journal.{StartsWith}
 use Rattle.grow_lock.specs.Passes.{PassModel}
 

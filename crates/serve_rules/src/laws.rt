@@ -1,7 +1,7 @@
 //! Laws of the definitions, each as the contract of a function that does nothing.
 
 ghost use Rattle.std.specs.Prelude.{◌≡◌, ℕ, Bool, true, List, [], ◌∷◌, ◌++◌, Option, option_to_list};
-ghost use Rattle.input_events.specs.declared.event.Event.{Event};
+ghost use Rattle.input_pdu.specs.declared.event.Event.{Event};
 ghost use Rattle.session_rules.specs.declared.entry.Entry.{Entry};
 ghost use Rattle.session_rules.specs.Journal.{Head};
 ghost use Rattle.grow_lock.specs.Journal.{StartsWith};

@@ -10,6 +10,6 @@ mod places;
 mod told;
 
 pub use ends::{ConnEnd, SideEnd};
-pub use out_of_memory::OutOfMemory;
 pub use places::Places;
 pub use told::{ConnReport, Told};
+pub use wire_num::OutOfMemory;

@@ -5,7 +5,7 @@ use Rattle.session_rules.specs.declared.entry.Entry.{Entry}
 use Rattle.session_rules.specs.Journal.{Head, Reached, Refusal, refusal_of}
 use Rattle.session_rules.specs.Steps.{Answer, entered}
 use Rattle.session_rules.specs.Steps.Answer.{Accepted, Refused}
-use Rattle.session_laws.specs.Entering.{play_of}
+use Rattle.session_rules.specs.Entering.{play_of}
 use Rattle.session_core.specs.declared.faults.DrawRefusal.{DrawRefusal}
 use Rattle.session_core.specs.declared.faults.DrawRefusal.TheVariants as draw
 use Rattle.session_core.specs.declared.faults.InputRefusal.{InputRefusal}

@@ -3,7 +3,7 @@ use Rattle.std.proofs.Common.{ℕ, zero, suc, ◌<◌, List, [], ◌∷◌, leng
 use Rattle.std.specs.Prelude.{All}
 use Rattle.draw_ops.specs.declared.shape.Drawing.{Drawing}
 use Rattle.draw_ops.specs.Ranges.{HasColors}
-use Rattle.session_laws.specs.Reaching.{AreColored}
+use Rattle.session_rules.specs.Reaching.{AreColored}
 
 pub all_colored : (ds : List Drawing) → AreColored ds → All HasColors ds
 all_colored [] h k d below = absurd (omega (arith, below))

@@ -7,8 +7,8 @@ use Rattle.draw_ops.specs.Slots.{SurfaceState}
 use Rattle.draw_ops.specs.Drawing.{state_after_drawing, state_after_drawings}
 use Rattle.session_rules.specs.declared.entry.Entry.{Entry}
 use Rattle.session_rules.specs.Journal.{State, opening_state, drawings_of, state_after_entry, state_after}
-use Rattle.frame_rules.specs.Pending.{Pending, pending_drawings, pending_from, pending_between}
-use Rattle.session_laws.proofs.Sound.{count_drawings}
+use Rattle.session_rules.specs.Pending.{Pending, pending_drawings, pending_from, pending_between}
+use Rattle.session_rules.proofs.Sound.{count_drawings}
 use Rattle.session_core.specs.declared.kept.Kept.{Kept}
 use Rattle.session_core.specs.Keeping.{journal_of, IsKept, AllKept}
 use Rattle.session_core.proofs.Sessions.{states, states_reached}

@@ -3,7 +3,7 @@ use Rattle.std.proofs.Common.{◌≡◌, ℕ, ◌+◌, ◌≤◌, ◌<◌, None,
 use Rattle.std.proofs.lemmas.Bool.Decides.{nat_tests}
 use Rattle.std.specs.Prelude.{Bool, true, nat_lt, nat_le}
 use Rattle.draw_ops.specs.declared.shape.Drawing.{Drawing}
-use Rattle.input_events.specs.declared.event.Event.{Event}
+use Rattle.input_pdu.specs.declared.event.Event.{Event}
 use Rattle.session_rules.specs.declared.entry.Entry.TheVariants.{Give, Input, Draw}
 use Rattle.session_rules.specs.Journal.{Head, Reached, unless, refusal_of, room_test, shape_pixels, most_entries, most_image_pixels}
 use Rattle.session_rules.specs.Journal.Refusal.{JournalFull}

@@ -4,7 +4,7 @@ use Rattle.std.proofs.lemmas.Bool.Decides.{nat_tests}
 use Rattle.std.specs.Prelude.{Bool, true, false, ◌&&◌, ◌||◌, ◌==◌, not, nat_lt, Option, if◌then◌else◌}
 use Rattle.draw_ops.specs.Ranges.{is_u32}
 use Rattle.draw_ops.specs.Fits.{first_some}
-use Rattle.input_events.specs.declared.event.Event.{Event}
+use Rattle.input_pdu.specs.declared.event.Event.{Event}
 use Rattle.session_rules.specs.declared.entry.Entry.TheVariants.{Give, Input}
 use Rattle.session_rules.specs.Journal.{Head, Reached, Refusal, unless, refusal_of, room_test, holds, may_give, next_of, is_owner_here, role_of, is_f12, is_event_in_range, most_entries}
 use Rattle.session_rules.specs.Journal.Refusal.{NotHolder, JournalFull}

@@ -19,8 +19,8 @@ use Rattle.session_core.specs.declared.faults.JoinFault.{JoinFault}
 use Rattle.session_core.specs.declared.faults.JoinFault.TheVariants as fault
 use Rattle.session_core.specs.Outcomes.{IsAnswered, GoesOn}
 use Rattle.session_core.specs.Faults.{join_answer}
-use Rattle.session_laws.specs.Entering.{play_of, entry_of_step, answer_at}
-use Rattle.session_laws.proofs.Entered.{entered_legal, entered_refused}
+use Rattle.session_rules.specs.Entering.{play_of, entry_of_step, answer_at}
+use Rattle.session_rules.proofs.Entered.{entered_legal, entered_refused}
 
 same_role : (role : Role) → is_same_role role role ≡ true
 same_role Owner = refl

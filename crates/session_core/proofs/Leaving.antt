@@ -7,7 +7,7 @@ use Rattle.draw_ops.specs.Ranges.{is_u32}
 use Rattle.session_rules.specs.declared.entry.Entry.TheVariants.{Leave}
 use Rattle.session_rules.specs.Journal.{Head, Reached, Viewer, is_present, without_viewer, refusal_of}
 use Rattle.session_rules.specs.Steps.{replaced_for}
-use Rattle.session_laws.specs.Reaching.{AreNumbered}
+use Rattle.session_rules.specs.Reaching.{AreNumbered}
 
 pub leave_legal : (head : Head) (r : Reached) (v : ℕ) → v < 4294967296 → is_present v r.viewers ≡ true → refusal_of head r (Leave v) ≡ None
 leave_legal head r v range here = let small : is_u32 v ≡ true = grind (arith, nat_tests, range) in rw (small, here) refl

@@ -7,7 +7,7 @@ use Rattle.px_core.specs.declared.surface.Size.{Size}
 use Rattle.px_core.specs.Rectangle.{is_session_size}
 use Rattle.draw_ops.specs.declared.shape.Drawing.{Drawing}
 use Rattle.draw_ops.specs.Slots.{SurfaceState}
-use Rattle.input_events.specs.declared.event.Event.{Event}
+use Rattle.input_pdu.specs.declared.event.Event.{Event}
 use Rattle.board_app.specs.declared.board.Board.{Board as BoardKept}
 use Rattle.board_app.specs.Boards.{board_of}
 use Rattle.session_rules.specs.declared.entry.Entry.{Entry}
@@ -15,12 +15,12 @@ use Rattle.session_rules.specs.declared.entry.Entry.TheVariants.{Input}
 use Rattle.session_rules.specs.Board.{Board, board_reaction}
 use Rattle.session_rules.specs.Journal.{Head, State, drawings_of, state_after_entry, state_after, reached_at_first, reached_after, IsLegalJournal}
 use Rattle.session_rules.proofs.Journals.{IsLegalJournal-front}
-use Rattle.frame_rules.specs.Pending.{Pending, pending_drawings, pending_from, pending_between}
-use Rattle.session_laws.proofs.Sound.{sound_reached}
-use Rattle.session_core.specs.declared.shown.Shown.{Shown}
-use Rattle.session_core.specs.Showing.{all_shown, shown_with}
+use Rattle.session_rules.specs.Pending.{Pending, pending_drawings, pending_from, pending_between}
+use Rattle.session_rules.proofs.Sound.{sound_reached}
+use Rattle.pending_core.specs.declared.shown.Shown.{Shown}
+use Rattle.pending_core.specs.Showing.{all_shown, shown_with}
 use Rattle.session_core.specs.Keeping.{IsBoardKept}
-use Rattle.session_core.specs.Putting.{drawings_made, IsBoardReady}
+use Rattle.pending_core.specs.Putting.{drawings_made, IsBoardReady}
 use Rattle.session_core.proofs.Counted.{length_pending}
 use Rattle.session_core.proofs.Sessions.{states, states_reached}
 

@@ -4,18 +4,18 @@ use Rattle.std.specs.Prelude.{IsTrue, slice_get}
 use Rattle.px_core.specs.declared.surface.Size.{Size}
 use Rattle.px_core.specs.Rectangle.{is_session_size}
 use Rattle.draw_ops.specs.declared.shape.Drawing.{Drawing}
-use Rattle.input_events.specs.declared.event.Event.{Event}
+use Rattle.input_pdu.specs.declared.event.Event.{Event}
 use Rattle.session_rules.specs.declared.entry.Entry.{Entry}
 use Rattle.session_rules.specs.declared.entry.Entry.TheVariants.{Join, Leave, Give, Input, Draw}
 use Rattle.session_rules.specs.Journal.{Head, State, drawings_of, state_after}
-use Rattle.frame_rules.specs.Pending.{pending_drawings, pending_between}
+use Rattle.session_rules.specs.Pending.{pending_drawings, pending_between}
 use Rattle.session_core.specs.declared.kept.Kept.{Kept}
 use Rattle.session_core.specs.declared.standing.Standing.{Standing}
 use Rattle.session_core.specs.Keeping.{journal_of, IsBoardKept, IsKept}
-use Rattle.session_core.specs.Showing.{all_shown, shown_list}
+use Rattle.pending_core.specs.Showing.{all_shown, shown_list}
 use Rattle.session_core.specs.Standing.{IsSession}
-use Rattle.session_core.specs.Putting.{drawings_made, IsBoardReady}
-use Rattle.session_core.specs.Outcomes.{AppendsFront}
+use Rattle.pending_core.specs.Putting.{drawings_made, IsBoardReady}
+use Rattle.pending_core.specs.Appending.{AppendsFront}
 use Rattle.session_core.specs.SessionModel.{SessionModel}
 use Rattle.session_core.proofs.Sessions.{model_of}
 use Rattle.session_core.proofs.Counted.{kept_at, entry_at}

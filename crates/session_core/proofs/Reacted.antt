@@ -6,23 +6,23 @@ use Rattle.px_core.specs.Rectangle.{is_session_size}
 use Rattle.draw_ops.specs.declared.shape.Drawing.{Drawing}
 use Rattle.draw_ops.specs.Fits.{AllFitState}
 use Rattle.draw_ops.specs.Ranges.{HasColors}
-use Rattle.input_events.specs.declared.event.Event.{Event}
+use Rattle.input_pdu.specs.declared.event.Event.{Event}
 use Rattle.board_app.specs.Boards.{board_of}
 use Rattle.session_rules.specs.declared.entry.Entry.TheVariants.{Input}
 use Rattle.session_rules.specs.Agreement.{BoardAgrees}
 use Rattle.session_rules.specs.Board.{board_reaction}
 use Rattle.session_rules.specs.Journal.{Head, drawings_of}
-use Rattle.frame_rules.specs.Pending.{pending_drawings}
-use Rattle.board_laws.proofs.Fitting.{sides_of}
-use Rattle.board_laws.proofs.Reactions.{board_reacts}
-use Rattle.session_laws.proofs.Reactions.{reaction_colored}
+use Rattle.session_rules.specs.Pending.{pending_drawings}
+use Rattle.session_rules.proofs.Fitting.{sides_of}
+use Rattle.session_rules.proofs.BoardReactions.{board_reacts}
+use Rattle.session_rules.proofs.Reactions.{reaction_colored}
 use Rattle.session_core.specs.declared.standing.Standing.{Standing}
 use Rattle.session_core.specs.declared.events.Reaction.{Reaction}
 use Rattle.session_core.specs.declared.kept.Kept.{Kept}
-use Rattle.session_core.specs.declared.shown.ShownList.TheVariants.{Many}
+use Rattle.pending_core.specs.declared.shown.ShownList.TheVariants.{Many}
 use Rattle.session_core.specs.Keeping.{IsKept}
 use Rattle.session_core.specs.Reacting.{Reacts}
-use Rattle.session_core.specs.Showing.{all_shown}
+use Rattle.pending_core.specs.Showing.{all_shown}
 use Rattle.session_core.specs.Standing.{reached_of}
 use Rattle.session_core.proofs.Colored.{all_colored}
 

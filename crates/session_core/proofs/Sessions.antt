@@ -6,9 +6,9 @@ use Rattle.session_rules.specs.declared.entry.Entry.{Entry}
 use Rattle.session_rules.specs.Journal.{Head, State, Reached, is_present, refusal_of, opening_state, state_after_entry, reached_at, reached_at_first, reached_after, reached_after_entry, IsLegalJournal}
 use Rattle.session_rules.proofs.Journals.{reached_after-append, IsLegalJournal-push}
 use Rattle.session_rules.specs.Steps.{Step, Answer}
-use Rattle.session_laws.specs.Entering.{answer_at, entry_of_step}
-use Rattle.session_laws.specs.Reaching.{IsSoundReached}
-use Rattle.session_laws.proofs.Sound.{sound_reached}
+use Rattle.session_rules.specs.Entering.{answer_at, entry_of_step}
+use Rattle.session_rules.specs.Reaching.{IsSoundReached}
+use Rattle.session_rules.proofs.Sound.{sound_reached}
 use Rattle.session_core.specs.declared.members.Member.{Member}
 use Rattle.session_core.specs.declared.standing.Standing.{Standing}
 use Rattle.session_core.specs.declared.kept.Kept.{Kept}

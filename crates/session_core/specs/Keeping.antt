@@ -9,9 +9,9 @@ use Rattle.session_rules.specs.declared.entry.Entry.{Entry}
 use Rattle.session_rules.specs.declared.entry.Entry.TheVariants.{Join, Leave, Give, Input, Draw}
 use Rattle.session_rules.specs.Board.{Board}
 use Rattle.session_rules.specs.Journal.{State, drawings_of, state_after_entry}
-use Rattle.frame_rules.specs.Pending.{pending_drawings}
+use Rattle.session_rules.specs.Pending.{pending_drawings}
 use Rattle.session_core.specs.declared.kept.Kept.{Kept}
-use Rattle.session_core.specs.Showing.{all_shown, shown_list}
+use Rattle.pending_core.specs.Showing.{all_shown, shown_list}
 
 abbrev pub journal_of : List Kept → List Entry
 journal_of ks = map (λ (k : Kept). k.entry) ks

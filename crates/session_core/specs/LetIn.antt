@@ -4,7 +4,7 @@ use Rattle.session_rules.specs.declared.entry.Role.{Role}
 use Rattle.session_rules.specs.Journal.{Head, Reached}
 use Rattle.session_rules.specs.Steps.{row_role}
 use Rattle.session_rules.specs.Steps.Step.{JoinStep}
-use Rattle.session_laws.specs.Entering.{entry_of_step, answer_at}
+use Rattle.session_rules.specs.Entering.{entry_of_step, answer_at}
 use Rattle.session_core.specs.declared.faults.JoinFault.{JoinFault}
 use Rattle.session_core.specs.Faults.{join_answer}
 

@@ -4,13 +4,9 @@ pub mod Heads
 pub mod Outcomes
 pub mod Faults
 pub mod Members
-pub mod Showing
 pub mod Keeping
 pub mod Standing
 pub mod LetIn
-pub mod Filled
-pub mod Cells
 pub mod Refusing
 pub mod Entered
 pub mod Reacting
-pub mod Putting

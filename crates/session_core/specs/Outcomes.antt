@@ -22,10 +22,3 @@ Answers (Frame t) entry old new = new ≡ old
 abbrev pub GoesOn : Option Answer → Option Entry → List Entry → List Entry → Type 0
 GoesOn None entry old new = new ≡ old
 GoesOn (Some answer) entry old new = Answers answer entry old new
-
--- after items a front of some others was appended
-pub record AppendsFront {A : Type 0} (old new all : List A) : Type 0 where
-  pub front : List A
-  pub rest : List A
-  pub whole : all ≡ front ++ rest
-  pub appended : new ≡ old ++ front

@@ -1,18 +1,18 @@
 -- What comes of input events.
 use Rattle.std.specs.Prelude.{◌≡◌, ℕ, false, Option, Some, None, Result, Ok, Err}
 use Rattle.std.specs.Box.{box_value}
-use Rattle.input_events.specs.declared.event.Event.{Event}
+use Rattle.input_pdu.specs.declared.event.Event.{Event}
 use Rattle.board_app.specs.Boards.{board_of}
 use Rattle.session_rules.specs.declared.entry.Entry.TheVariants.{Give, Input}
 use Rattle.session_rules.specs.Board.{board_reaction}
 use Rattle.session_rules.specs.Journal.{Head, Reached, is_f12, refusal_of}
 use Rattle.session_rules.specs.Steps.{receiver_of}
-use Rattle.frame_rules.specs.Pending.{pending_drawings}
+use Rattle.session_rules.specs.Pending.{pending_drawings}
 use Rattle.session_core.specs.declared.faults.InputRefusal.{InputRefusal}
 use Rattle.session_core.specs.declared.standing.Standing.{Standing}
 use Rattle.session_core.specs.declared.events.Reaction.{Reaction}
 use Rattle.session_core.specs.Refusing.{input_refusal, IsInputRefused}
-use Rattle.session_core.specs.Showing.{all_shown}
+use Rattle.pending_core.specs.Showing.{all_shown}
 
 -- the viewer to whom control is given, which is legal; else the refusal
 abbrev pub IsGiveRefused : Head → Reached → ℕ → Result ℕ InputRefusal → Type 0

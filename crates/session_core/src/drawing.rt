@@ -10,7 +10,7 @@ ghost use Rattle.session_core.specs.Standing.{reached_of};
 
 use crate::faults::DrawRefusal;
 use crate::fit::fit;
-use crate::ranges::drawing_is_in_range;
+use crate::ranges::recall_drawing_range;
 use crate::standing::{MOST_ENTRIES, Standing};
 use draw_ops::{Drawing, Shape, valid};
 
@@ -35,13 +35,13 @@ pub fn may_draw(standing: &Standing, v: u32, d: &Drawing) -> Result<(), DrawRefu
     requires few { standing.now.image_pixels ≤ 67108864 }
     ensures { (head : Head) (n : ℕ) → head.size ≡ standing.now.surface.size → IsRefused result (refusal_of head (reached_of standing.now n) (Draw v d.now)) }
 {
-    drawing_is_in_range(d);
+    recall_drawing_range(d);
     if !standing.holds(v) {
         let holder = standing.holder;
         return Err(DrawRefusal::NotHolder { holder });
     }
     keeps_rules(standing, d)?;
-    fit(&standing.surface, &d.shape)?;
+    fit(&standing.surface, d)?;
     if is_full(standing, &d.shape) {
         return Err(DrawRefusal::JournalFull);
     }

@@ -13,12 +13,12 @@ ghost use Rattle.session_core.specs.Standing.{reached_of};
 use crate::OutOfMemory;
 use crate::faults::InputRefusal;
 use crate::members::{next_of, role_of};
-use crate::ranges::event_is_in_range;
-use crate::shown::{Shown, shown_all};
+use crate::ranges::recall_event_range;
 use crate::standing::{MOST_ENTRIES, Standing};
 use board_app::Board;
 use draw_ops::Drawing;
-use input_events::Event;
+use input_pdu::Event;
+use pending_core::{Shown, shown_all};
 use session_rules::Role;
 use std::alloc::Global;
 
@@ -87,7 +87,7 @@ fn is_owner(standing: &Standing, v: u32) -> bool
 pub fn may_react(standing: &Standing, v: u32, e: Event) -> Result<(), InputRefusal>
     ensures { (head : Head) (n : ℕ) → IsReactRefused head (reached_of standing.now n) v e result }
 {
-    event_is_in_range(e);
+    recall_event_range(e);
     let holder = standing.holder;
     if !standing.holds(v) {
         return Err(InputRefusal::NotHolder { holder });

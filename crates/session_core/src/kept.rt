@@ -4,8 +4,8 @@ ghost use Rattle.std.specs.Prelude.{◌≡◌, ◌+◌, ◌≤◌};
 ghost use Rattle.std.specs.Bool.{OnTrue};
 ghost use Rattle.std.specs.Vec.{vec_len, vec_capacity};
 
-use crate::shown::ShownList;
 use board_app::Board;
+use pending_core::ShownList;
 use session_rules::Entry;
 
 /// An entry, the number of the drawings before it, the board that an input found, and what each of the entry's drawings shows.

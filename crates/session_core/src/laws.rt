@@ -4,7 +4,7 @@ ghost use Rattle.std.specs.Prelude.{◌≡◌, ℕ, ◌+◌, ◌≤◌, List, �
 ghost use Rattle.px_core.specs.declared.surface.Size.{Size};
 ghost use Rattle.session_rules.specs.declared.entry.Entry.{Entry};
 ghost use Rattle.session_rules.specs.Journal.{drawings_of, state_after};
-ghost use Rattle.frame_rules.specs.Pending.{pending_drawings, pending_between};
+ghost use Rattle.session_rules.specs.Pending.{pending_drawings, pending_between};
 
 /// The pending drawings between two places are those up to a place between them, and those from it on.
 pub fn pending_drawings_go_on()

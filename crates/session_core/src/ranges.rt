@@ -6,52 +6,52 @@ ghost use Rattle.px_core.specs.Colors.{are_colors};
 ghost use Rattle.draw_ops.specs.Ranges.{HasColors, colors_of, is_u8, is_u16, is_u32, is_i32, is_point_in_range, is_rect_in_range, is_clip_in_range, is_glyph_in_range, is_shape_in_range, is_drawing_in_range, are_bytes, are_byte_pairs};
 
 use draw_ops::{Drawing, Glyph, Shape};
-use input_events::Event;
+use input_pdu::Event;
 use px_core::Rect;
 
 /// The numbers of a drawing of colours are in range. It does nothing.
-pub fn drawing_is_in_range(d: &Drawing)
+pub fn recall_drawing_range(d: &Drawing)
     ensures { HasColors d.now → is_drawing_in_range d.now ≡ true }
 {
     if let Some(clip) = d.clip {
-        rect_is_in_range(clip);
+        recall_rect_range(clip);
     }
-    shape_is_in_range(&d.shape);
+    recall_shape_range(&d.shape);
 }
 
 /// The numbers of an event are in range. It does nothing.
-pub fn event_is_in_range(e: Event)
+pub fn recall_event_range(e: Event)
     ensures { is_event_in_range e ≡ true }
 {
     match e {
-        Event::Scan { code, .. } => side_is_in_range(code),
-        Event::Unicode { code, .. } => side_is_in_range(code),
+        Event::Scan { code, .. } => recall_side_range(code),
+        Event::Unicode { code, .. } => recall_side_range(code),
         Event::Mouse { flags, x, y } => {
-            side_is_in_range(flags);
-            side_is_in_range(x);
-            side_is_in_range(y);
+            recall_side_range(flags);
+            recall_side_range(x);
+            recall_side_range(y);
         }
         Event::Sync | Event::MouseX => {}
     }
 }
 
 /// The numbers of a shape of colours are in range.
-fn shape_is_in_range(shape: &Shape)
+fn recall_shape_range(shape: &Shape)
     ensures { are_colors (colors_of shape.now) ≡ true → is_shape_in_range shape.now ≡ true }
 {
     match shape {
-        Shape::Fill { rect, .. } => rect_is_in_range(*rect),
+        Shape::Fill { rect, .. } => recall_rect_range(*rect),
         Shape::Dst { rect, rop } => {
-            rect_is_in_range(*rect);
+            recall_rect_range(*rect);
             byte_is_in_range(*rop);
         }
         Shape::Pat { rect, rop, brush } => {
-            rect_is_in_range(*rect);
+            recall_rect_range(*rect);
             byte_is_in_range(*rop);
             byte_is_in_range(*brush);
         }
         Shape::Copy { rect, rop, sx, sy } => {
-            rect_is_in_range(*rect);
+            recall_rect_range(*rect);
             byte_is_in_range(*rop);
             point_is_in_range(*sx, *sy);
         }
@@ -62,7 +62,7 @@ fn shape_is_in_range(shape: &Shape)
             sx,
             sy,
         } => {
-            rect_is_in_range(*rect);
+            recall_rect_range(*rect);
             byte_is_in_range(*rop);
             byte_is_in_range(*image);
             point_is_in_range(*sx, *sy);
@@ -75,7 +75,7 @@ fn shape_is_in_range(shape: &Shape)
             sy,
             brush,
         } => {
-            rect_is_in_range(*rect);
+            recall_rect_range(*rect);
             byte_is_in_range(*rop);
             byte_is_in_range(*image);
             point_is_in_range(*sx, *sy);
@@ -98,7 +98,7 @@ fn shape_is_in_range(shape: &Shape)
         }
         Shape::Save { slot, rect } => {
             byte_is_in_range(*slot);
-            rect_is_in_range(*rect);
+            recall_rect_range(*rect);
         }
         Shape::Restore { slot, x, y } => {
             byte_is_in_range(*slot);
@@ -106,8 +106,8 @@ fn shape_is_in_range(shape: &Shape)
         }
         Shape::LoadImage { slot, image } => {
             byte_is_in_range(*slot);
-            side_is_in_range(image.w());
-            side_is_in_range(image.h());
+            recall_side_range(image.w());
+            recall_side_range(image.h());
         }
         Shape::LoadBrush { slot, brush } => {
             byte_is_in_range(*slot);
@@ -127,7 +127,7 @@ fn byte_is_in_range(n: u8)
     let _ = n;
 }
 
-fn side_is_in_range(n: u16)
+fn recall_side_range(n: u16)
     ensures { is_u16 n ≡ true }
 {
     let _ = n;
@@ -139,7 +139,7 @@ fn point_is_in_range(x: i32, y: i32)
     let _ = (x, y);
 }
 
-fn rect_is_in_range(r: Rect)
+fn recall_rect_range(r: Rect)
     ensures { is_rect_in_range r ≡ true }
 {
     let _ = r;
@@ -149,8 +149,8 @@ fn glyph_is_in_range(glyph: &Glyph)
     ensures { is_glyph_in_range glyph.now ≡ true }
 {
     point_is_in_range(glyph.x(), glyph.y());
-    side_is_in_range(glyph.cx());
-    side_is_in_range(glyph.cy());
+    recall_side_range(glyph.cx());
+    recall_side_range(glyph.cy());
     bytes_are_in_range(glyph.bits());
 }
 

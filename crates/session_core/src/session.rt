@@ -9,11 +9,12 @@ ghost use Rattle.session_rules.specs.declared.entry.Entry.TheVariants.{Leave, Gi
 ghost use Rattle.session_rules.specs.Journal.{state_after, is_f12, IsLegalJournal};
 ghost use Rattle.session_rules.specs.Steps.{replaced_for, receiver_of};
 ghost use Rattle.session_rules.specs.Steps.Step.{JoinStep, InputStep, DrawStep};
-ghost use Rattle.session_laws.specs.Entering.{entry_of_step, answer_at};
-ghost use Rattle.frame_rules.specs.Pending.{pending_between};
+ghost use Rattle.session_rules.specs.Entering.{entry_of_step, answer_at};
+ghost use Rattle.session_rules.specs.Pending.{pending_between};
 ghost use Rattle.session_core.specs.Heads.{rows_of};
 ghost use Rattle.session_core.specs.SessionModel.{new_session, reached_by, is_here, asked_by, is_suppressed, AreInvited};
-ghost use Rattle.session_core.specs.Outcomes.{IsAnswered, GoesOn, AppendsFront};
+ghost use Rattle.pending_core.specs.Appending.{AppendsFront};
+ghost use Rattle.session_core.specs.Outcomes.{IsAnswered, GoesOn};
 ghost use Rattle.session_core.specs.Entered.{answer_of_entry, entry_entered};
 ghost use Rattle.session_core.specs.Faults.{join_answer, input_answer, draw_answer};
 
@@ -25,14 +26,12 @@ use crate::head::{Invite, SessionHead};
 use crate::joining::let_in;
 use crate::kept::{Kept, make_room};
 use crate::members::{asked_by, is_suppressed, role_of};
-use crate::pending::Pending;
-use crate::putting::{put_drawn, put_reaction};
-use crate::shown::{ShownList, shown_one};
 use crate::standing::Standing;
 use draw_ops::Drawing;
 use grow_lock::Grows;
 use info_lic::Name;
-use input_events::Event;
+use input_pdu::Event;
+use pending_core::{Pending, ShownList, put_drawn, put_reaction, shown_one};
 use px_core::{Rect, Size, TileSet};
 use session_rules::Entry;
 use std::alloc::Global;
@@ -312,7 +311,7 @@ impl Session {
     }
 
     /// What holds of every session; it does nothing.
-    pub fn is_legal(&self)
+    pub fn recall_legal(&self)
         ensures size { IsTrue (is_session_size self.now.head.size.w self.now.head.size.h) }
         ensures rows { AreInvited self.now.head.rows }
         ensures journal { IsLegalJournal self.now.head self.now.journal }

@@ -6,7 +6,7 @@ ghost use Rattle.px_core.specs.declared.surface.Size.{Size};
 ghost use Rattle.px_core.specs.Rectangle.{is_session_size};
 ghost use Rattle.draw_ops.specs.Ranges.{HasColors};
 ghost use Rattle.draw_ops.specs.Fits.{broken_rule, AllFitState};
-ghost use Rattle.input_events.specs.declared.event.Event.{Event};
+ghost use Rattle.input_pdu.specs.declared.event.Event.{Event};
 ghost use Rattle.board_app.specs.Boards.{board_of};
 ghost use Rattle.session_rules.specs.Board.{board_reaction};
 ghost use Rattle.session_rules.specs.declared.entry.Entry.TheVariants.{Join, Leave, Give, Input, Draw};

@@ -2,3 +2,12 @@ pub mod Journals
 pub mod Takes
 pub mod OwnSteps
 pub mod Changes
+pub mod Slots
+pub mod Agrees
+pub mod Fitting
+pub mod BoardReactions
+pub mod Few
+pub mod Entered
+pub mod Reactions
+pub mod Sound
+pub mod Joins

@@ -8,8 +8,8 @@ use Rattle.px_core.specs.Rectangle.{boxed, in_rect, whole}
 use Rattle.draw_ops.specs.declared.shape.Drawing.{Drawing}
 use Rattle.draw_ops.specs.declared.shape.Shape.{Shape}
 use Rattle.draw_ops.specs.declared.shape.Shape.TheVariants.{Fill, Dst, Pat, Copy, Blit, Text, Line, Save, Restore, LoadImage, LoadBrush, LoadGlyph}
-use Rattle.input_events.specs.declared.event.Event.{Event}
-use Rattle.input_events.specs.declared.event.Event.TheVariants.{Sync, Scan, Unicode, Mouse, MouseX}
+use Rattle.input_pdu.specs.declared.event.Event.{Event}
+use Rattle.input_pdu.specs.declared.event.Event.TheVariants.{Sync, Scan, Unicode, Mouse, MouseX}
 
 -- ---- the board's state
 

@@ -9,8 +9,8 @@ use Rattle.draw_ops.specs.Drawing.{state_after_drawings}
 use Rattle.draw_ops.specs.Ranges.{is_u16, is_u32, is_drawing_in_range}
 use Rattle.draw_ops.specs.Fits.{first_some, broken_rule, slot_misfit, Misfit}
 use Rattle.draw_ops.specs.Fits.Misfit.{Rule, Empty, TooSmall}
-use Rattle.input_events.specs.declared.event.Event.{Event}
-use Rattle.input_events.specs.declared.event.Event.TheVariants.{Sync, Scan, Unicode, Mouse, MouseX}
+use Rattle.input_pdu.specs.declared.event.Event.{Event}
+use Rattle.input_pdu.specs.declared.event.Event.TheVariants.{Sync, Scan, Unicode, Mouse, MouseX}
 use Rattle.session_rules.specs.declared.entry.Role.{Role}
 use Rattle.session_rules.specs.declared.entry.Role.TheVariants.{Owner, Control, View}
 use Rattle.session_rules.specs.declared.entry.Entry.{Entry}

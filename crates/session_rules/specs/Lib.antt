@@ -2,3 +2,6 @@ pub mod Board
 pub mod Journal
 pub mod Steps
 pub mod Agreement
+pub mod Entering
+pub mod Reaching
+pub mod Pending

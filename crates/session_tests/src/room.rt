@@ -8,7 +8,7 @@ ghost use Rattle.session_core.specs.SessionModel.{AreInvited};
 
 use draw_ops::{Drawing, Shape};
 use info_lic::Name;
-use input_events::Event;
+use input_pdu::Event;
 use px_core::{Rect, Size};
 use session_core::{DrawRefusal, InputRefusal, Invite, JoinFault, OutOfMemory, Role, Session};
 use std::alloc::Global;

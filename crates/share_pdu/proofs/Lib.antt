@@ -2,3 +2,11 @@ pub mod Share
 pub mod Packet
 pub mod Areas
 pub mod SampleClient
+pub mod Steps
+pub mod AreasRead
+pub mod Rects
+pub mod HeadersRead
+pub mod Split
+pub mod BodiesRead
+pub mod Text
+pub mod Fault

@@ -3,7 +3,7 @@ use Rattle.std.proofs.Common.{◌≡◌, ℕ, ◌+◌, ◌-◌, ◌*◌, ◌/◌
 use Rattle.std.specs.Prelude.{Ok, nat_lt, ◌==◌, if◌then◌else◌}
 use Rattle.std.proofs.lemmas.Bool.Decides.{nat_tests}
 use Rattle.byteorder.specs.Endian.{big_bytes}
-use Rattle.byte_fields.specs.Field.{then_read}
+use Rattle.wire_num.specs.Field.{then_read}
 use Rattle.wire_num.specs.Length.{per_len_of, per_len_at}
 use Rattle.mcs_dom.specs.SendData.{indication_start}
 use Rattle.share_pdu.specs.Share.{share_bytes}

@@ -4,9 +4,9 @@ use Rattle.std.specs.Prelude.{Ok, nat_le, ◌&&◌}
 use Rattle.std.proofs.lemmas.List.{append-nil}
 use Rattle.std.proofs.lemmas.Bool.Decides.{nat_tests}
 use Rattle.byteorder.specs.Endian.{little_bytes}
-use Rattle.byte_fields.specs.Number.{little_value}
-use Rattle.byte_fields.proofs.Bytes.{taken_all}
-use Rattle.byte_fields.proofs.Numbers.{little_back}
+use Rattle.wire_num.specs.Number.{little_value}
+use Rattle.wire_num.proofs.Bytes.{taken_all}
+use Rattle.wire_num.proofs.Numbers.{little_back}
 use Rattle.share_pdu.specs.Share.{share_bytes, share_at}
 
 -- what stands behind the total

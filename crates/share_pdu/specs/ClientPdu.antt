@@ -1,11 +1,11 @@
 -- The share PDUs of a client: the share control header ([MS-RDPBCGR] 2.2.8.1.1.1.1), the share data header (2.2.8.1.1.1.2) and what
 -- a PDU says.
 use Rattle.std.specs.Prelude.{◌≤◌, ℕ, ◌-◌, ◌%◌, ◌==◌, nat_le, Bool, ◌&&◌, ◌||◌, List, length, take, slice_index, Result, Ok, Err, if◌then◌else◌}
-use Rattle.byte_fields.specs.Field.{Read, map_read, bytes_at}
-use Rattle.byte_fields.specs.Number.{big_at}
-use Rattle.byte_fields.specs.Caused.{Caused, caused, then_caused, placed_caused}
+use Rattle.wire_num.specs.Field.{Read, map_read, bytes_at}
+use Rattle.wire_num.specs.Number.{big_at}
+use Rattle.wire_num.specs.Caused.{Caused, caused, then_caused, placed_caused}
 use Rattle.wire_num.specs.declared.range.Range.{Range}
-use Rattle.wire_num.specs.Field.{is_any, has_bits}
+use Rattle.wire_num.specs.FieldValue.{is_any, has_bits}
 use Rattle.wire_num.specs.Layout.{Layout, Open, Any, Big, Little, ◌▸◌, fields_at}
 use Rattle.share_pdu.specs.declared.client_pdu.ClientPdu.{ClientPdu}
 use Rattle.share_pdu.specs.declared.client_pdu.ClientPdu.TheVariants.{Confirm, Synchronize, Cooperate, Request, FontList, KeyList, Input, Refresh, Suppress, Shutdown, Other}

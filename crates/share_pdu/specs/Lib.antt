@@ -4,3 +4,6 @@ pub mod Data
 pub mod Final
 pub mod Bodies
 pub mod ClientPdu
+pub mod Areas
+pub mod Grammar
+pub mod Faults

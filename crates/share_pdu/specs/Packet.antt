@@ -1,6 +1,6 @@
 -- The packet of an update, written and read: X.224 data with a Send Data Indication on channel 1003 ([RFC 1006] 6, [X.224] 13.7, [T.125] 11.33).
 use Rattle.std.specs.Prelude.{ℕ, ◌==◌, List, [], ◌∷◌, length}
-use Rattle.byte_fields.specs.Field.{Read, then_read, kept, wanted}
+use Rattle.wire_num.specs.Field.{Read, then_read, kept, wanted}
 use Rattle.wire_num.specs.Length.{per_len_at}
 use Rattle.mcs_dom.specs.SendData.{send_data_indication}
 use Rattle.share_pdu.specs.Share.{Within, share_bytes, share_at}

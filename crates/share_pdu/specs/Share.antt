@@ -1,8 +1,8 @@
 -- The share data PDU of an update, written and read ([MS-RDPBCGR] 2.2.8.1.1.1 and 2.2.9.1.1).
 use Rattle.std.specs.Prelude.{ℕ, ◌+◌, ◌-◌, ◌%◌, ◌==◌, nat_le, Bool, ◌&&◌, List, [], ◌∷◌, ◌++◌, length, Ok, Err}
 use Rattle.byteorder.specs.Endian.{little_bytes}
-use Rattle.byte_fields.specs.Field.{Read, then_read, taken, bytes_at, given, kept, wanted}
-use Rattle.byte_fields.specs.Number.{little_at}
+use Rattle.wire_num.specs.Field.{Read, then_read, taken, bytes_at, given, kept, wanted}
+use Rattle.wire_num.specs.Number.{little_at}
 
 -- ---- written
 

@@ -18,9 +18,9 @@
 //! | 1 | 3 | pad3Octets | not read |
 
 ghost use Rattle.std.specs.Prelude.{◌≡◌, slice_index};
-ghost use Rattle.byte_fields.specs.Field.{map_read};
-ghost use Rattle.byte_fields.specs.Number.{little_at};
-ghost use Rattle.wire_num.specs.Field.{passing_at};
+ghost use Rattle.wire_num.specs.Field.{map_read};
+ghost use Rattle.wire_num.specs.Number.{little_at};
+ghost use Rattle.wire_num.specs.FieldValue.{passing_at};
 ghost use Rattle.wire_num.specs.Layout.{fields_at};
 ghost use Rattle.wire_num.specs.Cursor.{ReadsField, ReadsFields, rest};
 ghost use Rattle.share_pdu.specs.Bodies.{synchronize_body, is_client_action, control_body, pdu_of_action, suppress_body, is_stop};
@@ -71,7 +71,7 @@ pub fn read_control(cursor: &mut Cursor<'_>) -> Result<ClientPdu, Short>
 }
 
 /// Reads the action of a client's Control.
-#[tactic(auto, unfolding(wire_num::specs::Field::passing_at))]
+#[tactic(auto, unfolding(wire_num::specs::FieldValue::passing_at))]
 fn read_action(cursor: &mut Cursor<'_>) -> Result<u16, Short>
     ensures { ReadsField (passing_at is_client_action (little_at 2)) result cursor.old cursor.new }
 {
@@ -92,7 +92,7 @@ fn is_client_action(action: u16) -> bool
 }
 
 /// Reads a Suppress Output.
-#[tactic(auto, unfolding(crate::specs::Bodies::suppress_body, wire_num::specs::Field::passing_at))]
+#[tactic(auto, unfolding(crate::specs::Bodies::suppress_body, wire_num::specs::FieldValue::passing_at))]
 pub fn read_suppress(cursor: &mut Cursor<'_>) -> Result<ClientPdu, Short>
     ensures { ReadsFields (λ bs. map_read (λ values. ClientPdu.Suppress (is_stop values)) (fields_at suppress_body bs)) result cursor.old cursor.new }
 {

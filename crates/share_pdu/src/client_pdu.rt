@@ -19,9 +19,9 @@
 //! | 18 | | body | by the kind |
 
 ghost use Rattle.std.specs.Prelude.{◌≡◌, ◌≤◌, ◌∷◌, [], length, IfOk};
-ghost use Rattle.byte_fields.specs.Field.{map_read};
-ghost use Rattle.byte_fields.specs.Number.{little_at};
-ghost use Rattle.wire_num.specs.Field.{passing_at};
+ghost use Rattle.wire_num.specs.Field.{map_read};
+ghost use Rattle.wire_num.specs.Number.{little_at};
+ghost use Rattle.wire_num.specs.FieldValue.{passing_at};
 ghost use Rattle.wire_num.specs.Layout.{fields_at};
 ghost use Rattle.wire_num.specs.Cursor.{ReadsField, ReadsFields, ReadsFieldsAs, ReadsCaused, rest};
 ghost use Rattle.share_pdu.specs.Bodies.{passed_refresh_at};
@@ -93,7 +93,7 @@ pub fn read_share(body: &[u8]) -> Result<ClientPdu, ShareFault>
 }
 
 /// Reads the total of the PDU at the cursor, which ends within what is left.
-#[tactic(auto, unfolding(crate::specs::ClientPdu::total_length, wire_num::specs::Field::passing_at))]
+#[tactic(auto, unfolding(crate::specs::ClientPdu::total_length, wire_num::specs::FieldValue::passing_at))]
 fn read_total(cursor: &mut Cursor<'_>) -> Result<u16, Short>
     ensures field { ReadsFieldsAs (λ total. total ∷ []) (fields_at (total_length (length (rest cursor.old)))) result cursor.old cursor.new }
     ensures fits { IfOk result (λ total. total ≤ length (rest cursor.old)) }
@@ -159,7 +159,7 @@ fn read_control_header(cursor: &mut Cursor<'_>) -> Result<u16, Short>
 }
 
 /// Reads the type of a PDU, which is one of a client.
-#[tactic(auto, unfolding(wire_num::specs::Field::passing_at))]
+#[tactic(auto, unfolding(wire_num::specs::FieldValue::passing_at))]
 fn read_type(cursor: &mut Cursor<'_>) -> Result<u16, Short>
     ensures { ReadsField (passing_at is_client_type (little_at 2)) result cursor.old cursor.new }
 {
@@ -187,7 +187,7 @@ fn read_data(total: usize, cursor: &mut Cursor<'_>) -> Result<ClientPdu, Cause>
 }
 
 /// Reads the share data header as far as pduType2, and gives this.
-#[tactic(auto, unfolding(crate::specs::ClientPdu::data_header, wire_num::specs::Field::passing_at))]
+#[tactic(auto, unfolding(crate::specs::ClientPdu::data_header, wire_num::specs::FieldValue::passing_at))]
 fn read_data_header(cursor: &mut Cursor<'_>) -> Result<u8, Short>
     ensures { ReadsFieldsAs (λ kind. kind ∷ []) (fields_at data_header) result cursor.old cursor.new }
 {

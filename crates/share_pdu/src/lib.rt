@@ -11,6 +11,7 @@ mod kinds;
 mod laws;
 mod refresh;
 mod share_fault;
+mod share_laws;
 
 pub use client_pdu::{ClientPdu, read_share};
 pub use data::write_data;
@@ -18,4 +19,5 @@ pub use finals::{Final, write_final};
 pub use laws::share_is_read_from_its_bytes;
 pub use refresh::{find_areas, read_area, read_areas};
 pub use share_fault::ShareFault;
+pub use share_laws::{areas_are_read_exactly, share_pdus_are_read_exactly};
 pub use wire_num::OutOfMemory;

@@ -52,7 +52,7 @@ pub fn check_areas(cursor: &mut Cursor<'_>) -> Result<(), Short>
 }
 
 /// Reads the number of areas, and goes to the first one.
-#[tactic(auto, unfolding(crate::specs::Bodies::refresh_header, wire_num::specs::Field::passing_at))]
+#[tactic(auto, unfolding(crate::specs::Bodies::refresh_header, wire_num::specs::FieldValue::passing_at))]
 fn read_count(cursor: &mut Cursor<'_>) -> Result<u8, Short>
     ensures { ReadsFieldsAs (λ count. count ∷ []) (fields_at refresh_header) result cursor.old cursor.new }
 {
@@ -93,7 +93,7 @@ fn find_area(count: u8, k: usize, cursor: &mut Cursor<'_>) -> Option<Rect>
 }
 
 /// Reads the next area; none where it is to be skipped.
-#[tactic(auto, unfolding(crate::specs::Bodies::area_at, crate::specs::Bodies::inclusive_area, wire_num::specs::Field::passing_at))]
+#[tactic(auto, unfolding(crate::specs::Bodies::area_at, crate::specs::Bodies::inclusive_area, wire_num::specs::FieldValue::passing_at))]
 pub fn read_area(cursor: &mut Cursor<'_>) -> Result<Option<Rect>, Short>
     ensures { ReadsFields area_at result cursor.old cursor.new }
 {

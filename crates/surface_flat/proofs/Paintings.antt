@@ -7,7 +7,7 @@ use Rattle.px_core.specs.Picture.{Area, Formula, pixel_count, pixel_at, where_ch
 use Rattle.px_core.specs.Rectangle.{in_rect}
 use Rattle.px_core.proofs.Pictures.{same_pixels}
 use Rattle.draw_ops.specs.Formulas.{Painting, over_rect, no_painting, painted_area, picture_after}
-use Rattle.draw_laws.proofs.Painted.{length-painted_from, pixel_at-painted}
+use Rattle.draw_ops.proofs.Painted.{length-painted_from, pixel_at-painted}
 use Rattle.surface_flat.specs.Parts.{Pixels, IsRepainted}
 use Rattle.surface_flat.proofs.Repaint.{none_painted}
 

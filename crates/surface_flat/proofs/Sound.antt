@@ -20,8 +20,8 @@ use Rattle.draw_ops.specs.Drawing.{content_of, loaded, block_of, slots_after, pa
 use Rattle.draw_ops.specs.Formulas.{Painting, picture_after}
 use Rattle.draw_ops.specs.Fits.{first_some, rect_rule, clip_rule, no_clip_rule, code_rule, copied_rule, image_slot_rule, brush_slot_rule, run_rule, starts_at_0, deltas_are_small, rules_of, broken_rule, slot_misfit, slot_tests, source_test, block_test, too_small_if, image_rule, glyph_rule}
 use Rattle.draw_ops.specs.Ranges.{HasColors}
-use Rattle.draw_laws.proofs.Rows.{drawn_length}
-use Rattle.draw_laws.proofs.KeptColors.{drawing_keeps, opening_has}
+use Rattle.draw_ops.proofs.Rows.{drawn_length}
+use Rattle.draw_ops.proofs.KeptColors.{drawing_keeps, opening_has}
 use Rattle.surface_flat.specs.Surfaces.{AllInSlots, IsSoundSurface}
 use Rattle.surface_flat.specs.Held.{Held, held_in, state_of, IsDrawn, IsPaintable, IsSaveInside, IsSmallSave}
 use Rattle.surface_flat.specs.Textures.{HasSource, IsRestorable}

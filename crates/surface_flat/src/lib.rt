@@ -27,5 +27,5 @@ pub use fault::DrawFault;
 pub use loaded_brush::LoadedBrush;
 pub use loaded_glyph::LoadedGlyph;
 pub use loaded_image::LoadedImage;
-pub use out_of_memory::OutOfMemory;
 pub use surface::Surface;
+pub use wire_num::OutOfMemory;

@@ -21,11 +21,11 @@ use crate::room::Room;
 use crate::rows::cut_pixels;
 use crate::slots::Slots;
 use draw_ops::Drawing;
-use out_of_memory::OutOfMemory;
 use px_core::{Rect, Size};
 use std::alloc::Global;
 use std::collections::VecDeque;
 use std::marker::Model;
+use wire_num::OutOfMemory;
 
 /// The most columns of a session's picture.
 const WIDEST: usize = 2_048;
@@ -247,7 +247,7 @@ impl Surface {
     }
 
     /// What holds of every surface; it does nothing.
-    pub fn is_sound(&self)
+    pub fn recall_sound(&self)
         ensures { IsSoundSurface self.now.size self.now.state }
     {
         let _ = &self.size;

@@ -1,8 +1,8 @@
 -- The offset at which a text is refused.
 use Rattle.std.proofs.Common.{◌≡◌, ℕ, ◌-◌, List, [], length, refl, ap, ◌∙◌, arith, length-append}
 use Rattle.std.specs.Prelude.{Result, Ok, Err}
-use Rattle.wire_num.specs.Field.{placed}
-use Rattle.byte_fields.specs.Field.{Read, then_read}
+use Rattle.wire_num.specs.FieldValue.{placed}
+use Rattle.wire_num.specs.Field.{Read, then_read}
 use Rattle.wire_num.specs.Layout.{Layout, fields_at}
 use Rattle.wire_num.proofs.Refused.{refused}
 use Rattle.wire_num.proofs.RefusalIsRead.{refusal_is_read}

@@ -2,8 +2,8 @@
 use Rattle.std.proofs.Common.{◌≡◌, ℕ, ◌+◌, ◌≤◌, List, [], ◌∷◌, ◌++◌, length, take, drop, refl, ap, sym, ◌∙◌, arith, length-append, subst}
 use Rattle.std.specs.Prelude.{◌↔◌, slice_index, Option, Result, Ok, Err, IsErr}
 use Rattle.byteorder.specs.Endian.{big_number}
-use Rattle.wire_num.specs.Field.{placed}
-use Rattle.byte_fields.specs.Field.{Read, then_read}
+use Rattle.wire_num.specs.FieldValue.{placed}
+use Rattle.wire_num.specs.Field.{Read, then_read}
 use Rattle.wire_num.specs.Layout.{fields_at}
 use Rattle.wire_num.specs.Grammar.{IsText}
 use Rattle.wire_num.proofs.Steps.{then_ok}

@@ -1,7 +1,7 @@
 -- The definitions on a sample client's first packet, and on requests that break a rule.
 use Rattle.std.proofs.Common.{◌≡◌, [], ◌∷◌, refl}
 use Rattle.std.specs.Prelude.{Ok, Err, Some, None}
-use Rattle.wire_num.specs.Field.{passing_at, at_least, rest_count_at}
+use Rattle.wire_num.specs.FieldValue.{passing_at, at_least, rest_count_at}
 use Rattle.tpkt_x224.specs.declared.tpkt.Packet.TheVariants.{Whole}
 use Rattle.tpkt_x224.specs.Tpkt.{packet_at}
 use Rattle.tpkt_x224.specs.Request.{references, request_header, after_cookie, asked_protocols, request_of}

@@ -1,8 +1,8 @@
 -- The X.224 Connection Request (X.224, 13.3; MS-RDPBCGR, 2.2.1.1).
 use Rattle.std.specs.Prelude.{ℕ, ◌==◌, ◌&&◌, nat_le, List, [], ◌∷◌, length, drop, slice_index, Option, Some, None, Result, Ok, if◌then◌else◌}
 use Rattle.byteorder.specs.Endian.{little_number}
-use Rattle.wire_num.specs.Field.{placed, is_any}
-use Rattle.byte_fields.specs.Field.{then_read}
+use Rattle.wire_num.specs.FieldValue.{placed, is_any}
+use Rattle.wire_num.specs.Field.{then_read}
 use Rattle.wire_num.specs.Layout.{Layout, Open, Bytes, Any, Big, CountsRest, AtLeast, ◌▸◌, fields_at}
 use Rattle.tpkt_x224.specs.declared.request.Request.{Request}
 use Rattle.tpkt_x224.specs.declared.bad_tpdu.BadTpdu.{BadTpdu}

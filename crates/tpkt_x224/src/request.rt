@@ -78,7 +78,7 @@ fn read_header(cursor: &mut Cursor<'_>) -> Result<u16, Short>
 }
 
 /// Reads both references and the class, and gives the source reference.
-#[tactic(auto, unfolding(crate::specs::Request::references, wire_num::specs::Field::passing_at))]
+#[tactic(auto, unfolding(crate::specs::Request::references, wire_num::specs::FieldValue::passing_at))]
 fn read_references(cursor: &mut Cursor<'_>) -> Result<u16, Short>
     ensures { ReadsFieldsAs (λ reference. reference ∷ []) (fields_at references) result cursor.old cursor.new }
 {

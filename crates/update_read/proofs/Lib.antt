@@ -1,1 +1,6 @@
 pub mod Tiles
+pub mod Headers
+pub mod Contents
+pub mod Judged
+pub mod Pushed
+pub mod Taken

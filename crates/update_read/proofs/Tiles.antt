@@ -2,9 +2,9 @@
 use Rattle.std.proofs.Common.{◌≡◌, ◌≤◌, ◌<◌, ◌+◌, ◌-◌, ℕ, suc, List, [], ◌∷◌, ◌++◌, length, take, drop, refl, ap, sym, ◌∙◌, append_assoc, append-nil, arith}
 use Rattle.std.specs.Prelude.{Ok, Err, nat_lt}
 use Rattle.std.proofs.lemmas.List.{map-append, length-drop}
-use Rattle.byte_fields.specs.Field.{Read, then_read, map_read, bytes_at}
-use Rattle.byte_fields.specs.Number.{little_at}
-use Rattle.byte_fields.proofs.Bytes.{bytes_at_is}
+use Rattle.wire_num.specs.Field.{Read, then_read, map_read, bytes_at}
+use Rattle.wire_num.specs.Number.{little_at}
+use Rattle.wire_num.proofs.Bytes.{bytes_at_is}
 use Rattle.wire_num.proofs.Steps.{short_ok, fits}
 use Rattle.wire_num.specs.Cursor.{CursorOf, rest}
 use Rattle.order_means.specs.FrameMarks.{Tile as Rectangle, tile_at, tiles_at}

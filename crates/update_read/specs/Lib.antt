@@ -1,2 +1,4 @@
 pub mod Parts
 pub mod Told
+pub mod PacketParts
+pub mod Cutters

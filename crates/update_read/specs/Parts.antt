@@ -1,7 +1,7 @@
 -- Parts of a rectangle of a Bitmap update.
 use Rattle.std.specs.Prelude.{ℕ, List}
-use Rattle.byte_fields.specs.Field.{Read, then_read, map_read}
-use Rattle.byte_fields.specs.Number.{little_at}
+use Rattle.wire_num.specs.Field.{Read, then_read, map_read}
+use Rattle.wire_num.specs.Number.{little_at}
 use Rattle.update_read.specs.declared.tile.Corners.{Corners}
 use Rattle.update_read.specs.declared.tile.Shape.{Shape}
 

@@ -1,6 +1,6 @@
 -- What a reader tells of an update.
 use Rattle.std.specs.Prelude.{◌≡◌, ℕ, ◌+◌, ◌-◌, List, [], ◌++◌, length, map, take, drop, Result, Ok, Err, ⊤}
-use Rattle.byte_fields.specs.Field.{Read}
+use Rattle.wire_num.specs.Field.{Read}
 use Rattle.wire_num.specs.Cursor.{CursorOf, rest}
 use Rattle.wire_num.specs.declared.range.Range.{Range}
 use Rattle.order_means.specs.FrameMarks.{Tile as Rectangle, Update as Meaning}

@@ -1,10 +1,20 @@
-//! What an update's body says ([MS-RDPBCGR] 2.2.9.1.1.3): orders, the rectangles of a Bitmap update, or a Synchronize update.
+//! A host's bytes as a client reads them: cut into updates in whatever pieces they come, and the bodies of updates
+//! ([MS-RDPBCGR] 2.2.9.1.1).
 #![tactic(auto)]
 
+mod cutter;
 mod fault;
+mod judge;
+mod packet;
+mod share;
+mod state;
+mod step;
 mod tile;
 mod update;
 
+pub use cutter::Cutter;
 pub use fault::UpdateFault;
+pub use step::Step;
 pub use tile::Tile;
 pub use update::{Update, read_update};
+pub use wire_num::OutOfMemory;

@@ -2,7 +2,7 @@
 use Rattle.std.proofs.Common.{◌≡◌, ℕ, suc, ◌+◌, ◌<◌, List, [], ◌∷◌, ◌++◌, length, sym, refl, ap, ◌∙◌, subst, arith, append-nil, length-append}
 use Rattle.std.specs.Prelude.{Bool, true, false, ◌==◌, not, ◌&&◌, ◌||◌, Option, Some, None, option_to_list, Result, Ok, Err, IfOk, MatchResult, slice_get, if◌then◌else◌}
 use Rattle.std.proofs.lemmas.Bool.{eqb-true, eq-eqb}
-use Rattle.out_of_memory.specs.declared.OutOfMemory.{OutOfMemory}
+use Rattle.wire_num.specs.declared.out_of_memory.OutOfMemory.{OutOfMemory}
 use Rattle.px_core.specs.declared.surface.Size.{Size}
 use Rattle.px_core.specs.Tiles.{all_tiles, share_tile}
 use Rattle.caps_sets.specs.declared.confirmed.Confirmed.{Confirmed}
@@ -13,8 +13,8 @@ use Rattle.session_rules.specs.Journal.{Head, Reached, Refusal, refusal_of, is_p
 use Rattle.session_rules.specs.Steps.{Play, row_role, join_effect, outcome_of, PerViewer, entered, replaced_for}
 use Rattle.session_rules.specs.Steps.Step.{JoinStep}
 use Rattle.session_rules.specs.Steps.Answer.{Joined}
-use Rattle.session_laws.specs.Entering.{play_of, entry_of_step, answer_at}
-use Rattle.session_laws.proofs.Joins.{left_between}
+use Rattle.session_rules.specs.Entering.{play_of, entry_of_step, answer_at}
+use Rattle.session_rules.proofs.Joins.{left_between}
 use Rattle.session_core.specs.SessionModel.{SessionModel, reached_by, is_here, asked_by, is_suppressed}
 use Rattle.session_core.specs.Outcomes.{IsAnswered}
 use Rattle.session_core.specs.Faults.{join_answer}

@@ -8,7 +8,7 @@ use Rattle.caps_sets.specs.declared.confirmed.Confirmed.{Confirmed}
 use Rattle.session_rules.specs.declared.entry.Entry.{Entry}
 use Rattle.session_rules.specs.Journal.{Head}
 use Rattle.session_rules.specs.Steps.{TakeOf, TakesFollow}
-use Rattle.saved_blocks.specs.Blocks.{Held}
+use Rattle.save_plan.specs.Blocks.{Held}
 use Rattle.frame_rules.specs.Frame.{FrameOf, frame_of}
 use Rattle.frame_rules.specs.FrameBytes.{joined_bytes, frame_bytes}
 use Rattle.frame_rules.specs.Encoder.{Encoder, first_encoder, take_bytes, encoder_after, encoder_after_frame, bytes_of_takes, encoder_after_takes}

@@ -15,7 +15,7 @@ use Rattle.serve_rules.proofs.ReadOn.{consumes_then}
 use Rattle.viewer_run.specs.declared.guest.Guest.{Guest}
 use Rattle.caps_sets.specs.declared.confirmed.Confirmed.{Confirmed}
 use Rattle.std.proofs.lemmas.List.Elements.{All-tail}
-use Rattle.conn_laws.specs.Placed.{AreBytes, IsStepPlaced, ArePlaced}
+use Rattle.conn_rules.specs.Placed.{AreBytes, IsStepPlaced, ArePlaced}
 use Rattle.serve_rules.specs.declared.ends.SideEnd.{SideEnd}
 use Rattle.serve_rules.specs.declared.ends.SideEnd.TheVariants.{Done, Stopped}
 use Rattle.viewer_run.specs.Greeting.{Greeting, greeting, GreetEnd, Greets, IsRestPlaced, refusal_of}

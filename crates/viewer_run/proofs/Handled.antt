@@ -2,11 +2,11 @@
 use Rattle.std.proofs.Common.{◌≡◌, ℕ, List, [], ◌∷◌, ◌++◌, length, sym, refl, ap, ◌∙◌, subst, arith, append-nil, length-append}
 use Rattle.std.specs.Prelude.{Bool, true, false, Option, Some, None, option_to_list, Result, Ok, Err, MatchResult, nat_lt, if◌then◌else◌}
 use Rattle.std.proofs.lemmas.Bool.{ltb-true, ltb-false}
-use Rattle.out_of_memory.specs.declared.OutOfMemory.{OutOfMemory}
-use Rattle.input_events.specs.declared.event.Event.{Event}
+use Rattle.wire_num.specs.declared.out_of_memory.OutOfMemory.{OutOfMemory}
+use Rattle.input_pdu.specs.declared.event.Event.{Event}
 use Rattle.session_rules.specs.declared.entry.Entry.{Entry}
 use Rattle.session_rules.specs.Journal.{Head, reached_at}
-use Rattle.session_laws.specs.Entering.{entry_of_event}
+use Rattle.session_rules.specs.Entering.{entry_of_event}
 use Rattle.session_core.specs.SessionModel.{SessionModel, reached_by}
 use Rattle.session_core.specs.Outcomes.{GoesOn}
 use Rattle.session_core.specs.Faults.{input_answer}

@@ -2,8 +2,8 @@
 use Rattle.std.proofs.Common.{◌≡◌, ℕ, List, [], ◌∷◌, ◌++◌, sym, refl, ap, ◌∙◌, subst}
 use Rattle.std.proofs.lemmas.List.{append_assoc, append-nil}
 use Rattle.std.specs.Prelude.{Bool, true, false, is_err, Option, option_to_list, Result, Ok, Err, MatchResult}
-use Rattle.out_of_memory.specs.declared.OutOfMemory.{OutOfMemory}
-use Rattle.input_events.specs.declared.event.Event.{Event}
+use Rattle.wire_num.specs.declared.out_of_memory.OutOfMemory.{OutOfMemory}
+use Rattle.input_pdu.specs.declared.event.Event.{Event}
 use Rattle.session_rules.specs.Journal.{Head}
 use Rattle.conn_rules.specs.declared.conn_step.ConnStep.{ConnStep}
 use Rattle.serve_rules.specs.Turns.{SessionPass, IsHandled, Idles}

@@ -4,14 +4,14 @@ use Rattle.std.proofs.KnownBytes.{Appends-nil}
 use Rattle.std.specs.Prelude.{Bool, true, false, ⊤, Result, Ok, Err, IfOk, OnOk, OnErr}
 use Rattle.std.specs.declared.option.Option.{Option}
 use Rattle.std.specs.Io.KnownBytes.{Appends}
-use Rattle.out_of_memory.specs.declared.OutOfMemory.{OutOfMemory as NoMemory}
+use Rattle.wire_num.specs.declared.out_of_memory.OutOfMemory.{OutOfMemory as NoMemory}
 use Rattle.px_core.specs.declared.surface.Size.{Size}
 use Rattle.caps_sets.specs.declared.confirmed.Confirmed.{Confirmed}
 use Rattle.session_rules.specs.declared.entry.Entry.{Entry}
 use Rattle.session_rules.specs.Journal.{Head}
 use Rattle.session_rules.specs.Steps.{TakeOf}
 use Rattle.session_core.specs.SessionModel.{SessionModel, asked_by}
-use Rattle.saved_blocks.specs.Blocks.{Held}
+use Rattle.save_plan.specs.Blocks.{Held}
 use Rattle.frame_rules.specs.Frame.{FrameOf, frame_of}
 use Rattle.frame_rules.specs.FrameBytes.{frame_bytes}
 use Rattle.frame_rules.specs.Encoder.{Encoder, encoder_after_frame}

@@ -7,7 +7,7 @@ use Rattle.conn_rules.specs.declared.stage.Stage.TheVariants as stage
 use Rattle.conn_rules.specs.Hearing.{Hearing, Heard, StreamEnd, heard, then_heard, is_over, end_by, end_of}
 use Rattle.conn_rules.specs.Hearing.StreamEnd.{Between, Within, RefusedAt}
 use Rattle.conn_rules.proofs.Pieces.{heard_then}
-use Rattle.conn_laws.proofs.Quiet.{end_silence}
+use Rattle.conn_rules.proofs.Quiet.{end_silence}
 use Rattle.conn_core.specs.Kept.{IsUnrefused}
 use Rattle.viewer_run.specs.Feeding.{IsHeard}
 

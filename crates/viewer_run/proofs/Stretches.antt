@@ -4,7 +4,7 @@ use Rattle.std.specs.Prelude.{Bool, true, false, ◌||◌, ⊤, Result, Ok, Err,
 use Rattle.std.specs.declared.option.Option.{Option}
 use Rattle.std.specs.declared.option.Option.TheVariants.{Some, None}
 use Rattle.std.specs.Io.KnownBytes.{Consumes, Keeps, IsAtEnd}
-use Rattle.out_of_memory.specs.declared.OutOfMemory.{OutOfMemory as NoMemory}
+use Rattle.wire_num.specs.declared.out_of_memory.OutOfMemory.{OutOfMemory as NoMemory}
 use Rattle.session_rules.specs.Journal.{Head}
 use Rattle.conn_rules.specs.declared.conn_step.ConnStep.{ConnStep}
 use Rattle.conn_rules.specs.declared.stage.Stage.{Stage}
@@ -12,8 +12,8 @@ use Rattle.conn_rules.specs.Hearing.{Hearing, Heard, heard, end_by}
 use Rattle.conn_core.specs.declared.conn_fault.ConnFault.{ConnFault}
 use Rattle.conn_core.specs.declared.conn_fault.ConnFault.TheVariants as fault
 use Rattle.conn_core.specs.Kept.{IsUnrefused, ConnOf, Feeds, FeedsAppend}
-use Rattle.conn_laws.specs.Placed.{AreBytes, ArePlaced}
-use Rattle.conn_laws.proofs.Near.{heard_near}
+use Rattle.conn_rules.specs.Placed.{AreBytes, ArePlaced}
+use Rattle.conn_rules.proofs.Near.{heard_near}
 use Rattle.serve_rules.specs.Turns.{SessionPass}
 use Rattle.serve_rules.specs.Events.{Handles}
 use Rattle.serve_rules.specs.Notices.{Notice, events_in, notice_after_all, notice_in}

@@ -1,7 +1,7 @@
 -- What is done for a client that is ready, from its Join to its Leave.
 use Rattle.std.specs.Prelude.{◌≡◌, ◌⊎◌, ℕ, false, ◌++◌, ◌∷◌, List, [], length, Option, option_to_list, Result, Ok, Err}
 use Rattle.std.specs.declared.option.Option as std_option
-use Rattle.out_of_memory.specs.declared.OutOfMemory.{OutOfMemory}
+use Rattle.wire_num.specs.declared.out_of_memory.OutOfMemory.{OutOfMemory}
 use Rattle.caps_sets.specs.declared.confirmed.Confirmed.{Confirmed}
 use Rattle.session_rules.specs.declared.entry.Entry.{Entry}
 use Rattle.session_rules.specs.Journal.{Head}

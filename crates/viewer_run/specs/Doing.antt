@@ -1,7 +1,7 @@
 -- How far steps of a client's stream were done.
 use Rattle.std.specs.Prelude.{◌≡◌, ℕ, ⊤, List, [], ◌∷◌, ◌++◌, Option, option_to_list, Result, Ok, Err}
-use Rattle.out_of_memory.specs.declared.OutOfMemory.{OutOfMemory}
-use Rattle.input_events.specs.declared.event.Event.{Event}
+use Rattle.wire_num.specs.declared.out_of_memory.OutOfMemory.{OutOfMemory}
+use Rattle.input_pdu.specs.declared.event.Event.{Event}
 use Rattle.session_rules.specs.Journal.{Head}
 use Rattle.conn_rules.specs.declared.conn_step.ConnStep.{ConnStep}
 use Rattle.serve_rules.specs.Turns.{SessionPass}

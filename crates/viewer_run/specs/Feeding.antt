@@ -1,6 +1,6 @@
 -- What comes of bytes of a client's stream.
 use Rattle.std.specs.Prelude.{◌≡◌, ℕ, zero, suc, Bool, true, false, ◌||◌, List, Result, Ok, Err, if◌then◌else◌}
-use Rattle.out_of_memory.specs.declared.OutOfMemory.{OutOfMemory as NoMemory}
+use Rattle.wire_num.specs.declared.out_of_memory.OutOfMemory.{OutOfMemory as NoMemory}
 use Rattle.conn_rules.specs.declared.conn_step.ConnStep.{ConnStep}
 use Rattle.conn_rules.specs.declared.stage.Stage.{Stage}
 use Rattle.conn_rules.specs.declared.stage.Stage.TheVariants as stage
@@ -8,7 +8,7 @@ use Rattle.conn_rules.specs.Hearing.{Hearing, Heard, heard}
 use Rattle.conn_core.specs.Kept.{IsUnrefused}
 use Rattle.conn_core.specs.declared.conn_fault.ConnFault.{ConnFault}
 use Rattle.conn_core.specs.declared.conn_fault.ConnFault.TheVariants as fault
-use Rattle.conn_laws.specs.Placed.{AreBytes}
+use Rattle.conn_rules.specs.Placed.{AreBytes}
 use Rattle.serve_rules.specs.Notices.{Notice}
 use Rattle.serve_rules.specs.Reading.{IsUnended}
 use Rattle.serve_rules.specs.declared.ends.ConnEnd.TheVariants.{Left, Refused, Truncated, NotInvited, RoomFull, JoinsSpent, ReadFault, WriteFault, OutOfMemory}

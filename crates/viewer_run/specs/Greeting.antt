@@ -8,7 +8,7 @@ use Rattle.conn_rules.specs.declared.conn_step.ConnStep.{ConnStep}
 use Rattle.conn_rules.specs.declared.conn_step.ConnStep.TheVariants as step
 use Rattle.conn_rules.specs.Hearing.{Hearing, heard, end_of}
 use Rattle.conn_rules.specs.Hearing.StreamEnd.{RefusedAt}
-use Rattle.conn_laws.specs.Placed.{ArePlaced}
+use Rattle.conn_rules.specs.Placed.{ArePlaced}
 use Rattle.serve_rules.specs.Reading.{IsWhole}
 use Rattle.serve_rules.specs.declared.ends.ConnEnd.{ConnEnd}
 use Rattle.serve_rules.specs.declared.ends.ConnEnd.TheVariants.{Left, Refused, Truncated, NotInvited, RoomFull, JoinsSpent, ReadFault, WriteFault, OutOfMemory}

@@ -1,6 +1,6 @@
 -- What an event does to a session.
 use Rattle.std.specs.Prelude.{◌≡◌, ℕ, nat_lt, List, ◌++◌, Option, Some, None, option_to_list, Result, Ok, Err, if◌then◌else◌}
-use Rattle.out_of_memory.specs.declared.OutOfMemory.{OutOfMemory as OutOfMemoryAnswer}
+use Rattle.wire_num.specs.declared.out_of_memory.OutOfMemory.{OutOfMemory as OutOfMemoryAnswer}
 use Rattle.session_rules.specs.declared.entry.Entry.{Entry}
 use Rattle.session_core.specs.declared.faults.InputRefusal.{InputRefusal}
 use Rattle.session_core.specs.declared.faults.InputRefusal.TheVariants.{NotHolder, JournalFull, OutOfMemory}

@@ -2,7 +2,7 @@
 use Rattle.std.specs.Prelude.{◌≡◌, ℕ, ◌≤◌, ⊤, ◌+◌, Result, Ok, Err, List, [], ◌∷◌, ◌++◌, length, map}
 use Rattle.std.specs.declared.option.Option.{Option}
 use Rattle.std.specs.Io.KnownBytes.{Appends}
-use Rattle.out_of_memory.specs.declared.OutOfMemory.{OutOfMemory as NoMemory}
+use Rattle.wire_num.specs.declared.out_of_memory.OutOfMemory.{OutOfMemory as NoMemory}
 use Rattle.px_core.specs.Tiles.{Tiles}
 use Rattle.edge_io.specs.Faults.{Rose}
 use Rattle.session_rules.specs.declared.entry.Entry.{Entry}

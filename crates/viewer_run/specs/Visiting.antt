@@ -1,6 +1,6 @@
 -- How a viewer comes and goes.
 use Rattle.std.specs.Prelude.{◌≡◌, ℕ, ◌+◌, ⊤, Bool, true, false, List, [], ◌∷◌, ◌++◌, length, Option, Some, None, Result, Ok, Err}
-use Rattle.out_of_memory.specs.declared.OutOfMemory.{OutOfMemory}
+use Rattle.wire_num.specs.declared.out_of_memory.OutOfMemory.{OutOfMemory}
 use Rattle.caps_sets.specs.declared.confirmed.Confirmed.{Confirmed}
 use Rattle.session_rules.specs.declared.entry.Role.{Role}
 use Rattle.session_rules.specs.declared.entry.Entry.{Entry}
@@ -8,7 +8,7 @@ use Rattle.session_rules.specs.declared.entry.Entry.TheVariants.{Join, Leave}
 use Rattle.session_rules.specs.Journal.{Head, is_present, reached_at}
 use Rattle.session_rules.specs.Steps.{row_role}
 use Rattle.session_rules.specs.Steps.Step.{JoinStep}
-use Rattle.session_laws.specs.Entering.{answer_at}
+use Rattle.session_rules.specs.Entering.{answer_at}
 use Rattle.session_core.specs.Outcomes.{IsAnswered}
 use Rattle.session_core.specs.Faults.{join_answer}
 use Rattle.session_core.specs.declared.faults.JoinFault.{JoinFault}

@@ -1,7 +1,7 @@
 //! A client that is ready joins, is attended to, and leaves.
 ghost use Rattle.std.specs.Prelude.{◌≡◌, ◌≤◌, ◌<◌, ◌-◌, ◌++◌, ◌∷◌, ◌+◌, [], length, MatchResult, IfOk};
 ghost use Rattle.caps_sets.specs.declared.confirmed.Confirmed.{Confirmed};
-ghost use Rattle.conn_laws.specs.Placed.{AreBytes, ArePlaced};
+ghost use Rattle.conn_rules.specs.Placed.{AreBytes, ArePlaced};
 ghost use Rattle.grow_lock.specs.Passes.{IsPassOf};
 ghost use Rattle.serve_rules.specs.Notices.{notice_in};
 ghost use Rattle.viewer_run.specs.Visiting.{IsFirst, IsTurnedAwayIn};

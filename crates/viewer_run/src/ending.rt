@@ -47,7 +47,7 @@ fn size_here(session: &mut Session) -> Size
     ensures size { result ≡ session.old.head.size }
     ensures fits { IsTrue (is_session_size result.w result.h) }
 {
-    session.is_legal();
+    session.recall_legal();
     session.size()
 }
 

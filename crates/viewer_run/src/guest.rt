@@ -1,7 +1,7 @@
 //! A client's connection sequence, until it is ready.
 ghost use Rattle.std.specs.Prelude.{◌≡◌, ◌<◌, ℕ, [], List, Option, IfOk, length};
 ghost use Rattle.std.specs.Io.KnownBytes.{Consumes};
-ghost use Rattle.conn_laws.specs.Placed.{AreBytes, ArePlaced};
+ghost use Rattle.conn_rules.specs.Placed.{AreBytes, ArePlaced};
 ghost use Rattle.viewer_run.specs.Feeding.{IsHeard};
 ghost use Rattle.viewer_run.specs.Greeting.{greeting, Greets, with_guest, Replies, GuestOf, IsRestPlaced, refusal_of};
 

@@ -1,6 +1,6 @@
 //! Both sides of a viewer, each in a thread, over two passes that meet again.
 ghost use Rattle.std.specs.Prelude.{◌≡◌, ◌≤◌, ◌<◌, length, is_some, true, IfSome};
-ghost use Rattle.conn_laws.specs.Placed.{AreBytes, ArePlaced};
+ghost use Rattle.conn_rules.specs.Placed.{AreBytes, ArePlaced};
 ghost use Rattle.viewer_sender.specs.Senders.{IsIdle};
 ghost use Rattle.grow_lock.specs.Passes.{IsPassOf};
 ghost use Rattle.serve_rules.specs.Reading.{ReadsOn};

@@ -1,7 +1,7 @@
 //! The steps of a client's stream that follow Ready, each in a turn of its own.
 ghost use Rattle.std.specs.Prelude.{◌≡◌, ◌<◌, List};
 ghost use Rattle.conn_rules.specs.declared.conn_step.ConnStep.{ConnStep};
-ghost use Rattle.conn_laws.specs.Placed.{IsStepPlaced, ArePlaced};
+ghost use Rattle.conn_rules.specs.Placed.{IsStepPlaced, ArePlaced};
 ghost use Rattle.grow_lock.specs.Passes.{IsPassOf};
 ghost use Rattle.serve_rules.specs.Notices.{notice_in};
 ghost use Rattle.viewer_run.specs.Doing.{NotesPlace, EventDone, StepDone, StepsFront, WholeIfOk};
@@ -10,7 +10,7 @@ use crate::turns::{handle_event, refresh, suppress};
 use crate::{OutOfMemory, Told};
 use conn_rules::ConnStep;
 use grow_lock::{GrowLock, Pass};
-use input_events::Event;
+use input_pdu::Event;
 use session_core::Session;
 use std::sync::Wait;
 

@@ -2,7 +2,7 @@
 ghost use Rattle.std.specs.Prelude.{◌≡◌, length, MatchResult};
 ghost use Rattle.px_core.specs.Rectangle.{IsPlaced};
 ghost use Rattle.session_rules.specs.Journal.{reached_at};
-ghost use Rattle.session_laws.specs.Entering.{entry_of_event};
+ghost use Rattle.session_rules.specs.Entering.{entry_of_event};
 ghost use Rattle.session_core.specs.SessionModel.{reached_by};
 ghost use Rattle.grow_lock.specs.Journal.{StartsWith};
 ghost use Rattle.grow_lock.specs.Passes.{IsPassOf};
@@ -11,7 +11,7 @@ ghost use Rattle.viewer_run.specs.Handling.{HandledHere, SettledAs, place_betwee
 
 use crate::OutOfMemory;
 use grow_lock::{GrowLock, Pass};
-use input_events::Event;
+use input_pdu::Event;
 use px_core::Rect;
 use session_core::{InputRefusal, Session};
 use std::sync::Wait;

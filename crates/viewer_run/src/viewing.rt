@@ -1,6 +1,6 @@
 //! A viewer who has joined is attended to, until its connection ends.
 ghost use Rattle.std.specs.Prelude.{◌≡◌, ◌≤◌, ◌<◌, [], false, length, Ok};
-ghost use Rattle.conn_laws.specs.Placed.{AreBytes, ArePlaced};
+ghost use Rattle.conn_rules.specs.Placed.{AreBytes, ArePlaced};
 ghost use Rattle.viewer_sender.specs.Senders.{IsIdle};
 ghost use Rattle.grow_lock.specs.Passes.{IsPassOf};
 ghost use Rattle.serve_rules.specs.Reading.{ReadsOn};

@@ -14,23 +14,23 @@ use Rattle.caps_sets.specs.declared.confirmed.Confirmed.{Confirmed}
 use Rattle.session_rules.specs.declared.entry.Entry.{Entry}
 use Rattle.session_rules.specs.Journal.{Head, state_after, IsLegalJournal}
 use Rattle.session_rules.specs.Steps.{TakeOf}
-use Rattle.saved_blocks.specs.Blocks.{AreApart}
+use Rattle.save_plan.specs.Blocks.{AreApart}
 use Rattle.bitmap_upd.specs.Place.{IsUpdated}
 use Rattle.frame_rules.specs.Blocks.{Held}
-use Rattle.frame_rules.specs.Pending.{Pending, pending_of, pending_drawings}
+use Rattle.session_rules.specs.Pending.{Pending, pending_of, pending_drawings}
 use Rattle.frame_rules.specs.Cautious.{cut, cut_if}
 use Rattle.frame_rules.specs.Frame.{Walk, Sent, walked, walked_as, walked_pending, sent_from, first_dirty, framed_by, frame_over, frame_of, is_first, most_orders}
 use Rattle.frame_rules.specs.Describes.{HasAllCaches}
-use Rattle.board_laws.proofs.Fitting.{Sides, sides_of}
+use Rattle.session_rules.proofs.Fitting.{Sides, sides_of}
 use Rattle.frame_laws.proofs.CutDrawing.{cut_does}
-use Rattle.cache_laws.specs.Sound.{AreColors}
-use Rattle.cache_laws.specs.Tile.{IsTileRect}
-use Rattle.sound_states.specs.SoundState.{IsSound}
-use Rattle.sound_states.specs.Drawings.{Suits, AllSound, drawings_between}
-use Rattle.sound_states.proofs.Colored.{length-listed, colors_cut}
-use Rattle.sound_states.proofs.Entries.{pending_between_is}
-use Rattle.sound_states.proofs.Journals.{between_sound, state_sound}
-use Rattle.sound_states.proofs.Rules.{rules_kept}
+use Rattle.frame_laws.specs.Sound.{AreColors}
+use Rattle.frame_laws.specs.Tile.{IsTileRect}
+use Rattle.frame_laws.specs.SoundState.{IsSound}
+use Rattle.frame_laws.specs.Drawings.{Suits, AllSound, drawings_between}
+use Rattle.frame_laws.proofs.Colored.{length-listed, colors_cut}
+use Rattle.frame_laws.proofs.Entries.{pending_between_is}
+use Rattle.frame_laws.proofs.Journals.{between_sound, state_sound}
+use Rattle.frame_laws.proofs.Rules.{rules_kept}
 use Rattle.frame_shows.proofs.SoundGood.{good_of}
 use Rattle.frame_shows.proofs.WalkKeeps.{NoneOrOne, none_or_one_pending}
 use Rattle.frame_shows.proofs.HeldApart.{walked_apart}
@@ -38,7 +38,7 @@ use Rattle.frame_shows.proofs.CutSuits.{cut_suits}
 use Rattle.frame_shows.proofs.SentOrCut.{sent_or_cut_fits}
 use Rattle.frame_shows.proofs.FrameShown.{AreTiles}
 use Rattle.frame_shows.proofs.TileRects.{are_tiles}
-use Rattle.frame_write.proofs.UseSteps.{colors_are}
+use Rattle.viewer_sender.proofs.UseSteps.{colors_are}
 use Rattle.frame_plan.specs.Takes.{tile_taken}
 use Rattle.viewer_sender.specs.Goes.{SentGoes, AllGo, TilesGo}
 use Rattle.viewer_sender.proofs.ShapeGoes.{sent_goes}

@@ -4,3 +4,10 @@ pub mod ShapeGoes
 pub mod FrameGoes
 pub mod Loops
 pub mod Sends
+pub mod Gathered
+pub mod Begun
+pub mod CacheSteps
+pub mod NewCaches
+pub mod UseSteps
+pub mod TileShort
+pub mod TilePacket

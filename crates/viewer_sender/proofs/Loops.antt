@@ -6,26 +6,26 @@ use Rattle.std.proofs.Math.Seq.{drop-cons}
 use Rattle.px_core.specs.declared.surface.Size.{Size}
 use Rattle.px_core.specs.declared.rectangle.Rect.{Rect}
 use Rattle.px_core.specs.Tiles.{tile_on}
-use Rattle.host_bytes.specs.UpdateBodies.{tile_packet}
-use Rattle.frame_write.specs.Gathering.{Gathering, with_packet}
+use Rattle.order_means.specs.UpdateBodies.{tile_packet}
+use Rattle.viewer_sender.specs.Gathering.{Gathering, with_packet}
 use Rattle.caps_sets.specs.declared.confirmed.Confirmed.{Confirmed}
 use Rattle.caps_sets.specs.Confirmed.{cache_size}
 use Rattle.draw_ops.specs.Content.{GlyphOf}
 use Rattle.draw_ops.specs.Slots.{Loaded}
-use Rattle.cache_use.specs.CacheUse.{misses, cache_index, uses_of}
-use Rattle.cache_use.proofs.Indices.{cache_index_below}
+use Rattle.cache_plan.specs.CacheUse.{misses, cache_index, uses_of}
+use Rattle.cache_plan.proofs.Indices.{cache_index_below}
 use Rattle.frame_rules.specs.Support.{used_glyph_entries}
 use Rattle.draw_ops.specs.declared.shape.Drawing.{Drawing}
 use Rattle.draw_ops.specs.declared.shape.Shape.{Shape}
-use Rattle.frame_rules.specs.Pending.{Pending}
+use Rattle.session_rules.specs.Pending.{Pending}
 use Rattle.frame_rules.specs.Frame.{Sent}
 use Rattle.frame_rules.specs.FrameOrders.{SentOrder, Use, Uses, sending, use_by, sending_by, sending_of, orders_from, uses_after, glyph_use, run_use, run_pairs, entries_of}
 use Rattle.frame_rules.specs.FrameOrders.SentOrder.{CacheGlyph}
-use Rattle.frame_write.specs.declared.writer.FrameWriter.{FrameWriter}
-use Rattle.frame_write.specs.Stands.{CachesStand}
-use Rattle.frame_write.specs.Writes.{Writes, used}
-use Rattle.frame_write.proofs.CacheSteps.{use_of_none}
-use Rattle.frame_write.proofs.UseSteps.{use_missed, writes_then, writes_as}
+use Rattle.viewer_sender.specs.declared.writer.FrameWriter.{FrameWriter}
+use Rattle.viewer_sender.specs.Stands.{CachesStand}
+use Rattle.viewer_sender.specs.Writes.{Writes, used}
+use Rattle.viewer_sender.proofs.CacheSteps.{use_of_none}
+use Rattle.viewer_sender.proofs.UseSteps.{use_missed, writes_then, writes_as}
 use Rattle.frame_plan.specs.Orders.{sent_to, orders_at}
 use Rattle.viewer_sender.specs.Goes.{AllGo}
 use Rattle.viewer_sender.specs.Runs.{run_sending, drawings_sending}

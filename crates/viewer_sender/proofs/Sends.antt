@@ -9,7 +9,7 @@ use Rattle.session_rules.specs.Steps.{TakeOf}
 use Rattle.order_means.specs.Updates.{cutting}
 use Rattle.order_means.specs.Updates.Stage.{Between}
 use Rattle.order_means.specs.FrameMarks.{View, reading, read_on}
-use Rattle.saved_blocks.specs.Blocks.{AreApart}
+use Rattle.save_plan.specs.Blocks.{AreApart}
 use Rattle.frame_rules.specs.Frame.{Sent, FrameOf, frame_of}
 use Rattle.frame_rules.specs.FrameOrders.{SentOrder, Uses, uses_after, orders_before_tiles}
 use Rattle.frame_rules.specs.FrameBytes.{frame_bytes, bytes_of_orders, updates_of, tile_bytes, mark_bytes}
@@ -23,11 +23,11 @@ use Rattle.frame_plan.specs.Takes.{DeskModel, TakenFrame, TakeModel, tile_taken,
 use Rattle.frame_plan.specs.Plans.{taken_if, take_at}
 use Rattle.px_core.specs.declared.surface.Size.{Size}
 use Rattle.cache_plan.specs.Kept.{Kept}
-use Rattle.frame_write.specs.declared.writer.FrameWriter.{FrameWriter}
-use Rattle.frame_write.specs.Gathering.{Gathering, gathering, nothing_gathered, packets_of, closed, after_orders}
-use Rattle.frame_write.specs.Stands.{CachesStand}
-use Rattle.frame_write.specs.Writes.{Wrote}
-use Rattle.frame_write.proofs.Gathered.{gathered_is}
+use Rattle.viewer_sender.specs.declared.writer.FrameWriter.{FrameWriter}
+use Rattle.viewer_sender.specs.Gathering.{Gathering, gathering, nothing_gathered, packets_of, closed, after_orders}
+use Rattle.viewer_sender.specs.Stands.{CachesStand}
+use Rattle.viewer_sender.specs.Writes.{Wrote}
+use Rattle.viewer_sender.proofs.Gathered.{gathered_is}
 use Rattle.viewer_sender.specs.Runs.{frame_sending}
 use Rattle.viewer_sender.proofs.Loops.{tile_bytes_of, with_tiles}
 use Rattle.viewer_sender.specs.Senders.{SenderModel, StandsFor}

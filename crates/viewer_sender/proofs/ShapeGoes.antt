@@ -17,15 +17,15 @@ use Rattle.order_fields.specs.OrderTable.{IsFieldList}
 use Rattle.order_fields.specs.NamedDrawing.{drawing_fields}
 use Rattle.order_fields.specs.NamedDrawing.NamedDrawing.{Pat as PatBlt, Mem as MemBlt, Mem3 as Mem3Blt, Glyphs as GlyphIndex}
 use Rattle.frame_rules.specs.Blocks.{Place, positions_of, least_free, place_of, without_slot}
-use Rattle.frame_rules.specs.Pending.{onto_optional, pending_of, run_glyphs}
+use Rattle.session_rules.specs.Pending.{onto_optional, pending_of, run_glyphs}
 use Rattle.frame_rules.specs.Support.{supports, image_cache, run_cache}
 use Rattle.frame_rules.specs.Frame.{Walk, Sent, saved_at, saved_if, given_up, restored_from, block_if, reads_clean_tiles, walked}
 use Rattle.frame_rules.specs.FrameOrders.{SentOrder, sending_of, or_0, bounds_of, image_use, brush_use, run_use, run_pairs}
 use Rattle.frame_rules.specs.FrameOrders.SentOrder.{Drawn}
 use Rattle.frame_laws.specs.Agreement.{drawn}
-use Rattle.cache_laws.specs.Run.{AreGlyphs}
-use Rattle.sound_states.specs.SoundState.{IsSound}
-use Rattle.sound_states.proofs.Rules.{kept_test}
+use Rattle.frame_laws.specs.Run.{AreGlyphs}
+use Rattle.frame_laws.specs.SoundState.{IsSound}
+use Rattle.frame_laws.proofs.Rules.{kept_test}
 use Rattle.frame_shows.proofs.SentKeeps.{passed, only_one, glyphs_are, GoodShape}
 use Rattle.frame_shows.proofs.OrderValues.{GoesWhole, AllGoWhole}
 use Rattle.viewer_sender.specs.Goes.{ImageGoes, BrushGoes, GlyphsGo, SentGoes}

@@ -13,8 +13,8 @@ use Rattle.order_fields.specs.OrderDelta.{edges_of_optional}
 use Rattle.order_fields.specs.NamedDrawing.{NamedDrawing, drawing_fields}
 use Rattle.order_fields.specs.NamedDrawing.NamedDrawing.{Dst as DstBlt, Pat as PatBlt, Scr as ScrBlt, Opaque as OpaqueRect, SaveBlock, RestoreBlock, Mem as MemBlt, Mem3 as Mem3Blt, Glyphs as GlyphIndex}
 use Rattle.bitmap_upd.specs.Place.{IsUpdated}
-use Rattle.cache_laws.specs.Sound.{AreColors, IsSoundImage}
-use Rattle.sound_states.specs.SoundState.{IsSoundGlyph}
+use Rattle.frame_laws.specs.Sound.{AreColors, IsSoundImage}
+use Rattle.frame_laws.specs.SoundState.{IsSoundGlyph}
 use Rattle.frame_rules.specs.Frame.{Sent}
 use Rattle.frame_rules.specs.FrameOrders.{bounds_of}
 

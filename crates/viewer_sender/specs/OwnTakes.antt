@@ -5,7 +5,7 @@ use Rattle.caps_sets.specs.declared.confirmed.Confirmed.{Confirmed}
 use Rattle.session_rules.specs.declared.entry.Entry.{Entry}
 use Rattle.session_rules.specs.Journal.{Head, IsLegalJournal}
 use Rattle.session_rules.specs.Steps.{TakeOf}
-use Rattle.saved_blocks.specs.Blocks.{Held, AreApart}
+use Rattle.save_plan.specs.Blocks.{Held, AreApart}
 use Rattle.frame_rules.specs.Frame.{frame_of}
 use Rattle.frame_rules.specs.Describes.{HasAllCaches}
 use Rattle.frame_plan.specs.Takes.{TakeModel, taken_as}

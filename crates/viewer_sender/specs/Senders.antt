@@ -3,13 +3,13 @@ use Rattle.std.specs.Prelude.{◌≡◌, ℕ, ◌+◌, Bool, false, List, Option
 use Rattle.caps_sets.specs.declared.confirmed.Confirmed.{Confirmed}
 use Rattle.cache_plan.specs.Kept.{Kept}
 use Rattle.order_fields.specs.OrderTable.{Registers}
-use Rattle.saved_blocks.specs.Blocks.{Held}
+use Rattle.save_plan.specs.Blocks.{Held}
 use Rattle.frame_rules.specs.Encoder.{Encoder}
 use Rattle.frame_plan.specs.Takes.{DeskModel}
 use Rattle.frame_rules.specs.Describes.{HasAllCaches}
-use Rattle.frame_write.specs.declared.writer.FrameWriter.{FrameWriter}
-use Rattle.frame_write.specs.Gathering.{nothing_gathered}
-use Rattle.frame_write.specs.Stands.{CachesStand}
+use Rattle.viewer_sender.specs.declared.writer.FrameWriter.{FrameWriter}
+use Rattle.viewer_sender.specs.Gathering.{nothing_gathered}
+use Rattle.viewer_sender.specs.Stands.{CachesStand}
 
 -- a viewer and what it confirmed; the number of its last take, the blocks held after it, and how many frames it was given; how many of them were encoded,
 -- and whether one of them failed; the registers and the caches after the last encoded frame

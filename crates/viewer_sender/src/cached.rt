@@ -5,14 +5,13 @@ ghost use Rattle.caps_sets.specs.declared.confirmed.Confirmed.{Confirmed};
 ghost use Rattle.frame_rules.specs.Support.{image_cache};
 ghost use Rattle.frame_rules.specs.FrameOrders.{Uses, or_0, bounds_of, sending, image_use, brush_use};
 ghost use Rattle.frame_rules.specs.FrameOrders.SentOrder.{Drawn};
-ghost use Rattle.frame_write.specs.Stands.{CachesStand};
-ghost use Rattle.frame_write.specs.Writes.{Writes, used};
+ghost use Rattle.viewer_sender.specs.Stands.{CachesStand};
+ghost use Rattle.viewer_sender.specs.Writes.{Writes, used};
 ghost use Rattle.viewer_sender.specs.Goes.{FitsDrawn, ImageGoes, BrushGoes};
 
-use crate::OutOfMemory;
 use crate::plain::put_drawn;
+use crate::{FrameWriter, OutOfMemory};
 use frame_plan::{Pending, image_cache};
-use frame_write::FrameWriter;
 use order_prim::{mem_blt, mem3_blt, pat_blt};
 use px_core::Rect;
 use std::alloc::Global;

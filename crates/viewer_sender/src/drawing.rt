@@ -2,17 +2,16 @@
 ghost use Rattle.std.specs.Prelude.{◌≡◌, length, OnOk};
 ghost use Rattle.frame_rules.specs.FrameOrders.{sending_of};
 ghost use Rattle.frame_plan.specs.Orders.{sent_to, orders_at};
-ghost use Rattle.frame_write.specs.Writes.{Writes};
+ghost use Rattle.viewer_sender.specs.Writes.{Writes};
 ghost use Rattle.viewer_sender.specs.Goes.{SentGoes, AllGo};
 ghost use Rattle.viewer_sender.specs.Runs.{drawings_sending};
 
-use crate::OutOfMemory;
 use crate::cached::{put_blit, put_blit3, put_pat};
 use crate::plain::{put_copy, put_dst, put_fill, put_restore, put_save};
 use crate::text::put_text;
+use crate::{FrameWriter, OutOfMemory};
 use draw_ops::Shape;
 use frame_plan::Pending;
-use frame_write::FrameWriter;
 use std::alloc::Global;
 
 /// Adds the orders of drawings, one after the other: of those with a position.

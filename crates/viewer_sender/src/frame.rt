@@ -3,22 +3,21 @@ ghost use Rattle.std.specs.Prelude.{◌≡◌, ◌&&◌, ◌++◌, [], IfOk, OnO
 ghost use Rattle.px_core.specs.Rectangle.{is_session_size, whole};
 ghost use Rattle.px_core.specs.Tiles.{tile_on};
 ghost use Rattle.bitmap_upd.specs.Place.{IsUpdated};
-ghost use Rattle.host_bytes.specs.UpdateBodies.{tile_packet};
+ghost use Rattle.order_means.specs.UpdateBodies.{tile_packet};
 ghost use Rattle.frame_rules.specs.Frame.{FrameOf};
 ghost use Rattle.frame_rules.specs.FrameOrders.{Uses, sending, start_orders, black_orders, uses_after, orders_before_tiles};
 ghost use Rattle.frame_rules.specs.FrameBytes.{mark_bytes, frame_bytes, registers_after_orders};
 ghost use Rattle.frame_plan.specs.Takes.{taken_as};
-ghost use Rattle.frame_write.specs.Gathering.{nothing_gathered, gathering, packets_of, closed};
-ghost use Rattle.frame_write.specs.Stands.{CachesStand};
-ghost use Rattle.frame_write.specs.Writes.{Writes};
+ghost use Rattle.viewer_sender.specs.Gathering.{nothing_gathered, gathering, packets_of, closed};
+ghost use Rattle.viewer_sender.specs.Stands.{CachesStand};
+ghost use Rattle.viewer_sender.specs.Writes.{Writes};
 ghost use Rattle.viewer_sender.specs.Goes.{AllGo, TilesGo};
 ghost use Rattle.viewer_sender.specs.Runs.{frame_sending};
 
-use crate::OutOfMemory;
 use crate::drawing::put_drawings;
 use crate::plain::put_fill;
+use crate::{FrameWriter, OutOfMemory};
 use frame_plan::{Take, TakenTile};
-use frame_write::FrameWriter;
 use px_core::{Rect, Size, meet};
 use std::alloc::Global;
 

@@ -3,14 +3,21 @@
 
 mod bounds;
 mod cached;
+mod caches;
 mod drawing;
 mod fault;
 mod frame;
+mod packet;
 mod plain;
 mod sender;
 mod text;
+mod updates;
+mod writer;
 
+pub use caches::Caches;
 pub use fault::SendFault;
 pub use frame_plan::{Take, Taken};
-pub use out_of_memory::OutOfMemory;
 pub use sender::Sender;
+pub use updates::Updates;
+pub use wire_num::OutOfMemory;
+pub use writer::FrameWriter;

@@ -6,12 +6,11 @@ ghost use Rattle.order_fields.specs.NamedDrawing.{NamedDrawing, drawing_fields};
 ghost use Rattle.order_fields.specs.NamedDrawing.NamedDrawing.{Dst, Scr, Opaque, SaveBlock, RestoreBlock};
 ghost use Rattle.frame_rules.specs.FrameOrders.{bounds_of, sending};
 ghost use Rattle.frame_rules.specs.FrameOrders.SentOrder.{Drawn};
-ghost use Rattle.frame_write.specs.Writes.{Writes, IsDrawing};
+ghost use Rattle.viewer_sender.specs.Writes.{Writes, IsDrawing};
 ghost use Rattle.viewer_sender.specs.Goes.{FitsDrawn};
 
-use crate::OutOfMemory;
 use crate::bounds::bounds_of;
-use frame_write::FrameWriter;
+use crate::{FrameWriter, OutOfMemory};
 use order_fields::Fields;
 use order_prim::{dst_blt, opaque_rect, save_bitmap, scr_blt};
 use px_core::Rect;

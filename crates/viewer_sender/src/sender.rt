@@ -14,10 +14,9 @@ ghost use Rattle.viewer_sender.specs.OwnTakes.{IsOwnTake, IsOwn};
 ghost use Rattle.viewer_sender.specs.Shown.{Shows};
 
 use crate::frame::write_frame;
-use crate::{OutOfMemory, SendFault};
+use crate::{FrameWriter, OutOfMemory, SendFault};
 use caps_sets::Confirmed;
 use frame_plan::{Desk, Take, Taken, plan};
-use frame_write::FrameWriter;
 use session_core::Session;
 use std::alloc::Global;
 use std::marker::Model;
@@ -85,8 +84,8 @@ impl Sender {
         ensures nothing { result ≡ Ok Nothing → session.new ≡ session.old }
         ensures unchanged { OnErr result ((session.new ≡ session.old) × (self.new ≡ self.old)) }
     {
-        session.is_legal();
-        self.desk.are_apart();
+        session.recall_legal();
+        self.desk.recall_apart();
         plan(alloc, session, &mut self.desk)
     }
 

@@ -8,3 +8,7 @@ pub mod Refused
 pub mod RefusalIsRead
 pub mod Place
 pub mod RefusalRows
+pub mod Bytes
+pub mod Numbers
+pub mod Pixels
+pub mod Caused

@@ -4,12 +4,12 @@ use Rattle.std.specs.Prelude.{nat_lt, nat_eq, ◌==◌, Ok, Err}
 use Rattle.std.specs.List.{starts_with}
 use Rattle.std.proofs.lemmas.Bool.Decides.{nat_tests}
 use Rattle.std.proofs.lemmas.List.{length-take-le}
-use Rattle.byte_fields.proofs.Bytes.{bytes_at_is, wanted_is, taken_few}
-use Rattle.byte_fields.proofs.Numbers.{big_at_is, little_at_is}
+use Rattle.wire_num.proofs.Bytes.{bytes_at_is, wanted_is, taken_few}
+use Rattle.wire_num.proofs.Numbers.{big_at_is, little_at_is}
 use Rattle.byteorder.specs.Endian.{big_number, little_number}
-use Rattle.wire_num.specs.Field.{as_one_field, passing_at, end_at, at_least, rest_count_at}
-use Rattle.byte_fields.specs.Field.{Read, then_read, bytes_at, wanted}
-use Rattle.byte_fields.specs.Number.{big_at, little_at}
+use Rattle.wire_num.specs.FieldValue.{as_one_field, passing_at, end_at, at_least, rest_count_at}
+use Rattle.wire_num.specs.Field.{Read, then_read, bytes_at, wanted}
+use Rattle.wire_num.specs.Number.{big_at, little_at}
 use Rattle.wire_num.specs.Length.{per_len_at, long_per_at, ber_len_at}
 use Rattle.wire_num.specs.Layout.{Count, OneByte, Packed, Basic, count_at, exactly_at}
 use Rattle.wire_num.specs.Refusal.{Missing, IsSomeCount, IsPassingCount}

@@ -2,9 +2,9 @@
 use Rattle.std.proofs.Common.{◌≡◌, ℕ, inl, inr, List, [], ◌∷◌, ◌++◌, length, ap, sym, ◌∙◌}
 use Rattle.std.specs.Prelude.{Ok, Err}
 use Rattle.byteorder.specs.Endian.{big_number, little_number}
-use Rattle.wire_num.specs.Field.{passing_at, end_at, at_least, rest_count_at}
-use Rattle.byte_fields.specs.Field.{Read, then_read, map_read, bytes_at, wanted}
-use Rattle.byte_fields.specs.Number.{big_at, little_at}
+use Rattle.wire_num.specs.FieldValue.{passing_at, end_at, at_least, rest_count_at}
+use Rattle.wire_num.specs.Field.{Read, then_read, map_read, bytes_at, wanted}
+use Rattle.wire_num.specs.Number.{big_at, little_at}
 use Rattle.wire_num.specs.Layout.{count_at, Within, Counted, Length, AtLeast, CountsRest, Little, Big, Any, Bytes, Content, Body, Rest, End, Open, Layout, exactly_at, before, fields_at}
 use Rattle.wire_num.specs.Grammar.{IsText}
 use Rattle.wire_num.specs.Refusal.{IsSomeCount, IsRefusedAt}

@@ -1,7 +1,7 @@
 -- Worked refusals: the bytes from the place on.
 use Rattle.std.proofs.Common.{◌≡◌, ℕ, List, [], ◌∷◌, refl}
 use Rattle.std.specs.Prelude.{Err}
-use Rattle.wire_num.specs.Field.{is_any, is_at_most, passing_at, at_least, rest_count_at}
+use Rattle.wire_num.specs.FieldValue.{is_any, is_at_most, passing_at, at_least, rest_count_at}
 use Rattle.wire_num.specs.Layout.{fields_at, exactly_at, Layout, Open, End, Body, Content, Bytes, Big, CountsRest, AtLeast, Counted, Within, OneByte, Packed, Basic, ◌▸◌}
 use Rattle.wire_num.specs.Refusal.{IsRefusedAt}
 use Rattle.wire_num.proofs.Refused.{refused}

@@ -5,8 +5,8 @@ use Rattle.std.proofs.lemmas.Bool.Decides.{nat_tests}
 use Rattle.std.proofs.lemmas.List.{take-append-drop, length-take-le}
 use Rattle.std.proofs.Math.ListN.{get_or-append}
 use Rattle.byteorder.specs.Endian.{big_number, big_from, little_number, little_from}
-use Rattle.wire_num.specs.Field.{as_one_field, end_at}
-use Rattle.byte_fields.specs.Field.{Read, then_read, map_read}
+use Rattle.wire_num.specs.FieldValue.{as_one_field, end_at}
+use Rattle.wire_num.specs.Field.{Read, then_read, map_read}
 
 -- ---- steps of reading
 

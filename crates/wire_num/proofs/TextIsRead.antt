@@ -6,12 +6,12 @@ use lib.Pointwise.{pointwise}
 use Rattle.std.specs.Cmp.Lexicographic.{other_text}
 use Rattle.std.proofs.lemmas.Bool.Decides.{nat_tests}
 use Rattle.std.proofs.Math.Seq.{take-append_seam, drop-append_seam}
-use Rattle.byte_fields.specs.Number.{little_value, big_value, big_at, little_at}
-use Rattle.byte_fields.proofs.Bytes.{taken_back, wanted_is}
-use Rattle.byte_fields.proofs.Numbers.{big_number_is, little_number_is}
+use Rattle.wire_num.specs.Number.{little_value, big_value, big_at, little_at}
+use Rattle.wire_num.proofs.Bytes.{taken_back, wanted_is}
+use Rattle.wire_num.proofs.Numbers.{big_number_is, little_number_is}
 use Rattle.byteorder.specs.Endian.{big_number, little_number}
-use Rattle.wire_num.specs.Field.{as_one_field, passing_at, end_at, at_least, rest_count_at}
-use Rattle.byte_fields.specs.Field.{Read, then_read, map_read, bytes_at, wanted}
+use Rattle.wire_num.specs.FieldValue.{as_one_field, passing_at, end_at, at_least, rest_count_at}
+use Rattle.wire_num.specs.Field.{Read, then_read, map_read, bytes_at, wanted}
 use Rattle.wire_num.specs.Length.{per_len_at, ber_len_at}
 use Rattle.wire_num.specs.Layout.{Layout, Open, End, Rest, Body, Content, Bytes, Any, Big, Little, CountsRest, AtLeast, Length, Counted, Within, Count, OneByte, Packed, Basic, count_at, exactly_at, before, fields_at}
 use Rattle.wire_num.specs.Grammar.{IsOneByte, IsPacked, IsBasic, IsCount, IsText}

@@ -1,8 +1,8 @@
 -- A cursor, seen as a slice and a place in it, and what a call that reads says.
 use Rattle.std.specs.Prelude.{◌≡◌, ℕ, List, drop, Result, Ok, Err}
 use Rattle.wire_num.specs.declared.short.Short.{Short}
-use Rattle.byte_fields.specs.Field.{Read}
-use Rattle.byte_fields.specs.Caused.{Caused}
+use Rattle.wire_num.specs.Field.{Read}
+use Rattle.wire_num.specs.Caused.{Caused}
 use Rattle.wire_num.specs.Layout.{Layout, fields_at}
 
 pub record CursorOf : Type 0 where

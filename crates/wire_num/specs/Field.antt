@@ -1,40 +1,67 @@
--- What a field of a text may be beside so many bytes and the number in them, and what reading a whole text gives.
-use Rattle.std.specs.Prelude.{ℕ, ◌==◌, nat_lt, nat_le, bit_and, Bool, true, List, [], length, Result, Ok, Err, if◌then◌else◌}
-use Rattle.byte_fields.specs.Field.{Read, then_read, ended, place_in}
-use Rattle.byte_fields.specs.Number.{big_at}
+-- Reading bytes field by field, from the front. A refusal carries the bytes from the first field that breaks its rule on, so a place is a difference of two lengths.
+use Rattle.std.specs.Prelude.{ℕ, zero, suc, ◌-◌, ◌==◌, Bool, true, false, List, [], ◌∷◌, length, Result, Ok, Err}
 
--- the same field, all of it refused at its first byte
-abbrev pub as_one_field : {A : Type 0} → List ℕ → Read A → Read A
-as_one_field whole (Ok v) = Ok v
-as_one_field whole (Err left) = Err whole
+-- what was read and the bytes after it, or the bytes from the refused field on
+abbrev pub Read : Type 0 → Type 0
+Read A = Result (A × List ℕ) (List ℕ)
 
--- tests of a field's value
-abbrev pub is_any : ℕ → Bool
-is_any n = true
+-- goes on with what was made
+abbrev pub bind : {A B E : Type 0} → Result A E → (A → Result B E) → Result B E
+bind (Ok x) f = f x
+bind (Err e) f = Err e
 
-abbrev pub is_at_most : ℕ → ℕ → Bool
-is_at_most most n = nat_le n most
+-- a field, and then what reads the bytes after it
+abbrev pub then_read : {A B : Type 0} → Read A → (A → List ℕ → Read B) → Read B
+then_read (Ok v) f = f v.0 v.1
+then_read (Err left) f = Err left
 
-abbrev pub has_bits : ℕ → ℕ → Bool
-has_bits bits n = bit_and n bits == bits
+-- the same field, as a function of what was read
+abbrev pub map_read : {A B : Type 0} → (A → B) → Read A → Read B
+map_read f (Ok v) = Ok (f v.0, v.1)
+map_read f (Err left) = Err left
 
--- a field whose value passes the test
-unfoldable pub passing_at : {A : Type 0} → (A → Bool) → (List ℕ → Read A) → List ℕ → Read A
-passing_at test read bs = then_read (read bs) (λ v rest. if test v then Ok (v, rest) else Err bs)
+-- a value where the test holds; else a refusal of the field that begins with `whole`
+abbrev pub given : {A : Type 0} → Bool → A → List ℕ → List ℕ → Read A
+given true v rest whole = Ok (v, rest)
+given false v rest whole = Err whole
 
--- nothing is left
-abbrev pub end_at : List ℕ → Read (List ℕ)
-end_at bs = ended [] bs
+-- goes on where the test holds; else a refusal of the field that begins with `whole`
+abbrev pub kept : {A : Type 0} → Bool → Read A → List ℕ → Read A
+kept true read whole = read
+kept false read whole = Err whole
 
--- n bytes are left; else the refusal is at the end
-unfoldable pub at_least : ℕ → List ℕ → Read (List ℕ)
-at_least n bs = if nat_lt (length bs) n then Err [] else Ok ([], bs)
+-- nothing is left after what was read
+abbrev pub ended : {A : Type 0} → A → List ℕ → Read A
+ended v [] = Ok (v, [])
+ended v (b ∷ bs) = Err (b ∷ bs)
 
--- one byte, which counts those after it
-unfoldable pub rest_count_at : List ℕ → Read ℕ
-rest_count_at bs = then_read (big_at 1 bs) (λ n rest. if length rest == n then Ok (n, rest) else Err bs)
+-- a field that the bytes must fill
+abbrev pub all_of : {A : Type 0} → Read A → Read A
+all_of (Err left) = Err left
+all_of (Ok v) = ended v.0 v.1
 
--- what reading a whole text gives: its value, or the fault at the place of the refused field
-abbrev pub placed : {A E : Type 0} → (ℕ → E) → List ℕ → Read A → Result A E
-placed fault bs (Ok v) = Ok v.0
-placed fault bs (Err left) = Err (fault (place_in bs left))
+-- the place of the bytes that are left of a text
+abbrev pub place_in : List ℕ → List ℕ → ℕ
+place_in whole left = length whole - length left
+
+-- ---- bytes
+
+-- the first n bytes of a field that begins with `whole`
+abbrev pub taken : List ℕ → ℕ → List ℕ → Read (List ℕ)
+taken whole zero bs = Ok ([], bs)
+taken whole (suc n) [] = Err whole
+taken whole (suc n) (b ∷ bs) = map_read (λ xs. b ∷ xs) (taken whole n bs)
+
+-- a field of n bytes
+abbrev pub bytes_at : ℕ → List ℕ → Read (List ℕ)
+bytes_at n bs = taken bs n bs
+
+-- just these bytes, of a field that begins with `whole`
+abbrev pub wanted_from : List ℕ → List ℕ → List ℕ → Read (List ℕ)
+wanted_from whole [] bs = Ok ([], bs)
+wanted_from whole (w ∷ ws) [] = Err whole
+wanted_from whole (w ∷ ws) (b ∷ bs) = kept (w == b) (wanted_from whole ws bs) whole
+
+-- a field that has just these bytes
+abbrev pub wanted : List ℕ → List ℕ → Read (List ℕ)
+wanted ws bs = wanted_from bs ws bs

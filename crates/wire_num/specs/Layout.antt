@@ -1,8 +1,8 @@
 -- A grammar as a table: the fields of a text, in their order.
 use Rattle.std.specs.Prelude.{ℕ, ◌==◌, Bool, List, [], ◌∷◌, ◌++◌, length, Ok, Err, if◌then◌else◌}
-use Rattle.byte_fields.specs.Field.{Read, then_read, map_read, bytes_at, wanted}
-use Rattle.byte_fields.specs.Number.{big_at, little_at}
-use Rattle.wire_num.specs.Field.{passing_at, end_at, at_least, rest_count_at}
+use Rattle.wire_num.specs.Field.{Read, then_read, map_read, bytes_at, wanted}
+use Rattle.wire_num.specs.Number.{big_at, little_at}
+use Rattle.wire_num.specs.FieldValue.{passing_at, end_at, at_least, rest_count_at}
 use Rattle.wire_num.specs.Length.{per_len_at, ber_len_at}
 
 infixr 4 ◌▸◌

@@ -1,9 +1,9 @@
 -- The two forms of lengths: the packed encoding rules' (X.691, 10.9) and the basic encoding rules' (X.690, 8.1.3).
 use Rattle.std.specs.Prelude.{ℕ, ◌+◌, ◌-◌, ◌*◌, ◌==◌, List, [], ◌∷◌, nat_lt, Ok, Err, if◌then◌else◌}
 use Rattle.byteorder.specs.Endian.{big_bytes}
-use Rattle.byte_fields.specs.Field.{Read}
-use Rattle.byte_fields.specs.Number.{big_at}
-use Rattle.wire_num.specs.Field.{as_one_field}
+use Rattle.wire_num.specs.Field.{Read}
+use Rattle.wire_num.specs.Number.{big_at}
+use Rattle.wire_num.specs.FieldValue.{as_one_field}
 
 -- the second byte of a packed length whose first one is b
 abbrev pub long_per_at : ℕ → List ℕ → Read ℕ

@@ -1,7 +1,11 @@
-pub mod Field
+pub mod FieldValue
 pub mod Length
 pub mod Layout
 pub mod Cursor
 pub mod Written
 pub mod Grammar
 pub mod Refusal
+pub mod Field
+pub mod Number
+pub mod Pixels
+pub mod Caused

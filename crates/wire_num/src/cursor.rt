@@ -3,9 +3,9 @@
 ghost use Rattle.std.specs.Prelude.{◌≡◌, ℕ, ◌+◌, ◌-◌, ◌≤◌, ◌<◌, ◌↔◌, length, drop, take, IfOk, OnOk, List, []};
 ghost use Rattle.byteorder.specs.Endian.{big_number, little_number};
 ghost use Rattle.wire_num.specs.Cursor.{CursorOf, rest, ReadsField, ReadsFieldAs, ReadsFieldsAs};
-ghost use Rattle.wire_num.specs.Field.{end_at, at_least, rest_count_at, passing_at, has_bits, is_at_most};
-ghost use Rattle.byte_fields.specs.Number.{big_at, little_at};
-ghost use Rattle.byte_fields.specs.Field.{bytes_at, wanted as wanted_at};
+ghost use Rattle.wire_num.specs.FieldValue.{end_at, at_least, rest_count_at, passing_at, has_bits, is_at_most};
+ghost use Rattle.wire_num.specs.Number.{big_at, little_at};
+ghost use Rattle.wire_num.specs.Field.{bytes_at, wanted as wanted_at};
 ghost use Rattle.wire_num.specs.Layout.{exactly_at};
 ghost use Rattle.wire_num.specs.Length.{per_len_at, ber_len_at};
 
@@ -82,7 +82,7 @@ impl<'a> Cursor<'a> {
     }
 
     /// One byte.
-    #[tactic(auto, using(byte_fields::proofs::Numbers::big_at_is))]
+    #[tactic(auto, using(crate::proofs::Numbers::big_at_is))]
     pub fn u8(&mut self) -> Result<u8, Short>
         ensures { ReadsField (big_at 1) result self.old self.new }
     {
@@ -95,7 +95,7 @@ impl<'a> Cursor<'a> {
     }
 
     /// A number of two bytes, the lowest first.
-    #[tactic(auto, using(byte_fields::proofs::Numbers::little_at_is))]
+    #[tactic(auto, using(crate::proofs::Numbers::little_at_is))]
     pub fn u16_le(&mut self) -> Result<u16, Short>
         ensures { ReadsField (little_at 2) result self.old self.new }
     {
@@ -108,7 +108,7 @@ impl<'a> Cursor<'a> {
     }
 
     /// A number of two bytes, the highest first.
-    #[tactic(auto, using(byte_fields::proofs::Numbers::big_at_is))]
+    #[tactic(auto, using(crate::proofs::Numbers::big_at_is))]
     pub fn u16_be(&mut self) -> Result<u16, Short>
         ensures { ReadsField (big_at 2) result self.old self.new }
     {
@@ -121,7 +121,7 @@ impl<'a> Cursor<'a> {
     }
 
     /// A number of four bytes, the lowest first.
-    #[tactic(auto, using(byte_fields::proofs::Numbers::little_at_is))]
+    #[tactic(auto, using(crate::proofs::Numbers::little_at_is))]
     pub fn u32_le(&mut self) -> Result<u32, Short>
         ensures { ReadsField (little_at 4) result self.old self.new }
     {
@@ -194,7 +194,7 @@ impl<'a> Cursor<'a> {
     }
 
     /// At least `n` bytes are left; else the refusal is at the slice's end, and the cursor goes there.
-    #[tactic(auto, unfolding(crate::specs::Field::at_least))]
+    #[tactic(auto, unfolding(crate::specs::FieldValue::at_least))]
     pub fn at_least(&mut self, n: usize) -> Result<(), Short>
         ensures { ReadsFieldsAs (λ _. []) (at_least n) result self.old self.new }
     {
@@ -206,7 +206,7 @@ impl<'a> Cursor<'a> {
     }
 
     /// One byte in which these bits are set.
-    #[tactic(auto, using(byte_fields::proofs::Numbers::big_at_is), unfolding(crate::specs::Field::passing_at))]
+    #[tactic(auto, using(crate::proofs::Numbers::big_at_is), unfolding(crate::specs::FieldValue::passing_at))]
     pub fn u8_with(&mut self, bits: u8) -> Result<u8, Short>
         ensures { ReadsField (passing_at (has_bits bits) (big_at 1)) result self.old self.new }
     {
@@ -219,7 +219,7 @@ impl<'a> Cursor<'a> {
     }
 
     /// A number of two bytes, the highest first, that is at most `most`.
-    #[tactic(auto, using(byte_fields::proofs::Numbers::big_at_is), unfolding(crate::specs::Field::passing_at))]
+    #[tactic(auto, using(crate::proofs::Numbers::big_at_is), unfolding(crate::specs::FieldValue::passing_at))]
     pub fn u16_be_up_to(&mut self, most: u16) -> Result<u16, Short>
         ensures { ReadsField (passing_at (is_at_most most) (big_at 2)) result self.old self.new }
     {
@@ -247,7 +247,7 @@ impl<'a> Cursor<'a> {
     }
 
     /// One byte, which counts those after it.
-    #[tactic(auto, using(byte_fields::proofs::Numbers::big_at_is), unfolding(crate::specs::Field::rest_count_at))]
+    #[tactic(auto, using(crate::proofs::Numbers::big_at_is), unfolding(crate::specs::FieldValue::rest_count_at))]
     pub fn rest_count(&mut self) -> Result<u8, Short>
         ensures { ReadsField rest_count_at result self.old self.new }
     {

@@ -3,8 +3,7 @@
 use crate::row::number;
 use crate::turns::otherwise;
 use crate::verdict::{Found, Trouble, Way};
-use host_words::Request;
-use look_words::viewer_of_words;
+use command_words::{Request, viewer_of_words};
 use std::alloc::{AllocError, Global};
 
 /// What stands for words that ask for nothing.

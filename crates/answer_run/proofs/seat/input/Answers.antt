@@ -1,5 +1,5 @@
 use Rattle.session_rules.specs.Steps.Step.{InputStep}
-use Rattle.session_laws.specs.Entering.{entry_of_step}
+use Rattle.session_rules.specs.Entering.{entry_of_step}
 use Rattle.session_core.specs.SessionModel.{reached_by}
 use Rattle.answer_run.specs.Asking.{client}
 use Rattle.answer_run.specs.Seats.{IsSettled}

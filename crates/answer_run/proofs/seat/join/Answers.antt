@@ -1,7 +1,7 @@
 use Rattle.std.proofs.Common.{rules, ◌≡◌, false, subst, IfOk, Ok}
 use Rattle.px_core.specs.Tiles.{no_tiles}
 use Rattle.session_rules.specs.Steps.Step.{JoinStep}
-use Rattle.session_laws.specs.Entering.{entry_of_step, answer_at}
+use Rattle.session_rules.specs.Entering.{entry_of_step, answer_at}
 use Rattle.session_core.specs.SessionModel.{reached_by, asked_by, is_suppressed}
 use Rattle.session_core.specs.Outcomes.{IsAnswered, GoesOn}
 use Rattle.session_core.specs.Faults.{join_answer}

@@ -2,7 +2,7 @@ use Rattle.std.proofs.Common.{◌<◌, Fits, w8, sym, subst, arith}
 use Rattle.std.specs.Prelude.{All, slice_index_or}
 use Rattle.std.proofs.lemmas.List.Elements.{All-from_get_or}
 use Rattle.conn_rules.specs.Hearing.{heard}
-use Rattle.conn_laws.specs.Placed.{AreBytes, ArePlaced}
+use Rattle.conn_rules.specs.Placed.{AreBytes, ArePlaced}
 use Rattle.answer_run.specs.Asking.{owners_head}
 use Rattle.answer_run.specs.Visits.{HasCaches}
 use Rattle.answer_run.specs.Serves.{DoesHeard}

@@ -2,7 +2,7 @@ use Rattle.std.proofs.Common.{◌≡◌, ◌≤◌, ◌-◌, ◌∙◌, ℕ, Lis
 use Rattle.std.specs.Prelude.{Result}
 use Rattle.std.proofs.lemmas.List.{take_all, length-drop}
 use Rattle.std.proofs.lemmas.Result.{err_from_is_err_and}
-use Rattle.byte_fields.specs.Field.{bind}
+use Rattle.wire_num.specs.Field.{bind}
 use Rattle.draw_ops.specs.Content.{GlyphOf}
 use Rattle.order_means.specs.ClientState.{Fault, pairs_of, glyph_used}
 use Rattle.client_caches.specs.Answers.{Gives}

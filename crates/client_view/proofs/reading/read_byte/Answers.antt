@@ -1,10 +1,10 @@
 use Rattle.std.proofs.Common.{◌≡◌, ◌∙◌, refl, sym, inl, [], ◌∷◌}
 use Rattle.order_means.specs.Updates.{updates_by}
-use Rattle.host_updates.specs.declared.step.Step.TheVariants.{Update}
-use Rattle.host_updates.specs.Cutters.{Gives, step_by}
+use Rattle.update_read.specs.declared.step.Step.TheVariants.{Update}
+use Rattle.update_read.specs.Cutters.{Gives, step_by}
 use Rattle.client_view.specs.OnTheWay.{MidBody, ComesNext}
 use Rattle.client_view.proofs.Obeyed.{counts_of}
-use Rattle.host_updates.specs.Cutters.{body_by}
+use Rattle.update_read.specs.Cutters.{body_by}
 use Rattle.client_view.proofs.Streams.{gives_body, reads_more, reads_body, reads_refusal, stops_by, next_body}
 use Rattle.client_view.proofs.reading.read_byte.Goals as goal
 

@@ -1,6 +1,6 @@
 use Rattle.std.proofs.Common.{◌≡◌, ◌∙◌, ◌+◌, ap, sym, subst, drop, refl, [], true, ℕ, inl, inr, arith}
 use Rattle.std.specs.Prelude.{Ok, not}
-use Rattle.byte_fields.specs.Field.{Read}
+use Rattle.wire_num.specs.Field.{Read}
 use Rattle.order_means.specs.FrameMarks.{Update, marked_if, view_after_tiles, view_after_read, update_at}
 use Rattle.client_view.specs.Views.{capped}
 use Rattle.client_view.specs.Refusals.{Shows, body_at}

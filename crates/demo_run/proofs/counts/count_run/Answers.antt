@@ -1,8 +1,8 @@
 use Rattle.std.proofs.Common.{◌≡◌, ◌∙◌, length, ap, sym, subst, arith}
 use Rattle.session_rules.specs.Steps.{journal_of_steps}
-use Rattle.script_rules.specs.CaptureText.{run_at_first}
-use Rattle.script_rules.specs.Headline.{encoder_frames, steps_of}
-use Rattle.demo_rules.specs.Scene.{demo_size, demo_head}
+use Rattle.script_rules.specs.CaptureText.{run_at_first, encoder_frames}
+use Rattle.headline.specs.Headline.{steps_of}
+use Rattle.demo_run.specs.Scene.{demo_size, demo_head}
 use Rattle.demo_run.specs.Standing.{AreWatching}
 use Rattle.demo_run.specs.Sums.{AreShown}
 use Rattle.demo_run.proofs.Runs.{journal_is}

@@ -1,10 +1,10 @@
 use Rattle.std.proofs.Common.{◌≡◌, ◌++◌, List, ℕ, subst}
 use Rattle.std.specs.Prelude.{IfOk}
 use Rattle.script_rules.specs.Script.{Asked}
-use Rattle.demo_rules.specs.Numbers.{generator_of}
-use Rattle.demo_rules.specs.Scene.{joins, beginning}
-use Rattle.demo_rules.specs.Load.{play_after, steps_from, last_takes}
-use Rattle.demo_rules.specs.Counts.{demo_line}
+use Rattle.demo_run.specs.Numbers.{generator_of}
+use Rattle.demo_run.specs.Scene.{joins, beginning}
+use Rattle.demo_run.specs.Load.{play_after, steps_from, last_takes}
+use Rattle.demo_run.specs.Counts.{demo_line}
 use Rattle.demo_run.specs.Sums.{line_of}
 use Rattle.demo_run.proofs.Sums.{line_of_all}
 use Rattle.demo_run.proofs.line.demo_line.Goals as goal

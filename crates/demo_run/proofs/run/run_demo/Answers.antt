@@ -3,7 +3,7 @@ use Rattle.std.specs.Prelude.{OnOk, OnErr}
 use Rattle.std.specs.Io.KnownBytes.{Appends}
 use Rattle.std.proofs.KnownBytes.{Appends-nil}
 use Rattle.edge_io.specs.Sink.{WritesFront}
-use Rattle.demo_rules.specs.Counts.{demo_line}
+use Rattle.demo_run.specs.Counts.{demo_line}
 use Rattle.demo_run.proofs.run.run_demo.Goals as goal
 
 pub returns-in-Ok-clause-written : goal.returns-in-Ok-clause-written

@@ -1,9 +1,8 @@
 use Rattle.std.specs.Prelude.{◌≡◌, false}
 use Rattle.px_core.specs.Picture.{listed}
-use Rattle.script_rules.specs.CaptureText.{run_at_first}
-use Rattle.script_rules.specs.Headline.{encoder_frames}
+use Rattle.script_rules.specs.CaptureText.{run_at_first, encoder_frames}
 use Rattle.script_host.specs.Runs.{IsRunOf}
-use Rattle.demo_rules.specs.Scene.{demo_size, row_of}
+use Rattle.demo_run.specs.Scene.{demo_size, row_of}
 use Rattle.demo_run.proofs.seats.invite_all.Given as goal
 
 -- so many rows came, and no step

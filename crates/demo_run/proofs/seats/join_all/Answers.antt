@@ -5,10 +5,9 @@ use Rattle.caps_sets.specs.declared.confirmed.Confirmed.{Confirmed}
 use Rattle.session_rules.specs.Journal.{Head}
 use Rattle.session_rules.specs.Steps.Step.{JoinStep}
 use Rattle.script_rules.specs.Script.{Asked, is_name}
-use Rattle.script_rules.specs.CaptureText.{run_at_first, run_after}
-use Rattle.script_rules.specs.Headline.{encoder_frames}
+use Rattle.script_rules.specs.CaptureText.{run_at_first, run_after, encoder_frames}
 use Rattle.script_host.specs.Runs.{IsRunOf}
-use Rattle.demo_rules.specs.Scene.{demo_size, demo_head, name_of, preset_of, join_of}
+use Rattle.demo_run.specs.Scene.{demo_size, demo_head, name_of, preset_of, join_of}
 use Rattle.demo_run.specs.Asks.{IsViewer}
 use Rattle.demo_run.specs.Standing.{run_of}
 use Rattle.demo_run.proofs.Runs.{run_more}

@@ -1,6 +1,6 @@
 use Rattle.std.proofs.Common.{◌≡◌, ◌∙◌, ◌+◌, ℕ, [], ◌∷◌, length, ap, sym, subst, arith, length-append}
 use Rattle.std.specs.Prelude.{slice_get}
-use Rattle.demo_rules.specs.Scene.{demo_size, preset_of}
+use Rattle.demo_run.specs.Scene.{demo_size, preset_of}
 use Rattle.demo_run.specs.declared.watcher.Watcher.{Watcher}
 use Rattle.demo_run.specs.Watching.{IsNew}
 use Rattle.demo_run.proofs.Loops.{pushed_get}

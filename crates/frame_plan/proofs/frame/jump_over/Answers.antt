@@ -1,6 +1,6 @@
 use Rattle.std.proofs.Common.{◌≡◌, ◌+◌, ◌≤◌, ◌++◌, List, ap, sym, ◌∙◌, subst, arith}
 use Rattle.px_core.specs.declared.surface.Size.{Size}
-use Rattle.frame_rules.specs.Pending.{Pending, pending_between}
+use Rattle.session_rules.specs.Pending.{Pending, pending_between}
 use Rattle.frame_rules.specs.Frame.{jumped}
 use Rattle.frame_plan.specs.Cuts.{AllCuttable}
 use Rattle.frame_plan.specs.Walks.{walk_of, HasJumped}
@@ -16,7 +16,7 @@ jump_all-requires-clause-cuttable c =
     let is : c.deref.result.now ≡ pending_between s.head.size s.journal k (k + 1) =
     c.deref.ensures.value ∙ (c.in_ok-put_pending.ensures.ok ∙ ap (λ (ps : List Pending). ps ++ pending_between s.head.size s.journal k (k + 1)) c.clear.ensures.items) in
     subst (λ (z : Size). AllCuttable z c.deref.result.now) (sym c.size-size.ensures)
-    (subst (AllCuttable s.head.size) (sym is) (pending_cuttable s.head s.journal c.is_legal.ensures.size c.is_legal.ensures.journal k (k + 1) (omega arith)))
+    (subst (AllCuttable s.head.size) (sym is) (pending_cuttable s.head s.journal c.recall_legal.ensures.size c.recall_legal.ensures.journal k (k + 1) (omega arith)))
 
 pub loop-entry-preserved : goal.loop-entry-preserved
 loop-entry-preserved c =

@@ -1,4 +1,4 @@
-use Rattle.frame_rules.specs.Pending.{pending_between}
+use Rattle.session_rules.specs.Pending.{pending_between}
 use Rattle.frame_rules.specs.Frame.{jumped}
 use Rattle.frame_plan.specs.Walks.{walk_of, HasJumped}
 use Rattle.frame_plan.proofs.frame.jump_over.Given as goal

@@ -1,5 +1,5 @@
 use Rattle.std.proofs.Common.{◌∙◌, List, ap, sym}
-use Rattle.frame_rules.specs.Pending.{Pending}
+use Rattle.session_rules.specs.Pending.{Pending}
 use Rattle.frame_plan.specs.Orders.{orders_at}
 use Rattle.frame_plan.proofs.Walking.{all_walked}
 use Rattle.frame_plan.proofs.frame.walk_drawings.Goals as goal

@@ -22,4 +22,4 @@ walk_drawings-requires-clause-cuttable c =
     let low : c.args.desk.now.number ≤ c.loop-entry.entry = omega (arith, number, from) in
     subst (λ (z : Size). AllCuttable z c.loop-entry.pending.items) (sym c.size.ensures)
     (subst (AllCuttable s.head.size) (sym c.loop-entry.invariant)
-    (pending_cuttable s.head s.journal c.is_legal.ensures.size c.is_legal.ensures.journal c.args.desk.now.number c.loop-entry.entry low))
+    (pending_cuttable s.head s.journal c.recall_legal.ensures.size c.recall_legal.ensures.journal c.args.desk.now.number c.loop-entry.entry low))

@@ -1,5 +1,5 @@
 use Rattle.std.proofs.Common.{◌≡◌}
-use Rattle.frame_rules.specs.Pending.{pending_between}
+use Rattle.session_rules.specs.Pending.{pending_between}
 use Rattle.frame_plan.proofs.frame.walk_over.Given as goal
 
 -- the drawings of the entries so far

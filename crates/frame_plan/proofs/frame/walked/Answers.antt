@@ -1,5 +1,5 @@
 use Rattle.std.proofs.Common.{◌≡◌, ◌≤◌, ◌<◌, ℕ, length, ap, ◌∙◌, subst, arith, rules}
-use Rattle.frame_rules.specs.Pending.{pending_between}
+use Rattle.session_rules.specs.Pending.{pending_between}
 use Rattle.frame_rules.specs.Frame.{jumped}
 use Rattle.frame_plan.specs.Takes.{DeskModel}
 use Rattle.frame_plan.specs.Planning.{pending_at, begun_at}

@@ -1,5 +1,5 @@
 use Rattle.std.proofs.Common.{◌≡◌, drop, map}
-use Rattle.cache_use.specs.CacheUse.{is_used}
+use Rattle.cache_plan.specs.CacheUse.{is_used}
 use Rattle.frame_plan.proofs.support.is_among.Given as goal
 
 -- none of the glyphs so far is of the load

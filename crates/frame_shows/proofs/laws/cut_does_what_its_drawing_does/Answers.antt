@@ -1,7 +1,7 @@
-use Rattle.board_laws.proofs.Fitting.{sides_of}
+use Rattle.session_rules.proofs.Fitting.{sides_of}
 use Rattle.frame_laws.proofs.CutDrawing.{cut_does}
 use Rattle.frame_laws.proofs.UnsentCut.{passed_over}
-use Rattle.cache_laws.proofs.TurnedOver.{color_item}
+use Rattle.frame_laws.proofs.TurnedOver.{color_item}
 use Rattle.frame_shows.proofs.CutSuits.{cut_suits}
 use Rattle.frame_shows.proofs.laws.cut_does_what_its_drawing_does.Goals as goal
 

@@ -1,4 +1,4 @@
-use Rattle.board_laws.proofs.Fitting.{sides_of}
+use Rattle.session_rules.proofs.Fitting.{sides_of}
 use Rattle.frame_shows.proofs.JournalShown.{sound_take}
 use Rattle.frame_shows.proofs.laws.frame_orders_go_whole.Goals as goal
 

@@ -1,5 +1,5 @@
 use Rattle.std.proofs.Common.{rules}
-use Rattle.wire_num.specs.Field.{passing_at}
+use Rattle.wire_num.specs.FieldValue.{passing_at}
 use Rattle.info_lic.proofs.client_info.read_security_flags.Goals as goal
 
 pub returns-then-flags-ne-SEC_INFO_PKT : goal.returns-then-flags-ne-SEC_INFO_PKT

@@ -1,6 +1,6 @@
 use Rattle.std.proofs.Common.{rules}
 use Rattle.mcs_ber.specs.ConnectInitial.{initial_fields}
-use Rattle.wire_num.specs.Field.{passing_at}
+use Rattle.wire_num.specs.FieldValue.{passing_at}
 use Rattle.mcs_ber.proofs.connect_initial.read_initial_fields.Goals as goal
 
 pub returns-in_err-bytes-2-clause-fields : goal.returns-in_err-bytes-2-clause-fields

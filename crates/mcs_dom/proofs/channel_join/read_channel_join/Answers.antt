@@ -1,6 +1,6 @@
 use Rattle.std.proofs.Common.{rules}
 use Rattle.mcs_dom.specs.ChannelJoin.{channel_join_request}
-use Rattle.wire_num.specs.Field.{passing_at}
+use Rattle.wire_num.specs.FieldValue.{passing_at}
 use Rattle.mcs_dom.proofs.channel_join.read_channel_join.Goals as goal
 
 pub returns-in_err-above : goal.returns-in_err-above

@@ -1,6 +1,6 @@
 use Rattle.std.proofs.Common.{◌≡◌, ◌∙◌, List, ℕ, [], drop, ap, sym, Ok}
 use Rattle.std.proofs.Math.Seq.{drop-length}
-use Rattle.byte_fields.specs.Field.{Read}
+use Rattle.wire_num.specs.Field.{Read}
 use Rattle.wire_num.specs.Cursor.{rest}
 use Rattle.wire_num.proofs.ReadIsText.{bytes_ok}
 use Rattle.mcs_dom.proofs.erect_domain.read_rest.Goals as goal

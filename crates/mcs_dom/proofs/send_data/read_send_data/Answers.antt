@@ -1,6 +1,6 @@
 use Rattle.std.proofs.Common.{rules}
 use Rattle.mcs_dom.specs.SendData.{send_data_request}
-use Rattle.wire_num.specs.Field.{passing_at}
+use Rattle.wire_num.specs.FieldValue.{passing_at}
 use Rattle.mcs_dom.proofs.send_data.read_send_data.Goals as goal
 
 pub returns : goal.returns

@@ -1,5 +1,5 @@
 use Rattle.std.proofs.Common.{rules}
-use Rattle.wire_num.specs.Field.{passing_at}
+use Rattle.wire_num.specs.FieldValue.{passing_at}
 use Rattle.mcs_dom.proofs.ultimatum.read_second.Goals as goal
 
 pub returns-in-len1-up : goal.returns-in-len1-up

@@ -1,6 +1,6 @@
 use Rattle.std.proofs.Common.{◌<◌, ◌^◌, ◌∙◌, ℕ, length, arith, Fits, w8, slice_index_or}
 use Rattle.byteorder.specs.Endian.{little_number}
-use Rattle.byte_fields.proofs.Numbers.{little_number_is}
+use Rattle.wire_num.proofs.Numbers.{little_number_is}
 use Rattle.order_read.proofs.NumberBytes.{little_below}
 use Rattle.order_read.proofs.number.low_number.Goals as goal
 

@@ -2,7 +2,7 @@ use Rattle.std.proofs.Common.{◌≡◌, pos, ap, ◌∙◌, sym, rules, to_z, w
 use Rattle.std.specs.Prelude.{Ok}
 use Rattle.std.proofs.lemmas.Int.{to_z_pos}
 use Rattle.wire_num.specs.Cursor.{rest}
-use Rattle.byte_fields.specs.Field.{map_read}
+use Rattle.wire_num.specs.Field.{map_read}
 use Rattle.order_read.proofs.NumberBytes.{short_below}
 use Rattle.order_read.proofs.number.read_short.Goals as goal
 

@@ -1,6 +1,6 @@
 use Rattle.std.proofs.Common.{◌≡◌, ◌∙◌, ap, length, rules, to_z, of_z, w64}
 use Rattle.byteorder.specs.Endian.{twos_complement}
-use Rattle.byte_fields.proofs.Numbers.{little_number_is}
+use Rattle.wire_num.proofs.Numbers.{little_number_is}
 use Rattle.order_read.proofs.number.signed_number.Goals as goal
 
 pub returns-clause-value : goal.returns-clause-value

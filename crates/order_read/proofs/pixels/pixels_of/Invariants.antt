@@ -1,6 +1,6 @@
 use Rattle.std.proofs.Common.{◌≡◌, ◌++◌, ◌*◌, drop, length}
 use Rattle.std.specs.Prelude.{IsTrue}
-use Rattle.byte_fields.specs.Pixels.{pixels_of}
+use Rattle.wire_num.specs.Pixels.{pixels_of}
 use Rattle.px_core.specs.Colors.{are_colors}
 use Rattle.order_read.proofs.pixels.pixels_of.Given as goal
 

@@ -1,7 +1,7 @@
 use Rattle.std.proofs.Common.{◌∙◌, ap, List, ℕ, [], ◌∷◌}
 use Rattle.std.proofs.lemmas.Result.{err_from_is_err_and}
 use Rattle.wire_num.specs.Cursor.{rest}
-use Rattle.byte_fields.specs.Pixels.{pixels_of}
+use Rattle.wire_num.specs.Pixels.{pixels_of}
 use Rattle.order_fields.specs.Secondary.Cached.{Brush}
 use Rattle.order_fields.specs.OrderStream.Order.{Other}
 use Rattle.order_read.specs.Told.Told.{Stored}

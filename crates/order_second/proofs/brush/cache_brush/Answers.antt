@@ -1,7 +1,7 @@
 use Rattle.std.proofs.Common.{◌≡◌, List, ℕ, [], refl, sym, append-nil}
 use Rattle.std.proofs.lemmas.Result.{err_from_is_err_and}
 use Rattle.wire_num.specs.Written.{AppendsFront}
-use Rattle.host_bytes.specs.CacheOrders.{cache_brush_bytes}
+use Rattle.order_means.specs.CacheOrders.{cache_brush_bytes}
 use Rattle.order_second.proofs.brush.cache_brush.Goals as goal
 
 nothing_written : (old more : List ℕ) → AppendsFront old more old

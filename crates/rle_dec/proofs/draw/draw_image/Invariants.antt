@@ -1,5 +1,5 @@
 use Rattle.std.proofs.Common.{◌≡◌, ◌+◌, ◌++◌, length, take}
-use Rattle.byte_fields.specs.Pixels.{pixels_of}
+use Rattle.wire_num.specs.Pixels.{pixels_of}
 use Rattle.rle_dec.proofs.draw.draw_image.Given as goal
 
 abbrev pub invariant-loop-bytes : goal.invariant-loop-bytes

@@ -1,5 +1,5 @@
 use Rattle.std.proofs.Common.{sym, arith}
-use Rattle.byte_fields.proofs.Bytes.{taken_few, taken_split}
+use Rattle.wire_num.proofs.Bytes.{taken_few, taken_split}
 use Rattle.rle_dec.proofs.reads.read_bytes.Goals as goal
 
 pub returns-in-Some : goal.returns-in-Some

@@ -1,6 +1,6 @@
 use Rattle.std.proofs.Common.{◌≡◌, ◌++◌, take}
 use Rattle.std.specs.Prelude.{flat_map}
-use Rattle.byte_fields.specs.Pixels.{pixel_bytes}
+use Rattle.wire_num.specs.Pixels.{pixel_bytes}
 use Rattle.rle_enc.proofs.orders.write_each.Given as goal
 
 abbrev pub invariant-loop-pixel : goal.invariant-loop-pixel

@@ -1,5 +1,5 @@
 use Rattle.std.proofs.Common.{length, ◌-◌, refl, ◌∙◌}
-use Rattle.byte_fields.specs.Pixels.{pixel_bytes}
+use Rattle.wire_num.specs.Pixels.{pixel_bytes}
 use Rattle.rle_enc.proofs.Counting.{flat_map_four}
 use Rattle.rle_enc.proofs.orders.write_pixels.Goals as goal
 

@@ -1,6 +1,6 @@
 use Rattle.std.proofs.Common.{◌≡◌, ◌++◌, length}
 use Rattle.std.specs.Prelude.{flat_map}
-use Rattle.byte_fields.specs.Pixels.{pixel_bytes}
+use Rattle.wire_num.specs.Pixels.{pixel_bytes}
 use Rattle.rle_enc.proofs.orders.write_pixels.Given as goal
 
 -- what is written, before the pixels that are left, is what was there before them all

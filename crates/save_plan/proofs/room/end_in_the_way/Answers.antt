@@ -1,9 +1,9 @@
 -- A block that shares a position is in the way up to its end; where none does, none of the positions is taken.
 use Rattle.std.proofs.Common.{◌≡◌, ℕ, ◌+◌, ◌<◌, ◌≤◌, min, max, subst, arith, get_or}
-use Rattle.saved_blocks.specs.declared.Place.{Place}
-use Rattle.saved_blocks.specs.Blocks.{end_of}
-use Rattle.saved_blocks.proofs.LeastFree.{none_in_the_way, blocked_until}
-use Rattle.saved_blocks.proofs.Apart.{ends_within}
+use Rattle.save_plan.specs.declared.place.Place.{Place}
+use Rattle.save_plan.specs.Blocks.{end_of}
+use Rattle.save_plan.proofs.LeastFree.{none_in_the_way, blocked_until}
+use Rattle.save_plan.proofs.Apart.{ends_within}
 use Rattle.save_plan.proofs.room.end_in_the_way.Goals as goal
 use Rattle.std.proofs.lemmas.Grind.{common_steps}
 

@@ -1,6 +1,6 @@
 use Rattle.std.proofs.Common.{◌≡◌, ℕ, ◌<◌, true, get_or}
-use Rattle.saved_blocks.specs.declared.Place.{Place}
-use Rattle.saved_blocks.specs.Blocks.{is_apart}
+use Rattle.save_plan.specs.declared.place.Place.{Place}
+use Rattle.save_plan.specs.Blocks.{is_apart}
 use Rattle.save_plan.proofs.room.end_in_the_way.Given as goal
 
 -- none of the blocks so far is in the way

@@ -1,5 +1,5 @@
 use Rattle.std.proofs.Common.{ℕ, ◌-◌, ◌<◌, ◌≤◌}
-use Rattle.saved_blocks.specs.Blocks.{IsFree}
+use Rattle.save_plan.specs.Blocks.{IsFree}
 use Rattle.save_plan.proofs.room.least_free.Given as goal
 
 -- no earlier position is free

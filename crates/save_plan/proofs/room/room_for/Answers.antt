@@ -1,6 +1,6 @@
 -- The positions that are looked for are those that the block takes.
 use Rattle.std.proofs.Common.{ℕ, MatchOption, subst}
-use Rattle.saved_blocks.specs.Blocks.{IsFree, IsLeastFree}
+use Rattle.save_plan.specs.Blocks.{IsFree, IsLeastFree}
 use Rattle.save_plan.proofs.room.room_for.Goals as goal
 
 pub returns-in-Some : goal.returns-in-Some

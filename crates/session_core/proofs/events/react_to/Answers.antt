@@ -2,9 +2,9 @@ use Rattle.std.proofs.Common.{◌≡◌, ◌<◌, ◌+◌, ◌∙◌, length, ap
 use Rattle.draw_ops.specs.Fits.{AllFitState}
 use Rattle.board_app.specs.Boards.{board_of}
 use Rattle.session_rules.specs.Board.{board_reaction}
-use Rattle.board_laws.proofs.Fitting.{sides_of}
-use Rattle.board_laws.proofs.Reactions.{board_reacts}
-use Rattle.board_laws.proofs.Few.{few}
+use Rattle.session_rules.proofs.Fitting.{sides_of}
+use Rattle.session_rules.proofs.BoardReactions.{board_reacts}
+use Rattle.session_rules.proofs.Few.{few}
 use Rattle.session_core.proofs.events.react_to.Goals as goal
 
 pub shown_all-requires-clause-fit : goal.shown_all-requires-clause-fit

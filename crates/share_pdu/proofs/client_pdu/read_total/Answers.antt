@@ -1,6 +1,6 @@
 use Rattle.std.proofs.Common.{rules}
 use Rattle.share_pdu.specs.ClientPdu.{total_length}
-use Rattle.wire_num.specs.Field.{passing_at}
+use Rattle.wire_num.specs.FieldValue.{passing_at}
 use Rattle.share_pdu.proofs.client_pdu.read_total.Goals as goal
 
 pub returns-clause-field : goal.returns-clause-field

@@ -5,7 +5,7 @@ use Rattle.px_core.specs.Picture.{Area, both, painted}
 use Rattle.px_core.specs.Rectangle.{in_clip}
 use Rattle.rop3_core.specs.Palette.{session_colors}
 use Rattle.draw_ops.specs.Formulas.{glyph_area, run_area, solid}
-use Rattle.draw_laws.proofs.Painted.{length-painted_from}
+use Rattle.draw_ops.proofs.Painted.{length-painted_from}
 use Rattle.surface_flat.specs.Texts.{glyphs_held}
 use Rattle.surface_flat.proofs.Runs.{painted_nowhere, text_is, run_more}
 use Rattle.surface_flat.proofs.text.write_run.Goals as goal

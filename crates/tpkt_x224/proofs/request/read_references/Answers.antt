@@ -1,6 +1,6 @@
 use Rattle.std.proofs.Common.{rules}
 use Rattle.tpkt_x224.specs.Request.{references}
-use Rattle.wire_num.specs.Field.{passing_at}
+use Rattle.wire_num.specs.FieldValue.{passing_at}
 use Rattle.tpkt_x224.proofs.request.read_references.Goals as goal
 
 pub returns-in_err-at_least : goal.returns-in_err-at_least

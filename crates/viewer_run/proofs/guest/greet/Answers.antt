@@ -1,7 +1,7 @@
 use Rattle.std.proofs.Common.{[], List, ℕ, refl, sym, ap, subst, Ok}
 use Rattle.std.specs.Prelude.{Option}
 use Rattle.viewer_run.specs.declared.guest.Guest.{Guest}
-use Rattle.conn_laws.specs.Placed.{AreBytes}
+use Rattle.conn_rules.specs.Placed.{AreBytes}
 use Rattle.viewer_run.specs.Greeting.{greeting, Greets, IsRestPlaced}
 use Rattle.viewer_run.proofs.Stretches.{same_none}
 use Rattle.viewer_run.proofs.Streams.{silent_steps, silent_after, silent_replies}

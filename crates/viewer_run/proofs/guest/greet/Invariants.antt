@@ -1,5 +1,5 @@
 use Rattle.std.proofs.Common.{◌<◌, [], vec_len, Ok, None}
-use Rattle.conn_laws.specs.Placed.{AreBytes}
+use Rattle.conn_rules.specs.Placed.{AreBytes}
 use Rattle.viewer_run.specs.Feeding.{IsHeard}
 use Rattle.viewer_run.specs.Greeting.{Greets}
 use Rattle.viewer_run.proofs.guest.greet.Given as goal

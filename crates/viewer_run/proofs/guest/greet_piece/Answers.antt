@@ -1,7 +1,7 @@
 use Rattle.std.proofs.Common.{◌<◌, Fits, w8, sym, subst, arith}
 use Rattle.std.specs.Prelude.{slice_index_or, Option, Ok}
 use Rattle.std.proofs.lemmas.List.Elements.{All-from_get_or}
-use Rattle.conn_laws.specs.Placed.{AreBytes, ArePlaced}
+use Rattle.conn_rules.specs.Placed.{AreBytes, ArePlaced}
 use Rattle.viewer_run.specs.declared.guest.Guest.{Guest}
 use Rattle.viewer_run.specs.Greeting.{greeting, GuestOf}
 use Rattle.viewer_run.proofs.Stretches.{fed_placed, fed_part}

@@ -2,7 +2,7 @@ use Rattle.std.proofs.Common.{◌<◌, Fits, w8, sym, subst, arith}
 use Rattle.std.specs.Prelude.{slice_index_or, List}
 use Rattle.std.proofs.lemmas.List.Elements.{All-from_get_or}
 use Rattle.conn_rules.specs.declared.conn_step.ConnStep.{ConnStep}
-use Rattle.conn_laws.specs.Placed.{AreBytes, ArePlaced}
+use Rattle.conn_rules.specs.Placed.{AreBytes, ArePlaced}
 use Rattle.viewer_run.proofs.Stretches.{fed_placed, still_open, piece_read, piece_lost}
 use Rattle.viewer_run.specs.Doing.{StepsFront}
 use Rattle.viewer_run.proofs.reading.read_piece.Goals as goal

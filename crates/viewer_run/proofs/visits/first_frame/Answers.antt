@@ -1,6 +1,6 @@
 use Rattle.std.proofs.Common.{sym, ap, ◌∙◌, subst}
 use Rattle.std.specs.Prelude.{Ok, Result}
-use Rattle.out_of_memory.specs.declared.OutOfMemory.{OutOfMemory}
+use Rattle.wire_num.specs.declared.out_of_memory.OutOfMemory.{OutOfMemory}
 use Rattle.session_core.specs.SessionModel.{is_suppressed}
 use Rattle.frame_plan.specs.declared.taken.Taken.{Taken}
 use Rattle.viewer_run.specs.Sending.{TakesAs}

@@ -6,8 +6,8 @@ use Rattle.rle_enc.proofs.Pending.{on_ok_as}
 use Rattle.order_fields.specs.NamedDrawing.NamedDrawing.{Mem}
 use Rattle.frame_rules.specs.FrameOrders.{image_use, bounds_of, sending}
 use Rattle.frame_rules.specs.FrameOrders.SentOrder.{Drawn}
-use Rattle.frame_write.specs.Writes.{Writes}
-use Rattle.frame_write.proofs.UseSteps.{drawn_after}
+use Rattle.viewer_sender.specs.Writes.{Writes}
+use Rattle.viewer_sender.proofs.UseSteps.{drawn_after}
 use Rattle.viewer_sender.proofs.cached.put_blit.Goals as goal
 
 pub put_drawn-requires-clause-bounds : goal.put_drawn-requires-clause-bounds

@@ -6,8 +6,8 @@ use Rattle.rle_enc.proofs.Pending.{on_ok_as}
 use Rattle.order_fields.specs.NamedDrawing.NamedDrawing.{Mem3}
 use Rattle.frame_rules.specs.FrameOrders.{Uses, Sending, image_use, brush_use, bounds_of, sending}
 use Rattle.frame_rules.specs.FrameOrders.SentOrder.{Drawn}
-use Rattle.frame_write.specs.Writes.{Writes, used}
-use Rattle.frame_write.proofs.UseSteps.{drawn_after, writes_then, writes_as}
+use Rattle.viewer_sender.specs.Writes.{Writes, used}
+use Rattle.viewer_sender.proofs.UseSteps.{drawn_after, writes_then, writes_as}
 use Rattle.viewer_sender.proofs.cached.put_blit3.Goals as goal
 
 pub put_drawn-requires-clause-bounds : goal.put_drawn-requires-clause-bounds

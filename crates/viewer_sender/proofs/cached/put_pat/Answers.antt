@@ -2,7 +2,7 @@ use Rattle.rle_enc.proofs.Pending.{on_ok_as}
 use Rattle.order_fields.specs.NamedDrawing.NamedDrawing.{Pat}
 use Rattle.frame_rules.specs.FrameOrders.{brush_use, bounds_of}
 use Rattle.frame_rules.specs.FrameOrders.SentOrder.{Drawn}
-use Rattle.frame_write.proofs.UseSteps.{drawn_after}
+use Rattle.viewer_sender.proofs.UseSteps.{drawn_after}
 use Rattle.viewer_sender.proofs.cached.put_pat.Goals as goal
 
 pub returns : goal.returns

@@ -1,7 +1,7 @@
 use Rattle.std.proofs.Common.{◌∙◌, ap, sym, get_or, arith, Some}
 use Rattle.std.specs.Prelude.{option_copied}
 use Rattle.frame_rules.specs.FrameOrders.{brush_use}
-use Rattle.frame_write.specs.Writes.{loaded}
+use Rattle.viewer_sender.specs.Writes.{loaded}
 use Rattle.viewer_sender.proofs.CachesServe.{low_byte, brush_below}
 use Rattle.viewer_sender.proofs.cached.use_brush.Goals as goal
 

@@ -5,7 +5,7 @@ use Rattle.rle_enc.proofs.Pending.{on_ok_as}
 use Rattle.draw_ops.specs.declared.shape.Shape.TheVariants.{Copy, Blit, Blit3, Text}
 use Rattle.frame_rules.specs.Frame.{Sent}
 use Rattle.frame_rules.specs.FrameOrders.{sending_by}
-use Rattle.frame_write.specs.Writes.{Writes}
+use Rattle.viewer_sender.specs.Writes.{Writes}
 use Rattle.viewer_sender.proofs.Loops.{arm}
 use Rattle.viewer_sender.proofs.drawing.put_drawing.Goals as goal
 

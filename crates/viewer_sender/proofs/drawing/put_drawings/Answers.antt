@@ -1,10 +1,10 @@
 use Rattle.std.proofs.Common.{◌≡◌, ◌∙◌, ◌+◌, ◌≤◌, ◌++◌, List, ℕ, length, get_or, take, ap, sym, subst, arith}
 use Rattle.std.specs.Prelude.{Option, None}
 use Rattle.std.proofs.lemmas.List.{take_all}
-use Rattle.frame_rules.specs.Pending.{Pending}
+use Rattle.session_rules.specs.Pending.{Pending}
 use Rattle.frame_rules.specs.Frame.{Sent}
 use Rattle.frame_plan.specs.Orders.{sent_to, orders_at}
-use Rattle.frame_write.specs.Writes.{Writes}
+use Rattle.viewer_sender.specs.Writes.{Writes}
 use Rattle.viewer_sender.specs.Goes.{AllGo}
 use Rattle.viewer_sender.specs.Runs.{drawings_sending}
 use Rattle.viewer_sender.proofs.Loops.{orders_last, next_goes, sent_all}

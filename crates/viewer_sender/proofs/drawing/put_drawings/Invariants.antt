@@ -1,6 +1,6 @@
 use Rattle.std.proofs.Common.{take, drop}
 use Rattle.frame_plan.specs.Orders.{orders_at}
-use Rattle.frame_write.specs.Writes.{Writes}
+use Rattle.viewer_sender.specs.Writes.{Writes}
 use Rattle.viewer_sender.specs.Goes.{AllGo}
 use Rattle.viewer_sender.specs.Runs.{drawings_sending}
 use Rattle.viewer_sender.proofs.drawing.put_drawings.Given as goal

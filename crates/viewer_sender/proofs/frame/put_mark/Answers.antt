@@ -1,10 +1,10 @@
 use Rattle.std.proofs.Common.{◌∙◌, ◌++◌, [], ap, sym}
 use Rattle.std.specs.Prelude.{true}
 use Rattle.rle_enc.proofs.Pending.{on_ok_as}
-use Rattle.host_bytes.specs.CacheOrders.{frame_marker_bytes}
+use Rattle.order_means.specs.CacheOrders.{frame_marker_bytes}
 use Rattle.frame_rules.specs.FrameBytes.{mark_bytes}
-use Rattle.frame_write.specs.declared.writer.FrameWriter.{FrameWriter}
-use Rattle.frame_write.specs.Gathering.{Gathering, gathering, closed, after_order}
+use Rattle.viewer_sender.specs.declared.writer.FrameWriter.{FrameWriter}
+use Rattle.viewer_sender.specs.Gathering.{Gathering, gathering, closed, after_order}
 use Rattle.viewer_sender.proofs.frame.put_mark.Goals as goal
 
 pub returns-in_ok-put_marker : goal.returns-in_ok-put_marker

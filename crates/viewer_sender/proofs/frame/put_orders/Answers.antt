@@ -6,7 +6,7 @@ use Rattle.caps_sets.specs.declared.confirmed.Confirmed.{Confirmed}
 use Rattle.frame_rules.specs.Frame.{Sent}
 use Rattle.frame_rules.specs.FrameOrders.{sending, start_orders, black_orders, orders_from, uses_after}
 use Rattle.frame_plan.specs.Orders.{orders_at}
-use Rattle.frame_write.proofs.UseSteps.{writes_then, writes_as}
+use Rattle.viewer_sender.proofs.UseSteps.{writes_then, writes_as}
 use Rattle.viewer_sender.specs.Runs.{drawings_sending}
 use Rattle.viewer_sender.proofs.frame.put_orders.Goals as goal
 

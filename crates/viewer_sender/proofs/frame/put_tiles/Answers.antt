@@ -1,6 +1,6 @@
 use Rattle.std.proofs.Common.{◌≡◌, ◌∙◌, ◌++◌, ◌∷◌, [], List, ℕ, ◌+◌, take, ap, sym, subst}
 use Rattle.px_core.specs.Tiles.{tile_on}
-use Rattle.frame_write.specs.declared.writer.FrameWriter.{FrameWriter}
+use Rattle.viewer_sender.specs.declared.writer.FrameWriter.{FrameWriter}
 use Rattle.viewer_sender.specs.Goes.{TilesGo}
 use Rattle.viewer_sender.proofs.Loops.{drop_next, take_next, with_tiles, tiles_more}
 use Rattle.viewer_sender.proofs.frame.put_tiles.Goals as goal

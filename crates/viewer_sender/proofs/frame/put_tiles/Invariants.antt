@@ -1,6 +1,6 @@
 use Rattle.std.proofs.Common.{◌≡◌, ◌++◌, take, drop, flat_map}
 use Rattle.px_core.specs.Tiles.{tile_on}
-use Rattle.host_bytes.specs.UpdateBodies.{tile_packet}
+use Rattle.order_means.specs.UpdateBodies.{tile_packet}
 use Rattle.viewer_sender.specs.Goes.{TilesGo}
 use Rattle.viewer_sender.proofs.frame.put_tiles.Given as goal
 

@@ -1,6 +1,6 @@
 use Rattle.std.proofs.Common.{◌∙◌, List, ℕ, ap}
 use Rattle.px_core.specs.declared.surface.Size.{Size}
-use Rattle.frame_write.specs.declared.writer.FrameWriter.{FrameWriter}
+use Rattle.viewer_sender.specs.declared.writer.FrameWriter.{FrameWriter}
 use Rattle.viewer_sender.proofs.Loops.{with_tiles}
 use Rattle.viewer_sender.proofs.Sends.{frame_bytes_are, frame_caches_stand}
 use Rattle.viewer_sender.proofs.frame.write_frame.Goals as goal

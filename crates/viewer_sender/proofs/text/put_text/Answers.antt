@@ -11,8 +11,8 @@ use Rattle.order_fields.specs.NamedDrawing.NamedDrawing.{Glyphs}
 use Rattle.frame_rules.specs.Support.{run_cache}
 use Rattle.frame_rules.specs.FrameOrders.{or_0, run_use, run_pairs, bounds_of, sending}
 use Rattle.frame_rules.specs.FrameOrders.SentOrder.{Drawn}
-use Rattle.frame_write.specs.Writes.{Writes}
-use Rattle.frame_write.proofs.UseSteps.{writes_then, writes_as}
+use Rattle.viewer_sender.specs.Writes.{Writes}
+use Rattle.viewer_sender.proofs.UseSteps.{writes_then, writes_as}
 use Rattle.viewer_sender.specs.Runs.{run_sending}
 use Rattle.viewer_sender.proofs.Sources.{run_source}
 use Rattle.viewer_sender.proofs.text.put_text.Goals as goal

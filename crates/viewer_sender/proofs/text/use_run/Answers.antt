@@ -4,7 +4,7 @@ use Rattle.std.proofs.lemmas.List.{take_all, length-take-le, length-append}
 use Rattle.draw_ops.specs.Content.{GlyphOf}
 use Rattle.draw_ops.specs.Slots.{Loaded}
 use Rattle.frame_rules.specs.FrameOrders.{run_use, glyph_use, run_pairs}
-use Rattle.frame_write.specs.Writes.{Writes, used, loaded}
+use Rattle.viewer_sender.specs.Writes.{Writes, used, loaded}
 use Rattle.viewer_sender.specs.Goes.{GlyphsGo}
 use Rattle.viewer_sender.specs.Runs.{run_sending}
 use Rattle.viewer_sender.proofs.Loops.{drop_next, take_next, run_more, pairs_more}

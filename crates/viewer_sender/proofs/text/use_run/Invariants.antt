@@ -1,7 +1,7 @@
 use Rattle.std.proofs.Common.{◌≡◌, ◌+◌, length, take, drop}
 use Rattle.frame_rules.specs.FrameOrders.{Uses, run_use, run_pairs}
-use Rattle.frame_write.specs.Stands.{CachesStand}
-use Rattle.frame_write.specs.Writes.{Writes}
+use Rattle.viewer_sender.specs.Stands.{CachesStand}
+use Rattle.viewer_sender.specs.Writes.{Writes}
 use Rattle.viewer_sender.specs.Goes.{GlyphsGo}
 use Rattle.viewer_sender.specs.Runs.{run_sending}
 use Rattle.viewer_sender.proofs.text.use_run.Given as goal

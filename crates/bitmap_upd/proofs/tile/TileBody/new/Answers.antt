@@ -1,7 +1,7 @@
 use Rattle.std.proofs.Common.{◌≡◌, rules}
 use Rattle.px_core.specs.Picture.{nat_of}
-use Rattle.byte_fields.specs.Pixels.{pixels_bytes}
-use Rattle.host_bytes.specs.WirePixels.{turned_over}
+use Rattle.wire_num.specs.Pixels.{pixels_bytes}
+use Rattle.order_means.specs.WirePixels.{turned_over}
 use Rattle.bitmap_upd.proofs.Body.{raw_length, body_is}
 use Rattle.bitmap_upd.proofs.tile.TileBody.new.Goals as goal
 

@@ -1,7 +1,7 @@
 use Rattle.std.proofs.Common.{length, length-append, ap, arith}
-use Rattle.byte_fields.specs.Pixels.{pixels_bytes}
-use Rattle.host_bytes.specs.WirePixels.{turned_over}
-use Rattle.wire_pixels.specs.Packed.{data_with}
+use Rattle.wire_num.specs.Pixels.{pixels_bytes}
+use Rattle.order_means.specs.WirePixels.{turned_over}
+use Rattle.bitmap_upd.specs.Packed.{data_with}
 use Rattle.bitmap_upd.proofs.Body.{raw_length}
 use Rattle.bitmap_upd.proofs.tile.TileBody.size.Goals as goal
 

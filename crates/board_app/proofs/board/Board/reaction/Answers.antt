@@ -1,8 +1,8 @@
 use Rattle.std.proofs.Common.{◌≡◌, ℕ, false, ap, sym, subst, ◌∙◌}
 use Rattle.std.specs.Prelude.{IfOk, Result}
 use Rattle.px_core.specs.declared.surface.Size.{Size}
-use Rattle.input_events.specs.declared.event.Event.{Event}
-use Rattle.input_events.specs.declared.event.Event.TheVariants.{Unicode}
+use Rattle.input_pdu.specs.declared.event.Event.{Event}
+use Rattle.input_pdu.specs.declared.event.Event.TheVariants.{Unicode}
 use Rattle.session_rules.specs.Board.{Board, board_reaction}
 use Rattle.board_app.specs.declared.reaction.Reacted.{Reacted}
 use Rattle.board_app.specs.Boards.{board_of, Makes}

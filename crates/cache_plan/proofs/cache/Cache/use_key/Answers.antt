@@ -1,7 +1,7 @@
 -- The list of recency follows the history of uses, by the steps of a hit and of a miss.
 use Rattle.std.proofs.Common.{◌≡◌, ℕ, List, ◌∷◌, ◌<◌, ◌≤◌, true, sym, ◌∙◌, subst, Some, eqb, length, IsOk, rules}
 use Rattle.lru.specs.LruCache.{LruCache, last_entry, lru_cache, put_entries}
-use Rattle.cache_use.specs.CacheUse.{misses, IsMiss}
+use Rattle.cache_plan.specs.CacheUse.{misses, IsMiss}
 use Rattle.cache_plan.specs.Answers.{use_of, IsAfterUses}
 use Rattle.cache_plan.specs.Kept.{Kept}
 use Rattle.cache_plan.specs.declared.uses.Use.TheVariants.{Hit, Miss}

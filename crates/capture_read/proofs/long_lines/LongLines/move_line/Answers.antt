@@ -1,7 +1,7 @@
 use Rattle.std.proofs.Common.{◌≡◌, ◌<◌, ◌+◌, ◌-◌, ◌∙◌, ◌++◌, Some, length, take, sym, ap, arith}
 use Rattle.std.specs.Prelude.{slice_range, ◌==◌, position}
 use Rattle.std.proofs.lemmas.List.Quantifiers.{position-Some}
-use Rattle.line_read.proofs.BufferLemmas.{part_rest, length-part}
+use Rattle.edge_io.proofs.BufferLemmas.{part_rest, length-part}
 use Rattle.capture_read.proofs.long_lines.LongLines.move_line.Goals as goal
 
 pub returns-in_ok-extend_from_slice-in-Some-clause-moved : goal.returns-in_ok-extend_from_slice-in-Some-clause-moved

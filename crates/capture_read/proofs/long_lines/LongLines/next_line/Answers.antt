@@ -1,6 +1,6 @@
 use Rattle.std.proofs.Common.{◌≡◌, ◌∙◌, ◌++◌, sym}
 use Rattle.std.specs.Io.KnownBytes.{Keeps, prepend_known}
-use Rattle.line_read.proofs.LineLemmas.{IsPlain}
+use Rattle.edge_io.proofs.LineLemmas.{IsPlain}
 use Rattle.capture_read.specs.Long.{behind}
 use Rattle.capture_read.proofs.Cutting.{takes_ended, takes_unended, plain_all, keeps_more, keeps_moved, loses_front}
 use Rattle.capture_read.proofs.long_lines.LongLines.next_line.Goals as goal

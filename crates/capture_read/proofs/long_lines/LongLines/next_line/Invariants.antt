@@ -1,6 +1,6 @@
 use Rattle.std.proofs.Common.{◌≡◌, ◌+◌, ◌-◌, ◌^◌, length}
 use Rattle.std.specs.Io.KnownBytes.{Keeps}
-use Rattle.line_read.proofs.LineLemmas.{IsPlain}
+use Rattle.edge_io.proofs.LineLemmas.{IsPlain}
 use Rattle.capture_read.specs.Long.{behind, with_text}
 use Rattle.capture_read.proofs.long_lines.LongLines.next_line.Given as goal
 

@@ -1,6 +1,6 @@
 use Rattle.std.proofs.Common.{◌≡◌, ◌+◌, ◌-◌, sym, subst, arith}
 use Rattle.script_lines.specs.Keywords.{step_of}
-use Rattle.demo_rules.specs.Numbers.{generator_of}
+use Rattle.demo_run.specs.Numbers.{generator_of}
 use Rattle.demo_run.specs.Asks.{IsViewer}
 use Rattle.demo_run.specs.Standing.{run_of}
 use Rattle.demo_run.proofs.Loops.{Reaches, reaches_first, reaches_on, reaches_end}

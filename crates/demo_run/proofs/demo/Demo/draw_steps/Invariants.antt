@@ -1,6 +1,6 @@
 use Rattle.std.specs.Prelude.{List, ◌-◌}
 use Rattle.script_rules.specs.Script.{Asked}
-use Rattle.demo_rules.specs.Numbers.{generator_of}
+use Rattle.demo_run.specs.Numbers.{generator_of}
 use Rattle.demo_run.specs.Standing.{Stands}
 use Rattle.demo_run.proofs.Loops.{Reaches}
 use Rattle.demo_run.proofs.demo.Demo.draw_steps.Given as goal

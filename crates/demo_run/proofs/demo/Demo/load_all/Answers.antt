@@ -1,7 +1,7 @@
 use Rattle.std.proofs.Common.{List, ◌++◌, ◌∙◌, append_assoc, subst}
 use Rattle.px_core.specs.Picture.{listed}
 use Rattle.script_rules.specs.Script.{Asked}
-use Rattle.demo_rules.specs.Scene.{draw_by, image_load, brush_load, glyph_load}
+use Rattle.demo_run.specs.Scene.{draw_by, image_load, brush_load, glyph_load}
 use Rattle.demo_run.specs.Standing.{Stands}
 use Rattle.demo_run.proofs.Asked.{on_ok}
 use Rattle.demo_run.proofs.demo.Demo.load_all.Goals as goal

@@ -1,7 +1,7 @@
 use Rattle.std.specs.Prelude.{List, ◌++◌}
 use Rattle.px_core.specs.Picture.{listed}
 use Rattle.script_rules.specs.Script.{Asked}
-use Rattle.demo_rules.specs.Scene.{draw_by, brush_load}
+use Rattle.demo_run.specs.Scene.{draw_by, brush_load}
 use Rattle.demo_run.specs.Standing.{Stands}
 use Rattle.demo_run.proofs.demo.Demo.load_brushes.Given as goal
 

@@ -2,7 +2,7 @@ use Rattle.std.proofs.Common.{◌≡◌, ◌∙◌, ◌+◌, ◌++◌, ap, arith
 use Rattle.px_core.specs.Picture.{listed}
 use Rattle.script_rules.specs.Script.{without_preset}
 use Rattle.script_lines.specs.Keywords.{step_of}
-use Rattle.demo_rules.specs.Scene.{draw_by, image_load}
+use Rattle.demo_run.specs.Scene.{draw_by, image_load}
 use Rattle.demo_run.proofs.Loops.{listed_on}
 use Rattle.demo_run.proofs.demo.Demo.load_images.Goals as goal
 

@@ -1,6 +1,6 @@
 use Rattle.std.proofs.Common.{◌≡◌, ◌∙◌, ◌+◌, ap, sym, subst, arith}
 use Rattle.std.proofs.lemmas.Option.{slice_get_within}
-use Rattle.demo_rules.specs.Counts.{kept}
+use Rattle.demo_run.specs.Counts.{kept}
 use Rattle.demo_run.specs.Asks.{IsViewer}
 use Rattle.demo_run.proofs.Scenes.{joins_are_by_present, joins_confirm_caches, joins_seat_all, joins_give_control, joins_are_let_in, none_kept}
 use Rattle.demo_run.proofs.Beginning.{first_watches}

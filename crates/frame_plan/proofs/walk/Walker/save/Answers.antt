@@ -1,7 +1,7 @@
 use Rattle.std.proofs.Common.{◌≡◌, rules}
 use Rattle.std.specs.Prelude.{true}
-use Rattle.saved_blocks.specs.Blocks.{positions_of}
-use Rattle.saved_blocks.proofs.LeastFree.{least_is_computed}
+use Rattle.save_plan.specs.Blocks.{positions_of}
+use Rattle.save_plan.proofs.LeastFree.{least_is_computed}
 use Rattle.frame_plan.proofs.Turns.{saved_goes, saved_nowhere}
 use Rattle.frame_plan.proofs.walk.Walker.save.Goals as goal
 

@@ -1,9 +1,9 @@
 -- What is kept is what the filter keeps, and that stands apart as before.
 use Rattle.std.proofs.Common.{◌≡◌, ℕ, not, eqb, sym, ap, ◌∙◌, subst, rules}
 use Rattle.std.proofs.lemmas.Fn.{filter_same}
-use Rattle.saved_blocks.specs.declared.Place.{Place}
-use Rattle.saved_blocks.specs.Blocks.{place_of, without_slot, AreApart}
-use Rattle.saved_blocks.proofs.Apart.{without_is_filter, apart_without, none_after, without_none}
+use Rattle.save_plan.specs.declared.place.Place.{Place}
+use Rattle.save_plan.specs.Blocks.{place_of, without_slot, AreApart}
+use Rattle.save_plan.proofs.Apart.{without_is_filter, apart_without, none_after, without_none}
 use Rattle.save_plan.proofs.blocks.Blocks.free.Goals as goal
 
 kept : (c : goal.After-retain) → c.retain.new.self.items ≡ without_slot c.args.slot c.self.inside.held.items

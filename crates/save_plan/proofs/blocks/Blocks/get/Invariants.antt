@@ -1,5 +1,5 @@
 use Rattle.std.proofs.Common.{◌≡◌, drop}
-use Rattle.saved_blocks.specs.Blocks.{place_of}
+use Rattle.save_plan.specs.Blocks.{place_of}
 use Rattle.save_plan.proofs.blocks.Blocks.get.Given as goal
 
 -- none of the blocks so far is the slot's

@@ -1,6 +1,6 @@
 -- What is said of the vector's items is said of the blocks, which are those.
 use Rattle.std.proofs.Common.{ℕ, ◌∙◌, subst, rules}
-use Rattle.saved_blocks.specs.Blocks.{positions_of, IsFree, IsLeastFree}
+use Rattle.save_plan.specs.Blocks.{positions_of, IsFree, IsLeastFree}
 use Rattle.save_plan.proofs.blocks.Blocks.place.Goals as goal
 
 pub returns-in_default-clause-no_room : goal.returns-in_default-clause-no_room

@@ -26,7 +26,7 @@ returns-clause-done c =
     let others : (u : ℕ) → (v == u) ≡ false → sender_of u c.remove.new.self.items ≡ sender_of u old =
     λ u ne. ap (λ ss. sender_of u ss) c.remove.ensures.items ∙ sender_removed v old c.place_here-i.result at u ne in
     rw (← c.self.view_is) (λ run preset r.
-    let k = leave_on host new run (without_preset (LeaveStep v)) v refl c.ranges.viewer.fits r mine c.is_legal.ensures.size c.is_legal.ensures.journal e.head e.journal e.asked
+    let k = leave_on host new run (without_preset (LeaveStep v)) v refl c.ranges.viewer.fits r mine c.recall_legal.ensures.size c.recall_legal.ensures.journal e.head e.journal e.asked
     e.suppressed others in
     record { line = k.0; is_run = k.1 })
 

@@ -2,18 +2,18 @@ use Rattle.std.proofs.Common.{◌≡◌, ◌≤◌, ◌<◌, ◌+◌, ◌∙◌,
 use Rattle.std.proofs.lemmas.Result.{err_from_is_err_and}
 use Rattle.std.specs.Prelude.{option_to_list}
 use Rattle.draw_ops.specs.Fits.{FitsState, broken_rule}
-use Rattle.frame_rules.specs.Pending.{pending_drawings}
+use Rattle.session_rules.specs.Pending.{pending_drawings}
 use Rattle.session_rules.specs.declared.entry.Entry.TheVariants.{Draw}
 use Rattle.session_rules.specs.Journal.{reached_after_entry, refusal_of, shape_pixels}
 use Rattle.session_rules.specs.Steps.Step.{DrawStep}
 use Rattle.session_rules.specs.Steps.Answer.{Accepted}
 use Rattle.session_rules.proofs.OwnSteps.{FitsState-legal}
 use Rattle.session_core.specs.Keeping.{journal_of}
-use Rattle.session_core.specs.Showing.{all_shown}
+use Rattle.pending_core.specs.Showing.{all_shown}
 use Rattle.std.specs.Vec.{vec_len, vec_capacity}
 use Rattle.session_core.specs.Standing.{reached_of, IsOpen}
 use Rattle.session_core.proofs.Sessions.{sound_now, appended, journal_push, answered, goes_on, entry_now}
-use Rattle.session_core.proofs.TextShown.{keeps_rules}
+use Rattle.pending_core.proofs.TextShown.{keeps_rules}
 use Rattle.session_core.proofs.DrawLimits.{draw_room, draw_pixels}
 use Rattle.session_core.proofs.Accepting.{accepted, draw_refused, draw_stays}
 use Rattle.session_core.proofs.session.Session.draw.Goals as goal

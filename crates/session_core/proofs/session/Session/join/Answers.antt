@@ -6,7 +6,7 @@ use Rattle.session_rules.specs.declared.entry.Entry.TheVariants.{Join}
 use Rattle.session_rules.specs.Journal.{is_present, reached_at}
 use Rattle.session_rules.specs.Steps.Step.{JoinStep}
 use Rattle.session_rules.specs.Steps.Answer.{Joined}
-use Rattle.session_laws.specs.Entering.{entry_of_step}
+use Rattle.session_rules.specs.Entering.{entry_of_step}
 use Rattle.session_core.specs.Outcomes.{GoesOn}
 use Rattle.session_core.specs.Members.{viewers_of, tiles_asked, is_stopped}
 use Rattle.session_core.specs.Keeping.{journal_of}

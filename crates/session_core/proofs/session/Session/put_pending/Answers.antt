@@ -1,10 +1,10 @@
 use Rattle.std.proofs.Common.{◌≡◌, ◌≤◌, ◌<◌, ◌∙◌, [], ◌∷◌, ◌++◌, length, OnOk, OnErr, refl, ap, sym, subst, arith}
 use Rattle.session_rules.specs.declared.entry.Entry.TheVariants.{Join, Leave, Give}
-use Rattle.frame_rules.specs.Pending.{pending_between}
+use Rattle.session_rules.specs.Pending.{pending_between}
 use Rattle.session_core.specs.Keeping.{journal_of}
-use Rattle.session_core.specs.Outcomes.{AppendsFront}
-use Rattle.session_core.specs.Putting.{drawings_made}
-use Rattle.session_core.specs.Showing.{all_shown}
+use Rattle.pending_core.specs.Appending.{AppendsFront}
+use Rattle.pending_core.specs.Putting.{drawings_made}
+use Rattle.pending_core.specs.Showing.{all_shown}
 use Rattle.session_core.proofs.Counted.{item_at, length_journal}
 use Rattle.session_core.proofs.PutLemmas.{puts_drawn, puts_reaction, puts_none, puts_ok, puts_err, puts_nothing, seen_so}
 use Rattle.session_core.proofs.session.Session.put_pending.Goals as goal

@@ -11,9 +11,9 @@ use Rattle.session_rules.specs.Agreement.{BoardAgrees}
 use Rattle.session_rules.specs.Board.{board_reaction}
 use Rattle.session_rules.specs.Journal.{reached_after_entry, refusal_of}
 use Rattle.session_rules.specs.Steps.Answer.{Accepted}
-use Rattle.frame_rules.specs.Pending.{pending_drawings}
+use Rattle.session_rules.specs.Pending.{pending_drawings}
 use Rattle.session_core.specs.Keeping.{journal_of}
-use Rattle.session_core.specs.Showing.{all_shown}
+use Rattle.pending_core.specs.Showing.{all_shown}
 use Rattle.session_core.specs.Standing.{reached_of, IsOpen}
 use Rattle.session_core.proofs.Sessions.{sound_now, appended, journal_push, answered_entry, goes_on_entry, entry_made}
 use Rattle.session_core.proofs.DrawLimits.{input_room}

@@ -1,6 +1,6 @@
 use Rattle.std.proofs.Common.{arith}
 use Rattle.std.proofs.lemmas.Grind.{common_steps}
-use Rattle.byte_fields.proofs.Bytes.{bytes_at_is}
+use Rattle.wire_num.proofs.Bytes.{bytes_at_is}
 use Rattle.wire_num.specs.Cursor.{rest}
 use Rattle.wire_num.proofs.cursor.Cursor.bytes.Goals as goal
 

@@ -1,6 +1,6 @@
 use Rattle.std.proofs.Common.{arith, rules}
 use Rattle.std.proofs.lemmas.Grind.{common_steps}
-use Rattle.byte_fields.proofs.Bytes.{wanted_is}
+use Rattle.wire_num.proofs.Bytes.{wanted_is}
 use Rattle.wire_num.specs.Cursor.{rest}
 use Rattle.wire_num.proofs.cursor.Cursor.expect.Goals as goal
 

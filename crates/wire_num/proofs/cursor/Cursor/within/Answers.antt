@@ -1,7 +1,7 @@
 use Rattle.std.proofs.Common.{arith, rules}
 use Rattle.std.proofs.lemmas.Grind.{common_steps}
 use Rattle.std.proofs.lemmas.List.{drop-take}
-use Rattle.byte_fields.proofs.Bytes.{bytes_at_is}
+use Rattle.wire_num.proofs.Bytes.{bytes_at_is}
 use Rattle.wire_num.specs.Cursor.{rest}
 use Rattle.wire_num.proofs.cursor.Cursor.within.Goals as goal
 

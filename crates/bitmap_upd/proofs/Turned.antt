@@ -1,0 +1,187 @@
+-- Rows from the bottom up and rows that are padded: one row more at a time, how many pixels they are, and their colours.
+use Rattle.std.proofs.Common.{◌≡◌, ℕ, suc, zero, ◌+◌, ◌-◌, ◌*◌, ◌≤◌, ◌<◌, List, [], ◌∷◌, ◌++◌, length, length-append, refl, ap, sym, ◌∙◌, arith, append_assoc, append-nil}
+use Rattle.std.specs.Prelude.{true, map, replicate, take, drop}
+use Rattle.std.specs.List.{concat}
+use Rattle.std.proofs.lemmas.List.{take-append-drop, length-replicate}
+use Rattle.std.proofs.lemmas.Bool.{and_parts, and_from}
+use Rattle.px_core.specs.Colors.{is_color, are_colors}
+use Rattle.px_core.proofs.Colors.{are_colors-append, replicated_are_colors, is_color-item}
+use Rattle.px_core.proofs.Pictures.{rows_joined}
+use Rattle.px_core.specs.Picture.{item, front, skipped, rows_of}
+use Rattle.order_means.specs.WirePixels.{turned, joined, turned_over, padded, padded_row}
+
+front-all : {A : Type 0} (n : ℕ) (xs : List A) → length xs ≡ n → front n xs ≡ xs
+front-all zero [] e = refl
+front-all zero (x ∷ xs) e = absurd (omega (arith, e))
+front-all (suc n) [] e = absurd (omega (arith, e))
+front-all (suc n) (x ∷ xs) e = ap (λ ys. x ∷ ys) (front-all n xs (omega (arith, e)))
+
+front-before : {A : Type 0} (n : ℕ) (xs ys : List A) → n ≤ length xs → front n (xs ++ ys) ≡ front n xs
+front-before zero xs ys h = refl
+front-before (suc n) [] ys h = absurd (omega (arith, h))
+front-before (suc n) (x ∷ xs) ys h = ap (λ zs. x ∷ zs) (front-before n xs ys (omega (arith, h)))
+
+skipped-before : {A : Type 0} (n : ℕ) (xs ys : List A) → n ≤ length xs → skipped n (xs ++ ys) ≡ skipped n xs ++ ys
+skipped-before zero xs ys h = refl
+skipped-before (suc n) [] ys h = absurd (omega (arith, h))
+skipped-before (suc n) (x ∷ xs) ys h = skipped-before n xs ys (omega (arith, h))
+
+length-skipped : {A : Type 0} (n : ℕ) (xs : List A) (m : ℕ) → length xs ≡ n + m → length (skipped n xs) ≡ m
+length-skipped zero xs m e = omega (arith, e)
+length-skipped (suc n) [] m e = absurd (omega (arith, e))
+length-skipped (suc n) (x ∷ xs) m e = length-skipped n xs m (omega (arith, e))
+
+pub one_row_more : (w n : ℕ) → w * suc n ≡ w + w * n
+one_row_more w n = grind arith
+
+-- the last row of pixels
+rows-append : (w n : ℕ) (above row : List ℕ) → length above ≡ w * n → length row ≡ w → rows_of w (suc n) (above ++ row) ≡ rows_of w n above ++ row ∷ []
+rows-append w zero [] row e f = ap (λ r. r ∷ []) (front-all w row f)
+rows-append w zero (p ∷ ps) row e f = absurd (omega (arith, e))
+rows-append w (suc n) above row e f =
+    let more = one_row_more w n in
+    let wide : w ≤ length above = omega (arith, e, more) in
+    ap (λ r. r ∷ rows_of w (suc n) (skipped w (above ++ row))) (front-before w above row wide)
+    ∙ ap (λ ps. front w above ∷ rows_of w (suc n) ps) (skipped-before w above row wide)
+    ∙ ap (λ rs. front w above ∷ rs) (rows-append w n (skipped w above) row (length-skipped w above (w * n) (omega (arith, e, more))) f)
+
+turned-append : {A : Type 0} (rows : List A) (row : A) (rest : List A) → turned (rows ++ row ∷ []) rest ≡ row ∷ turned rows rest
+turned-append [] row rest = refl
+turned-append (r ∷ rows) row rest = turned-append rows row (r ∷ rest)
+
+-- the last row comes first
+pub last_row_first : (w n : ℕ) (above row : List ℕ) → length above ≡ w * n → length row ≡ w → turned_over w (suc n) (above ++ row) ≡ row ++ turned_over w n above
+last_row_first w n above row e f = ap (λ rs. joined (turned rs [])) (rows-append w n above row e f) ∙ ap joined (turned-append (rows_of w n above) row [])
+
+-- the pixels of the rows that are left
+pub rows_left : (w h y : ℕ) → y < h → w * (h - y) ≡ w + w * (h - (y + 1))
+rows_left w h y lt = let is : h - y ≡ suc (h - (y + 1)) = omega (arith, lt) in ap (λ k. w * k) is ∙ one_row_more w (h - (y + 1))
+
+pub split_is : (mid : ℕ) (xs a b : List ℕ) → a ≡ take mid xs → b ≡ drop mid xs → a ++ b ≡ xs
+split_is mid xs a b e f = rw (e, f) (take-append-drop mid xs)
+
+-- a step of the loop from the bottom up
+pub turn_step : (w h y : ℕ) (above rest row out new all : List ℕ) → y < h → length above ≡ w * (h - y) → rest ++ row ≡ above → length row ≡ w → new ≡ out ++ row
+    → out ++ turned_over w (h - y) above ≡ all → (length rest ≡ w * (h - (y + 1))) × (new ++ turned_over w (h - (y + 1)) rest ≡ all)
+turn_step w h y above rest row out new all lt e split wide put written =
+    let n : ℕ = h - (y + 1) in
+    let is : h - y ≡ suc (h - (y + 1)) = omega (arith, lt) in
+    let more = rows_left w h y lt in
+    let long : length rest + length row ≡ length above = sym (length-append rest row) ∙ ap length split in
+    let left : length rest ≡ w * (h - (y + 1)) = omega (arith, e, more, long, wide) in (
+      left,
+      ap (λ o. o ++ turned_over w n rest) put ∙ append_assoc out row (turned_over w n rest) ∙ ap (λ r. out ++ r) (sym (last_row_first w n rest row left wide))
+          ∙ ap (λ xs. out ++ turned_over w (suc n) xs) split ∙ ap (λ k. out ++ turned_over w k above) (sym is) ∙ written,
+    )
+
+pub turn_done : (w h y : ℕ) (above out all : List ℕ) → h ≤ y → out ++ turned_over w (h - y) above ≡ all → out ≡ all
+turn_done w h y above out all le written =
+    let is : h - y ≡ 0 = omega (arith, le) in
+    sym (append-nil out) ∙ ap (λ k. out ++ turned_over w k above) (sym is) ∙ written
+
+-- ---- padded rows
+
+-- the padded rows of pixels, one after the other
+abbrev pub padded_rows : ℕ → ℕ → List ℕ → List ℕ
+padded_rows w h pixels = joined (map (padded_row w) (rows_of w h pixels))
+
+skipped-all : {A : Type 0} (n : ℕ) (xs : List A) → length xs ≡ n → skipped n xs ≡ []
+skipped-all zero [] e = refl
+skipped-all zero (x ∷ xs) e = absurd (omega (arith, e))
+skipped-all (suc n) [] e = refl
+skipped-all (suc n) (x ∷ xs) e = skipped-all n xs (omega (arith, e))
+
+-- the first row comes first
+pub first_row_first : (w n : ℕ) (row below : List ℕ) → length row ≡ w → padded_rows w (suc n) (row ++ below) ≡ padded_row w row ++ padded_rows w n below
+first_row_first w n row below e =
+    let wide : w ≤ length row = omega (arith, e) in
+    ap (λ r. padded_row w r ++ padded_rows w n (skipped w (row ++ below))) (front-before w row below wide ∙ front-all w row e)
+    ∙ ap (λ ps. padded_row w row ++ padded_rows w n ps) (skipped-before w row below wide ∙ ap (λ ps. ps ++ below) (skipped-all w row e))
+
+-- a step of the loop from the top down
+pub pad_step : (w h y : ℕ) (below rest row out new all : List ℕ) → y < h → length below ≡ w * (h - y) → row ++ rest ≡ below → length row ≡ w
+    → new ≡ out ++ padded_row (length row) row → out ++ padded_rows w (h - y) below ≡ all → (length rest ≡ w * (h - (y + 1))) × (new ++ padded_rows w (h - (y + 1)) rest ≡ all)
+pad_step w h y below rest row out new all lt e split wide put written =
+    let n : ℕ = h - (y + 1) in
+    let is : h - y ≡ suc (h - (y + 1)) = omega (arith, lt) in
+    let more = rows_left w h y lt in
+    let long : length row + length rest ≡ length below = sym (length-append row rest) ∙ ap length split in
+    let left : length rest ≡ w * (h - (y + 1)) = omega (arith, e, more, long, wide) in
+    let whole : new ≡ out ++ padded_row w row = put ∙ ap (λ k. out ++ padded_row k row) wide in (
+      left,
+      ap (λ o. o ++ padded_rows w n rest) whole ∙ append_assoc out (padded_row w row) (padded_rows w n rest) ∙ ap (λ r. out ++ r) (sym (first_row_first w n row rest wide))
+          ∙ ap (λ xs. out ++ padded_rows w (suc n) xs) split ∙ ap (λ k. out ++ padded_rows w k below) (sym is) ∙ written,
+    )
+
+pub pad_done : (w h y : ℕ) (below out all : List ℕ) → h ≤ y → out ++ padded_rows w (h - y) below ≡ all → out ≡ all
+pad_done w h y below out all le written =
+    let is : h - y ≡ 0 = omega (arith, le) in
+    sym (append-nil out) ∙ ap (λ k. out ++ padded_rows w k below) (sym is) ∙ written
+
+-- ---- how many pixels
+
+joined_is_concat : (rows : List (List ℕ)) → joined rows ≡ concat rows
+joined_is_concat [] = refl
+joined_is_concat (r ∷ rows) = ap (λ ps. r ++ ps) (joined_is_concat rows)
+
+length-turned : (rows rest : List (List ℕ)) → length (joined (turned rows rest)) ≡ length (joined rows) + length (joined rest)
+length-turned [] rest = omega arith
+length-turned (r ∷ rows) rest =
+    let more = length-turned rows (r ∷ rest) in let front = length-append r (joined rest) in let back = length-append r (joined rows) in
+    omega (arith, more, front, back)
+
+pub length-turned_over : (w h : ℕ) (pixels : List ℕ) → length pixels ≡ w * h → length (turned_over w h pixels) ≡ w * h
+length-turned_over w h pixels e =
+    let whole : length (joined (rows_of w h pixels)) ≡ length pixels = ap length (joined_is_concat (rows_of w h pixels) ∙ rows_joined w h pixels e) in
+    let turned_ = length-turned (rows_of w h pixels) [] in
+    omega (arith, whole, turned_, e)
+
+front-length : (n : ℕ) (xs : List ℕ) → n ≤ length xs → length (front n xs) ≡ n
+front-length zero xs h = refl
+front-length (suc n) [] h = absurd (omega (arith, h))
+front-length (suc n) (x ∷ xs) h = ap suc (front-length n xs (omega (arith, h)))
+
+pub length-padded_rows : (w h : ℕ) (pixels : List ℕ) → length pixels ≡ w * h → length (padded_rows w h pixels) ≡ padded w * h
+length-padded_rows w zero pixels e = omega arith
+length-padded_rows w (suc n) pixels e =
+    let more = one_row_more w n in
+    let all_more = one_row_more (padded w) n in
+    let row = front-length w pixels (omega (arith, e, more)) in
+    let added = length-append (front w pixels) (replicate (padded w - w) (item (front w pixels) (w - 1) 0)) in
+    let copies = length-replicate (padded w - w) (item (front w pixels) (w - 1) 0) in
+    let both = length-append (padded_row w (front w pixels)) (padded_rows w n (skipped w pixels)) in
+    let below = length-padded_rows w n (skipped w pixels) (length-skipped w pixels (w * n) (omega (arith, e, more))) in
+    let wide : w ≤ padded w = omega arith in
+    omega (arith, all_more, row, added, copies, both, below, wide)
+
+-- ---- their colours
+
+turned_colors : (rows rest : List (List ℕ)) → are_colors (joined rows) ≡ true → are_colors (joined rest) ≡ true → are_colors (joined (turned rows rest)) ≡ true
+turned_colors [] rest h g = g
+turned_colors (r ∷ rows) rest h g = let p = parts r (joined rows) h in turned_colors rows (r ∷ rest) p.1 (are_colors-append r (joined rest) p.0 g)
+  where
+    parts : (xs ys : List ℕ) → are_colors (xs ++ ys) ≡ true → (are_colors xs ≡ true) × (are_colors ys ≡ true)
+    parts [] ys h = (refl, h)
+    parts (x ∷ xs) ys h = let p = and_parts (is_color x) (are_colors (xs ++ ys)) h in let q = parts xs ys p.1 in (and_from (is_color x) (are_colors xs) p.0 q.0, q.1)
+
+pub turned_over_colors : (w h : ℕ) (pixels : List ℕ) → length pixels ≡ w * h → are_colors pixels ≡ true → are_colors (turned_over w h pixels) ≡ true
+turned_over_colors w h pixels e colors =
+    turned_colors (rows_of w h pixels) [] (ap are_colors (joined_is_concat (rows_of w h pixels) ∙ rows_joined w h pixels e) ∙ colors) refl
+
+front_colors : (n : ℕ) (xs : List ℕ) → are_colors xs ≡ true → are_colors (front n xs) ≡ true
+front_colors zero xs h = refl
+front_colors (suc n) [] h = refl
+front_colors (suc n) (x ∷ xs) h = let p = and_parts (is_color x) (are_colors xs) h in and_from (is_color x) (are_colors (front n xs)) p.0 (front_colors n xs p.1)
+
+skipped_colors : (n : ℕ) (xs : List ℕ) → are_colors xs ≡ true → are_colors (skipped n xs) ≡ true
+skipped_colors zero xs h = h
+skipped_colors (suc n) [] h = refl
+skipped_colors (suc n) (x ∷ xs) h = skipped_colors n xs (and_parts (is_color x) (are_colors xs) h).1
+
+pub padded_colors : (w h : ℕ) (pixels : List ℕ) → are_colors pixels ≡ true → are_colors (padded_rows w h pixels) ≡ true
+padded_colors w zero pixels colors = refl
+padded_colors w (suc n) pixels colors =
+    let row = front_colors w pixels colors in
+    are_colors-append (padded_row w (front w pixels)) (padded_rows w n (skipped w pixels))
+    (are_colors-append (front w pixels) (replicate (padded w - w) (item (front w pixels) (w - 1) 0)) row (replicated_are_colors (padded w - w) (item (front w pixels) (w - 1) 0) (is_color-item (front w pixels) (w - 1) 0 row refl)))
+    (padded_colors w n (skipped w pixels) (skipped_colors w pixels colors))

@@ -1,0 +1,12 @@
+use Rattle.std.proofs.Common.{length}
+use Rattle.std.specs.Prelude.{flat_map}
+use Rattle.wire_num.specs.Pixels.{pixel_bytes}
+use Rattle.order_fields.proofs.Sent.{HasSent}
+use Rattle.bitmap_upd.proofs.data.put_pixels.Given as goal
+
+-- what is written is a front of all the pixels, and the others are left
+abbrev pub invariant-loop-rest : goal.invariant-loop-rest
+invariant-loop-rest l = HasSent l.fn.out.items (flat_map pixel_bytes l.pixels) l.out.items (flat_map pixel_bytes l.rest)
+
+abbrev pub decreases-loop-rest : goal.decreases-loop-rest
+decreases-loop-rest l = length l.rest

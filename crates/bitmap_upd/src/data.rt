@@ -1,0 +1,191 @@
+//! The bytes of pixels: packed where the viewer takes that and it is shorter, else three bytes a pixel.
+//!
+//! | offset | size | field | value |
+//! |---|---|---|---|
+//! | 3 * k | 1 | blue | of pixel k, from the bottom row up |
+//! | 3 * k + 1 | 1 | green | |
+//! | 3 * k + 2 | 1 | red | |
+
+ghost use Rattle.std.specs.Prelude.{◌≡◌, ◌≤◌, ◌*◌, ◌%◌, ◌++◌, [], length, OnOk, OnErr, IfOk, IsTrue, false};
+ghost use Rattle.wire_num.specs.Written.{AppendsFront};
+ghost use Rattle.wire_num.specs.Pixels.{pixel_bytes, pixels_bytes};
+ghost use Rattle.px_core.specs.Colors.{are_colors};
+ghost use Rattle.order_means.specs.WirePixels.{data_of, pixel_data, turned_over};
+ghost use Rattle.bitmap_upd.specs.Packed.{data_with};
+
+use crate::OutOfMemory;
+use rle_enc::{Packed, pack};
+use std::alloc::Global;
+use std::marker::Model;
+
+/// The bytes of a pixel.
+const BYTES: usize = 3;
+
+/// The bytes of pixels, and whether they are packed.
+#[derive(Drop)]
+pub struct PixelBytes {
+    is_packed: bool,
+    bytes: Vec<u8>,
+}
+
+impl Model for PixelBytes {
+    ghost use Rattle.order_means.specs.WirePixels.{PixelData, pixel_data};
+
+    ghost Value = { PixelData };
+
+    ghost view = { λ d. pixel_data d.is_packed d.bytes.items };
+}
+
+impl PixelBytes {
+    /// Whether the bytes are packed.
+    pub fn is_packed(&self) -> bool
+        ensures { result ≡ self.now.is_packed }
+    {
+        self.is_packed
+    }
+
+    /// The bytes.
+    pub fn bytes(&self) -> &[u8]
+        ensures { result.now ≡ self.now.bytes }
+    {
+        self.bytes.as_slice()
+    }
+}
+
+/// Puts a pixel at the end: blue, green, red.
+fn put_pixel(out: &mut Vec<u8>, color: u32) -> Result<(), OutOfMemory>
+    ensures ok { OnOk result (out.new.items ≡ out.old.items ++ pixel_bytes color) }
+    ensures memory { OnErr result (AppendsFront out.old.items (pixel_bytes color) out.new.items) }
+{
+    let [blue, green, red, _] = color.to_le_bytes();
+    out.extend_from_slice(&[blue, green, red])?;
+    Ok(())
+}
+
+/// Puts four pixels at the end.
+fn put_four(out: &mut Vec<u8>, a: u32, b: u32, c: u32, d: u32) -> Result<(), OutOfMemory>
+    ensures ok { OnOk result (out.new.items ≡ out.old.items ++ (pixel_bytes a ++ pixel_bytes b ++ pixel_bytes c ++ pixel_bytes d)) }
+    ensures memory { OnErr result (AppendsFront out.old.items (pixel_bytes a ++ pixel_bytes b ++ pixel_bytes c ++ pixel_bytes d) out.new.items) }
+{
+    let [a_blue, a_green, a_red, _] = a.to_le_bytes();
+    let [b_blue, b_green, b_red, _] = b.to_le_bytes();
+    let [c_blue, c_green, c_red, _] = c.to_le_bytes();
+    let [d_blue, d_green, d_red, _] = d.to_le_bytes();
+    out.extend_from_slice(&[
+        a_blue, a_green, a_red, b_blue, b_green, b_red, c_blue, c_green, c_red, d_blue, d_green,
+        d_red,
+    ])?;
+    Ok(())
+}
+
+/// Puts pixels at the end, one by one. An `Err` leaves a front of them there.
+fn put_each(out: &mut Vec<u8>, pixels: &[u32]) -> Result<(), OutOfMemory>
+    ensures ok { OnOk result (out.new.items ≡ out.old.items ++ pixels_bytes pixels.now) }
+    ensures memory { OnErr result (AppendsFront out.old.items (pixels_bytes pixels.now) out.new.items) }
+{
+    for pixel in pixels {
+        put_pixel(out, *pixel)?;
+    }
+    Ok(())
+}
+
+/// Puts pixels at the end; four at once while there are so many. An `Err` leaves a front of them there.
+fn put_pixels(out: &mut Vec<u8>, pixels: &[u32]) -> Result<(), OutOfMemory>
+    ensures ok { OnOk result (out.new.items ≡ out.old.items ++ pixels_bytes pixels.now) }
+    ensures memory { OnErr result (AppendsFront out.old.items (pixels_bytes pixels.now) out.new.items) }
+{
+    let mut rest = pixels;
+    while let [a, b, c, d, others @ ..] = rest {
+        put_four(out, *a, *b, *c, *d)?;
+        rest = others;
+    }
+    put_each(out, rest)
+}
+
+/// Puts the rows of `w` by `h` pixels at the end in the other order: of rows from the top those from the bottom up. An `Err` leaves a
+/// front of them there.
+pub fn put_turned(out: &mut Vec<u8>, pixels: &[u32], w: usize, h: usize) -> Result<(), OutOfMemory>
+    requires { length pixels.now ≡ w * h }
+    ensures ok { OnOk result (out.new.items ≡ out.old.items ++ pixels_bytes (turned_over w h pixels.now)) }
+    ensures memory { OnErr result (AppendsFront out.old.items (pixels_bytes (turned_over w h pixels.now)) out.new.items) }
+{
+    let mut above = pixels;
+    for y in 0..h {
+        let (rest, row) = above.split_at(above.len() - w);
+        put_pixels(out, row)?;
+        above = rest;
+    }
+    Ok(())
+}
+
+/// Three bytes for each pixel.
+pub fn raw_bytes(alloc: Global, pixels: &[u32]) -> Result<Vec<u8>, OutOfMemory>
+    ensures value { IfOk result (λ bytes. bytes.items ≡ pixels_bytes pixels.now) }
+    ensures number { IfOk result (λ bytes. length bytes.items ≡ 3 * length pixels.now) }
+{
+    let mut out = Vec::with_capacity(alloc, pixels.len().saturating_mul(BYTES))?;
+    put_pixels(&mut out, pixels)?;
+    Ok(out)
+}
+
+/// The bytes of pixels as three bytes each.
+fn raw_data(alloc: Global, pixels: &[u32]) -> Result<PixelBytes, OutOfMemory>
+    ensures value { IfOk result (λ data_. data_ ≡ pixel_data false (pixels_bytes pixels.now)) }
+    ensures bound { IfOk result (λ data_. length data_.bytes ≤ 3 * length pixels.now) }
+{
+    let bytes = raw_bytes(alloc, pixels)?;
+    Ok(PixelBytes {
+        is_packed: false,
+        bytes,
+    })
+}
+
+/// The packed bytes of pixels in rows of `w`, the bottom row first; `None` where they go as three bytes a pixel: exactly where the
+/// viewer doesn't take packed bitmaps without a header, or that isn't shorter.
+pub fn packed_pixels(
+    alloc: Global,
+    pixels: &[u32],
+    w: usize,
+    no_header: bool,
+) -> Result<Option<Vec<u8>>, OutOfMemory>
+    requires wide { 1 ≤ w }
+    requires rows { length pixels.now % w ≡ 0 }
+    requires some { 1 ≤ length pixels.now }
+    requires few { length pixels.now ≤ 4096 }
+    requires colors { IsTrue (are_colors pixels.now) }
+    ensures value { IfOk result (λ packed. data_with packed (pixels_bytes pixels.now) ≡ data_of no_header w pixels.now) }
+    ensures bound { IfOk result (λ packed. length (data_with packed []).bytes ≤ 3 * length pixels.now) }
+{
+    if !no_header {
+        return Ok(None);
+    }
+    match pack(alloc, pixels, w)? {
+        Packed::Packed(bytes) => Ok(Some(bytes)),
+        Packed::Raw => Ok(None),
+    }
+}
+
+/// The bytes of pixels in rows of `w`, the bottom row first: packed exactly where the viewer takes packed bitmaps without a header and
+/// that is shorter than three bytes a pixel.
+pub fn pixel_data(
+    alloc: Global,
+    pixels: &[u32],
+    w: usize,
+    no_header: bool,
+) -> Result<PixelBytes, OutOfMemory>
+    requires wide { 1 ≤ w }
+    requires rows { length pixels.now % w ≡ 0 }
+    requires some { 1 ≤ length pixels.now }
+    requires few { length pixels.now ≤ 4096 }
+    requires colors { IsTrue (are_colors pixels.now) }
+    ensures value { IfOk result (λ data_. data_ ≡ data_of no_header w pixels.now) }
+    ensures bound { IfOk result (λ data_. length data_.bytes ≤ 3 * length pixels.now) }
+{
+    match packed_pixels(alloc, pixels, w, no_header)? {
+        Some(bytes) => Ok(PixelBytes {
+            is_packed: true,
+            bytes,
+        }),
+        None => raw_data(alloc, pixels),
+    }
+}

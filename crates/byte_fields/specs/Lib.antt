@@ -1,4 +1,0 @@
-pub mod Field
-pub mod Number
-pub mod Pixels
-pub mod Caused

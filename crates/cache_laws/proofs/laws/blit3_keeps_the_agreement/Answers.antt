@@ -1,5 +1,0 @@
-use Rattle.cache_laws.proofs.BrushUse.{blit3_agrees}
-use Rattle.cache_laws.proofs.laws.blit3_keeps_the_agreement.Goals as goal
-
-pub returns : goal.returns
-returns k = blit3_agrees

@@ -1,5 +1,0 @@
-use Rattle.cache_laws.proofs.WireBack.{pixels_back}
-use Rattle.cache_laws.proofs.laws.pixels_are_read_back.Goals as goal
-
-pub returns : goal.returns
-returns k = pixels_back

@@ -1,5 +1,0 @@
-use Rattle.cache_laws.proofs.TextSent.{text_agrees}
-use Rattle.cache_laws.proofs.laws.text_keeps_the_agreement.Goals as goal
-
-pub returns : goal.returns
-returns k = text_agrees

@@ -1,4 +1,0 @@
-pub mod Sound
-pub mod Uses
-pub mod Run
-pub mod Tile

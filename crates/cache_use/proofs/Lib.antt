@@ -1,4 +1,0 @@
-pub mod UseFacts
-pub mod Recency
-pub mod Steps
-pub mod Indices

@@ -1,5 +1,0 @@
-use Rattle.capture_laws.proofs.StreamFronts.{stream_front, marks_front}
-use Rattle.capture_laws.proofs.laws.fronts_of_a_stream_are_read.Goals as goal
-
-pub returns : goal.returns
-returns c = record { reading = stream_front; marks = marks_front }

@@ -1,6 +1,0 @@
-use Rattle.script_rules.specs.Headline.{encoder_frames}
-use Rattle.capture_laws.proofs.GoesOn.{run_goes_on, lines_go_on, sent_goes_on}
-use Rattle.capture_laws.proofs.laws.runs_go_on.Goals as goal
-
-pub returns : goal.returns
-returns c = record { run = run_goes_on encoder_frames; lines = lines_go_on encoder_frames; sent = sent_goes_on encoder_frames }

@@ -1,0 +1,4 @@
+pub mod HostFound
+pub mod HostRead
+pub mod LookFound
+pub mod LookRead

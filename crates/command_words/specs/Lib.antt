@@ -1,0 +1,2 @@
+pub mod HostWords
+pub mod LookWords

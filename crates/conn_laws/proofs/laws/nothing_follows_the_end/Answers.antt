@@ -1,5 +1,0 @@
-use Rattle.conn_laws.proofs.Quiet.{end_silence}
-use Rattle.conn_laws.proofs.laws.nothing_follows_the_end.Goals as goal
-
-pub returns : goal.returns
-returns c = end_silence

@@ -1,5 +1,0 @@
-use Rattle.conn_laws.proofs.Quiet.{ready_silence}
-use Rattle.conn_laws.proofs.laws.once_ready_nothing_is_replied.Goals as goal
-
-pub returns : goal.returns
-returns c = ready_silence

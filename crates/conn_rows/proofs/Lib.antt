@@ -1,4 +1,0 @@
-mod Sample
-mod Handshake
-mod Changes
-mod Meanings

@@ -1,3 +1,0 @@
-pub mod Painted
-pub mod Rows
-pub mod KeptColors

@@ -1,4 +1,0 @@
-//! Laws of drawings: what a drawing makes of each pixel.
-#![tactic(auto)]
-
-pub mod laws;

@@ -1,7 +1,0 @@
-pub mod Gathered
-pub mod Begun
-pub mod CacheSteps
-pub mod NewCaches
-pub mod UseSteps
-pub mod TileShort
-pub mod TilePacket

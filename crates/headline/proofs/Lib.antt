@@ -1,0 +1,34 @@
+pub mod StepsOfScripts
+pub mod Takes
+pub mod StepRuns
+pub mod NumberedSteps
+pub mod SentByTakes
+pub mod Interleaved
+pub mod StepsGoOn
+pub mod TakesStay
+mod LineRows
+pub mod Lacking
+pub mod Lines
+pub mod PresetWords
+pub mod NumberedLines
+pub mod LineRuns
+pub mod CapturesOfScripts
+pub mod StreamFronts
+pub mod TextFronts
+pub mod CaptureFronts
+pub mod LinesGoOn
+pub mod CutCaptures
+pub mod OrderBytes
+pub mod FrameBytes
+pub mod SentInLines
+mod ScriptRows
+pub mod GlyphBits
+pub mod PendingHolds
+pub mod OrdersHold
+pub mod SendsBytes
+pub mod Scripts
+pub mod Gathered
+pub mod SentOnce
+pub mod Packed
+pub mod TilesSent
+pub mod ScriptRuns

@@ -1,0 +1,10 @@
+pub mod Headline
+pub mod Interleaving
+pub mod Sent
+pub mod Fronts
+pub mod OrderBytes
+pub mod Cuts
+pub mod Gathering
+pub mod SentOnce
+pub mod TilesSent
+pub mod Runs

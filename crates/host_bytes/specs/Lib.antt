@@ -1,3 +1,0 @@
-pub mod WirePixels
-pub mod CacheOrders
-pub mod UpdateBodies

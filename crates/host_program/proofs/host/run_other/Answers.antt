@@ -1,0 +1,17 @@
+use Rattle.std.proofs.Common.{rules, ◌≡◌, IfSome, Some, subst, sym, ◌∙◌, refl}
+use Rattle.std.specs.declared.option.Option.{Option}
+use Rattle.host_program.specs.declared.loading.Load.{Load}
+use Rattle.host_program.specs.Loading.{load_of, RunsDemo}
+use Rattle.host_program.proofs.Modes.{client_or_load}
+use Rattle.host_program.proofs.host.run_other.Goals as goal
+
+pub returns-in-Some-clause-demo : goal.returns-in-Some-clause-demo
+returns-in-Some-clause-demo g c = subst (λ (load : Option Load). IfSome load (λ l. RunsDemo c.answer_status.result l (g.K.Sink.told c.args.output.now) (g.K.Sink.told c.run_answer-answer.new.output)
+    (g.K.Sink.faults c.args.output.now) (g.K.Sink.faults c.run_answer-answer.new.output)))
+    (sym (client_or_load c.args.request.now c.in-Some.client (sym c.client_of.ensures.form ∙ c.in-Some.is))) tt
+
+pub returns-in-Some-load_of-clause-demo : goal.returns-in-Some-load_of-clause-demo
+returns-in-Some-load_of-clause-demo g c = subst (λ (load : Option Load). IfSome load (λ l. RunsDemo c.status.result l (g.K.Sink.told c.args.output.now) (g.K.Sink.told c.run_demo.new.output)
+    (g.K.Sink.faults c.args.output.now) (g.K.Sink.faults c.run_demo.new.output)))
+    (sym (sym c.load_of.ensures.form ∙ c.in-Some-load_of.is))
+    (record { answer = c.run_demo.result; status_is = c.status.ensures; written = c.run_demo.ensures.written; front = c.run_demo.ensures.front; fault = c.run_demo.ensures.fault; write_cause = c.run_demo.ensures.cause })

@@ -1,0 +1,87 @@
+-- What the program does, by its words.
+use Rattle.std.specs.Prelude.{◌≡◌, ℕ, List, [], ◌∷◌, ◌++◌, Bool, false, ◌&&◌, ◌||◌, ◌==◌, is_some, if◌then◌else◌, length, codes, OnOk, OnErr, IfErr}
+use Rattle.std.specs.Io.KnownBytes.{Appends}
+use Rattle.std.specs.declared.option.Option.{Option}
+use Rattle.std.specs.declared.option.Option.TheVariants.{Some, None}
+use Rattle.std.specs.declared.result.Result.{Result}
+use Rattle.std.specs.declared.result.Result.TheVariants.{Ok, Err}
+use Rattle.edge_io.specs.Sink.{WritesFront}
+use Rattle.line_text.specs.Words.{is_same_word}
+use Rattle.command_words.specs.HostWords.{RequestOf, request_of}
+use Rattle.host_program.specs.declared.answering.Client.{Client}
+use Rattle.host_program.specs.Answering.{client_of}
+use Rattle.host_program.specs.declared.loading.Load.{Load}
+use Rattle.host_program.specs.Loading.{load_of}
+use Rattle.host_program.specs.Statuses.{script_status}
+use Rattle.host_program.specs.Outside.{Outside}
+use Rattle.script_run.specs.Run.{RunsScript, ReadsCause, WritesCause}
+use Rattle.script_run.specs.Steps.{IsWriteFault}
+use Rattle.script_run.specs.declared.fault.ScriptFault.{ScriptFault}
+use Rattle.script_run.specs.declared.fault.ScriptFault.TheVariants.{Line, ReadFault, WriteFault, OutOfMemory}
+
+-- whether a request is the mode script, which has no argument
+abbrev pub is_script_request : Option RequestOf → Bool
+is_script_request None = false
+is_script_request (Some request) = is_same_word request.mode (codes "script") && length request.args == 0
+
+-- the words ask for the mode script
+abbrev pub asks_for_script : List (List ℕ) → Bool
+asks_for_script words = is_script_request (request_of words)
+
+-- whom a request of another mode asks to serve
+abbrev pub client_of_request : Option RequestOf → Option Client
+client_of_request None = None
+client_of_request (Some request) = if is_script_request (Some request) then None else client_of request
+
+-- whom the words ask to serve, by the mode answer
+abbrev pub client_asked : List (List ℕ) → Option Client
+client_asked words = client_of_request (request_of words)
+
+-- the load that a request asks for
+abbrev pub load_of_request : Option RequestOf → Option Load
+load_of_request None = None
+load_of_request (Some request) = load_of request
+
+-- the load that the words ask for, by the mode demo
+abbrev pub load_asked : List (List ℕ) → Option Load
+load_asked words = load_of_request (request_of words)
+
+-- the words ask for a mode that reads the input
+abbrev pub asks_for_reading : List (List ℕ) → Bool
+asks_for_reading words = asks_for_script words || is_some (client_asked words)
+
+-- the words ask for a mode
+abbrev pub asks_for_mode : List (List ℕ) → Bool
+asks_for_mode words = asks_for_reading words || is_some (load_asked words)
+
+-- what is printed where the words ask for no mode
+abbrev pub usage : List ℕ
+usage = codes "usage: rdp_host MODE ARGS" ++ 10 ∷ []
+
+-- the exit status that an answer of a write of the usage is
+abbrev pub usage_status : Result (Unit {0}) ScriptFault → ℕ
+usage_status (Ok x) = 2
+usage_status (Err (Line k rule)) = 3
+usage_status (Err ReadFault) = 4
+usage_status (Err WriteFault) = 5
+usage_status (Err OutOfMemory) = 6
+
+-- a script was run: 0 is its end, 3 the first line that breaks a rule, with the capture written that each viewer reads whole, and in
+-- which each mark shows the picture after exactly the journal entries that the frame's take found; 4, 5 and 6 are faults of the
+-- source and of the sink, whose counts rose, and want of memory, behind the capture of the lines that were done
+pub record RunsMode (status : ℕ) (before now : Outside) : Type 0 where
+  pub answer : Result (Unit {0}) ScriptFault
+  pub status_is : status ≡ script_status answer
+  pub capture : RunsScript answer before.left now.left before.told now.told
+  pub read_cause : ReadsCause answer before.reads now.reads
+  pub write_cause : WritesCause answer before.writes now.writes
+
+-- the usage was written: 2 is that it stands there; 5 and 6 are a fault of the sink, whose count rose, and want of memory, with a front
+-- of it there
+pub record WritesUsage (status : ℕ) (told telling : Option (List ℕ)) (writes wrote : ℕ) : Type 0 where
+  pub answer : Result (Unit {0}) ScriptFault
+  pub status_is : status ≡ usage_status answer
+  pub written : OnOk answer (Appends told telling usage)
+  pub front : OnErr answer (WritesFront told telling usage)
+  pub fault : IfErr answer IsWriteFault
+  pub write_cause : WritesCause answer writes wrote

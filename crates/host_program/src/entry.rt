@@ -1,0 +1,23 @@
+//! The program over its own words, standard input and standard output.
+
+use crate::ending::Ending;
+use crate::words::words;
+use edge_io::{FileIn, FileOut, OutOfMemory, PlanGate};
+use std::alloc::Global;
+use std::env::Env;
+use std::sync::Wait;
+use std::thread::Threads;
+
+/// Runs the host over what the runtime has. What it ends with is the status of its run.
+pub fn run_host<R: Env + Alloc<A = Global> + Input + Print + Threads + Wait + Sync>(
+    rt: &R,
+) -> Ending {
+    let alloc = rt.alloc();
+    let words = words(rt, alloc);
+    let mut input = FileIn::new(rt);
+    let mut output = FileOut::new(rt);
+    match PlanGate::new(alloc, Vec::new(alloc), Vec::new(alloc)) {
+        Ok(mut gate) => Ending::of_run(rt, alloc, words, &mut input, &mut output, &mut gate),
+        Err(OutOfMemory) => Ending::out_of_memory(),
+    }
+}

@@ -1,0 +1,144 @@
+ghost use Rattle.std.specs.Prelude.{◌≡◌, [], false, Some, None, map, string_bytes, IsTrue, IfSome};
+ghost use Rattle.host_program.specs.declared.answering.Client.{Client};
+ghost use Rattle.host_program.specs.Outside.{outside};
+ghost use Rattle.host_program.specs.declared.loading.Load.{Load};
+ghost use Rattle.host_program.specs.Answering.{client_of, IsServable, RunsService};
+ghost use Rattle.host_program.specs.Loading.{load_of, RunsDemo};
+ghost use Rattle.host_program.specs.Statuses.{script_status};
+ghost use Rattle.host_program.specs.Top.{asks_for_script, asks_for_reading, asks_for_mode, client_asked, load_asked, is_script_request, RunsMode, WritesUsage};
+
+use crate::answering::{answer_status, client_of};
+use crate::loading::load_of;
+use answer_run::run_answer;
+use command_words::{OutOfMemory, Request};
+use demo_run::run_demo;
+use edge_io::{Gate, Sink, Source};
+use line_text::is_same_word;
+use script_run::{ScriptFault, put, run_script};
+use std::alloc::Global;
+use std::sync::Wait;
+use std::thread::Threads;
+
+/// The word of the mode that reads a script and writes its capture.
+const SCRIPT: &str = "script";
+
+/// What is printed where the words ask for no mode.
+const USAGE: &[u8] = b"usage: rdp_host MODE ARGS\n";
+
+/// The exit status of a script that was done up to its end.
+pub(crate) const DONE: u8 = 0;
+
+/// The exit status where the words ask for no mode.
+const BAD_WORDS: u8 = 2;
+
+/// The exit status where a line of a script breaks a rule.
+const BAD_LINE: u8 = 3;
+
+/// The exit status where the input couldn't be read.
+pub(crate) const READ_FAULT: u8 = 4;
+
+/// The exit status where the output couldn't be written.
+pub(crate) const WRITE_FAULT: u8 = 5;
+
+/// The exit status where no memory was left.
+pub(crate) const OUT_OF_MEMORY: u8 = 6;
+
+/// The whole program, over any input, output and gate; the answer is its exit status. The words begin with the program's name.
+///
+/// The words are read by `clap` as one simple command with a mode and its arguments. `script` reads a script from the input and writes
+/// its capture to the output. `answer W H OWNER` serves one client, whose bytes come from the input, and whose answer goes to the output.
+/// `demo SEED STEPS` runs the demonstration load and writes the line that counts its run. Other words write the usage line. Only the
+/// first two modes touch the input, and none touches the gate.
+pub fn top<R: Threads + Wait + Sync, S: Source, K: Sink, G: Gate>(
+    _rt: &R,
+    alloc: Global,
+    words: &[String],
+    input: &mut S,
+    output: &mut K,
+    gate: &mut G,
+) -> u8
+    requires unused { G.given gate.old ≡ [] }
+    requires open { G.ended gate.old ≡ false }
+    // The capture's own clause: whatever the script, and however its joins, inputs, drawings, refreshes, takes and departures stand among
+    // each other, each viewer's bytes in what is written are never refused, and each mark shows the picture after exactly the journal
+    // entries that the frame's take found; each change was made by the holder of control.
+    ensures script { IsTrue (asks_for_script (map string_bytes words.now)) → RunsMode result
+        (outside (S.left input.old) (K.told output.old) (S.faults input.old) (K.faults output.old))
+        (outside (S.left input.new) (K.told output.new) (S.faults input.new) (K.faults output.new)) }
+    // The answer's own clause: whatever the client's stream, what is written is its answer to the byte, in which its frames are never
+    // refused, and each mark shows the picture after exactly the journal entries that the frame's take found. After a failed read exactly
+    // what is due for the bytes that were handed out stands there.
+    ensures answer { (client : Client) → client_asked (map string_bytes words.now) ≡ Some client → RunsService result client
+        (outside (S.left input.old) (K.told output.old) (S.faults input.old) (K.faults output.old))
+        (outside (S.left input.new) (K.told output.new) (S.faults input.new) (K.faults output.new)) }
+    // The line of the demonstration load's counts, of which the marks are those that its viewers' clients read.
+    ensures demo { (load : Load) → load_asked (map string_bytes words.now) ≡ Some load
+        → RunsDemo result load (K.told output.old) (K.told output.new) (K.faults output.old) (K.faults output.new) }
+    ensures usage { asks_for_mode (map string_bytes words.now) ≡ false
+        → WritesUsage result (K.told output.old) (K.told output.new) (K.faults output.old) (K.faults output.new) }
+    ensures input { asks_for_reading (map string_bytes words.now) ≡ false → input.new ≡ input.old }
+    ensures gate { gate.new ≡ gate.old }
+{
+    match Request::read(alloc, words) {
+        Ok(Some(request)) if is_script(&request) => status(run_script(alloc, input, output)),
+        Ok(Some(request)) => run_other(alloc, &request, input, output),
+        Ok(None) => refuse_words(output),
+        Err(OutOfMemory) => OUT_OF_MEMORY,
+    }
+}
+
+/// Does what a request of another mode than `script` asks for, where it asks for something.
+fn run_other<S: Source, K: Sink>(
+    alloc: Global,
+    request: &Request<'_>,
+    input: &mut S,
+    output: &mut K,
+) -> u8
+    ensures answer { IfSome (client_of request.now) (λ client. RunsService result client
+        (outside (S.left input.old) (K.told output.old) (S.faults input.old) (K.faults output.old))
+        (outside (S.left input.new) (K.told output.new) (S.faults input.new) (K.faults output.new))) }
+    ensures demo { IfSome (load_of request.now) (λ load. RunsDemo result load
+        (K.told output.old) (K.told output.new) (K.faults output.old) (K.faults output.new)) }
+    ensures usage { client_of request.now ≡ None → load_of request.now ≡ None
+        → WritesUsage result (K.told output.old) (K.told output.new) (K.faults output.old) (K.faults output.new) }
+    ensures input { client_of request.now ≡ None → input.new ≡ input.old }
+{
+    if let Some(client) = client_of(request) {
+        let answer = run_answer(alloc, client.size, &client.owner, input, output);
+        return answer_status(answer);
+    }
+    match load_of(request) {
+        Some(load) => status(run_demo(alloc, load.seed, load.steps, output)),
+        None => refuse_words(output),
+    }
+}
+
+/// Whether a request is the mode `script`, which has no argument.
+fn is_script(request: &Request<'_>) -> bool
+    ensures { result ≡ is_script_request (Some request.now) }
+{
+    is_same_word(request.mode().as_bytes(), SCRIPT.as_bytes()) && request.args().is_empty()
+}
+
+/// The exit status that an answer of a script's run is.
+fn status(answer: Result<(), ScriptFault>) -> u8
+    ensures { result ≡ script_status answer }
+{
+    match answer {
+        Ok(()) => DONE,
+        Err(ScriptFault::Line { .. }) => BAD_LINE,
+        Err(ScriptFault::ReadFault) => READ_FAULT,
+        Err(ScriptFault::WriteFault) => WRITE_FAULT,
+        Err(ScriptFault::OutOfMemory) => OUT_OF_MEMORY,
+    }
+}
+
+/// Writes the usage line, and answers the status of words that ask for no mode.
+fn refuse_words<K: Sink>(output: &mut K) -> u8
+    ensures { WritesUsage result (K.told output.old) (K.told output.new) (K.faults output.old) (K.faults output.new) }
+{
+    match put(output, USAGE) {
+        Ok(()) => BAD_WORDS,
+        Err(fault) => status(Err(fault)),
+    }
+}

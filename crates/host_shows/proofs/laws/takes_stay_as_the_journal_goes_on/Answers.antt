@@ -1,5 +1,0 @@
-use Rattle.host_shows.proofs.TakesStay.{bytes_stay, encoder_stays}
-use Rattle.host_shows.proofs.laws.takes_stay_as_the_journal_goes_on.Goals as goal
-
-pub returns : goal.returns
-returns c = record { bytes = bytes_stay; encoder = encoder_stays }

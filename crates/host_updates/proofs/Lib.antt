@@ -1,5 +1,0 @@
-pub mod Headers
-pub mod Contents
-pub mod Judged
-pub mod Pushed
-pub mod Taken

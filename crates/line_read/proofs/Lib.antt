@@ -1,5 +1,0 @@
-mod FeedLemmas
-mod Rows
-pub mod BufferLemmas
-pub mod LineLemmas
-pub mod FindLemmas

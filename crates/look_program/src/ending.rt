@@ -1,0 +1,64 @@
+//! How the program ends.
+
+ghost use Rattle.std.specs.Prelude.{◌≡◌, ℕ, Some, None, map, string_bytes, IfSome, IsNone};
+ghost use Rattle.std.specs.Process.{exit_status};
+ghost use Rattle.command_words.specs.LookWords.{viewer_of_words};
+ghost use Rattle.look_program.specs.Look.{outside, LooksAt, WritesUsage};
+
+use crate::top::{OUT_OF_MEMORY, look_top};
+use edge_io::{Sink, Source};
+use std::alloc::Global;
+use std::io::Eprint;
+use std::marker::Model;
+use std::process::{ExitCode, Termination};
+use std::sync::Wait;
+
+/// How a run ended: its exit status. Only a run makes one, so `main`, which gives one back, has no other status to give.
+#[derive(Drop)]
+pub struct Ending {
+    status: u8,
+}
+
+impl Model for Ending {
+    ghost use Rattle.std.specs.Prelude.{ℕ};
+
+    ghost Value = { ℕ };
+
+    ghost view = { λ e. e.status };
+}
+
+impl Ending {
+    /// Runs the whole program over its words, as `look_top` does; where memory was wanting for them there are none, and it does nothing more.
+    pub fn of_run<R: Wait, S: Source, K: Sink>(
+        rt: &R,
+        alloc: Global,
+        words: Option<Vec<String>>,
+        input: &mut S,
+        output: &mut K,
+    ) -> Ending
+        ensures look { IfSome words (λ ws. (viewer : ℕ) → viewer_of_words (map string_bytes ws.items) ≡ Some viewer → LooksAt result viewer
+            (outside (S.left input.old) (K.told output.old) (S.faults input.old) (K.faults output.old))
+            (outside (S.left input.new) (K.told output.new) (S.faults input.new) (K.faults output.new))) }
+        ensures usage { IfSome words (λ ws. viewer_of_words (map string_bytes ws.items) ≡ None
+            → WritesUsage result (K.told output.old) (K.told output.new) (K.faults output.old) (K.faults output.new)) }
+        ensures memory { IsNone words → result ≡ 6 }
+        ensures nothing { IsNone words → (input.new ≡ input.old) × (output.new ≡ output.old) }
+    {
+        match words {
+            Some(words) => Ending {
+                status: look_top(rt, alloc, &words, input, output),
+            },
+            None => Ending {
+                status: OUT_OF_MEMORY,
+            },
+        }
+    }
+}
+
+impl Termination for Ending {
+    fn report<R: Eprint>(self, _rt: &R) -> ExitCode
+        ensures { exit_status result ≡ self }
+    {
+        ExitCode::from(self.status)
+    }
+}

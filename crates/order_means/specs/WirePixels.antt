@@ -1,0 +1,67 @@
+-- Pixels as they go over the wire: rows from the bottom up, a width of a multiple of four, three bytes a pixel or packed.
+use Rattle.std.specs.Prelude.{ℕ, ◌+◌, ◌-◌, ◌*◌, ◌/◌, nat_lt, Bool, true, false, List, [], ◌∷◌, ◌++◌, length, map, replicate, if◌then◌else◌}
+use Rattle.px_core.specs.Picture.{item, rows_of}
+use Rattle.draw_ops.specs.Content.{ImageOf, GlyphOf}
+use Rattle.draw_ops.specs.Formulas.{image_rows}
+use Rattle.run_lengths.specs.Packer.{packed}
+use Rattle.wire_num.specs.Pixels.{pixels_bytes}
+
+-- ---- rows from the bottom up
+
+-- a list from its end, before another list
+abbrev pub turned : {A : Type 0} → List A → List A → List A
+turned [] ys = ys
+turned (x ∷ xs) ys = turned xs (x ∷ ys)
+
+-- lists one after the other
+abbrev pub joined : {A : Type 0} → List (List A) → List A
+joined [] = []
+joined (xs ∷ xss) = xs ++ joined xss
+
+-- the rows of w by h pixels in the other order: from the top to from the bottom, and back
+abbrev pub turned_over : {A : Type 0} → ℕ → ℕ → List A → List A
+turned_over w h pixels = joined (turned (rows_of w h pixels) [])
+
+-- ---- columns and bytes that are added
+
+-- a number rounded up to a multiple of four
+abbrev pub padded : ℕ → ℕ
+padded n = 4 * ((n + 3) / 4)
+
+-- a row of w pixels, with its last pixel repeated up to the padded width (profile)
+abbrev pub padded_row : ℕ → List ℕ → List ℕ
+padded_row w row = row ++ replicate (padded w - w) (item row (w - 1) 0)
+
+-- an image with the columns that are added, as a client keeps it
+abbrev pub padded_image : ImageOf → ImageOf
+padded_image image = record { w = padded image.w; h = image.h; pixels = joined (map (padded_row image.w) (image_rows image)) }
+
+-- a glyph with bits that are padded to a multiple of four bytes, as a client keeps it
+abbrev pub padded_glyph : GlyphOf → GlyphOf
+padded_glyph glyph = record glyph { bits = glyph.bits ++ replicate (padded (length glyph.bits) - length glyph.bits) 0 }
+
+-- the bytes that a padded image takes in a cache
+abbrev pub image_cell : ImageOf → ℕ
+image_cell image = 3 * (padded image.w * image.h)
+
+-- the bytes that a glyph takes in a cache: its padded bits
+abbrev pub glyph_cell_bytes : GlyphOf → ℕ
+glyph_cell_bytes glyph = padded (length glyph.bits)
+
+-- ---- pixels in bytes
+
+-- the bytes of pixels, and whether they are packed
+pub record PixelData : Type 0 where
+  pub is_packed : Bool
+  pub bytes : List ℕ
+
+abbrev pub pixel_data : Bool → List ℕ → PixelData
+pixel_data is_packed bytes = record { is_packed = is_packed; bytes = bytes }
+
+abbrev pub packed_if_shorter : List ℕ → List ℕ → PixelData
+packed_if_shorter packed raw = if nat_lt (length packed) (length raw) then pixel_data true packed else pixel_data false raw
+
+-- pixels from the bottom up in rows of w: packed exactly where the viewer confirmed bitmaps without a header and that is shorter than three bytes a pixel
+abbrev pub data_of : Bool → ℕ → List ℕ → PixelData
+data_of false w pixels = pixel_data false (pixels_bytes pixels)
+data_of true w pixels = packed_if_shorter (packed w pixels) (pixels_bytes pixels)

@@ -1,0 +1,5 @@
+pub mod LastFilling
+pub mod TextShown
+pub mod AllShown
+pub mod CellLemmas
+pub mod ShownLemmas

@@ -1,0 +1,92 @@
+-- What single drawings show.
+use Rattle.std.proofs.Common.{◌≡◌, ℕ, ◌≤◌, List, [], ◌∷◌, length, refl, ap, sym, subst, ◌∙◌, Some, None, arith}
+use Rattle.std.proofs.lemmas.Bool.{and_parts}
+use Rattle.std.specs.Prelude.{Bool, true, false, ◌&&◌, ◌||◌, not, Option, Result, Ok, Err, IfOk, ℤ}
+use Rattle.std.specs.Ordering.{int_eq}
+use Rattle.px_core.specs.declared.surface.Size.{Size}
+use Rattle.px_core.specs.declared.rectangle.Rect.{Rect}
+use Rattle.draw_ops.specs.declared.shape.Drawing.{Drawing}
+use Rattle.draw_ops.specs.declared.shape.Shape.{Shape}
+use Rattle.draw_ops.specs.declared.shape.Shape.TheVariants as shape
+use Rattle.draw_ops.specs.Content.{GlyphOf}
+use Rattle.draw_ops.specs.Slots.{SurfaceState, Loaded}
+use Rattle.draw_ops.specs.Drawing.{glyphs_in}
+use Rattle.draw_ops.specs.Formulas.{joint_of}
+use Rattle.draw_ops.specs.Fits.{first_some, rules_of, slot_tests, broken_rule, slot_misfit, FitsState, is_corner, line_rule, empty_glyph}
+use Rattle.session_rules.specs.Pending.{Pending, pending_of, touched_rect, image_of, brush_of, glyphs_of, run_glyphs}
+use Rattle.session_rules.proofs.OwnSteps.{first_some-each}
+use Rattle.pending_core.specs.declared.shown.Shown.{Shown}
+use Rattle.pending_core.specs.Cells.{cells_along, IsNear}
+use Rattle.pending_core.specs.Showing.{shown_with, image_held, brush_held, glyphs_held}
+use Rattle.pending_core.proofs.TextShown.{keeps_rules, has_slots, below_limit, near, kept_if, cells_are}
+
+pub rules_as : (size : Size) (st : SurfaceState) (d : Drawing) (s : Shape) → FitsState size st d → d.shape ≡ s → first_some (rules_of size d.clip s) ≡ None
+rules_as size st d s h is = subst (λ x. first_some (rules_of size d.clip x) ≡ None) is (keeps_rules size st d h)
+
+pub slots_as : (size : Size) (st : SurfaceState) (d : Drawing) (s : Shape) → FitsState size st d → d.shape ≡ s → first_some (slot_tests size st s) ≡ None
+slots_as size st d s h is = subst (λ x. first_some (slot_tests size st x) ≡ None) is (has_slots size st d h)
+
+pub pat_brush : (size : Size) (clip : Option Rect) (r : Rect) (code brush : ℕ) → first_some (rules_of size clip (shape.Pat r code brush)) ≡ None → brush ≤ 63
+pat_brush size clip r code brush h = below_limit 63 brush (first_some-each (rules_of size clip (shape.Pat r code brush)) h).1.1.1.0
+
+pub blit3_brush : (size : Size) (clip : Option Rect) (r : Rect) (code image : ℕ) (sx sy : ℤ) (brush : ℕ) → first_some (rules_of size clip (shape.Blit3 r code image sx sy brush)) ≡ None → brush ≤ 63
+blit3_brush size clip r code image sx sy brush h = below_limit 63 brush (first_some-each (rules_of size clip (shape.Blit3 r code image sx sy brush)) h).1.1.1.1.0
+
+pub restore_slot : (size : Size) (clip : Option Rect) (slot : ℕ) (x y : ℤ) → first_some (rules_of size clip (shape.Restore slot x y)) ≡ None → slot ≤ 15
+restore_slot size clip slot x y h = below_limit 15 slot (first_some-each (rules_of size clip (shape.Restore slot x y)) h).1.1.0
+
+-- the ends of a line
+pub record HasEnds (x0 y0 x1 y1 : ℤ) : Type 0 where
+  pub left : IsNear x0
+  pub above : IsNear y0
+  pub right : IsNear x1
+  pub below : IsNear y1
+
+second_of : (a b : Bool) → not (a || not b) ≡ true → b ≡ true
+second_of true b h = absurd (cc h)
+second_of false true h = refl
+second_of false false h = absurd (cc h)
+
+unbroken : (t : Bool) (o : Option ℕ) → o ≡ None → (t ≡ true → o ≡ Some 7) → not t ≡ true
+unbroken true o h f = absurd (cc (h, f refl))
+unbroken false o h f = refl
+
+pub line_ends : (size : Size) (clip : Option Rect) (x0 y0 x1 y1 : ℤ) (color : ℕ) → first_some (rules_of size clip (shape.Line x0 y0 x1 y1 color)) ≡ None → HasEnds x0 y0 x1 y1
+line_ends size clip x0 y0 x1 y1 color h =
+    let straight = int_eq x0 x1 || int_eq y0 y1 in
+    let ends = (is_corner x0 && is_corner y0) && (is_corner x1 && is_corner y1) in
+    let rule = (first_some-each (rules_of size clip (shape.Line x0 y0 x1 y1 color)) h).1.0 in
+    let whole = second_of straight ends (unbroken (straight || not ends) (line_rule x0 y0 x1 y1) rule (λ t. rw t refl)) in
+    let both = and_parts (is_corner x0 && is_corner y0) (is_corner x1 && is_corner y1) whole in
+    let first = and_parts (is_corner x0) (is_corner y0) both.0 in
+    let second = and_parts (is_corner x1) (is_corner y1) both.1 in
+    record { left = near x0 first.0; above = near y0 first.1; right = near x1 second.0; below = near y1 second.1 }
+
+-- a drawing that reads no slot
+pub bare_is : (size : Size) (st : SurfaceState) (d : Drawing) (s : Shown) (x : Shape) → d.shape ≡ x → s.held ≡ None → s.rect ≡ touched_rect size st x → image_of st x ≡ None → brush_of st x ≡ None
+    → glyphs_of st x ≡ [] → shown_with d s ≡ pending_of size st d
+bare_is size st d s x is held rect image brush glyphs = λ i. record {
+  drawing = d;
+  rect = (rect ∙ ap (touched_rect size st) (sym is)) i;
+  image = (ap image_held held ∙ sym image ∙ ap (image_of st) (sym is)) i;
+  brush = (ap brush_held held ∙ sym brush ∙ ap (brush_of st) (sym is)) i;
+  glyphs = (ap glyphs_held held ∙ sym glyphs ∙ ap (glyphs_of st) (sym is)) i;
+}
+
+-- a text
+pub text_is : {E : Type 0} (size : Size) (st : SurfaceState) (d : Drawing) (r : Result Shown E) (x y : ℤ) (color font : ℕ) (run : List (ℕ × ℕ)) (rect : Rect) (glyphs : List (Loaded GlyphOf))
+    → d.shape ≡ shape.Text x y color font run → empty_glyph st.glyphs font run ≡ None → rect ≡ joint_of (cells_along (run_glyphs st.glyphs font run) run x y) → glyphs ≡ run_glyphs st.glyphs font run
+    → IfOk r (λ (shown : Shown). shown.rect ≡ rect) → IfOk r (λ (shown : Shown). image_held shown.held ≡ None) → IfOk r (λ (shown : Shown). brush_held shown.held ≡ None)
+    → IfOk r (λ (shown : Shown). glyphs_held shown.held ≡ glyphs) → IfOk r (λ (shown : Shown). shown_with d shown ≡ pending_of size st d)
+text_is size st d (Err e) x y color font run rect glyphs is full corner some a b c g = tt
+text_is size st d (Ok shown) x y color font run rect glyphs is full corner some a b c g = λ i. record {
+  drawing = d;
+  rect = (a ∙ corner ∙ ap joint_of (cells_are st font run x y full) ∙ ap (touched_rect size st) (sym is)) i;
+  image = (b ∙ ap (image_of st) (sym is)) i;
+  brush = (c ∙ ap (brush_of st) (sym is)) i;
+  glyphs = (g ∙ some ∙ ap (glyphs_of st) (sym is)) i;
+}
+
+pub all_there : {A : Type 0} (o : Option A) → first_some (o ∷ []) ≡ None → o ≡ None
+all_there None h = refl
+all_there (Some m) h = absurd (cc h)

@@ -1,0 +1,89 @@
+use Rattle.std.proofs.Common.{◌≡◌, ◌∙◌, [], None, refl, ap, sym, subst, arith, rules, w32, to_z, of_z, length}
+use Rattle.std.proofs.lemmas.Grind.{common_steps}
+use Rattle.std.proofs.lemmas.Int.{to_z-of_z}
+use Rattle.draw_ops.specs.Drawing.{state_after_drawings}
+use Rattle.draw_ops.specs.Formulas.{line_rect, joint_of}
+use Rattle.session_rules.specs.Pending.{run_glyphs}
+use Rattle.pending_core.specs.Cells.{cells_along, ArePlain, IsNear, IsPen}
+use Rattle.pending_core.proofs.TextShown.{plain_after, run_length, run_plain, plain_text}
+use Rattle.pending_core.proofs.ShownLemmas.{rules_as, slots_as, pat_brush, blit3_brush, line_ends, bare_is, text_is, all_there}
+use Rattle.pending_core.proofs.shown.shown_at.Goals as goal
+
+pub brush_after-requires-clause-slot : goal.brush_after-requires-clause-slot
+brush_after-requires-clause-slot c =
+    let st = state_after_drawings c.args.surface.now.size c.args.surface.now.state c.args.before.now in
+    pat_brush c.args.surface.now.size c.args.d.now.clip c.in-Pat.rect c.in-Pat.rop c.in-Pat.brush (rules_as c.args.surface.now.size st c.args.d.now _ c.requires.fits c.in-Pat.is)
+
+pub brush_after-requires-in-Blit3-clause-slot : goal.brush_after-requires-in-Blit3-clause-slot
+brush_after-requires-in-Blit3-clause-slot c =
+    let st = state_after_drawings c.args.surface.now.size c.args.surface.now.state c.args.before.now in
+    blit3_brush c.args.surface.now.size c.args.d.now.clip c.in-Blit3.rect c.in-Blit3.rop c.in-Blit3.image c.in-Blit3.sx c.in-Blit3.sy c.in-Blit3.brush (rules_as c.args.surface.now.size st c.args.d.now _ c.requires.fits c.in-Blit3.is)
+
+pub run_rect-rect-requires-clause-each : goal.run_rect-rect-requires-clause-each
+run_rect-rect-requires-clause-each c =
+    let st = state_after_drawings c.args.surface.now.size c.args.surface.now.state c.args.before.now in
+    let full = all_there _ (slots_as c.args.surface.now.size st c.args.d.now _ c.requires.fits c.in-Text.is) in
+    ap length (c.deref.ensures.value ∙ c.in_ok-glyphs-in-Text.ensures) ∙ ap (λ run. length (run_glyphs st.glyphs c.in-Text.font run)) c.pairs.ensures ∙ run_length st.glyphs c.in-Text.font _ full ∙ sym (ap length c.pairs-in-Text.ensures)
+
+pub run_rect-rect-requires-clause-plain : goal.run_rect-rect-requires-clause-plain
+run_rect-rect-requires-clause-plain c =
+    let st = state_after_drawings c.args.surface.now.size c.args.surface.now.state c.args.before.now in
+    let full = all_there _ (slots_as c.args.surface.now.size st c.args.d.now _ c.requires.fits c.in-Text.is) in
+    subst ArePlain (sym (c.deref.ensures.value ∙ c.in_ok-glyphs-in-Text.ensures ∙ ap (run_glyphs st.glyphs c.in-Text.font) c.pairs.ensures))
+    (run_plain st.glyphs c.in-Text.font _ (plain_after c.args.surface.now.size c.args.before.now c.args.surface.now.state c.requires.before c.recall_sound.ensures.glyphs) full)
+
+pub run_rect-rect-requires-clause-pen : goal.run_rect-rect-requires-clause-pen
+run_rect-rect-requires-clause-pen c =
+    let st = state_after_drawings c.args.surface.now.size c.args.surface.now.state c.args.before.now in
+    let ex : to_z w32 (of_z w32 c.in-Text.x) ≡ c.in-Text.x = grind (arith, common_steps, to_z-of_z) in
+    let ey : to_z w32 (of_z w32 c.in-Text.y) ≡ c.in-Text.y = grind (arith, common_steps, to_z-of_z) in
+    let text = plain_text c.args.surface.now.size c.args.d.now.clip c.in-Text.x c.in-Text.y c.in-Text.color c.in-Text.font c.in-Text.run' (rules_as c.args.surface.now.size st c.args.d.now _ c.requires.fits c.in-Text.is) in
+    rw (ex, ey, c.pairs-in-Text.ensures) text.pen
+
+pub line_rect-requires-clause-left : goal.line_rect-requires-clause-left
+line_rect-requires-clause-left c =
+    let st = state_after_drawings c.args.surface.now.size c.args.surface.now.state c.args.before.now in
+    let ends = line_ends c.args.surface.now.size c.args.d.now.clip c.in-Line.x0 c.in-Line.y0 c.in-Line.x1 c.in-Line.y1 c.in-Line.color (rules_as c.args.surface.now.size st c.args.d.now _ c.requires.fits c.in-Line.is) in
+    let e : to_z w32 (of_z w32 c.in-Line.x0) ≡ c.in-Line.x0 = grind (arith, common_steps, to_z-of_z) in
+    rw e ends.left
+
+pub line_rect-requires-clause-above : goal.line_rect-requires-clause-above
+line_rect-requires-clause-above c =
+    let st = state_after_drawings c.args.surface.now.size c.args.surface.now.state c.args.before.now in
+    let ends = line_ends c.args.surface.now.size c.args.d.now.clip c.in-Line.x0 c.in-Line.y0 c.in-Line.x1 c.in-Line.y1 c.in-Line.color (rules_as c.args.surface.now.size st c.args.d.now _ c.requires.fits c.in-Line.is) in
+    let e : to_z w32 (of_z w32 c.in-Line.y0) ≡ c.in-Line.y0 = grind (arith, common_steps, to_z-of_z) in
+    rw e ends.above
+
+pub line_rect-requires-clause-right : goal.line_rect-requires-clause-right
+line_rect-requires-clause-right c =
+    let st = state_after_drawings c.args.surface.now.size c.args.surface.now.state c.args.before.now in
+    let ends = line_ends c.args.surface.now.size c.args.d.now.clip c.in-Line.x0 c.in-Line.y0 c.in-Line.x1 c.in-Line.y1 c.in-Line.color (rules_as c.args.surface.now.size st c.args.d.now _ c.requires.fits c.in-Line.is) in
+    let e : to_z w32 (of_z w32 c.in-Line.x1) ≡ c.in-Line.x1 = grind (arith, common_steps, to_z-of_z) in
+    rw e ends.right
+
+pub line_rect-requires-clause-below : goal.line_rect-requires-clause-below
+line_rect-requires-clause-below c =
+    let st = state_after_drawings c.args.surface.now.size c.args.surface.now.state c.args.before.now in
+    let ends = line_ends c.args.surface.now.size c.args.d.now.clip c.in-Line.x0 c.in-Line.y0 c.in-Line.x1 c.in-Line.y1 c.in-Line.color (rules_as c.args.surface.now.size st c.args.d.now _ c.requires.fits c.in-Line.is) in
+    let e : to_z w32 (of_z w32 c.in-Line.y1) ≡ c.in-Line.y1 = grind (arith, common_steps, to_z-of_z) in
+    rw e ends.below
+
+pub returns-in_ok-glyphs-in-Text : goal.returns-in_ok-glyphs-in-Text
+returns-in_ok-glyphs-in-Text c =
+    let st = state_after_drawings c.args.surface.now.size c.args.surface.now.state c.args.before.now in
+    let ex : to_z w32 (of_z w32 c.in-Text.x) ≡ c.in-Text.x = grind (arith, common_steps, to_z-of_z) in
+    let ey : to_z w32 (of_z w32 c.in-Text.y) ≡ c.in-Text.y = grind (arith, common_steps, to_z-of_z) in
+    let full = all_there _ (slots_as c.args.surface.now.size st c.args.d.now _ c.requires.fits c.in-Text.is) in
+    let glyphs = c.in_ok-glyphs-in-Text.ensures ∙ ap (run_glyphs st.glyphs c.in-Text.font) c.pairs.ensures in
+    text_is c.args.surface.now.size st c.args.d.now c.with_held-in-Text.result c.in-Text.x c.in-Text.y _ c.in-Text.font _ c.run_rect-rect.result c.in_ok-glyphs-in-Text.glyphs.items c.in-Text.is full
+    (c.run_rect-rect.ensures.rect ∙ (λ i. joint_of (cells_along ((c.deref.ensures.value ∙ glyphs) i) (c.pairs-in-Text.ensures i) (ex i) (ey i)))) glyphs
+    c.with_held-in-Text.ensures.rect c.with_held-in-Text.ensures.image c.with_held-in-Text.ensures.brush c.with_held-in-Text.ensures.glyphs
+
+pub returns-in-Line : goal.returns-in-Line
+returns-in-Line c =
+    let st = state_after_drawings c.args.surface.now.size c.args.surface.now.state c.args.before.now in
+    let e0 : to_z w32 (of_z w32 c.in-Line.x0) ≡ c.in-Line.x0 = grind (arith, common_steps, to_z-of_z) in
+    let f0 : to_z w32 (of_z w32 c.in-Line.y0) ≡ c.in-Line.y0 = grind (arith, common_steps, to_z-of_z) in
+    let e1 : to_z w32 (of_z w32 c.in-Line.x1) ≡ c.in-Line.x1 = grind (arith, common_steps, to_z-of_z) in
+    let f1 : to_z w32 (of_z w32 c.in-Line.y1) ≡ c.in-Line.y1 = grind (arith, common_steps, to_z-of_z) in
+    bare_is c.args.surface.now.size st c.args.d.now c.bare.result _ c.in-Line.is c.bare.ensures.held (c.bare.ensures.rect ∙ c.line_rect.ensures ∙ (λ i. line_rect (e0 i) (f0 i) (e1 i) (f1 i))) refl refl refl

@@ -1,0 +1,17 @@
+//! Pending drawings, for a take: what each of an entry's drawings shows, which is kept beside the entry, and the drawing with what its
+//! slots held at its place, which is made of it (profile).
+#![tactic(auto)]
+
+mod cells;
+mod filled;
+mod pending;
+mod putting;
+mod sharing;
+mod shown;
+mod slots;
+
+pub use draw_ops::OutOfMemory;
+pub use pending::Pending;
+pub use putting::{put_drawn, put_reaction};
+pub use shown::{Held, Shown, ShownList, shown_all, shown_one};
+pub use surface_flat::{LoadedBrush, LoadedGlyph, LoadedImage, Surface};

@@ -1,5 +1,0 @@
-use Rattle.script_shows.proofs.Scripts.{cut_sees}
-use Rattle.script_shows.proofs.laws.every_capture_that_was_cut_shows_the_journal.Goals as goal
-
-pub returns : goal.returns
-returns c = cut_sees

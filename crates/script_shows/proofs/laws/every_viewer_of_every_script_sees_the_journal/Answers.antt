@@ -1,5 +1,0 @@
-use Rattle.script_shows.proofs.Scripts.{capture_sees}
-use Rattle.script_shows.proofs.laws.every_viewer_of_every_script_sees_the_journal.Goals as goal
-
-pub returns : goal.returns
-returns c = capture_sees

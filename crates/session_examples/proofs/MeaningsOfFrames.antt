@@ -1,0 +1,119 @@
+-- Worked choices of a frame: caches, bounds, cuts, saved blocks and updates.
+use Rattle.std.proofs.Common.{◌≡◌, ℕ, List, [], ◌∷◌, refl, Some, None, map, true, false, replicate}
+use Rattle.std.specs.Prelude.{pos, Option, option_map}
+use Rattle.px_core.specs.declared.surface.Size.{Size}
+use Rattle.px_core.specs.declared.rectangle.Rect.{Rect}
+use Rattle.px_core.specs.Rectangle.{boxed}
+use Rattle.px_core.specs.Tiles.{no_tiles}
+use Rattle.draw_ops.specs.declared.shape.Drawing.{Drawing}
+use Rattle.draw_ops.specs.declared.shape.Shape.{Shape}
+use Rattle.draw_ops.specs.declared.shape.Shape.TheVariants.{Dst, Pat, Blit, Blit3, Save}
+use Rattle.draw_ops.specs.Content.{ImageOf}
+use Rattle.draw_ops.specs.Slots.{Loaded}
+use Rattle.caps_sets.specs.declared.confirmed.Confirmed.{Confirmed}
+use Rattle.caps_sets.specs.Confirmed.{full, bare, sized}
+use Rattle.caps_sets.specs.CapabilitySets.{nothing}
+use Rattle.order_fields.specs.NamedDrawing.{NamedDrawing}
+use Rattle.frame_rules.specs.Blocks.{least_free, positions_of}
+use Rattle.session_rules.specs.Pending.{Pending}
+use Rattle.frame_rules.specs.Support.{image_cache, supports, has_glyph_level, used_bitmap_entries, used_glyph_entries}
+use Rattle.frame_rules.specs.Cautious.{as_walked}
+use Rattle.frame_rules.specs.Frame.{sent_from}
+use Rattle.frame_rules.specs.FrameOrders.{SentOrder, entries_of, bounds_of, sending_of}
+use Rattle.frame_rules.specs.FrameOrders.SentOrder.{Drawn, CacheImage, CacheGlyph, CacheBrush, FrameMarker}
+use Rattle.frame_rules.specs.FrameBytes.{joins_update}
+
+abbrev size : Size
+size = record { w = 64; h = 48 }
+
+abbrev square : Loaded ImageOf
+square = record { number = 1; content = record { w = 16; h = 16; pixels = replicate 256 5 } }
+
+abbrev white : Loaded (List ℕ)
+white = record { number = 2; content = replicate 64 0xFFFFFF }
+
+abbrev pending : Rect → Shape → Pending
+pending r shape = record { drawing = record { shape = shape; clip = None }; rect = r; image = Some square; brush = Some white; glyphs = [] }
+
+abbrev corner : Rect
+corner = boxed (pos 0) (pos 0) 16 16
+
+-- ---- caches
+
+-- three caches of `full` hold an image of 16 by 16 pixels
+an_image_goes_to_the_lowest_of_three : image_cache full (Some square) ≡ Some 0
+an_image_goes_to_the_lowest_of_three = refl
+
+most_entries_of_a_bitmap_cache : used_bitmap_entries (sized 600 768) ∷ used_bitmap_entries (sized 511 768) ∷ [] ≡ 512 ∷ 511 ∷ []
+most_entries_of_a_bitmap_cache = refl
+
+most_entries_of_a_glyph_cache : used_glyph_entries (sized 300 4) ∷ used_glyph_entries (sized 253 4) ∷ [] ≡ 254 ∷ 253 ∷ []
+most_entries_of_a_glyph_cache = refl
+
+entries_of_the_brush_cache : entries_of full 13 ≡ 64
+entries_of_the_brush_cache = refl
+
+-- ---- support
+
+glyph_levels : has_glyph_level 0 ∷ has_glyph_level 1 ∷ has_glyph_level 2 ∷ has_glyph_level 3 ∷ [] ≡ false ∷ true ∷ true ∷ false ∷ []
+glyph_levels = refl
+
+dst_alone : supports (record nothing { dst = true }) (pending corner (Dst corner 0x55)) (Dst corner 0x55) ≡ true
+dst_alone = refl
+
+abbrev mixed : Shape
+mixed = Blit3 corner 0xCA 0 (pos 0) (pos 0) 0
+
+mem3_without_mem : supports (record full { mem = false }) (pending corner mixed) mixed ≡ true
+mem3_without_mem = refl
+
+-- ---- orders
+
+-- a clip that the rectangle lies in sends no bounds, also where they touch
+no_bounds_within_the_clip : bounds_of corner (Some corner) ≡ None
+no_bounds_within_the_clip = refl
+
+abbrev kind_of : SentOrder → ℕ
+kind_of (Drawn touched d bounds) = 0
+kind_of (CacheImage cache index image) = 1
+kind_of (CacheGlyph cache index glyph) = 2
+kind_of (CacheBrush entry brush) = 3
+kind_of (FrameMarker ends) = 4
+
+-- an image before a brush, and then the order that draws
+an_image_goes_before_a_brush : map kind_of (sending_of full [] (record { pending = pending corner mixed; position = 0 })).orders ≡ 1 ∷ 3 ∷ 0 ∷ []
+an_image_goes_before_a_brush = refl
+
+-- 26 bytes stand before the orders, of 16,383
+the_last_byte_of_an_update : joins_update 16000 357 ∷ joins_update 16000 358 ∷ [] ≡ true ∷ false ∷ []
+the_last_byte_of_an_update = refl
+
+-- ---- cuts
+
+abbrev careful : Confirmed
+careful = record full { cautious = true }
+
+abbrev walked : Rect → Shape → Option Shape
+walked r shape = option_map (λ p. p.drawing.shape) (as_walked size careful (pending r shape))
+
+a_pattern_is_cut : walked (boxed (pos 60) (pos 0) 9 9) (Pat (boxed (pos 60) (pos 0) 9 9) 0xF0 2) ≡ Some (Pat (boxed (pos 60) (pos 0) 4 9) 0xF0 2)
+a_pattern_is_cut = refl
+
+an_image_that_changes_nothing_is_passed_over : walked corner (Blit corner 0xAA 0 (pos 0) (pos 0)) ≡ None
+an_image_that_changes_nothing_is_passed_over = refl
+
+-- ---- saved blocks
+
+abbrev save : Pending
+save = pending corner (Save 3 corner)
+
+-- the second save gives up what slot 3 held, and stands where that stood
+a_slot_saved_twice_keeps_its_place : map (λ s. s.position) (sent_from size full (record { dirty = no_tiles; held = [] }) (save ∷ save ∷ [])) ≡ 0 ∷ 0 ∷ []
+a_slot_saved_twice_keeps_its_place = refl
+
+-- rows are rounded up to 20
+positions_of_blocks : positions_of 10 1 ∷ positions_of 10 20 ∷ positions_of 10 21 ∷ [] ≡ 200 ∷ 200 ∷ 400 ∷ []
+positions_of_blocks = refl
+
+all_positions_and_one_more : least_free 57600 [] ∷ least_free 57601 [] ∷ [] ≡ Some 0 ∷ None ∷ []
+all_positions_and_one_more = refl

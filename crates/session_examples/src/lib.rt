@@ -1,0 +1,2 @@
+//! Worked examples of sessions, frames and scripts: they stand in proofs/, and compute.
+#![tactic(auto)]

@@ -1,4 +1,0 @@
-pub mod Entered
-pub mod Reactions
-pub mod Sound
-pub mod Joins

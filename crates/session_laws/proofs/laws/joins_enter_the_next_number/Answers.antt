@@ -1,5 +1,0 @@
-use Rattle.session_laws.proofs.Joins.{join_is}
-use Rattle.session_laws.proofs.laws.joins_enter_the_next_number.Goals as goal
-
-pub returns : goal.returns
-returns c = join_is

@@ -1,5 +1,0 @@
-use Rattle.session_laws.proofs.Sound.{sound_reached}
-use Rattle.session_laws.proofs.laws.legal_journals_are_sound.Goals as goal
-
-pub returns : goal.returns
-returns c = sound_reached

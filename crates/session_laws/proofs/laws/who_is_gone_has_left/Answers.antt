@@ -1,5 +1,0 @@
-use Rattle.session_laws.proofs.Joins.{left_between}
-use Rattle.session_laws.proofs.laws.who_is_gone_has_left.Goals as goal
-
-pub returns : goal.returns
-returns c = left_between

@@ -1,8 +1,0 @@
-mod Scripts
-mod Drawings
-mod Sessions
-mod Premises
-mod Limits
-mod Meanings
-mod Paints
-mod CaptureLines

@@ -1,2 +1,0 @@
-pub mod SoundState
-pub mod Drawings

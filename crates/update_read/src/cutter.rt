@@ -1,0 +1,135 @@
+ghost use Rattle.std.specs.Prelude.{◌≡◌, ◌≤◌, ◌<◌, ◌+◌, ◌++◌, ◌∷◌, [], take, length, IfOk};
+ghost use Rattle.order_means.specs.Updates.{Cutting, cutting, updates_by, updates_from};
+ghost use Rattle.order_means.specs.Updates.Stage.{Between};
+ghost use Rattle.update_read.specs.declared.state.State.TheVariants.{Open};
+ghost use Rattle.update_read.specs.Cutters.{Stands, Gives, GoesOn, IsMissing, step_of, step_by, body_by, place_after};
+
+use crate::judge::{judge, length_of};
+use crate::state::State;
+use crate::{OutOfMemory, Step};
+use std::alloc::Global;
+use std::marker::Model;
+
+/// The bytes of the longest packet.
+const LONGEST: usize = 65_535;
+
+/// Cuts a host's bytes into the updates of its packets, one byte at a time.
+///
+/// Places are counted in bytes from the stream's first one.
+#[derive(Drop)]
+pub struct Cutter {
+    start: u64,
+    bytes: Vec<u8>,
+    count: usize,
+    state: State,
+}
+
+impl Model for Cutter {
+    ghost use Rattle.std.specs.Prelude.{◌≡◌, ◌≤◌, take, length};
+    ghost use Rattle.update_read.specs.Cutters.{CutterOf, IsSoundBy};
+
+    ghost Value = { CutterOf };
+
+    ghost view = { λ c. record { start = c.start; packet = take c.count c.bytes.items; state = c.state } };
+
+    ghost invariant = { λ c. (length c.bytes.items ≡ 65535) × (c.count ≤ 65535) × IsSoundBy c.state (take c.count c.bytes.items) };
+}
+
+impl Cutter {
+    /// A cutter at the stream's first byte. It takes its memory here.
+    pub fn new(alloc: Global) -> Result<Cutter, OutOfMemory>
+        ensures { IfOk result (λ c. Stands (cutting 0 Between) c) }
+    {
+        let bytes = vec![in alloc; 0; LONGEST]?;
+        Ok(Cutter {
+            start: 0,
+            bytes,
+            count: 0,
+            state: State::Open,
+        })
+    }
+
+    /// Goes on by one byte. A refusal is answered again from then on.
+    pub fn push(&mut self, byte: u8) -> Step
+        ensures step { result ≡ step_of self.new }
+        ensures cut { (c : Cutting) → Stands c self.old → Gives (updates_by c.place c.stage byte) self.new }
+    {
+        if let State::Refused(at) = self.state {
+            return Step::Refused { at };
+        }
+        let (start, count) = place_after(self.state, self.start, self.count);
+        self.bytes[count] = byte;
+        self.start = start;
+        self.count = count + 1;
+        self.state = judge(start, &self.bytes[..count + 1]);
+        step_of(self.state, start)
+    }
+
+    /// Takes some of these bytes from the front, maybe none, by which no update ends and nothing is refused, and says how many.
+    pub fn take(&mut self, bytes: &[u8]) -> usize
+        ensures count { result ≤ length bytes.now }
+        ensures cut { (c : Cutting) → Stands c self.old → GoesOn c (updates_from c (take result bytes.now)) self.new }
+    {
+        let count = sure(self.state, &self.bytes[..self.count]).min(bytes.len());
+        if count == 0 {
+            return 0;
+        }
+        put_behind(&mut self.bytes, self.count, &bytes[..count]);
+        self.count += count;
+        count
+    }
+
+    /// The body of the update whose packet the last byte ended; none else.
+    pub fn body(&self) -> &[u8]
+        ensures { result.now ≡ body_by self.now.state self.now.packet }
+    {
+        match self.state {
+            State::Whole(part) => &self.bytes[..self.count][part.from..part.to],
+            _ => &[],
+        }
+    }
+}
+
+/// How many bytes of a packet that goes on are missing before its last one, where its length is there.
+fn sure(state: State, packet: &[u8]) -> usize
+    ensures { 0 < result → (state ≡ Open) × IsMissing packet.now result }
+{
+    match (state, packet) {
+        (State::Open, [_, _, high, low, ..]) => {
+            length_of(*high, *low).saturating_sub(packet.len() + 1)
+        }
+        _ => 0,
+    }
+}
+
+/// Puts bytes behind the first so many of others.
+fn put_behind(all: &mut [u8], count: usize, bytes: &[u8])
+    requires { count + length bytes.now ≤ length all.old }
+    ensures front { take (count + length bytes.now) all.new ≡ take count all.old ++ bytes.now }
+    ensures size { length all.new ≡ length all.old }
+{
+    all[count..count + bytes.len()].copy_from_slice(bytes);
+}
+
+/// Where the packet of the next byte begins, and how many bytes of it are there.
+fn place_after(state: State, start: u64, count: usize) -> (u64, usize)
+    ensures { result ≡ place_after state start count }
+{
+    match state {
+        State::Whole(_) => (start.saturating_add(count as u64), 0),
+        _ => (start, count),
+    }
+}
+
+/// What the last byte gave.
+fn step_of(state: State, start: u64) -> Step
+    ensures { result ≡ step_by state start }
+{
+    match state {
+        State::Open => Step::More,
+        State::Whole(part) => Step::Update {
+            at: start.saturating_add(part.from as u64),
+        },
+        State::Refused(at) => Step::Refused { at },
+    }
+}

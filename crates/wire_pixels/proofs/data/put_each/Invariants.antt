@@ -1,8 +1,0 @@
-use Rattle.std.proofs.Common.{drop}
-use Rattle.std.specs.Prelude.{flat_map}
-use Rattle.byte_fields.specs.Pixels.{pixel_bytes}
-use Rattle.order_fields.proofs.Sent.{HasSent}
-use Rattle.wire_pixels.proofs.data.put_each.Given as goal
-
-abbrev pub invariant-loop-pixel : goal.invariant-loop-pixel
-invariant-loop-pixel l = HasSent l.fn.out.items (flat_map pixel_bytes l.pixels) l.out.items (flat_map pixel_bytes (drop l.pixel-index l.pixels))
