@@ -12,7 +12,7 @@ trap 'rm -rf "$work"' EXIT
 # Ends the bench where one of these programs isn't there.
 needs() {
     for program in "$@"; do
-        [ -x "$program" ] || { echo "$bench: no $program; 'rt run' in its crate proves and builds it" >&2; exit 1; }
+        [ -x "$program" ] || { echo "$bench: no $program; './run build' proves and builds it" >&2; exit 1; }
     done
 }
 
