@@ -1,8 +1,10 @@
-//! Tests of a session at its real limits, and of two threads that share one by the lock.
+//! Tests of a session at its real limits, of two threads that share one by the lock, and of a take that goes to another thread.
 //!
 //! They use public calls alone, so they stand apart: a crate with tests of its own is proved a second time for them.
 #![tactic(auto)]
 
+#[cfg(test)]
+mod handed;
 #[cfg(test)]
 mod limits;
 #[cfg(test)]
