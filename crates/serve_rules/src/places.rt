@@ -36,6 +36,15 @@ impl Places {
         Ok(places)
     }
 
+    /// No places, and no room. Takes no memory.
+    pub fn none(alloc: Global) -> Places
+        ensures list { result.list ≡ [] }
+    {
+        Places {
+            list: Vec::new(alloc),
+        }
+    }
+
     /// The places.
     pub fn list(&self) -> &[u64]
         ensures { result.now ≡ self.now.list }

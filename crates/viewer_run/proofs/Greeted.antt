@@ -39,13 +39,13 @@ end_then : (left left' : Option (List ℕ)) (xs ys unwritten : List ℕ) (g : Gr
     → GreetEnd left' ys unwritten g after new name rf' rf'' wf' wf'' r → GreetEnd left (xs ++ ys) unwritten g after new name rf rf'' wf wf'' r
 end_then left left' xs ys unwritten g after new name rf rf' rf'' wf wf' wf'' (Ok None) whole a b e = (e.0, e.1, e.2, e.3 ∙ a, e.4 ∙ b)
 end_then left left' xs ys unwritten g after new name rf rf' rf'' wf wf' wf'' (Ok (Some guest)) whole a b e = (e.0, e.1, e.2, e.3 ∙ a, e.4 ∙ b)
-end_then left left' xs ys unwritten g after new name rf rf' rf'' wf wf' wf'' (Err Left) whole a b e = e
-end_then left left' xs ys unwritten g after new name rf rf' rf'' wf wf' wf'' (Err (Refused k at)) whole a b e = e
-end_then left left' xs ys unwritten g after new name rf rf' rf'' wf wf' wf'' (Err Truncated) whole a b e = (e.0, e.1, whole e.2)
+end_then left left' xs ys unwritten g after new name rf rf' rf'' wf wf' wf'' (Err Left) whole a b e = (e.0, e.1, e.2 ∙ b)
+end_then left left' xs ys unwritten g after new name rf rf' rf'' wf wf' wf'' (Err (Refused k at)) whole a b e = (e.0, e.1, e.2, e.3 ∙ b)
+end_then left left' xs ys unwritten g after new name rf rf' rf'' wf wf' wf'' (Err Truncated) whole a b e = (e.0, e.1, whole e.2, e.3 ∙ b)
 end_then left left' xs ys unwritten g after new name rf rf' rf'' wf wf' wf'' (Err NotInvited) whole a b e = e
 end_then left left' xs ys unwritten g after new name rf rf' rf'' wf wf' wf'' (Err RoomFull) whole a b e = e
 end_then left left' xs ys unwritten g after new name rf rf' rf'' wf wf' wf'' (Err JoinsSpent) whole a b e = e
-end_then left left' xs ys unwritten g after new name rf rf' rf'' wf wf' wf'' (Err ReadFault) whole a b e = subst (λ (n : ℕ). Rose n rf'') a e
+end_then left left' xs ys unwritten g after new name rf rf' rf'' wf wf' wf'' (Err ReadFault) whole a b e = (e.0, subst (λ (n : ℕ). Rose n rf'') a e.1)
 end_then left left' xs ys unwritten g after new name rf rf' rf'' wf wf' wf'' (Err WriteFault) whole a b e = subst (λ (n : ℕ). Rose n wf'') b e
 end_then left left' xs ys unwritten g after new name rf rf' rf'' wf wf' wf'' (Err OutOfMemory) whole a b e = e
 

@@ -1,4 +1,5 @@
 pub mod Handled
+pub mod Legal
 pub mod OneStep
 pub mod Streams
 pub mod Stretches

@@ -44,13 +44,13 @@ abbrev pub GreetEnd : Option (List ℕ) → List ℕ → List ℕ → Greeting �
 GreetEnd left fed unwritten g after new name rf rf' wf wf' (Ok None) = (unwritten ≡ []) × (new ≡ after) × (g ≡ Connects name) × (rf' ≡ rf) × (wf' ≡ wf)
 GreetEnd left fed unwritten g after new name rf rf' wf wf' (Ok (Some guest)) =
     (unwritten ≡ []) × (new ≡ after) × (g ≡ IsReady guest.name guest.confirmed guest.rest.items) × (rf' ≡ rf) × (wf' ≡ wf)
-GreetEnd left fed unwritten g after new name rf rf' wf wf' (Err Left) = (unwritten ≡ []) × (g ≡ HasLeft)
-GreetEnd left fed unwritten g after new name rf rf' wf wf' (Err (Refused k at)) = (unwritten ≡ []) × StillConnects g × (end_of after ≡ RefusedAt k at)
-GreetEnd left fed unwritten g after new name rf rf' wf wf' (Err Truncated) = (unwritten ≡ []) × StillConnects g × IsWhole left fed
+GreetEnd left fed unwritten g after new name rf rf' wf wf' (Err Left) = (unwritten ≡ []) × (g ≡ HasLeft) × (wf' ≡ wf)
+GreetEnd left fed unwritten g after new name rf rf' wf wf' (Err (Refused k at)) = (unwritten ≡ []) × StillConnects g × (end_of after ≡ RefusedAt k at) × (wf' ≡ wf)
+GreetEnd left fed unwritten g after new name rf rf' wf wf' (Err Truncated) = (unwritten ≡ []) × StillConnects g × IsWhole left fed × (wf' ≡ wf)
 GreetEnd left fed unwritten g after new name rf rf' wf wf' (Err NotInvited) = ⊥
 GreetEnd left fed unwritten g after new name rf rf' wf wf' (Err RoomFull) = ⊥
 GreetEnd left fed unwritten g after new name rf rf' wf wf' (Err JoinsSpent) = ⊥
-GreetEnd left fed unwritten g after new name rf rf' wf wf' (Err ReadFault) = Rose rf rf'
+GreetEnd left fed unwritten g after new name rf rf' wf wf' (Err ReadFault) = (unwritten ≡ []) × Rose rf rf'
 GreetEnd left fed unwritten g after new name rf rf' wf wf' (Err WriteFault) = Rose wf wf'
 GreetEnd left fed unwritten g after new name rf rf' wf wf' (Err OutOfMemory) = ⊤
 

@@ -2,6 +2,7 @@
 ghost use Rattle.std.specs.Prelude.{◌≡◌, ◌≤◌, ◌<◌, ◌-◌, ◌++◌, ◌∷◌, ◌+◌, [], length, MatchResult, IfOk};
 ghost use Rattle.caps_sets.specs.declared.confirmed.Confirmed.{Confirmed};
 ghost use Rattle.conn_rules.specs.Placed.{AreBytes, ArePlaced};
+ghost use Rattle.session_rules.specs.Journal.{IsLegalJournal};
 ghost use Rattle.grow_lock.specs.Passes.{IsPassOf};
 ghost use Rattle.serve_rules.specs.Notices.{notice_in};
 ghost use Rattle.viewer_run.specs.Visiting.{IsFirst, IsTurnedAwayIn};
@@ -30,7 +31,8 @@ pub struct Visit {
     pub end: ConnEnd,
 }
 
-/// A client that is ready joins by its name, is attended to until its connection ends, and leaves. The places of its Join and its Leave are noted.
+/// A client that is ready joins by its name, is attended to until its connection ends, and leaves. The places of its Join and its Leave are noted. What the
+/// pass has seen then is a legal journal.
 pub fn serve_arrival<R: Threads + Wait + Sync, S: Source + Send, K: Sink + Send>(
     rt: &R,
     alloc: Global,
@@ -54,6 +56,7 @@ pub fn serve_arrival<R: Threads + Wait + Sync, S: Source + Send, K: Sink + Send>
         (S.faults input.old) (S.faults input.new) (K.told output.old) (K.told output.new) (K.faults output.old) (K.faults output.new) visit)
         (λ fault. IsTurnedAwayIn lock.now.head name.now pass result.0 fault × IsUntouched told.old told.new (S.left input.old) (S.left input.new)
         (S.faults input.old) (S.faults input.new) (K.told output.old) (K.told output.new) (K.faults output.old) (K.faults output.new)) }
+    ensures legal { IsLegalJournal lock.now.head result.0.seen }
 {
     let (pass, came) = arrive(rt, alloc, lock, pass, name, confirmed);
     match came {
@@ -98,6 +101,7 @@ pub fn serve_guest<R: Threads + Wait + Sync, S: Source + Send, K: Sink + Send>(
     ensures lock { IsPassOf lock.now result.0 }
     ensures served { GuestServed lock.now.head guest.now conn.old.hearing pass result.0 (S.left input.old) (S.left input.new)
         (S.faults input.old) (S.faults input.new) (K.told output.old) (K.told output.new) (K.faults output.old) (K.faults output.new) result.1 }
+    ensures legal { IsLegalJournal lock.now.head pass.seen → IsLegalJournal lock.now.head result.0.seen }
 {
     let Ok(mut told) = first_told(alloc) else {
         return (pass, Err(ConnEnd::OutOfMemory));
@@ -207,6 +211,7 @@ fn leave_noted<R: Wait>(
     requires room { 0 < told.old.places.room }
     ensures lock { IsPassOf lock.now result }
     ensures leaves { LeavesNoted lock.now.head v pass result told.old.places.list told.new.places.list }
+    ensures legal { IsLegalJournal lock.now.head result.seen }
     ensures notice { notice_in told.new ≡ notice_in told.old }
 {
     let (pass, place) = depart(rt, lock, pass, v);

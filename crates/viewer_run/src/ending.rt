@@ -1,7 +1,8 @@
 //! The first and the last of a connection: the session's size, and the last word to the client.
-ghost use Rattle.std.specs.Prelude.{◌≡◌, ◌<◌, IsTrue};
+ghost use Rattle.std.specs.Prelude.{◌≡◌, ◌<◌, [], IsTrue, IsOk};
 ghost use Rattle.px_core.specs.Rectangle.{is_session_size};
 ghost use Rattle.mcs_dom.specs.Ultimatum.{ultimatum_packet};
+ghost use Rattle.session_rules.specs.Journal.{IsLegalJournal};
 ghost use Rattle.grow_lock.specs.Passes.{IsPassOf};
 ghost use Rattle.serve_rules.specs.Turns.{Idles};
 ghost use Rattle.viewer_run.specs.Ending.{ultimatum_at};
@@ -23,7 +24,7 @@ const REFUSED: u8 = 1;
 /// The reason of an ultimatum to a client that asked for the end, rn-user-requested.
 const ASKED_FOR: u8 = 3;
 
-/// The session's size, learnt in a turn.
+/// The session's size, learnt in a turn; what the pass has seen then is a legal journal.
 pub fn size_of<R: Wait>(
     rt: &R,
     lock: &GrowLock<Session>,
@@ -33,6 +34,7 @@ pub fn size_of<R: Wait>(
     ensures lock { IsPassOf lock.now result.0 }
     ensures size { result.1 ≡ lock.now.head.size }
     ensures fits { IsTrue (is_session_size result.1.w result.1.h) }
+    ensures legal { IsLegalJournal lock.now.head result.0.seen }
     ensures idle { Idles pass result.0 }
 {
     let mut turn = lock.enter(rt, pass);
@@ -46,19 +48,21 @@ fn size_here(session: &mut Session) -> Size
     ensures unchanged { session.new ≡ session.old }
     ensures size { result ≡ session.old.head.size }
     ensures fits { IsTrue (is_session_size result.w result.h) }
+    ensures legal { IsLegalJournal session.old.head session.old.journal }
 {
     session.recall_legal();
     session.size()
 }
 
-/// Writes the ultimatum that is due at an end, if one is.
+/// Writes the ultimatum that is due at an end, if one is; where none is, the output isn't called.
 pub fn put_last<K: Sink>(
     alloc: Global,
     output: &mut K,
     end: ConnEnd,
     asked: bool,
 ) -> Result<(), ConnEnd>
-    ensures { Replies (K.told output.old) (K.told output.new) (ultimatum_at end asked) (K.faults output.old) (K.faults output.new) result }
+    ensures replies { Replies (K.told output.old) (K.told output.new) (ultimatum_at end asked) (K.faults output.old) (K.faults output.new) result }
+    ensures quiet { ultimatum_at end asked ≡ [] → IsOk result }
 {
     match end {
         ConnEnd::Left if asked => put_ultimatum(alloc, output, ASKED_FOR),

@@ -1,5 +1,5 @@
 //! A client's connection sequence, until it is ready.
-ghost use Rattle.std.specs.Prelude.{◌≡◌, ◌<◌, ℕ, [], List, Option, IfOk, length};
+ghost use Rattle.std.specs.Prelude.{◌≡◌, ◌<◌, ℕ, [], List, Option, IfOk, IsOk, length};
 ghost use Rattle.std.specs.Io.KnownBytes.{Consumes};
 ghost use Rattle.conn_rules.specs.Placed.{AreBytes, ArePlaced};
 ghost use Rattle.viewer_run.specs.Feeding.{IsHeard};
@@ -104,7 +104,8 @@ fn greet_piece<K: Sink>(
 
 /// Writes replies; where there are none the output isn't called.
 pub(crate) fn reply<K: Sink>(output: &mut K, replies: &[u8]) -> Result<(), ConnEnd>
-    ensures { Replies (K.told output.old) (K.told output.new) replies.now (K.faults output.old) (K.faults output.new) result }
+    ensures replies { Replies (K.told output.old) (K.told output.new) replies.now (K.faults output.old) (K.faults output.new) result }
+    ensures quiet { replies.now ≡ [] → IsOk result }
 {
     if replies.is_empty() {
         return Ok(());

@@ -1,5 +1,6 @@
 //! The turns with which a viewer comes and goes: its Join with its first take, its last take, and its Leave.
 ghost use Rattle.std.specs.Prelude.{◌≡◌, ◌≤◌, ◌<◌, false, length, MatchResult, IsTrue};
+ghost use Rattle.session_rules.specs.Journal.{IsLegalJournal};
 ghost use Rattle.session_core.specs.SessionModel.{is_here, is_suppressed};
 ghost use Rattle.grow_lock.specs.Journal.{StartsWith};
 ghost use Rattle.grow_lock.specs.Passes.{IsPassOf};
@@ -44,6 +45,7 @@ pub fn arrive<R: Wait>(
     ensures lock { IsPassOf lock.now result.0 }
     ensures came { MatchResult result.1 (λ arrival. ArrivesIn lock.now.head name.now confirmed pass result.0 arrival)
         (λ fault. IsTurnedAwayIn lock.now.head name.now pass result.0 fault) }
+    ensures legal { IsLegalJournal lock.now.head result.0.seen }
 {
     let mut turn = lock.enter(rt, pass);
     let came = arrive_here(alloc, turn.value(), name, confirmed);
@@ -51,8 +53,26 @@ pub fn arrive<R: Wait>(
     (pass, came)
 }
 
-/// A viewer joins a session by a name, and its first frame is taken.
+/// A viewer joins a session by a name, and its first frame is taken; its journal is legal then.
 fn arrive_here(
+    alloc: Global,
+    session: &mut Session,
+    name: &Name,
+    confirmed: Confirmed,
+) -> Result<Arrival, JoinFault>
+    ensures head { session.new.head ≡ session.old.head }
+    ensures came { MatchResult result (λ arrival. Arrives session.old.head name.now confirmed session.old.journal session.new.journal arrival)
+        (λ fault. IsTurnedAway session.old.head name.now session.old.journal session.new.journal fault) }
+    ensures goes_on { StartsWith session.new.journal session.old.journal }
+    ensures legal { IsLegalJournal session.new.head session.new.journal }
+{
+    let came = join_here(alloc, session, name, confirmed);
+    session.recall_legal();
+    came
+}
+
+/// A viewer joins a session by a name, and its first frame is taken.
+fn join_here(
     alloc: Global,
     session: &mut Session,
     name: &Name,
@@ -146,6 +166,7 @@ pub fn depart<R: Wait>(
     requires { IsPassOf lock.now pass }
     ensures lock { IsPassOf lock.now result.0 }
     ensures left { LeavesIn lock.now.head v pass result.0 result.1 }
+    ensures legal { IsLegalJournal lock.now.head result.0.seen }
 {
     let mut turn = lock.enter(rt, pass);
     let place = depart_here(turn.value(), v);
@@ -153,8 +174,20 @@ pub fn depart<R: Wait>(
     (pass, place)
 }
 
-/// A viewer leaves a session.
+/// A viewer leaves a session, whose journal is legal then.
 fn depart_here(session: &mut Session, v: u32) -> Option<u64>
+    ensures head { session.new.head ≡ session.old.head }
+    ensures left { LeavesHere v (is_here session.old v) result session.old.journal session.new.journal }
+    ensures goes_on { StartsWith session.new.journal session.old.journal }
+    ensures legal { IsLegalJournal session.new.head session.new.journal }
+{
+    let place = leave_here(session, v);
+    session.recall_legal();
+    place
+}
+
+/// A viewer leaves a session, if it is present; gives the place of its Leave.
+fn leave_here(session: &mut Session, v: u32) -> Option<u64>
     ensures head { session.new.head ≡ session.old.head }
     ensures left { LeavesHere v (is_here session.old v) result session.old.journal session.new.journal }
     ensures goes_on { StartsWith session.new.journal session.old.journal }

@@ -1,5 +1,6 @@
 use Rattle.std.proofs.Common.{[], sym, ap, ◌∙◌, append-nil}
 use Rattle.session_core.specs.SessionModel.{SessionModel}
+use Rattle.viewer_run.proofs.Legal.{legal_so}
 use Rattle.viewer_run.proofs.Handled.{idled}
 use Rattle.viewer_run.proofs.ending.size_of.Goals as goal
 
@@ -18,3 +19,7 @@ returns-clause-idle g c = idled _ c.enter-turn.result.pass _ c.enter-turn.result
       mine_after = c.leave-pass.ensures.mine;
     })
     (ap (λ (s : SessionModel). s.journal) (c.size_here-size.ensures.unchanged ∙ c.value.ensures.value) ∙ sym c.enter-turn.ensures.list.0)
+
+pub returns-clause-legal : goal.returns-clause-legal
+returns-clause-legal g c = legal_so _ _ _ _ (ap (λ (s : SessionModel). s.head) c.value.ensures.value ∙ c.enter-turn.ensures.head)
+    (c.leave-pass.ensures.seen ∙ ap (λ (s : SessionModel). s.journal) c.size_here-size.ensures.unchanged) c.size_here-size.ensures.legal

@@ -11,7 +11,7 @@ returns-in-End-clause-greets g c =
     let left = g.S.Source.left c.args.input.now in
     greets_none h c.args.name.now left (g.S.Source.left c.read.new.self) (g.K.Sink.told c.args.output.now) (g.S.Source.faults c.args.input.now)
     (g.S.Source.faults c.read.new.self) (g.K.Sink.faults c.args.output.now) _ (kept_none left (g.S.Source.left c.read.new.self) c.in-End.ensures.bytes.1)
-    (silent_replies h c.requires.heard) (refl, (c.args.name.now, ap (greeting c.args.name.now) (silent_steps h c.requires.heard)), at_end left c.in-End.ensures.bytes.0)
+    (silent_replies h c.requires.heard) (refl, (c.args.name.now, ap (greeting c.args.name.now) (silent_steps h c.requires.heard)), at_end left c.in-End.ensures.bytes.0, refl)
 
 pub returns-in-Failed-clause-greets : goal.returns-in-Failed-clause-greets
 returns-in-Failed-clause-greets g c =
@@ -19,4 +19,4 @@ returns-in-Failed-clause-greets g c =
     let left = g.S.Source.left c.args.input.now in
     greets_none h c.args.name.now left (g.S.Source.left c.read.new.self) (g.K.Sink.told c.args.output.now) (g.S.Source.faults c.args.input.now)
     (g.S.Source.faults c.read.new.self) (g.K.Sink.faults c.args.output.now) _ (kept_none left (g.S.Source.left c.read.new.self) c.in-Failed.ensures.bytes)
-    (silent_replies h c.requires.heard) c.in-Failed.ensures.cause
+    (silent_replies h c.requires.heard) (refl, c.in-Failed.ensures.cause)

@@ -1,5 +1,6 @@
 use Rattle.std.proofs.Common.{sym, ap, ◌∙◌}
 use Rattle.session_core.specs.SessionModel.{SessionModel}
+use Rattle.viewer_run.proofs.Legal.{legal_so}
 use Rattle.viewer_run.proofs.Coming.{came}
 use Rattle.viewer_run.proofs.visits.arrive.Goals as goal
 
@@ -17,3 +18,8 @@ returns-clause-came g c =
       mine_after = c.leave-pass.ensures.mine;
     })
     c.arrive_here-came.ensures.came
+
+pub returns-clause-legal : goal.returns-clause-legal
+returns-clause-legal g c =
+    legal_so _ _ _ _ (c.arrive_here-came.ensures.head ∙ (ap (λ (s : SessionModel). s.head) c.value.ensures.value ∙ c.enter-turn.ensures.head)) c.leave-pass.ensures.seen
+    c.arrive_here-came.ensures.legal

@@ -1,5 +1,6 @@
 use Rattle.std.proofs.Common.{sym, ap, ◌∙◌}
 use Rattle.session_core.specs.SessionModel.{SessionModel}
+use Rattle.viewer_run.proofs.Legal.{legal_so}
 use Rattle.viewer_run.proofs.Coming.{left}
 use Rattle.viewer_run.proofs.visits.depart.Goals as goal
 
@@ -17,3 +18,8 @@ returns-clause-left g c =
       mine_after = c.leave-pass.ensures.mine;
     })
     c.depart_here-place.ensures.left
+
+pub returns-clause-legal : goal.returns-clause-legal
+returns-clause-legal g c =
+    legal_so _ _ _ _ (c.depart_here-place.ensures.head ∙ (ap (λ (s : SessionModel). s.head) c.value.ensures.value ∙ c.enter-turn.ensures.head)) c.leave-pass.ensures.seen
+    c.depart_here-place.ensures.legal

@@ -1,5 +1,5 @@
 use Rattle.viewer_run.proofs.Coming.{joined_present, joined_longer, arrived, away}
-use Rattle.viewer_run.proofs.visits.arrive_here.Goals as goal
+use Rattle.viewer_run.proofs.visits.join_here.Goals as goal
 
 pub first_frame-first-requires-clause-present : goal.first_frame-first-requires-clause-present
 first_frame-first-requires-clause-present c = joined_present c.args.session.now.head c.args.name.now c.in-Ok.v c.args.session.now c.join.new.self c.join.ensures.head c.in-Ok.ensures.answer c.in-Ok.ensures.journal
