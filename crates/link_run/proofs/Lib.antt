@@ -1,0 +1,7 @@
+pub mod Words
+pub mod Streams
+pub mod Outsiders
+pub mod Viewed
+pub mod Standing
+pub mod Visits
+pub mod Served

@@ -1,0 +1,159 @@
+-- What was done for a viewer between its Join and the end of its connection.
+use Rattle.std.proofs.Common.{◌≡◌, ◌⊎◌, ℕ, ◌≤◌, List, [], ◌∷◌, ◌++◌, length, sym, refl, ap, ◌∙◌, subst, inl, inr, ⊎_elim, arith, map, drop}
+use Rattle.std.specs.Prelude.{true, false, Result, Ok, Err, ⊤}
+use Rattle.std.specs.declared.option.Option.{Option}
+use Rattle.std.specs.Io.KnownBytes.{Consumes, Appends}
+use Rattle.std.proofs.KnownBytes.{Consumes-nil, Appends-nil}
+use Rattle.wire_num.specs.declared.out_of_memory.OutOfMemory.{OutOfMemory as NoMemory}
+use Rattle.caps_sets.specs.declared.confirmed.Confirmed.{Confirmed}
+use Rattle.conn_rules.specs.declared.conn_step.ConnStep.{ConnStep}
+use Rattle.conn_rules.specs.Hearing.{Hearing, heard}
+use Rattle.session_rules.specs.Journal.{Head, is_present, reached_at}
+use Rattle.session_rules.specs.Steps.{TakeOf, TakesFollow}
+use Rattle.frame_rules.specs.FrameBytes.{joined_bytes}
+use Rattle.frame_rules.specs.Encoder.{first_encoder, bytes_of_takes}
+use Rattle.viewer_sender.specs.Senders.{SenderModel}
+use Rattle.serve_rules.specs.Turns.{SessionPass}
+use Rattle.serve_rules.specs.Events.{Handles, IsWithin}
+use Rattle.serve_rules.specs.Notices.{Notice, events_in, notice_after_all, notice_in}
+use Rattle.serve_rules.specs.declared.ends.ConnEnd.{ConnEnd}
+use Rattle.serve_rules.specs.declared.ends.ConnEnd.TheVariants.{Left, Refused, Truncated, NotInvited, RoomFull, JoinsSpent, ReadFault, WriteFault, OutOfMemory}
+use Rattle.serve_rules.specs.declared.ends.SideEnd.{SideEnd}
+use Rattle.serve_rules.specs.declared.ends.SideEnd.TheVariants.{Done, Stopped}
+use Rattle.serve_rules.specs.declared.told.Told.{Told}
+use Rattle.serve_rules.proofs.Handling.{handles_nothing}
+use Rattle.viewer_run.specs.Sending.{IsSendEnd}
+use Rattle.viewer_run.specs.Frames.{first_take, FramesSent}
+use Rattle.viewer_run.specs.Serving.{ViewEnd, EndsSending, Attends, IsShownLast, wants_last}
+use Rattle.viewer_run.specs.Visiting.{IsFirst}
+use Rattle.viewer_run.specs.Arriving.{Stays, IsUntouched}
+use Rattle.viewer_run.specs.declared.visits.FirstFrame.{FirstFrame}
+use Rattle.viewer_run.proofs.Attending.{wants_left}
+use Rattle.link_run.specs.Ending.{is_cut}
+use Rattle.link_run.specs.Serving.{BeginsWith}
+
+-- the stream was read on, its events handled, and frames sent, between two states of the pass
+pub record Viewed (head : Head) (v : ℕ) (confirmed : Confirmed) (rest : List ConnStep) (conn : Hearing) (joined after : SessionPass) (places places' : List ℕ) (n n' : Notice)
+    (left left' : Option (List ℕ)) (rf rf' : ℕ) (out out' : Option (List ℕ)) (wf wf' : ℕ) (end : ConnEnd) : Type 0 where
+  pub fed : List ℕ
+  pub taken : Consumes left left' fed
+  pub steps : List ConnStep
+  pub undone : List ConnStep
+  pub front : rest ++ (heard conn fed).steps ≡ steps ++ undone
+  pub all : is_cut end ≡ false → undone ≡ []
+  pub handles : Handles head v (events_in steps) joined after places places'
+  pub notice : n' ≡ notice_after_all n steps
+  pub ends : ViewEnd left fed (heard conn fed).after n' rf rf' wf wf' end
+  pub takes : List TakeOf
+  pub last : ℕ
+  pub follow : TakesFollow 0 takes last
+  pub within_seen : last ≤ length after.seen
+  pub begins : BeginsWith (length joined.seen) end takes
+  pub more_found : List ℕ
+  pub found : after.found ≡ joined.found ++ more_found
+  pub takes_found : IsWithin (map (λ (t : TakeOf). t.number) (drop 1 takes)) more_found
+  pub written : List ℕ
+  pub unwritten : List ℕ
+  pub bytes : joined_bytes (bytes_of_takes head.size confirmed after.seen first_encoder takes) ≡ written ++ unwritten
+  pub told : Appends out out' written
+  pub all_written : is_cut end ≡ false → unwritten ≡ []
+  pub calm : is_cut end ≡ false → wf' ≡ wf
+  pub shown : wants_last end n' ≡ true → is_present v (reached_at head.size after.seen (length after.seen)).viewers ≡ true → last ≡ length after.seen
+
+cut_sending : (end : ConnEnd) → IsSendEnd (Done end) → is_cut end ≡ false → ⊥
+cut_sending Left only free = only
+cut_sending (Refused k at) only free = only
+cut_sending Truncated only free = only
+cut_sending NotInvited only free = only
+cut_sending RoomFull only free = only
+cut_sending JoinsSpent only free = only
+cut_sending ReadFault only free = only
+cut_sending WriteFault only free = cc free
+cut_sending OutOfMemory only free = cc free
+
+-- an end behind which nothing is cut isn't that of the sending
+uncut_stopped : (sent : SideEnd) (end : ConnEnd) → EndsSending sent end → IsSendEnd sent → is_cut end ≡ false → sent ≡ Stopped
+uncut_stopped sent end e only free = ⊎_elim (λ (l : sent ≡ Stopped). l) (λ (r : sent ≡ Done end). absurd (cut_sending end (subst IsSendEnd r only) free)) e
+
+no_write : (end : ConnEnd) → is_cut end ≡ false → end ≡ WriteFault → ⊥
+no_write end free is = cc (sym free ∙ ap is_cut is)
+
+no_want : (end : ConnEnd) → is_cut end ≡ false → end ≡ OutOfMemory → ⊥
+no_want end free is = cc (sym free ∙ ap is_cut is)
+
+module _ (head : Head) (v : ℕ) (confirmed : Confirmed) (rest : List ConnStep) (conn : Hearing) (p q : SessionPass) (told told' : Told) (left left' : Option (List ℕ)) (rf rf' : ℕ)
+    (out out' : Option (List ℕ)) (wf wf' : ℕ) (end : ConnEnd) where
+  viewed_first : (sender : SenderModel) → Attends head v confirmed rest conn sender p q told told' left left' rf rf' out out' wf wf' end
+      → IsShownLast head v q sender end (notice_in told')
+      → Viewed head v confirmed rest conn p q told.places.list told'.places.list (notice_in told) (notice_in told') left left' rf rf' out out' wf wf' end
+  viewed_first sender a shown =
+      let r = a.reads in
+      let f : FramesSent head v confirmed sender p q out out' wf wf' a.sent = a.frames in record {
+        fed = r.fed;
+        taken = r.taken;
+        steps = r.steps;
+        undone = r.undone;
+        front = r.front;
+        all = λ free. r.all (no_write end free) (no_want end free);
+        handles = r.handles;
+        notice = r.notice;
+        ends = r.ends;
+        takes = first_take p.seen f.asked ∷ f.later;
+        last = f.last;
+        follow = f.follow;
+        within_seen = f.within_seen;
+        begins = refl;
+        more_found = f.more_found;
+        found = f.found;
+        takes_found = f.in_found;
+        written = f.written;
+        unwritten = f.unwritten;
+        bytes = f.bytes;
+        told = f.told;
+        all_written = λ free. f.all (uncut_stopped a.sent end a.ended f.only free);
+        calm = λ free. f.calm (uncut_stopped a.sent end a.ended f.only free);
+        shown = λ wants here.
+            let free : is_cut end ≡ false = ap is_cut (wants_left end (notice_in told') wants) in
+            sym (f.after_is (uncut_stopped a.sent end a.ended f.only free)).2 ∙ shown wants here;
+      }
+
+  viewed_none : q ≡ p → IsUntouched told told' left left' rf rf' out out' wf wf' → end ≡ OutOfMemory
+      → Viewed head v confirmed rest conn p q told.places.list told'.places.list (notice_in told) (notice_in told') left left' rf rf' out out' wf wf' end
+  viewed_none same still is =
+      let cut : is_cut end ≡ true = ap is_cut is in record {
+        fed = [];
+        taken = subst (λ (x : Option (List ℕ)). Consumes left x []) (sym still.1.0) (Consumes-nil left);
+        steps = [];
+        undone = rest ++ (heard conn []).steps;
+        front = refl;
+        all = λ free. absurd (cc (sym cut ∙ free));
+        handles = subst (λ (x : SessionPass). Handles head v [] p x told.places.list told'.places.list) (sym same)
+            (subst (λ (t : Told). Handles head v [] p p told.places.list t.places.list) (sym still.0) (handles_nothing head v p told.places.list));
+        notice = ap notice_in still.0;
+        ends = subst (ViewEnd left [] (heard conn []).after (notice_in told') rf rf' wf wf') (sym is) tt;
+        takes = [];
+        last = 0;
+        follow = refl;
+        within_seen = omega arith;
+        begins = is;
+        more_found = [];
+        found = ap (λ (x : SessionPass). x.found) same ∙ sym (nil p.found);
+        takes_found = tt;
+        written = [];
+        unwritten = [];
+        bytes = refl;
+        told = subst (λ (x : Option (List ℕ)). Appends out x []) (sym still.1.2) (Appends-nil out);
+        all_written = λ free. refl;
+        calm = λ free. still.1.3;
+        shown = λ wants here. absurd (cc (sym cut ∙ ap is_cut (wants_left end (notice_in told') wants)));
+      }
+    where
+      nil : (xs : List ℕ) → xs ++ [] ≡ xs
+      nil [] = refl
+      nil (x ∷ xs) = ap (λ l. x ∷ l) (nil xs)
+
+  -- in either way in which a viewer stays
+  pub viewed : (first : Result FirstFrame NoMemory) → Stays head v confirmed first rest conn p q told told' left left' rf rf' out out' wf wf' end
+      → Viewed head v confirmed rest conn p q told.places.list told'.places.list (notice_in told) (notice_in told') left left' rf rf' out out' wf wf' end
+  viewed (Ok first) s = viewed_first s.0 s.1 s.2
+  viewed (Err refusal) s = viewed_none s.0 s.1 s.2

@@ -1,0 +1,51 @@
+use Rattle.std.proofs.Common.{◌≡◌, ◌∙◌, [], true, ap, subst, Ok, Err}
+use Rattle.std.specs.Prelude.{Some}
+use Rattle.px_core.specs.declared.surface.Size.{Size}
+use Rattle.px_core.specs.Rectangle.{is_session_size}
+use Rattle.conn_core.specs.Kept.{ConnOf}
+use Rattle.conn_rules.specs.Hearing.{Hearing, first_hearing}
+use Rattle.viewer_run.specs.Greeting.{Greets}
+use Rattle.viewer_run.proofs.Streams.{silent_replies}
+use Rattle.link_run.specs.Links.{link_state}
+use Rattle.link_run.proofs.Streams.{heard_first}
+use Rattle.link_run.proofs.Outsiders.{not_heard, not_greeted}
+use Rattle.link_run.proofs.Served.{ready_served}
+use Rattle.link_run.proofs.serving.serve_pair.Goals as goal
+
+pub returns-in_default-clause-served : goal.returns-in_default-clause-served
+returns-in_default-clause-served g c =
+    not_heard c.args.lock.now.head c.args.pass c.size_of-pass.result.0 c.turn_away.result (g.S.Source.left c.args.input.now) (g.K.Sink.told c.args.output.now)
+    (g.K.Sink.told c.turn_away.new.output) (g.S.Source.faults c.args.input.now) (g.K.Sink.faults c.args.output.now) (g.K.Sink.faults c.turn_away.new.output)
+    c.size_of-pass.ensures.idle c.size_of-pass.ensures.legal
+    (silent_replies (first_hearing c.args.lock.now.head.size) (first_hearing c.args.lock.now.head.size, [], heard_first c.args.lock.now.head.size))
+    (record { nobody = c.turn_away.ensures.nobody; none = c.turn_away.ensures.none }) c.turn_away.ensures.last
+
+pub greet-requires-clause-heard : goal.greet-requires-clause-heard
+greet-requires-clause-heard g c =
+    let at : c.in-Ok.conn.hearing ≡ first_hearing c.size_of-pass.result.1 = ap (λ (k : ConnOf). k.hearing) c.in-Ok.ensures in
+    (first_hearing c.size_of-pass.result.1, [], at ∙ heard_first c.size_of-pass.result.1)
+
+pub returns-in-Ok-greet-clause-served : goal.returns-in-Ok-greet-clause-served
+returns-in-Ok-greet-clause-served g c =
+    ready_served c.args.lock.now.head c.args.pass c.size_of-pass.result.0 c.serve_ready.result.0 c.size_of-pass.result.1 c.greet.new.conn.hearing c.in-Ok-greet.ensures.greets.0
+    c.in-Ok-greet.guest c.serve_ready.result.1 (g.S.Source.left c.args.input.now) (g.S.Source.left c.greet.new.input) (g.S.Source.left c.serve_ready.new.input)
+    (g.K.Sink.told c.args.output.now) (g.K.Sink.told c.greet.new.output) (g.K.Sink.told c.serve_ready.new.output) (g.S.Source.faults c.args.input.now)
+    (g.S.Source.faults c.greet.new.input) (g.S.Source.faults c.serve_ready.new.input) (g.K.Sink.faults c.args.output.now) (g.K.Sink.faults c.greet.new.output)
+    (g.K.Sink.faults c.serve_ready.new.output) c.size_of-pass.ensures.size
+    (subst (λ (size : Size). is_session_size size.w size.h ≡ true) c.size_of-pass.ensures.size c.size_of-pass.ensures.fits) c.serve_ready.ensures.caches c.size_of-pass.ensures.idle c.serve_ready.ensures.legal
+    (subst (λ (h : Hearing). Greets h c.greet.new.conn.hearing [] c.in-Ok-greet.ensures.greets.0 (g.S.Source.left c.args.input.now) (g.S.Source.left c.greet.new.input)
+    (g.K.Sink.told c.args.output.now) (g.K.Sink.told c.greet.new.output) (g.S.Source.faults c.args.input.now) (g.S.Source.faults c.greet.new.input)
+    (g.K.Sink.faults c.args.output.now) (g.K.Sink.faults c.greet.new.output) (Ok (Some c.in-Ok-greet.guest))) (ap (λ (k : ConnOf). k.hearing) c.in-Ok.ensures)
+    c.in-Ok-greet.ensures.greets.1)
+    c.serve_ready.ensures.served
+
+pub returns-clause-served : goal.returns-clause-served
+returns-clause-served g c =
+    not_greeted c.args.lock.now.head c.args.pass c.size_of-pass.result.0 c.turn_away-in-Err.result c.size_of-pass.result.1 c.greet.new.conn.hearing c.in-Err.ensures.greets.0
+    (g.S.Source.left c.args.input.now) (g.S.Source.left c.greet.new.input) (g.K.Sink.told c.args.output.now) (g.K.Sink.told c.greet.new.output)
+    (g.K.Sink.told c.turn_away-in-Err.new.output) (g.S.Source.faults c.args.input.now) (g.S.Source.faults c.greet.new.input) (g.K.Sink.faults c.args.output.now)
+    (g.K.Sink.faults c.greet.new.output) (g.K.Sink.faults c.turn_away-in-Err.new.output) c.in-Err.end c.size_of-pass.ensures.size c.size_of-pass.ensures.idle c.size_of-pass.ensures.legal
+    (subst (λ (h : Hearing). Greets h c.greet.new.conn.hearing [] c.in-Err.ensures.greets.0 (g.S.Source.left c.args.input.now) (g.S.Source.left c.greet.new.input)
+    (g.K.Sink.told c.args.output.now) (g.K.Sink.told c.greet.new.output) (g.S.Source.faults c.args.input.now) (g.S.Source.faults c.greet.new.input)
+    (g.K.Sink.faults c.args.output.now) (g.K.Sink.faults c.greet.new.output) (Err c.in-Err.end)) (ap (λ (k : ConnOf). k.hearing) c.in-Ok.ensures) c.in-Err.ensures.greets.1)
+    (record { nobody = c.turn_away-in-Err.ensures.nobody; none = c.turn_away-in-Err.ensures.none }) c.turn_away-in-Err.ensures.last

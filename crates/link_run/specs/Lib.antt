@@ -1,0 +1,4 @@
+pub mod Links
+pub mod Ending
+pub mod Serving
+pub mod Served

@@ -1,0 +1,36 @@
+-- What is done for a client that is ready, with the last word to it.
+use Rattle.std.specs.Prelude.{◌≡◌, ◌⊎◌, false, List, [], Result, Ok, Err}
+use Rattle.conn_rules.specs.Hearing.{Hearing}
+use Rattle.session_rules.specs.Journal.{Head}
+use Rattle.serve_rules.specs.Turns.{SessionPass}
+use Rattle.serve_rules.specs.declared.ends.ConnEnd.{ConnEnd}
+use Rattle.serve_rules.specs.declared.told.ConnReport.{ConnReport}
+use Rattle.serve_rules.specs.declared.told.Told.{Told}
+use Rattle.viewer_run.specs.declared.guest.Guest.{Guest}
+use Rattle.viewer_run.specs.declared.arriving.Visit.{Visit}
+use Rattle.viewer_run.specs.Arriving.{GuestServed}
+use Rattle.link_run.specs.Links.{LinkState}
+use Rattle.link_run.specs.Ending.{SaysLast}
+
+-- a connection is reported as one of nobody
+pub record ReportsNobody (report : ConnReport) : Type 0 where
+  pub nobody : report.viewer ≡ 0
+  pub none : report.places.list ≡ []
+
+-- or as a viewer's
+pub record ReportsVisit (visit : Visit) (told : Told) (report : ConnReport) : Type 0 where
+  pub viewer : report.viewer ≡ visit.v
+  pub places : report.places ≡ told.places
+
+-- a connection is reported, and the last word that is due at its end was said
+abbrev pub IsReported : Result (Visit × Told) ConnEnd → ConnReport → LinkState → LinkState → Type 0
+IsReported (Ok (visit, told)) report between spent =
+    ReportsVisit visit told report × SaysLast visit.end told.shutdown report.end between.told spent.told between.writes spent.writes
+IsReported (Err end) report between spent = ReportsNobody report × SaysLast end false report.end between.told spent.told between.writes spent.writes
+
+-- a client that is ready was served, and the last word to it was said, from what was written before to what was written after
+pub record ServesReady (head : Head) (guest : Guest) (conn : Hearing) (before after : SessionPass) (report : ConnReport) (link spent : LinkState) : Type 0 where
+  pub came : Result (Visit × Told) ConnEnd
+  pub between : LinkState
+  pub guest_served : GuestServed head guest conn before after link.left spent.left link.reads spent.reads link.told between.told link.writes between.writes came
+  pub reported : IsReported came report between spent

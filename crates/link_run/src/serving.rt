@@ -1,0 +1,119 @@
+//! A client's connection, served from its first byte to its last.
+ghost use Rattle.std.specs.Prelude.{◌≡◌, [], IsTrue, ℕ, List};
+ghost use Rattle.px_core.specs.Rectangle.{is_session_size};
+ghost use Rattle.caps_sets.specs.declared.confirmed.Confirmed.{Confirmed as ConfirmedModel};
+ghost use Rattle.frame_rules.specs.Describes.{HasAllCaches};
+ghost use Rattle.conn_rules.specs.Hearing.{Hearing, first_hearing};
+ghost use Rattle.conn_rules.specs.Placed.{AreBytes, ArePlaced};
+ghost use Rattle.session_rules.specs.Journal.{IsLegalJournal};
+ghost use Rattle.grow_lock.specs.Passes.{IsPassOf};
+ghost use Rattle.link_run.specs.Ending.{SaysLast};
+ghost use Rattle.link_run.specs.Links.{link_state};
+ghost use Rattle.link_run.specs.Served.{ServesReady};
+ghost use Rattle.link_run.specs.Serving.{ServesViewer};
+
+use crate::last::{say_last, turn_away};
+use caps_sets::Confirmed;
+use conn_core::Conn;
+use edge_io::{Link, Sink, Source};
+use grow_lock::{GrowLock, Pass};
+use serve_rules::{ConnEnd, ConnReport, Told};
+use session_core::Session;
+use std::alloc::Global;
+use std::sync::Wait;
+use std::thread::Threads;
+use viewer_run::{Guest, Visit, greet, serve_guest, size_of};
+
+/// Serves a client over a link, and gives back the pass, what the connection came to, and what is left of the link.
+pub fn serve_viewer<R: Threads + Wait + Sync, L: Link>(
+    rt: &R,
+    alloc: Global,
+    lock: &GrowLock<Session>,
+    pass: Pass<Session>,
+    link: L,
+) -> (Pass<Session>, ConnReport, L::Spent)
+    requires { IsPassOf lock.now pass }
+    ensures lock { IsPassOf lock.now result.0 }
+    ensures served { ServesViewer lock.now.head pass result.0 result.1 (link_state (L.left link) (L.told link) (L.reader_faults link) (L.writer_faults link))
+        (link_state (L.spent_left result.2) (L.spent_told result.2) (L.spent_reader_faults result.2) (L.spent_writer_faults result.2)) }
+{
+    let (mut reader, mut writer) = link.split();
+    let (pass, report) = serve_pair(rt, alloc, lock, pass, &mut reader, &mut writer);
+    (pass, report, L::close(reader, writer))
+}
+
+/// Serves a client over the two halves of its link: its connection sequence, its time as a viewer if it is let in, and the last word to it.
+pub fn serve_pair<R: Threads + Wait + Sync, S: Source + Send, K: Sink + Send>(
+    rt: &R,
+    alloc: Global,
+    lock: &GrowLock<Session>,
+    pass: Pass<Session>,
+    input: &mut S,
+    output: &mut K,
+) -> (Pass<Session>, ConnReport)
+    requires { IsPassOf lock.now pass }
+    ensures lock { IsPassOf lock.now result.0 }
+    ensures served { ServesViewer lock.now.head pass result.0 result.1 (link_state (S.left input.old) (K.told output.old) (S.faults input.old) (K.faults output.old))
+        (link_state (S.left input.new) (K.told output.new) (S.faults input.new) (K.faults output.new)) }
+{
+    let (pass, size) = size_of(rt, lock, pass);
+    let Ok(mut conn) = Conn::new(alloc, size) else {
+        return (pass, turn_away(alloc, output, ConnEnd::OutOfMemory));
+    };
+    match greet(alloc, &mut conn, input, output) {
+        Ok(guest) => serve_ready(rt, alloc, lock, pass, &guest, &mut conn, input, output),
+        Err(end) => (pass, turn_away(alloc, output, end)),
+    }
+}
+
+/// Serves a client that is ready.
+fn serve_ready<R: Threads + Wait + Sync, S: Source + Send, K: Sink + Send>(
+    rt: &R,
+    alloc: Global,
+    lock: &GrowLock<Session>,
+    pass: Pass<Session>,
+    guest: &Guest,
+    conn: &mut Conn,
+    input: &mut S,
+    output: &mut K,
+) -> (Pass<Session>, ConnReport)
+    requires lock { IsPassOf lock.now pass }
+    requires legal { IsLegalJournal lock.now.head pass.seen }
+    requires part { AreBytes conn.old.hearing.part }
+    requires placed { ArePlaced guest.now.rest.items }
+    ensures lock { IsPassOf lock.now result.0 }
+    ensures legal { IsLegalJournal lock.now.head result.0.seen }
+    ensures served { ServesReady lock.now.head guest.now conn.old.hearing pass result.0 result.1 (link_state (S.left input.old) (K.told output.old) (S.faults input.old) (K.faults output.old))
+        (link_state (S.left input.new) (K.told output.new) (S.faults input.new) (K.faults output.new)) }
+    ensures caches { HasAllCaches guest.now.confirmed }
+{
+    recall_all_caches(&guest.confirmed);
+    let (pass, came) = serve_guest(rt, alloc, lock, pass, guest, conn, input, output);
+    match came {
+        Ok(visited) => (pass, report_of(alloc, output, visited)),
+        Err(end) => (pass, turn_away(alloc, output, end)),
+    }
+}
+
+/// Says the last word to a viewer who has left, and reports its connection.
+fn report_of<K: Sink>(alloc: Global, output: &mut K, visited: (Visit, Told)) -> ConnReport
+    ensures viewer { result.viewer ≡ visited.0.v }
+    ensures places { result.places ≡ visited.1.places }
+    ensures last { SaysLast visited.0.end visited.1.shutdown result.end (K.told output.old) (K.told output.new) (K.faults output.old) (K.faults output.new) }
+{
+    let (visit, told) = visited;
+    let end = say_last(alloc, output, visit.end, told.shutdown);
+    ConnReport {
+        viewer: visit.v,
+        end,
+        places: told.places,
+    }
+}
+
+/// What a client confirmed has all caches, by its type; it does nothing.
+fn recall_all_caches(confirmed: &Confirmed)
+    ensures { HasAllCaches confirmed.now }
+{
+    let _three = confirmed.bitmaps.sizes();
+    let _ten = confirmed.glyphs.sizes();
+}
