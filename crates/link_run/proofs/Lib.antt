@@ -5,3 +5,4 @@ pub mod Viewed
 pub mod Standing
 pub mod Visits
 pub mod Served
+pub mod Reports

@@ -1,13 +1,13 @@
 -- A client that doesn't join.
-use Rattle.std.proofs.Common.{◌≡◌, ◌⊎◌, ℕ, List, [], ◌∷◌, ◌++◌, length, sym, refl, ap, ◌∙◌, subst, inl, inr, ⊎_elim, append-nil}
-use Rattle.std.specs.Prelude.{false, Some, Result, Ok, Err, ⊤}
+use Rattle.std.proofs.Common.{◌≡◌, ℕ, List, [], ◌∷◌, ◌++◌, length, sym, refl, ap, ◌∙◌, subst, inl, ⊎_elim, append-nil}
+use Rattle.std.specs.Prelude.{false, Some, Ok, Err}
 use Rattle.std.specs.declared.option.Option.{Option}
 use Rattle.std.specs.Io.KnownBytes.{Consumes, Appends}
 use Rattle.std.proofs.KnownBytes.{Consumes-nil, Appends-nil}
 use Rattle.edge_io.specs.Faults.{Rose}
 use Rattle.px_core.specs.declared.surface.Size.{Size}
 use Rattle.conn_rules.specs.declared.conn_step.ConnStep.{ConnStep}
-use Rattle.conn_rules.specs.Hearing.{Hearing, Heard, heard, host_handshake, first_hearing}
+use Rattle.conn_rules.specs.Hearing.{Hearing, host_handshake, first_hearing}
 use Rattle.session_rules.specs.declared.entry.Entry.{Entry}
 use Rattle.session_rules.specs.Journal.{Head, IsLegalJournal, reached_at}
 use Rattle.session_rules.specs.Steps.Step.{JoinStep}

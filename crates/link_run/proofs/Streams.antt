@@ -1,6 +1,6 @@
 -- What a client's stream comes to, of which a first stretch makes it ready.
 use Rattle.std.proofs.Common.{◌≡◌, ℕ, List, [], ◌∷◌, ◌++◌, sym, refl, ap, ◌∙◌, subst, append-nil}
-use Rattle.std.specs.Prelude.{true, ⊤}
+use Rattle.std.specs.Prelude.{⊤}
 use Rattle.px_core.specs.declared.surface.Size.{Size}
 use Rattle.caps_sets.specs.declared.confirmed.Confirmed.{Confirmed}
 use Rattle.conn_rules.specs.declared.conn_step.ConnStep.{ConnStep}
@@ -8,15 +8,15 @@ use Rattle.conn_rules.specs.declared.conn_step.ConnStep.TheVariants as step
 use Rattle.conn_rules.specs.declared.stage.Stage.{Stage}
 use Rattle.conn_rules.specs.declared.stage.Stage.TheVariants as stage
 use Rattle.conn_rules.specs.declared.stage.SharePhase.TheVariants as phase
-use Rattle.conn_rules.specs.Hearing.{Hearing, Heard, heard, host_handshake, first_hearing, then_heard, is_over, silent, between}
+use Rattle.conn_rules.specs.Hearing.{Hearing, Heard, heard, host_handshake, first_hearing, then_heard, is_over}
 use Rattle.conn_rules.specs.Told.{is_ready}
 use Rattle.conn_rules.specs.Progress.{Progress, progress_of, ComeInOrder}
 use Rattle.conn_rules.specs.Progress.Progress.{Connecting, Ready, Ended}
 use Rattle.conn_rules.proofs.Pieces.{heard_then}
 use Rattle.conn_rules.proofs.Quiet.{ready_silence, end_silence}
 use Rattle.conn_rules.proofs.Order.{handshake_in_order}
-use Rattle.viewer_run.specs.Greeting.{Greeting, greeting}
-use Rattle.viewer_run.specs.Greeting.Greeting.{Connects, IsReady, HasLeft}
+use Rattle.viewer_run.specs.Greeting.{greeting}
+use Rattle.viewer_run.specs.Greeting.Greeting.{IsReady}
 
 -- no bytes lead nowhere
 pub heard_first : (size : Size) → first_hearing size ≡ (heard (first_hearing size) []).after

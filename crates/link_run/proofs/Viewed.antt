@@ -1,6 +1,6 @@
 -- What was done for a viewer between its Join and the end of its connection.
-use Rattle.std.proofs.Common.{◌≡◌, ◌⊎◌, ℕ, ◌≤◌, List, [], ◌∷◌, ◌++◌, length, sym, refl, ap, ◌∙◌, subst, inl, inr, ⊎_elim, arith, map, drop}
-use Rattle.std.specs.Prelude.{true, false, Result, Ok, Err, ⊤}
+use Rattle.std.proofs.Common.{◌≡◌, ℕ, ◌≤◌, List, [], ◌∷◌, ◌++◌, length, sym, refl, ap, ◌∙◌, subst, ⊎_elim, arith, map, drop}
+use Rattle.std.specs.Prelude.{true, false, Result, Ok, Err}
 use Rattle.std.specs.declared.option.Option.{Option}
 use Rattle.std.specs.Io.KnownBytes.{Consumes, Appends}
 use Rattle.std.proofs.KnownBytes.{Consumes-nil, Appends-nil}
@@ -25,7 +25,6 @@ use Rattle.serve_rules.proofs.Handling.{handles_nothing}
 use Rattle.viewer_run.specs.Sending.{IsSendEnd}
 use Rattle.viewer_run.specs.Frames.{first_take, FramesSent}
 use Rattle.viewer_run.specs.Serving.{ViewEnd, EndsSending, Attends, IsShownLast, wants_last}
-use Rattle.viewer_run.specs.Visiting.{IsFirst}
 use Rattle.viewer_run.specs.Arriving.{Stays, IsUntouched}
 use Rattle.viewer_run.specs.declared.visits.FirstFrame.{FirstFrame}
 use Rattle.viewer_run.proofs.Attending.{wants_left}

@@ -3,22 +3,19 @@ use Rattle.std.proofs.Common.{◌≡◌, ◌⊎◌, ℕ, suc, ◌+◌, ◌<◌, 
 use Rattle.std.proofs.lemmas.List.{append_cancel_left}
 use Rattle.std.proofs.lemmas.List.Elements.{All-cons}
 use Rattle.std.specs.List.{range_with_len}
-use Rattle.std.specs.Prelude.{Option, Some, None, Bool, true, false, All, slice_get, option_to_list, Result, Ok, Err, IsTrue}
+use Rattle.std.specs.Prelude.{Option, Some, Bool, true, false, All, slice_get, option_to_list, Ok}
 use Rattle.std.specs.declared.option.Option as std_option
 use Rattle.std.specs.declared.option.Option.TheVariants as std
-use Rattle.std.specs.Io.KnownBytes.{Consumes, Appends}
 use Rattle.std.proofs.KnownBytes.{Appends-trans}
 use Rattle.edge_io.specs.Faults.{Rose}
-use Rattle.input_pdu.specs.declared.event.Event.{Event}
 use Rattle.px_core.specs.declared.surface.Size.{Size}
 use Rattle.px_core.specs.Rectangle.{is_session_size}
 use Rattle.caps_sets.specs.declared.confirmed.Confirmed.{Confirmed}
 use Rattle.conn_rules.specs.declared.conn_step.ConnStep.{ConnStep}
-use Rattle.conn_rules.specs.Hearing.{Hearing, Heard, heard, host_handshake, first_hearing, end_of}
-use Rattle.conn_rules.specs.Hearing.StreamEnd.{Between, RefusedAt}
+use Rattle.conn_rules.specs.Hearing.{Hearing, heard, host_handshake, first_hearing}
 use Rattle.session_rules.specs.declared.entry.Role.{Role}
 use Rattle.session_rules.specs.declared.entry.Entry.{Entry}
-use Rattle.session_rules.specs.declared.entry.Entry.TheVariants.{Join, Leave}
+use Rattle.session_rules.specs.declared.entry.Entry.TheVariants.{Join}
 use Rattle.session_rules.specs.Journal.{Head, Reached, IsLegalJournal, is_present, reached_at}
 use Rattle.session_rules.specs.Steps.{TakeOf}
 use Rattle.session_rules.proofs.Journals.{reached_at-append}
@@ -38,23 +35,23 @@ use Rattle.serve_rules.specs.declared.ends.ConnEnd.TheVariants.{Left, Refused, T
 use Rattle.serve_rules.specs.declared.told.ConnReport.{ConnReport}
 use Rattle.serve_rules.specs.declared.told.Told.{Told}
 use Rattle.serve_rules.proofs.Handling.{handles_more}
-use Rattle.serve_rules.proofs.Noticing.{events_then, notice_then}
+use Rattle.serve_rules.proofs.Noticing.{events_then}
 use Rattle.serve_rules.proofs.Ascending.{places_ascend, places_are_of_events}
 use Rattle.serve_rules.proofs.Lists.{got_end, within_front, within_back}
 use Rattle.serve_rules.proofs.ReadOn.{consumes_then}
 use Rattle.viewer_run.specs.declared.guest.Guest.{Guest}
 use Rattle.viewer_run.specs.declared.arriving.Visit.{Visit}
-use Rattle.viewer_run.specs.Greeting.{greeting, Greets}
+use Rattle.viewer_run.specs.Greeting.{Greets}
 use Rattle.viewer_run.specs.Serving.{ViewEnd, wants_last}
 use Rattle.viewer_run.specs.Visiting.{leave_if, leave_place}
 use Rattle.viewer_run.specs.Arriving.{no_notice, IsUnnoted, ServesArrival}
 use Rattle.viewer_run.specs.Ending.{ultimatum_at}
 use Rattle.viewer_run.proofs.Attending.{wants_left}
 use Rattle.viewer_run.proofs.TakesOn.{bytes_stay}
-use Rattle.link_run.specs.Links.{LinkState, link_state}
-use Rattle.link_run.specs.Ending.{is_cut, IsLastWord, SaysLast, Writes}
+use Rattle.link_run.specs.Links.{link_state}
+use Rattle.link_run.specs.Ending.{is_cut, SaysLast, Writes}
 use Rattle.link_run.specs.Served.{ReportsVisit}
-use Rattle.link_run.specs.Serving.{HasLeftElsewhere, IsLeave, BeginsWith, IsVisit, ServesViewer}
+use Rattle.link_run.specs.Serving.{HasLeftElsewhere, BeginsWith, ServesViewer}
 use Rattle.link_run.proofs.Words.{IsCutShort, Said, said_last, word_of, uncut_before, writes_said}
 use Rattle.link_run.proofs.Streams.{IsReadyStream, ready_stream}
 use Rattle.link_run.proofs.Outsiders.{turn_grows, idle_grows, idle_mine}

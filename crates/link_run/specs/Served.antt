@@ -1,5 +1,5 @@
 -- What is done for a client that is ready, with the last word to it.
-use Rattle.std.specs.Prelude.{◌≡◌, ◌⊎◌, false, List, [], Result, Ok, Err}
+use Rattle.std.specs.Prelude.{◌≡◌, false, [], Result, Ok, Err}
 use Rattle.conn_rules.specs.Hearing.{Hearing}
 use Rattle.session_rules.specs.Journal.{Head}
 use Rattle.serve_rules.specs.Turns.{SessionPass}

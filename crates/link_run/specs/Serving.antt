@@ -24,7 +24,7 @@ use Rattle.headline.specs.Headline.{SeesJournal}
 use Rattle.grow_lock.specs.Journal.{StartsWith}
 use Rattle.serve_rules.specs.Turns.{SessionPass}
 use Rattle.serve_rules.specs.Events.{Act, HappenFrom, places_of, Ascend, AreOfEvents, IsWithin}
-use Rattle.serve_rules.specs.Notices.{Notice, events_in, notice_after_all}
+use Rattle.serve_rules.specs.Notices.{events_in, notice_after_all}
 use Rattle.serve_rules.specs.Reading.{IsWhole}
 use Rattle.serve_rules.specs.declared.ends.ConnEnd.{ConnEnd}
 use Rattle.serve_rules.specs.declared.ends.ConnEnd.TheVariants.{Left, Refused, Truncated, NotInvited, RoomFull, JoinsSpent, ReadFault, WriteFault, OutOfMemory}
@@ -146,3 +146,11 @@ pub record ServesViewer (head : Head) (before after : SessionPass) (report : Con
   pub legal : IsLegalJournal head after.seen
   pub mine : after.mine ≡ before.mine ++ report.places.list
   pub came : IsOutside head after report link spent read ⊎ IsVisit head before after report link spent read
+
+-- the first of a viewer's places is that of its Join
+pub record JoinsFirst (v : ℕ) (places : List ℕ) (j : List Entry) : Type 0 where
+  pub join : ℕ
+  pub role : Role
+  pub rest : List ℕ
+  pub first : places ≡ join ∷ rest
+  pub entry : slice_get j join ≡ Some (Join v role)

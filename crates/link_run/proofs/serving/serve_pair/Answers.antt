@@ -6,7 +6,6 @@ use Rattle.conn_core.specs.Kept.{ConnOf}
 use Rattle.conn_rules.specs.Hearing.{Hearing, first_hearing}
 use Rattle.viewer_run.specs.Greeting.{Greets}
 use Rattle.viewer_run.proofs.Streams.{silent_replies}
-use Rattle.link_run.specs.Links.{link_state}
 use Rattle.link_run.proofs.Streams.{heard_first}
 use Rattle.link_run.proofs.Outsiders.{not_heard, not_greeted}
 use Rattle.link_run.proofs.Served.{ready_served}
