@@ -1,4 +1,4 @@
-ghost use Rattle.std.specs.Prelude.{◌≡◌, ◌<◌, ◌++◌, ◌∷◌, [], List, ℕ, length, Bool, IsSome};
+ghost use Rattle.std.specs.Prelude.{◌≡◌, ◌<◌, ◌≤◌, ◌++◌, ◌∷◌, [], List, ℕ, length, Bool, IsSome};
 ghost use Rattle.std.specs.declared.option.Option.{Option};
 
 use crate::Link;
@@ -35,12 +35,13 @@ pub trait Gate {
     // No further link will come.
     ghost ended: { Self → Bool };
 
-    /// Opens a port for at most so many links, and says whether it is open.
+    /// Opens a port for at most so many links, and says whether it is open. No more links came back so far than were given.
     fn listen(&mut self, port: u16, links: u16) -> bool
         ensures asked { asked self.new ≡ asked_after result port links (asked self.old) }
         ensures cause { ListenCause result (faults self.old) (faults self.new) }
         ensures given { given self.new ≡ given self.old }
         ensures finished { finished self.new ≡ finished self.old }
+        ensures order { length (finished self.old) ≤ length (given self.old) }
         ensures ended { ended self.new ≡ ended self.old };
 
     /// Hands out the next link, after a call of `listen` that answered true.

@@ -29,7 +29,7 @@ impl Model for PlanGate {
 
     ghost view = { λ g. record { waiting = g.waiting.items; given = take g.given g.links.items; finished = g.finished.items; asked = asked_of g.asked; ended = g.ended; plan = g.plan } };
 
-    ghost invariant = { λ g. (g.given ≤ vec_len g.links) × (vec_len g.links ≤ vec_capacity g.finished) × (g.waiting.items ≡ drop g.given g.links.items) };
+    ghost invariant = { λ g. (g.given ≤ vec_len g.links) × (vec_len g.links ≤ vec_capacity g.finished) × (g.waiting.items ≡ drop g.given g.links.items) × (vec_len g.finished ≤ g.given) };
 }
 
 impl PlanGate {
@@ -77,6 +77,7 @@ impl Gate for PlanGate {
         ensures cause { ListenCause result self.old.plan.faults self.new.plan.faults }
         ensures given { self.new.given ≡ self.old.given }
         ensures finished { self.new.finished ≡ self.old.finished }
+        ensures order { length self.old.finished ≤ length self.old.given }
         ensures ended { self.new.ended ≡ self.old.ended }
         // It fails exactly at the listed calls.
         ensures answer { result ≡ not (next_fails self.old.plan) }

@@ -29,7 +29,7 @@ pub struct TcpGate<'a, R: Net<Listener = TcpListener, Stream = TcpStream> + Cloc
 }
 
 impl<'a, R: Net<Listener = TcpListener, Stream = TcpStream> + Clock> Model for TcpGate<'a, R> {
-    ghost use Rattle.std.specs.Prelude.{◌≤◌, vec_capacity};
+    ghost use Rattle.std.specs.Prelude.{◌≤◌, vec_len, vec_capacity};
     ghost use Rattle.edge_io.specs.Gate.{asked_of};
     ghost use Rattle.tcp_edge.specs.Counts.{GateCounts, all_fresh};
 
@@ -37,7 +37,7 @@ impl<'a, R: Net<Listener = TcpListener, Stream = TcpStream> + Clock> Model for T
 
     ghost view = { λ g. record { given = all_fresh g.given; finished = g.finished.items; asked = asked_of g.asked; ended = g.ended; faults = g.faults } };
 
-    ghost invariant = { λ g. 65535 ≤ vec_capacity g.finished };
+    ghost invariant = { λ g. (65535 ≤ vec_capacity g.finished) × (vec_len g.finished ≤ g.given) };
 }
 
 impl<'a, R: Net<Listener = TcpListener, Stream = TcpStream> + Clock> TcpGate<'a, R> {

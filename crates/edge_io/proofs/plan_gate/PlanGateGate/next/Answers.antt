@@ -9,7 +9,7 @@ pub invariant_of-self-in-Some : goal.invariant_of-self-in-Some
 invariant_of-self-in-Some c =
     let next : IsNext c.self.inside.links.items c.pop_front.new.self.items c.in-Some.link c.self.inside.given =
     first_is_next _ _ _ _ (sym (c.self.invariant.2) ∙ c.in-Some.ensures.items) in
-    (omega (arith, next.inside), c.self.invariant.1, rw add-one next.waiting)
+    (omega (arith, next.inside), c.self.invariant.1, rw add-one next.waiting, omega (arith, c.self.invariant.3))
 
 pub returns-in-Some-clause-after : goal.returns-in-Some-clause-after
 returns-in-Some-clause-after c =
