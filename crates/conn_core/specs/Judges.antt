@@ -20,7 +20,7 @@ IsWritable (Confirm request) = Unit {0}
 IsWritable (Response channels asked) = channels ≤ 31
 IsWritable (Attached user) = 1001 ≤ user
 IsWritable (Joined user channel) = 1001 ≤ user
-IsWritable Welcome = Unit {0}
+IsWritable (Welcome client) = Unit {0}
 IsWritable (Final which user) = Unit {0}
 
 -- a part of so many bytes
