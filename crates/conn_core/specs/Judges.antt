@@ -1,5 +1,5 @@
 -- What calls say that read a packet.
-use Rattle.std.specs.Prelude.{◌≡◌, ◌≤◌, ℕ, List, Result, Ok, Err}
+use Rattle.std.specs.Prelude.{◌≡◌, ◌≤◌, ℕ, Result, Ok, Err}
 use Rattle.wire_num.specs.declared.range.Range.{Range}
 use Rattle.conn_rules.specs.declared.answer.Reply.{Reply}
 use Rattle.conn_rules.specs.declared.answer.Reply.TheVariants.{Nothing, Confirm, Response, Attached, Joined, Welcome, Final}

@@ -26,7 +26,7 @@ use Rattle.share_pdu.specs.ClientPdu.{total_length, control_header, data_header,
 use Rattle.input_pdu.specs.Events.{event_at, event_count_at}
 use Rattle.conn_rules.specs.Headers.{mcs_headers}
 use Rattle.conn_rules.specs.Hearing.{heard, host_handshake, end_of}
-use Rattle.conn_rules.specs.Hearing.StreamEnd.{Between, Within, RefusedAt}
+use Rattle.conn_rules.specs.Hearing.StreamEnd.{Between, RefusedAt}
 use Rattle.caps_sets.specs.Confirmed.{plain}
 use Rattle.conn_rules.specs.declared.conn_step.ConnStep.TheVariants.{Named, Ready, Bye, Packet}
 use Rattle.wire_examples.proofs.Sample.{stream, answers, connection_request, initial}
