@@ -23,8 +23,7 @@ pub fn says_brush_level(content: &[u8]) -> u32
     LittleEndian::read_u32(content)
 }
 
-/// Whether color brushes are taken by this level. A client for which drawings are cut takes them only by the greatest one
-/// (profile): one that is in use tells the other, and draws them otherwise.
+/// Whether color brushes are taken by this level; for a client whose drawings are cut, by the second one alone (profile).
 pub fn takes_brushes(cautious: bool, level: u32) -> bool
     ensures { result ≡ takes_brushes cautious level }
 {
