@@ -179,6 +179,12 @@ def domain(b, s, e):
         if 2 * (c & 3) + (d >> 7) > 4: r.fail(at)
         r.done()
         return ('bye',)
+    if c == 0x30:
+        # reason 3 by the basic encoding rules, as one client in use writes it: one field
+        r = Reader(b, s, e, 5)
+        r.exact([0x30, 6, 2, 2, 0, 3, 0x30, 0])
+        r.done()
+        return ('bye',)
     raise Refuse(5, s)
 
 def counted(r):

@@ -32,9 +32,9 @@ within_numbered (suc n) = tt
 end_numbered : (s : Stage) (n : ℕ) → IsSound s → IsNumberedEnd (end_by s n)
 end_numbered stage.Request n p = within_numbered n
 end_numbered (stage.Initial asked) n p = within_numbered n
-end_numbered (stage.Erect channels) n p = within_numbered n
-end_numbered (stage.Attach channels) n p = within_numbered n
-end_numbered (stage.Joins channels user io) n p = within_numbered n
+end_numbered (stage.Erect client) n p = within_numbered n
+end_numbered (stage.Attach client) n p = within_numbered n
+end_numbered (stage.Joins client user io) n p = within_numbered n
 end_numbered (stage.Shares channels here) n p = within_numbered n
 end_numbered stage.Over n p = tt
 end_numbered (stage.Refused k at) n p = p

@@ -162,9 +162,9 @@ module _ (head : Head) (s : Service) (bytes more : List ℕ) where
 over_end : (s : Stage) (n : ℕ) → is_over s ≡ true → end_by s 0 ≡ end_by s n
 over_end stage.Request n e = absurd (cc e)
 over_end (stage.Initial asked) n e = absurd (cc e)
-over_end (stage.Erect channels) n e = absurd (cc e)
-over_end (stage.Attach channels) n e = absurd (cc e)
-over_end (stage.Joins channels user io) n e = absurd (cc e)
+over_end (stage.Erect client) n e = absurd (cc e)
+over_end (stage.Attach client) n e = absurd (cc e)
+over_end (stage.Joins client user io) n e = absurd (cc e)
 over_end (stage.Shares channels here) n e = absurd (cc e)
 over_end stage.Over n e = refl
 over_end (stage.Refused k at) n e = refl
@@ -328,9 +328,9 @@ fed (Err conn.OutOfMemory) refusal x new replies steps r f a = absurd r
 over_unrefused : (s : Stage) (n : ℕ) → is_over s ≡ true → IsUnrefused s → end_by s n ≡ Between
 over_unrefused stage.Request n e u = absurd (cc e)
 over_unrefused (stage.Initial asked) n e u = absurd (cc e)
-over_unrefused (stage.Erect channels) n e u = absurd (cc e)
-over_unrefused (stage.Attach channels) n e u = absurd (cc e)
-over_unrefused (stage.Joins channels user io) n e u = absurd (cc e)
+over_unrefused (stage.Erect client) n e u = absurd (cc e)
+over_unrefused (stage.Attach client) n e u = absurd (cc e)
+over_unrefused (stage.Joins client user io) n e u = absurd (cc e)
 over_unrefused (stage.Shares channels here) n e u = absurd (cc e)
 over_unrefused stage.Over n e u = refl
 over_unrefused (stage.Refused k at) n e u = absurd u

@@ -206,9 +206,9 @@ word_ends Ended b (x ∷ xs) how o e = absurd o
 pub ended_is_over : (s : Stage) → progress_of s ≡ Ended → is_over s ≡ true
 ended_is_over stage.Request e = absurd (cc e)
 ended_is_over (stage.Initial asked) e = absurd (cc e)
-ended_is_over (stage.Erect channels) e = absurd (cc e)
-ended_is_over (stage.Attach channels) e = absurd (cc e)
-ended_is_over (stage.Joins channels user io) e = absurd (cc e)
+ended_is_over (stage.Erect client) e = absurd (cc e)
+ended_is_over (stage.Attach client) e = absurd (cc e)
+ended_is_over (stage.Joins client user io) e = absurd (cc e)
 ended_is_over (stage.Shares channels phase.Confirm) e = absurd (cc e)
 ended_is_over (stage.Shares channels (phase.Finish confirmed next)) e = absurd (cc e)
 ended_is_over (stage.Shares channels phase.Ready) e = absurd (cc e)
@@ -218,9 +218,9 @@ ended_is_over (stage.Refused k at) e = refl
 ready_is_ready : (s : Stage) → progress_of s ≡ Ready → is_ready s ≡ true
 ready_is_ready stage.Request e = absurd (cc e)
 ready_is_ready (stage.Initial asked) e = absurd (cc e)
-ready_is_ready (stage.Erect channels) e = absurd (cc e)
-ready_is_ready (stage.Attach channels) e = absurd (cc e)
-ready_is_ready (stage.Joins channels user io) e = absurd (cc e)
+ready_is_ready (stage.Erect client) e = absurd (cc e)
+ready_is_ready (stage.Attach client) e = absurd (cc e)
+ready_is_ready (stage.Joins client user io) e = absurd (cc e)
 ready_is_ready (stage.Shares channels phase.Confirm) e = absurd (cc e)
 ready_is_ready (stage.Shares channels (phase.Finish confirmed next)) e = absurd (cc e)
 ready_is_ready (stage.Shares channels phase.Ready) e = refl

@@ -2,11 +2,11 @@
 use Rattle.std.proofs.Common.{◌≡◌, inl, inr, ℕ, zero, suc, ◌+◌, ◌<◌, List, [], ◌∷◌, ◌++◌, length, refl, ap, sym, ◌∙◌, subst, arith, length-append}
 use Rattle.std.specs.Prelude.{slice_index, Result, Ok, Err}
 use Rattle.byteorder.specs.Endian.{little_number}
-use Rattle.wire_num.specs.Field.{Read, then_read, place_in}
+use Rattle.wire_num.specs.Field.{Read, then_read, map_read, place_in}
 use Rattle.wire_num.specs.FieldValue.{placed}
 use Rattle.wire_num.specs.Layout.{fields_at}
 use Rattle.wire_num.specs.Grammar.{IsText}
-use Rattle.wire_num.proofs.Steps.{then_ok}
+use Rattle.wire_num.proofs.Steps.{then_ok, map_ok}
 use Rattle.wire_num.proofs.ReadIsText.{read_is_text}
 use Rattle.wire_num.proofs.TextIsRead.{then_again, text_is_read}
 use Rattle.wire_num.proofs.Refused.{refused}
@@ -14,24 +14,25 @@ use Rattle.wire_num.proofs.RefusalIsRead.{refusal_is_read}
 use Rattle.wire_num.proofs.Place.{Ends, at_once, moved, text_end}
 use Rattle.wire_num.proofs.Place as places
 use Rattle.caps_sets.specs.declared.confirmed.Confirmed.{Confirmed}
+use Rattle.caps_sets.specs.declared.sets_so_far.SetsSoFar.{SetsSoFar}
 use Rattle.caps_sets.specs.declared.caps_fault.CapsFault.{CapsFault}
 use Rattle.caps_sets.specs.declared.caps_fault.CapsFault.TheVariants.{BadCaps}
-use Rattle.caps_sets.specs.CapabilitySets.{with_set, nothing}
+use Rattle.caps_sets.specs.CapabilitySets.{with_set, before_sets, confirmed_together}
 use Rattle.caps_sets.specs.ConfirmActive.{confirm_lengths, confirm_counts, set_header, set_at, sets_at, confirm_at, confirmed_of}
 use Rattle.caps_sets.specs.Grammar.{Set, kind_in, IsSet, AreSets, IsConfirmActive}
 use Rattle.caps_sets.specs.Faults.{HasBadSet, HasFault, IsFirstFault}
-use Rattle.caps_sets.proofs.SetText.{then_err, set_ok, set_again, set_err, set_bad}
+use Rattle.caps_sets.proofs.SetText.{then_err, map_err, set_ok, set_again, set_err, set_bad}
 use Rattle.caps_sets.proofs.LastSets.{with_sets, last_ones_count}
 
 -- ---- sets in a row
 
-pub record SetsRead (n : ℕ) (c : Confirmed) (bs : List ℕ) (y : Confirmed × List ℕ) : Type 0 where
+pub record SetsRead (n : ℕ) (c : SetsSoFar) (bs : List ℕ) (y : SetsSoFar × List ℕ) : Type 0 where
   pub sets : List Set
   pub many : length sets ≡ n
   pub stand : AreSets bs sets y.1
   pub says : y.0 ≡ with_sets sets c
 
-sets_ok : (n : ℕ) (c : Confirmed) (bs : List ℕ) (y : Confirmed × List ℕ) → sets_at n c bs ≡ Ok y → SetsRead n c bs y
+sets_ok : (n : ℕ) (c : SetsSoFar) (bs : List ℕ) (y : SetsSoFar × List ℕ) → sets_at n c bs ≡ Ok y → SetsRead n c bs y
 sets_ok zero c bs y e =
     let same : (c, bs) ≡ y = cc in
     record { sets = []; many = refl; stand = ap (λ p. p.1) same; says = sym (ap (λ p. p.0) same) }
@@ -46,7 +47,7 @@ sets_ok (suc n) c bs y e =
       says = others.says ∙ ap (with_sets others.sets) one.says;
     }
 
-sets_again : (sets : List Set) (c : Confirmed) (bs after : List ℕ) → AreSets bs sets after → sets_at (length sets) c bs ≡ Ok (with_sets sets c, after)
+sets_again : (sets : List Set) (c : SetsSoFar) (bs after : List ℕ) → AreSets bs sets after → sets_at (length sets) c bs ≡ Ok (with_sets sets c, after)
 sets_again [] c bs after stand = ap (λ xs. Ok (c, xs)) stand
 sets_again (set ∷ sets) c bs after stand =
     then_again (set_at c bs) (with_set (kind_in set) set.content c) stand.0 (λ d rest. sets_at (length sets) d rest) (Ok (with_sets (set ∷ sets) c, after))
@@ -60,7 +61,7 @@ record SetsRefused (n : ℕ) (bs left : List ℕ) : Type 0 where
   fewer : length sets < n
   bad : HasBadSet rest left
 
-sets_err : (n : ℕ) (c : Confirmed) (bs left : List ℕ) → sets_at n c bs ≡ Err left → SetsRefused n bs left
+sets_err : (n : ℕ) (c : SetsSoFar) (bs left : List ℕ) → sets_at n c bs ≡ Err left → SetsRefused n bs left
 sets_err zero c bs left e = absurd (let h : ⊥ = cc in h)
 sets_err (suc n) c bs left e =
     elim (then_err (set_at c bs) (λ d rest. sets_at n d rest) left e) [
@@ -77,10 +78,10 @@ sets_err (suc n) c bs left e =
           }
     ]
 
-abbrev no_sets : List ℕ → Read Confirmed
+abbrev no_sets : {A : Type 0} → List ℕ → Read A
 no_sets left = Err left
 
-sets_bad : (n : ℕ) (sets : List Set) (c : Confirmed) (bs rest left : List ℕ) → length sets < n → AreSets bs sets rest → HasBadSet rest left → sets_at n c bs ≡ no_sets left
+sets_bad : (n : ℕ) (sets : List Set) (c : SetsSoFar) (bs rest left : List ℕ) → length sets < n → AreSets bs sets rest → HasBadSet rest left → sets_at n c bs ≡ no_sets left
 sets_bad zero sets c bs rest left few stand bad = absurd (omega (arith, few))
 sets_bad (suc n) [] c bs rest left few stand bad =
     ap (λ r. then_read r (λ d more. sets_at n d more)) (set_bad c bs left (subst (λ xs. HasBadSet xs left) (sym stand) bad))
@@ -106,7 +107,7 @@ one_count source bs values more t =
     (n, numbers.6 ∙ ap (λ xs. n ∷ xs) numbers.7.4.0)
 
 abbrev sets_of : List ℕ → List ℕ → Read Confirmed
-sets_of counts sets = sets_at (slice_index counts 0) nothing sets
+sets_of counts sets = map_read confirmed_together (sets_at (slice_index counts 0) before_sets sets)
 
 abbrev counts_of : List ℕ → List ℕ → Read Confirmed
 counts_of lengths more = then_read (fields_at (confirm_counts (slice_index lengths 0)) more) sets_of
@@ -117,9 +118,9 @@ at_values f r xs ys e h = sym (ap f e) ∙ h
 
 -- ---- a PDU that was read
 
-to_confirm : (bs described counted lengths counts : List ℕ) (source n : ℕ) (y : Confirmed × List ℕ)
+to_confirm : (bs described counted lengths counts : List ℕ) (source n : ℕ) (y : SetsSoFar × List ℕ)
     → IsText confirm_lengths bs lengths described → lengths ≡ source ∷ [] → IsText (confirm_counts source) described counts counted → counts ≡ n ∷ []
-    → SetsRead n nothing counted y → IsConfirmActive bs y.0
+    → SetsRead n before_sets counted y → IsConfirmActive bs (confirmed_together y.0)
 to_confirm bs described counted lengths counts source n y l s k m r = record {
   source = source;
   described = described;
@@ -129,7 +130,7 @@ to_confirm bs described counted lengths counts source n y l s k m r = record {
   lengths = subst (λ xs. IsText confirm_lengths bs xs described) s l;
   counts = subst (λ xs. IsText (confirm_counts source) described xs counted) (m ∙ ap (λ i. i ∷ []) (sym r.many)) k;
   each = r.stand;
-  says = r.says ∙ last_ones_count r.sets;
+  says = ap confirmed_together r.says ∙ last_ones_count r.sets;
 }
 
 confirm_ok : (bs : List ℕ) (y : Confirmed × List ℕ) → confirm_at bs ≡ Ok y → IsConfirmActive bs y.0
@@ -141,8 +142,9 @@ confirm_ok bs y e =
     let b = then_ok (fields_at (confirm_counts s.0) a.0.1) sets_of y (at_values (λ xs. counts_of xs a.0.1) (Ok y) a.0.0 (s.0 ∷ []) s.1 a.2) in
     let counts = read_is_text (confirm_counts s.0) a.0.1 b.0.0 b.0.1 b.1 in
     let k = one_count s.0 a.0.1 b.0.0 b.0.1 counts in
-    let r = sets_ok k.0 nothing b.0.1 y (at_values (λ xs. sets_of xs b.0.1) (Ok y) b.0.0 (k.0 ∷ []) k.1 b.2) in
-    to_confirm bs a.0.1 b.0.1 a.0.0 b.0.0 s.0 k.0 y lengths s.1 counts k.1 r
+    let m = map_ok confirmed_together (sets_at k.0 before_sets b.0.1) y (at_values (λ xs. sets_of xs b.0.1) (Ok y) b.0.0 (k.0 ∷ []) k.1 b.2) in
+    let r = sets_ok k.0 before_sets b.0.1 m.0 m.1 in
+    subst (IsConfirmActive bs) m.2 (to_confirm bs a.0.1 b.0.1 a.0.0 b.0.0 s.0 k.0 m.0 lengths s.1 counts k.1 r)
 
 confirm_again : (bs : List ℕ) (c : Confirmed) (is : IsConfirmActive bs c) → confirm_at bs ≡ Ok (c, is.after)
 unfolding confirm_at
@@ -151,7 +153,7 @@ confirm_again bs c is =
     (text_is_read confirm_lengths bs (is.source ∷ []) is.described is.lengths)
     (then_again (fields_at (confirm_counts is.source) is.described) (length is.sets ∷ []) is.counted sets_of (Ok (c, is.after))
     (text_is_read (confirm_counts is.source) is.described (length is.sets ∷ []) is.counted is.counts)
-    (sets_again is.sets nothing is.counted is.after is.each ∙ ap (λ d. Ok (d, is.after)) (last_ones_count is.sets ∙ sym is.says)))
+    (ap (map_read confirmed_together) (sets_again is.sets before_sets is.counted is.after is.each) ∙ ap (λ d. Ok (d, is.after)) (last_ones_count is.sets ∙ sym is.says)))
 
 -- ---- a PDU that is refused
 
@@ -189,7 +191,8 @@ confirm_err bs left e =
                 let text = read_is_text (confirm_counts s.0) described b.0.0 b.0.1 b.1 in
                 let k = one_count s.0 described b.0.0 b.0.1 text in
                 to_fault bs described b.0.1 left s.0 k.0 lengths (counts_are s.0 described b.0.0 b.0.1 k.0 text k.1)
-                (sets_err k.0 nothing b.0.1 left (at_values (λ xs. sets_of xs b.0.1) (no_sets left) b.0.0 (k.0 ∷ []) k.1 b.2))
+                (sets_err k.0 before_sets b.0.1 left
+                (map_err confirmed_together (sets_at k.0 before_sets b.0.1) left (at_values (λ xs. sets_of xs b.0.1) (no_sets left) b.0.0 (k.0 ∷ []) k.1 b.2)))
           ]
     ]
 
@@ -208,7 +211,7 @@ confirm_bad bs left fault =
             (text_is_read confirm_lengths bs (p.0 ∷ []) p.1 p.6)
             (then_again (fields_at (confirm_counts p.0) p.1) (p.2 ∷ []) p.3 sets_of (no_sets left)
             (text_is_read (confirm_counts p.0) p.1 (p.2 ∷ []) p.3 p.7)
-            (sets_bad p.2 p.4 nothing p.3 p.5 left p.9 p.8 p.10))
+            (ap (map_read confirmed_together) (sets_bad p.2 p.4 before_sets p.3 p.5 left p.9 p.8 p.10)))
       ]
     ]
 

@@ -1,27 +1,28 @@
 -- A Demand Active PDU is written in three parts; the sample's, byte by byte.
-use Rattle.std.proofs.Common.{◌≡◌, ℕ, ◌+◌, List, [], ◌∷◌, ◌++◌, length, replicate, refl, ap, ◌∙◌, arith, append_assoc, length-append}
+use Rattle.std.proofs.Common.{◌≡◌, ℕ, ◌+◌, Bool, true, false, List, [], ◌∷◌, ◌++◌, length, replicate, refl, ap, ◌∙◌, arith, append_assoc, length-append}
+use Rattle.std.specs.Prelude.{slice_set}
 use Rattle.wire_num.specs.Written.{AppendsFront}
 use Rattle.wire_num.proofs.Fronts.{front_before, front_after}
 use Rattle.px_core.specs.declared.surface.Size.{Size}
 use Rattle.caps_sets.specs.DemandActive.{bitmap_set, before_bitmap, after_bitmap, demand_active}
 
-pub first_cut : (size : Size) (old new : List ℕ) → AppendsFront old before_bitmap new → AppendsFront old (demand_active size) new
+pub first_cut : (size : Size) (resizes : Bool) (old new : List ℕ) → AppendsFront old before_bitmap new → AppendsFront old (demand_active size resizes) new
 unfolding demand_active
-first_cut size old new f = front_before old before_bitmap (bitmap_set size ++ after_bitmap) new f
+first_cut size resizes old new f = front_before old before_bitmap (bitmap_set size resizes ++ after_bitmap) new f
 
-pub second_cut : (size : Size) (old one new : List ℕ) → one ≡ old ++ before_bitmap → AppendsFront one (bitmap_set size) new → AppendsFront old (demand_active size) new
+pub second_cut : (size : Size) (resizes : Bool) (old one new : List ℕ) → one ≡ old ++ before_bitmap → AppendsFront one (bitmap_set size resizes) new → AppendsFront old (demand_active size resizes) new
 unfolding demand_active
-second_cut size old one new e f =
-    front_after old before_bitmap (bitmap_set size ++ after_bitmap) one new e (front_before one (bitmap_set size) after_bitmap new f)
+second_cut size resizes old one new e f =
+    front_after old before_bitmap (bitmap_set size resizes ++ after_bitmap) one new e (front_before one (bitmap_set size resizes) after_bitmap new f)
 
-pub third_cut : (size : Size) (old one two new : List ℕ) → one ≡ old ++ before_bitmap → two ≡ one ++ bitmap_set size → AppendsFront two after_bitmap new
-    → AppendsFront old (demand_active size) new
+pub third_cut : (size : Size) (resizes : Bool) (old one two new : List ℕ) → one ≡ old ++ before_bitmap → two ≡ one ++ bitmap_set size resizes → AppendsFront two after_bitmap new
+    → AppendsFront old (demand_active size resizes) new
 unfolding demand_active
-third_cut size old one two new e f g =
-    front_after old before_bitmap (bitmap_set size ++ after_bitmap) one new e (front_after one (bitmap_set size) after_bitmap two new f g)
+third_cut size resizes old one two new e f g =
+    front_after old before_bitmap (bitmap_set size resizes ++ after_bitmap) one new e (front_after one (bitmap_set size resizes) after_bitmap two new f g)
 
 -- for a picture of 64 by 48 pixels
-sample : demand_active (record { w = 64; h = 48 })
+sample : demand_active (record { w = 64; h = 48 }) false
     ≡ (32 ∷ 1 ∷ 17 ∷ 0 ∷ 234 ∷ 3 ∷ [])
     ++ (234 ∷ 3 ∷ 1 ∷ 0 ∷ 4 ∷ 0 ∷ 10 ∷ 1 ∷ 82 ∷ 68 ∷ 80 ∷ 0 ∷ 8 ∷ 0 ∷ 0 ∷ 0 ∷ [])
     ++ (1 ∷ 0 ∷ 24 ∷ 0 ∷ 1 ∷ 0 ∷ 3 ∷ 0 ∷ 0 ∷ 2 ∷ 0 ∷ 0 ∷ 0 ∷ 0 ∷ 0 ∷ 4 ∷ 0 ∷ 0 ∷ 0 ∷ 0 ∷ 0 ∷ 0 ∷ 1 ∷ 1 ∷ [])
@@ -38,18 +39,23 @@ sample : demand_active (record { w = 64; h = 48 })
 unfolding demand_active before_bitmap after_bitmap
 sample = refl
 
--- as long as its share control header says, and its sets as long as lengthCombinedCapabilities, with count and pad
-total : (size : Size) → length (demand_active size) ≡ 288
+-- to a client that is to resize its window: one byte more isn't 0, behind pad2octets
+resized : demand_active (record { w = 64; h = 48 }) true ≡ slice_set (demand_active (record { w = 64; h = 48 }) false) 64 1
 unfolding demand_active before_bitmap after_bitmap
-total size = refl
+resized = refl
 
-all_written : (size : Size) (old one two new : List ℕ) → one ≡ old ++ before_bitmap → two ≡ one ++ bitmap_set size → new ≡ two ++ after_bitmap → new ≡ old ++ demand_active size
+-- as long as its share control header says, and its sets as long as lengthCombinedCapabilities, with count and pad
+total : (size : Size) (resizes : Bool) → length (demand_active size resizes) ≡ 288
+unfolding demand_active before_bitmap after_bitmap
+total size resizes = refl
+
+all_written : (size : Size) (resizes : Bool) (old one two new : List ℕ) → one ≡ old ++ before_bitmap → two ≡ one ++ bitmap_set size resizes → new ≡ two ++ after_bitmap → new ≡ old ++ demand_active size resizes
 unfolding demand_active
-all_written size old one two new e f g =
-    g ∙ ap (λ xs. xs ++ after_bitmap) (f ∙ ap (λ xs. xs ++ bitmap_set size) e)
-    ∙ append_assoc (old ++ before_bitmap) (bitmap_set size) after_bitmap ∙ append_assoc old before_bitmap (bitmap_set size ++ after_bitmap)
+all_written size resizes old one two new e f g =
+    g ∙ ap (λ xs. xs ++ after_bitmap) (f ∙ ap (λ xs. xs ++ bitmap_set size resizes) e)
+    ∙ append_assoc (old ++ before_bitmap) (bitmap_set size resizes) after_bitmap ∙ append_assoc old before_bitmap (bitmap_set size resizes ++ after_bitmap)
 
-pub written_size : (size : Size) (old one two new : List ℕ) → one ≡ old ++ before_bitmap → two ≡ one ++ bitmap_set size → new ≡ two ++ after_bitmap
+pub written_size : (size : Size) (resizes : Bool) (old one two new : List ℕ) → one ≡ old ++ before_bitmap → two ≡ one ++ bitmap_set size resizes → new ≡ two ++ after_bitmap
     → length new ≡ length old + 288
-written_size size old one two new e f g =
-    omega (arith, ap length (all_written size old one two new e f g), length-append old (demand_active size), total size)
+written_size size resizes old one two new e f g =
+    omega (arith, ap length (all_written size resizes old one two new e f g), length-append old (demand_active size resizes), total size resizes)

@@ -19,6 +19,10 @@ set type size content = type ∷ 0 ∷ size ∷ 0 ∷ content
 abbrev general : ℕ → List ℕ
 general high = set 1 24 (replicate 11 0 ++ (high ∷ replicate 8 0))
 
+-- a General set with this protocolVersion
+abbrev versioned : ℕ → ℕ → List ℕ
+versioned low high = set 1 24 (replicate 4 0 ++ (low ∷ high ∷ replicate 14 0))
+
 -- an Order set with these orderFlags, orders at places 0 to 4, 11 and 27, and orderSupportExFlags
 abbrev order : ℕ → List ℕ → ℕ → ℕ → ℕ → List ℕ
 order flags first save glyph more =
@@ -68,6 +72,33 @@ level_three = refl
 repeated : confirmed_of (start 4 ++ (order 8 (1 ∷ 1 ∷ 1 ∷ 1 ∷ 1 ∷ []) 1 1 0 ++ (general 4 ++ (rectangles ++ general 251)))) ≡ Ok plain
 unfolding confirm_at confirm_lengths confirm_counts set_at set_header with_content_of passing_at
 repeated = refl
+
+-- ---- a client that states a protocol version is cautious, and takes brushes by level 2 alone, in either order of the sets
+
+cautious : confirmed_of (start 1 ++ versioned 0 2) ≡ Ok (record nothing { cautious = true })
+unfolding confirm_at confirm_lengths confirm_counts set_at set_header with_content_of passing_at
+cautious = refl
+
+lowest_version : confirmed_of (start 1 ++ versioned 1 0) ≡ Ok (record nothing { cautious = true })
+unfolding confirm_at confirm_lengths confirm_counts set_at set_header with_content_of passing_at
+lowest_version = refl
+
+cautious_level_one : confirmed_of (start 2 ++ (versioned 0 2 ++ brush 1)) ≡ Ok (record nothing { cautious = true })
+unfolding confirm_at confirm_lengths confirm_counts set_at set_header with_content_of passing_at
+cautious_level_one = refl
+
+level_one_first : confirmed_of (start 2 ++ (brush 1 ++ versioned 0 2)) ≡ Ok (record nothing { cautious = true })
+unfolding confirm_at confirm_lengths confirm_counts set_at set_header with_content_of passing_at
+level_one_first = refl
+
+cautious_level_two : confirmed_of (start 2 ++ (versioned 0 2 ++ brush 2)) ≡ Ok (record nothing { cautious = true; brush = true })
+unfolding confirm_at confirm_lengths confirm_counts set_at set_header with_content_of passing_at
+cautious_level_two = refl
+
+-- the last General set states none
+no_longer_cautious : confirmed_of (start 3 ++ (versioned 0 2 ++ (brush 1 ++ versioned 0 0))) ≡ Ok (record nothing { brush = true })
+unfolding confirm_at confirm_lengths confirm_counts set_at set_header with_content_of passing_at
+no_longer_cautious = refl
 
 -- no set, and bytes that aren't counted
 none_counted : confirmed_of (start 0 ++ general 4) ≡ Ok nothing

@@ -12,7 +12,7 @@ use Rattle.wire_num.proofs.TextIsRead.{then_again, bytes_there, text_is_read}
 use Rattle.wire_num.proofs.Missing.{bytes_err}
 use Rattle.wire_num.proofs.Refused.{refused}
 use Rattle.wire_num.proofs.RefusalIsRead.{refusal_is_read}
-use Rattle.caps_sets.specs.declared.confirmed.Confirmed.{Confirmed}
+use Rattle.caps_sets.specs.declared.sets_so_far.SetsSoFar.{SetsSoFar}
 use Rattle.caps_sets.specs.declared.set_kind.SetKind.{SetKind}
 use Rattle.caps_sets.specs.declared.set_kind.SetKind.TheVariants.{General, Bitmap, Order, BitmapCache, Brush, GlyphCache, Other}
 use Rattle.caps_sets.specs.CapabilitySets.{kind_of, least_length, with_set}
@@ -36,7 +36,7 @@ pub then_err : {A B : Type 0} (r : Read A) (f : A → List ℕ → Read B) (left
 then_err (Ok v) f left e = inr (v, refl, e)
 then_err (Err l) f left e = inl (let h : l ≡ left = cc in ap Err h)
 
-map_err : {A B : Type 0} (f : A → B) (r : Read A) (left : List ℕ) → map_read f r ≡ Err left → r ≡ Err left
+pub map_err : {A B : Type 0} (f : A → B) (r : Read A) (left : List ℕ) → map_read f r ≡ Err left → r ≡ Err left
 map_err f (Ok v) left e = absurd (let h : ⊥ = cc in h)
 map_err f (Err l) left e = let h : l ≡ left = cc in ap Err h
 
@@ -60,14 +60,14 @@ two_numbers bs header more t =
 
 -- ---- the content that a length counts
 
-record Content (n : ℕ) (kind : SetKind) (c : Confirmed) (more : List ℕ) (y : Confirmed × List ℕ) : Type 0 where
+record Content (n : ℕ) (kind : SetKind) (c : SetsSoFar) (more : List ℕ) (y : SetsSoFar × List ℕ) : Type 0 where
   content : List ℕ
   counts : n ≡ 4 + length content
   whole : more ≡ content ++ y.1
   least : least_length kind ≤ n
   says : y.0 ≡ with_set kind content c
 
-content_ok : (n : ℕ) (kind : SetKind) (c : Confirmed) (bs more : List ℕ) (y : Confirmed × List ℕ) → with_content_of n kind c bs more ≡ Ok y → Content n kind c more y
+content_ok : (n : ℕ) (kind : SetKind) (c : SetsSoFar) (bs more : List ℕ) (y : SetsSoFar × List ℕ) → with_content_of n kind c bs more ≡ Ok y → Content n kind c more y
 unfolding with_content_of
 content_ok n kind c bs more y e =
     let test : Bool = nat_le (least_length kind) n && nat_le n (4 + length more) in
@@ -85,7 +85,7 @@ content_ok n kind c bs more y e =
       says = sym m.2;
     }
 
-content_again : (kind : SetKind) (c : Confirmed) (bs content after : List ℕ) → least_length kind ≤ 4 + length content
+content_again : (kind : SetKind) (c : SetsSoFar) (bs content after : List ℕ) → least_length kind ≤ 4 + length content
     → with_content_of (4 + length content) kind c bs (content ++ after) ≡ Ok (with_set kind content c, after)
 unfolding with_content_of
 content_again kind c bs content after least =
@@ -95,11 +95,11 @@ content_again kind c bs content after least =
     ap (λ t. cond t (map_read (λ xs. with_set kind xs c) (bytes_at (n - 4) (content ++ after))) (Err bs)) fits
     ∙ ap (map_read (λ xs. with_set kind xs c)) (bytes_there (n - 4) content after (omega arith))
 
-content_err : (n : ℕ) (kind : SetKind) (c : Confirmed) (bs more left : List ℕ) → with_content_of n kind c bs more ≡ Err left
+content_err : (n : ℕ) (kind : SetKind) (c : SetsSoFar) (bs more left : List ℕ) → with_content_of n kind c bs more ≡ Err left
     → ((n < least_length kind) ⊎ (4 + length more < n)) × (left ≡ bs)
 unfolding with_content_of
 content_err n kind c bs more left e = by (nat_le (least_length kind) n) (nat_le n (4 + length more)) refl refl e where
-  tail : Read Confirmed
+  tail : Read SetsSoFar
   tail = map_read (λ content. with_set kind content c) (bytes_at (n - 4) more)
 
   by : (low high : Bool) → nat_le (least_length kind) n ≡ low → nat_le n (4 + length more) ≡ high → cond (low && high) tail (Err bs) ≡ Err left
@@ -111,7 +111,7 @@ content_err n kind c bs more left e = by (nat_le (least_length kind) n) (nat_le 
   by true false l h e = (inr (grind (arith, nat_tests, h)), let same : bs ≡ left = cc in sym same)
   by false high l h e = (inl (grind (arith, nat_tests, l)), let same : bs ≡ left = cc in sym same)
 
-content_bad : (n : ℕ) (kind : SetKind) (c : Confirmed) (bs more : List ℕ) → (n < least_length kind) ⊎ (4 + length more < n) → with_content_of n kind c bs more ≡ Err bs
+content_bad : (n : ℕ) (kind : SetKind) (c : SetsSoFar) (bs more : List ℕ) → (n < least_length kind) ⊎ (4 + length more < n) → with_content_of n kind c bs more ≡ Err bs
 unfolding with_content_of
 content_bad n kind c bs more bad =
     let fails : (nat_le (least_length kind) n && nat_le n (4 + length more)) ≡ false = elim bad [ inl low ↦ grind (arith, nat_tests, low) | inr high ↦ grind (arith, nat_tests, high) ] in
@@ -119,16 +119,16 @@ content_bad n kind c bs more bad =
 
 -- ---- a set
 
-abbrev set_tail : Confirmed → List ℕ → List ℕ → List ℕ → Read Confirmed
+abbrev set_tail : SetsSoFar → List ℕ → List ℕ → List ℕ → Read SetsSoFar
 set_tail c bs header more = with_content_of (slice_index header 1) (kind_of (slice_index header 0)) c bs more
 
-pub record SetRead (c : Confirmed) (bs : List ℕ) (y : Confirmed × List ℕ) : Type 0 where
+pub record SetRead (c : SetsSoFar) (bs : List ℕ) (y : SetsSoFar × List ℕ) : Type 0 where
   pub set : Set
   pub is : IsSet bs set y.1
   pub says : y.0 ≡ with_set (kind_in set) set.content c
 
 -- a header with these two numbers, and the content that its length counts
-read_by : (c : Confirmed) (bs header more : List ℕ) (y : Confirmed × List ℕ) (type size : ℕ) → IsText set_header bs header more → header ≡ type ∷ size ∷ []
+read_by : (c : SetsSoFar) (bs header more : List ℕ) (y : SetsSoFar × List ℕ) (type size : ℕ) → IsText set_header bs header more → header ≡ type ∷ size ∷ []
     → Content size (kind_of type) c more y → SetRead c bs y
 read_by c bs header more y type size t e p = record {
   set = record { type = type; content = p.content };
@@ -140,7 +140,7 @@ read_by c bs header more y type size t e p = record {
   says = p.says;
 }
 
-pub set_ok : (c : Confirmed) (bs : List ℕ) (y : Confirmed × List ℕ) → set_at c bs ≡ Ok y → SetRead c bs y
+pub set_ok : (c : SetsSoFar) (bs : List ℕ) (y : SetsSoFar × List ℕ) → set_at c bs ≡ Ok y → SetRead c bs y
 unfolding set_at
 set_ok c bs y e =
     let a = then_ok (fields_at set_header bs) (set_tail c bs) y e in
@@ -150,14 +150,14 @@ set_ok c bs y e =
     let n = two_numbers bs header more t in
     read_by c bs header more y n.0 n.1 t n.2 (content_ok n.1 (kind_of n.0) c bs more y (sym (ap (λ h. set_tail c bs h more) n.2) ∙ a.2))
 
-pub set_again : (c : Confirmed) (bs : List ℕ) (set : Set) (after : List ℕ) → IsSet bs set after → set_at c bs ≡ Ok (with_set (kind_in set) set.content c, after)
+pub set_again : (c : SetsSoFar) (bs : List ℕ) (set : Set) (after : List ℕ) → IsSet bs set after → set_at c bs ≡ Ok (with_set (kind_in set) set.content c, after)
 unfolding set_at
 set_again c bs set after is =
     then_again (fields_at set_header bs) (set.type ∷ (4 + length set.content) ∷ []) (set.content ++ after) (set_tail c bs) (Ok (with_set (kind_in set) set.content c, after))
     (text_is_read set_header bs (set.type ∷ (4 + length set.content) ∷ []) (set.content ++ after) is.header)
     (content_again (kind_in set) c bs set.content after is.least)
 
-pub set_err : (c : Confirmed) (bs left : List ℕ) → set_at c bs ≡ Err left → HasBadSet bs left
+pub set_err : (c : SetsSoFar) (bs left : List ℕ) → set_at c bs ≡ Err left → HasBadSet bs left
 unfolding set_at
 set_err c bs left e =
     elim (then_err (fields_at set_header bs) (set_tail c bs) left e) [
@@ -171,10 +171,10 @@ set_err c bs left e =
           inr (n.0, n.1, more, subst (λ h. IsText set_header bs h more) n.2 t, bad.0, bad.1)
     ]
 
-abbrev no_set_at : List ℕ → Read Confirmed
+abbrev no_set_at : List ℕ → Read SetsSoFar
 no_set_at left = Err left
 
-pub set_bad : (c : Confirmed) (bs left : List ℕ) → HasBadSet bs left → set_at c bs ≡ Err left
+pub set_bad : (c : SetsSoFar) (bs left : List ℕ) → HasBadSet bs left → set_at c bs ≡ Err left
 unfolding set_at
 set_bad c bs left bad =
     elim bad [

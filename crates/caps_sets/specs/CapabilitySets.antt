@@ -5,6 +5,7 @@ use Rattle.byteorder.specs.Endian.{little_number}
 use Rattle.wire_num.specs.FieldValue.{has_bits}
 use Rattle.caps_sets.specs.declared.cache_size.CacheSize.{CacheSize}
 use Rattle.caps_sets.specs.declared.confirmed.Confirmed.{Confirmed}
+use Rattle.caps_sets.specs.declared.sets_so_far.SetsSoFar.{SetsSoFar}
 use Rattle.caps_sets.specs.declared.set_kind.SetKind.{SetKind}
 use Rattle.caps_sets.specs.declared.set_kind.SetKind.TheVariants.{General, Bitmap, Order, BitmapCache, Brush, GlyphCache, Other}
 use Rattle.caps_sets.specs.Confirmed.{sized}
@@ -36,7 +37,11 @@ number_in size offset content = little_number size (drop (offset - 4) content)
 
 -- ---- what a set says
 
--- extraFlags: NO_BITMAP_COMPRESSION_HDR ([MS-RDPBCGR] 2.2.7.1.1)
+-- protocolVersion isn't 0 ([MS-RDPBCGR] 2.2.7.1.1). For a client that states a version drawings are cut (profile)
+abbrev pub says_cautious : List ℕ → Bool
+says_cautious content = not (number_in 2 8 content == 0)
+
+-- extraFlags: NO_BITMAP_COMPRESSION_HDR
 abbrev pub says_no_header : List ℕ → Bool
 says_no_header content = has_bits 1024 (number_in 2 14 content)
 
@@ -61,9 +66,13 @@ caches_in (suc n) offset content = sized (number_in 2 offset content) (number_in
 unfoldable pub says_bitmaps : List ℕ → List CacheSize
 says_bitmaps content = caches_in 3 28 content
 
--- brushSupportLevel: BRUSH_COLOR_8x8 or BRUSH_COLOR_FULL ([MS-RDPBCGR] 2.2.7.1.7)
-abbrev pub says_brush : List ℕ → Bool
-says_brush content = (number_in 4 4 content == 1) || (number_in 4 4 content == 2)
+-- brushSupportLevel ([MS-RDPBCGR] 2.2.7.1.7)
+abbrev pub says_brush_level : List ℕ → ℕ
+says_brush_level content = number_in 4 4 content
+
+-- color brushes are taken by BRUSH_COLOR_8x8 and by BRUSH_COLOR_FULL; by a client for which drawings are cut, by the latter alone (profile)
+abbrev pub takes_brushes : Bool → ℕ → Bool
+takes_brushes cautious level = (not cautious && (level == 1)) || (level == 2)
 
 -- GlyphCache ([MS-RDPBCGR] 2.2.7.1.8)
 unfoldable pub says_glyphs : List ℕ → List CacheSize
@@ -109,12 +118,24 @@ with_orders content c = record c {
   marker = says_marker content;
 }
 
--- what is confirmed with one more set, by its content: it counts in place of earlier ones of its kind
-abbrev pub with_set : SetKind → List ℕ → Confirmed → Confirmed
-with_set General content c = record c { no_header = says_no_header content }
-with_set Bitmap content c = c
-with_set Order content c = with_orders content c
-with_set BitmapCache content c = record c { bitmaps = says_bitmaps content }
-with_set Brush content c = record c { brush = says_brush content }
-with_set GlyphCache content c = record c { glyphs = says_glyphs content; glyph_level = says_glyph_level content }
-with_set Other content c = c
+-- before the first set
+abbrev pub before_sets : SetsSoFar
+before_sets = record { confirmed = nothing; brush_level = 0 }
+
+-- what a General set says
+abbrev pub with_general : List ℕ → Confirmed → Confirmed
+with_general content c = record c { no_header = says_no_header content; cautious = says_cautious content }
+
+-- the sets so far with one more, by its content: it counts in place of earlier ones of its kind
+abbrev pub with_set : SetKind → List ℕ → SetsSoFar → SetsSoFar
+with_set General content s = record s { confirmed = with_general content s.confirmed }
+with_set Bitmap content s = s
+with_set Order content s = record s { confirmed = with_orders content s.confirmed }
+with_set BitmapCache content s = record s { confirmed = record s.confirmed { bitmaps = says_bitmaps content } }
+with_set Brush content s = record s { brush_level = says_brush_level content }
+with_set GlyphCache content s = record s { confirmed = record s.confirmed { glyphs = says_glyphs content; glyph_level = says_glyph_level content } }
+with_set Other content s = s
+
+-- what all sets confirm: whether brushes are taken goes by the Brush set and the General set, whichever comes first
+abbrev pub confirmed_together : SetsSoFar → Confirmed
+confirmed_together s = record s.confirmed { brush = takes_brushes s.confirmed.cautious s.brush_level }

@@ -4,10 +4,11 @@ use Rattle.wire_num.specs.FieldValue.{is_any, placed}
 use Rattle.wire_num.specs.Layout.{Layout, Open, Any, Little, ◌▸◌, fields_at}
 use Rattle.wire_num.specs.Field.{Read, then_read, map_read, bytes_at}
 use Rattle.caps_sets.specs.declared.confirmed.Confirmed.{Confirmed}
+use Rattle.caps_sets.specs.declared.sets_so_far.SetsSoFar.{SetsSoFar}
 use Rattle.caps_sets.specs.declared.set_kind.SetKind.{SetKind}
 use Rattle.caps_sets.specs.declared.caps_fault.CapsFault.{CapsFault}
 use Rattle.caps_sets.specs.declared.caps_fault.CapsFault.TheVariants.{BadCaps}
-use Rattle.caps_sets.specs.CapabilitySets.{kind_of, least_length, with_set, nothing}
+use Rattle.caps_sets.specs.CapabilitySets.{kind_of, least_length, with_set, before_sets, confirmed_together}
 
 -- shareId; originatorId; lengthSourceDescriptor; lengthCombinedCapabilities, which isn't compared
 unfoldable pub confirm_lengths : Layout
@@ -35,28 +36,28 @@ set_header =
 
 -- the content of a set that begins with bs, of a length that counts its header; where this is below the least one, or past the end, the set is refused at its
 -- first byte
-unfoldable pub with_content_of : ℕ → SetKind → Confirmed → List ℕ → List ℕ → Read Confirmed
-with_content_of n kind c bs more =
+unfoldable pub with_content_of : ℕ → SetKind → SetsSoFar → List ℕ → List ℕ → Read SetsSoFar
+with_content_of n kind s bs more =
     if nat_le (least_length kind) n && nat_le n (4 + length more)
-    then map_read (λ content. with_set kind content c) (bytes_at (n - 4) more) else Err bs
+    then map_read (λ content. with_set kind content s) (bytes_at (n - 4) more) else Err bs
 
 -- a set: header; content
-unfoldable pub set_at : Confirmed → List ℕ → Read Confirmed
-set_at c bs =
+unfoldable pub set_at : SetsSoFar → List ℕ → Read SetsSoFar
+set_at s bs =
     then_read (fields_at set_header bs) (λ header more.
-    with_content_of (slice_index header 1) (kind_of (slice_index header 0)) c bs more)
+    with_content_of (slice_index header 1) (kind_of (slice_index header 0)) s bs more)
 
 -- so many sets, in any order; the last one of a kind counts
-abbrev pub sets_at : ℕ → Confirmed → List ℕ → Read Confirmed
-sets_at zero c bs = Ok (c, bs)
-sets_at (suc n) c bs = then_read (set_at c bs) (λ more after. sets_at n more after)
+abbrev pub sets_at : ℕ → SetsSoFar → List ℕ → Read SetsSoFar
+sets_at zero s bs = Ok (s, bs)
+sets_at (suc n) s bs = then_read (set_at s bs) (λ more after. sets_at n more after)
 
 -- what stands before the sets, and as many of them as are counted; what follows them isn't read
 unfoldable pub confirm_at : List ℕ → Read Confirmed
 confirm_at bs =
     then_read (fields_at confirm_lengths bs) (λ lengths more.
     then_read (fields_at (confirm_counts (slice_index lengths 0)) more) (λ counts sets.
-    sets_at (slice_index counts 0) nothing sets))
+    map_read confirmed_together (sets_at (slice_index counts 0) before_sets sets)))
 
 -- what a Confirm Active PDU confirms
 abbrev pub confirmed_of : List ℕ → Result Confirmed CapsFault

@@ -5,7 +5,7 @@ use Rattle.caps_sets.specs.declared.confirmed.Confirmed.{Confirmed}
 use Rattle.caps_sets.specs.declared.set_kind.SetKind.{SetKind}
 use Rattle.caps_sets.specs.declared.set_kind.SetKind.TheVariants.{General, Bitmap, Order, BitmapCache, Brush, GlyphCache, Other}
 use Rattle.caps_sets.specs.Confirmed.{sized}
-use Rattle.caps_sets.specs.CapabilitySets.{kind_of, least_length, says_no_header, says_support, says_zero_bounds, says_marker, says_bitmaps, says_brush, says_glyphs, says_glyph_level}
+use Rattle.caps_sets.specs.CapabilitySets.{kind_of, least_length, says_cautious, says_no_header, says_support, says_zero_bounds, says_marker, says_bitmaps, says_brush_level, takes_brushes, says_glyphs, says_glyph_level}
 use Rattle.caps_sets.specs.ConfirmActive.{confirm_lengths, confirm_counts, set_header}
 
 -- a capability set: its type, and its content behind the header
@@ -50,7 +50,7 @@ last_or none (x ∷ xs) = last_or x xs
 abbrev pub last_says : {A : Type 0} → SetKind → (List ℕ → A) → A → List Set → A
 last_says kind says none sets = last_or none (map (λ set. says set.content) (filter (λ set. is_same_kind kind (kind_in set)) sets))
 
--- each set's last one counts, and a missing one confirms nothing; a drawing is cut for no viewer that confirms by sets
+-- each set's last one counts, and a missing one confirms nothing
 abbrev pub said_by : List Set → Confirmed
 said_by sets = record {
   dst = last_says Order (says_support 0) false sets;
@@ -63,11 +63,11 @@ said_by sets = record {
   zero_bounds = last_says Order says_zero_bounds false sets;
   marker = last_says Order says_marker false sets;
   no_header = last_says General says_no_header false sets;
-  brush = last_says Brush says_brush false sets;
+  brush = takes_brushes (last_says General says_cautious false sets) (last_says Brush says_brush_level 0 sets);
   glyph_level = last_says GlyphCache says_glyph_level 0 sets;
   bitmaps = last_says BitmapCache says_bitmaps (replicate 3 (sized 0 0)) sets;
   glyphs = last_says GlyphCache says_glyphs (replicate 10 (sized 0 0)) sets;
-  cautious = false;
+  cautious = last_says General says_cautious false sets;
 }
 
 -- the bytes are a Confirm Active PDU: the fields before the sets, and as many sets as these count; any bytes may follow

@@ -16,18 +16,19 @@
 ghost use Rattle.std.specs.Prelude.{◌≡◌, ◌↔◌, ◌≤◌, ◌+◌, ◌∷◌, [], List, ℕ, length, Ok, Err};
 ghost use Rattle.wire_num.specs.Layout.{fields_at};
 ghost use Rattle.wire_num.specs.Cursor.{rest, ReadsFields, ReadsFieldsAs};
-ghost use Rattle.caps_sets.specs.CapabilitySets.{kind_of, least_length, with_set, nothing};
+ghost use Rattle.caps_sets.specs.CapabilitySets.{kind_of, least_length, with_set, with_general, nothing, before_sets, confirmed_together};
 ghost use Rattle.caps_sets.specs.ConfirmActive.{confirm_lengths, confirm_counts, set_header, set_at, sets_at, confirm_at, confirmed_of};
 ghost use Rattle.caps_sets.specs.Grammar.{IsConfirmActive};
 ghost use Rattle.caps_sets.specs.Faults.{IsFirstFault};
 
 use crate::bitmap_cache_set::says_bitmaps;
-use crate::brush_set::says_brush;
+use crate::brush_set::{says_brush_level, takes_brushes};
 use crate::caps_fault::CapsFault;
-use crate::general_set::says_no_header;
+use crate::general_set::{says_cautious, says_no_header};
 use crate::glyph_cache_set::{says_glyph_level, says_glyphs};
 use crate::order_set::with_orders;
 use crate::set_kind::{HEADER_SIZE, SetKind, kind_of, least_length};
+use crate::sets_so_far::SetsSoFar;
 use crate::{BITMAP_CACHES, CacheSize, Caches, Confirmed, GLYPH_CACHES};
 use wire_num::{Cursor, Short};
 
@@ -68,7 +69,8 @@ fn read_confirm_active(cursor: &mut Cursor<'_>) -> Result<Confirmed, Short>
 {
     let source = read_lengths(cursor)?;
     let count = read_counts(source, cursor)?;
-    read_sets(count, cursor)
+    let sets = read_sets(count, cursor)?;
+    Ok(confirmed_together(sets))
 }
 
 /// Reads how many bytes the source descriptor has.
@@ -95,20 +97,20 @@ fn read_counts(source: u16, cursor: &mut Cursor<'_>) -> Result<u16, Short>
 }
 
 /// Reads so many sets.
-fn read_sets(count: u16, cursor: &mut Cursor<'_>) -> Result<Confirmed, Short>
-    ensures { ReadsFields (sets_at count nothing) result cursor.old cursor.new }
+fn read_sets(count: u16, cursor: &mut Cursor<'_>) -> Result<SetsSoFar, Short>
+    ensures { ReadsFields (sets_at count before_sets) result cursor.old cursor.new }
 {
-    let mut confirmed = nothing();
+    let mut sets = before_sets();
     for _ in 0..count {
-        confirmed = read_set(confirmed, cursor)?;
+        sets = read_set(sets, cursor)?;
     }
-    Ok(confirmed)
+    Ok(sets)
 }
 
-/// Reads the next set, and gives what is confirmed with it.
+/// Reads the next set, and gives the sets so far with it.
 #[tactic(auto, unfolding(crate::specs::ConfirmActive::set_at, crate::specs::ConfirmActive::with_content_of))]
-fn read_set(confirmed: Confirmed, cursor: &mut Cursor<'_>) -> Result<Confirmed, Short>
-    ensures { ReadsFields (set_at confirmed) result cursor.old cursor.new }
+fn read_set(sets: SetsSoFar, cursor: &mut Cursor<'_>) -> Result<SetsSoFar, Short>
+    ensures { ReadsFields (set_at sets) result cursor.old cursor.new }
 {
     let at = cursor.at();
     let (set_type, length) = read_header(cursor)?;
@@ -118,7 +120,7 @@ fn read_set(confirmed: Confirmed, cursor: &mut Cursor<'_>) -> Result<Confirmed, 
         return Err(Short { at });
     }
     let content = cursor.bytes((length - HEADER_SIZE) as usize)?;
-    Ok(with_set(confirmed, kind, content))
+    Ok(with_set(sets, kind, content))
 }
 
 /// Reads a set's type and length.
@@ -131,31 +133,73 @@ fn read_header(cursor: &mut Cursor<'_>) -> Result<(u16, u16), Short>
     Ok((set_type, length))
 }
 
-/// What is confirmed with one more set, by its content.
-fn with_set(confirmed: Confirmed, kind: SetKind, content: &[u8]) -> Confirmed
+/// The sets so far with one more, by its content.
+fn with_set(sets: SetsSoFar, kind: SetKind, content: &[u8]) -> SetsSoFar
     requires { least_length kind ≤ 4 + length content.now }
-    ensures { result ≡ with_set kind content.now confirmed }
+    ensures { result ≡ with_set kind content.now sets }
 {
+    let confirmed = sets.confirmed;
     match kind {
-        SetKind::General => Confirmed {
-            no_header: says_no_header(content),
-            ..confirmed
+        SetKind::General => SetsSoFar {
+            confirmed: with_general(confirmed, content),
+            ..sets
         },
-        SetKind::Order => with_orders(confirmed, content),
-        SetKind::BitmapCache => Confirmed {
-            bitmaps: says_bitmaps(content),
-            ..confirmed
+        SetKind::Order => SetsSoFar {
+            confirmed: with_orders(confirmed, content),
+            ..sets
         },
-        SetKind::Brush => Confirmed {
-            brush: says_brush(content),
-            ..confirmed
+        SetKind::BitmapCache => SetsSoFar {
+            confirmed: Confirmed {
+                bitmaps: says_bitmaps(content),
+                ..confirmed
+            },
+            ..sets
         },
-        SetKind::GlyphCache => Confirmed {
-            glyphs: says_glyphs(content),
-            glyph_level: says_glyph_level(content),
-            ..confirmed
+        SetKind::Brush => SetsSoFar {
+            brush_level: says_brush_level(content),
+            ..sets
         },
-        SetKind::Bitmap | SetKind::Other => confirmed,
+        SetKind::GlyphCache => SetsSoFar {
+            confirmed: Confirmed {
+                glyphs: says_glyphs(content),
+                glyph_level: says_glyph_level(content),
+                ..confirmed
+            },
+            ..sets
+        },
+        SetKind::Bitmap | SetKind::Other => sets,
+    }
+}
+
+/// What is confirmed with the content of a General set.
+fn with_general(confirmed: Confirmed, content: &[u8]) -> Confirmed
+    requires { 20 ≤ length content.now }
+    ensures { result ≡ with_general content.now confirmed }
+{
+    Confirmed {
+        no_header: says_no_header(content),
+        cautious: says_cautious(content),
+        ..confirmed
+    }
+}
+
+/// What all sets confirm.
+fn confirmed_together(sets: SetsSoFar) -> Confirmed
+    ensures { result ≡ confirmed_together sets }
+{
+    Confirmed {
+        brush: takes_brushes(sets.confirmed.cautious, sets.brush_level),
+        ..sets.confirmed
+    }
+}
+
+/// Before the first set.
+fn before_sets() -> SetsSoFar
+    ensures { result ≡ before_sets }
+{
+    SetsSoFar {
+        confirmed: nothing(),
+        brush_level: 0,
     }
 }
 

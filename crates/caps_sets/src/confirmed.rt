@@ -34,6 +34,7 @@ pub struct Confirmed {
     pub bitmaps: Caches3,
     /// The sizes of the glyph caches.
     pub glyphs: Caches10,
-    /// Whether drawings are cut before they are sent, as a client that states a protocol version needs ([MS-RDPBCGR] 2.2.7.1.1).
+    /// Whether drawings are cut before they are sent, as for a client that states a protocol version (profile; [MS-RDPBCGR]
+    /// 2.2.7.1.1).
     pub cautious: bool,
 }

@@ -10,7 +10,7 @@
 //! | 18 | 2 | numberCapabilities | 8 |
 //! | 20 | 2 | pad2Octets | 0 |
 //! | 22 | 24 | General Capability Set | refresh and suppression, and packed bitmaps without the compression header (2.2.7.1.1) |
-//! | 46 | 28 | Bitmap Capability Set | 24 bits for each pixel, desktopWidth at 58, desktopHeight at 60 (2.2.7.1.2) |
+//! | 46 | 28 | Bitmap Capability Set | 24 bits for each pixel, desktopWidth at 58, desktopHeight at 60, desktopResizeFlag at 64 (2.2.7.1.2) |
 //! | 74 | 88 | Order Capability Set | the seven orders, zero bounds deltas, frame markers (2.2.7.1.3) |
 //! | 162 | 10 | Pointer Capability Set | 25 pointers (2.2.7.1.5) |
 //! | 172 | 88 | Input Capability Set | scan codes, extended mouse events and Unicode (2.2.7.1.6) |
@@ -19,9 +19,9 @@
 //! | 276 | 8 | Font Capability Set | a font list is taken (2.2.7.2.5) |
 //! | 284 | 4 | sessionId | 0 |
 
-ghost use Rattle.std.specs.Prelude.{◌≡◌, ◌≤◌, ◌+◌, ◌++◌, length, OnOk, OnErr};
+ghost use Rattle.std.specs.Prelude.{◌≡◌, ◌≤◌, ◌+◌, ◌++◌, false, length, OnOk, OnErr};
 ghost use Rattle.wire_num.specs.Written.{AppendsFront};
-ghost use Rattle.caps_sets.specs.DemandActive.{bitmap_set, before_bitmap, after_bitmap, demand_active};
+ghost use Rattle.caps_sets.specs.DemandActive.{flag, bitmap_set, before_bitmap, after_bitmap, demand_active};
 
 use byteorder::{ByteOrder, LittleEndian};
 use px_core::Size;
@@ -35,16 +35,18 @@ const BEFORE_BITMAP: [u8; 46] = [
     1, 0, 24, 0, 1, 0, 3, 0, 0, 2, 0, 0, // General, osMajorType to pad2octetsA
     0, 0, 0, 4, 0, 0, 0, 0, 0, 0, 1, 1, // generalCompressionTypes to suppressOutputSupport
 ];
-/// The Bitmap set; width and height are filled in.
+/// The Bitmap set; width, height and the resize flag are filled in.
 const BITMAP: [u8; 28] = [
     2, 0, 28, 0, 24, 0, 1, 0, 1, 0, 1, 0, // preferredBitsPerPixel to receive8BitsPerPixel
     0, 0, 0, 0, // desktopWidth, desktopHeight
     0, 0, 0, 0, 1, 0, 0, 0, 1, 0, 0, 0, // pad2octets to pad2octetsB
 ];
-/// The places of width and height in it.
+/// The places of these in it.
 const DESKTOP_WIDTH: usize = 12;
 
 const DESKTOP_HEIGHT: usize = 14;
+
+const DESKTOP_RESIZE_FLAG: usize = 18;
 /// What stands after the Bitmap set.
 const AFTER_BITMAP: [u8; 214] = [
     3, 0, 88, 0, // Order
@@ -67,17 +69,30 @@ const AFTER_BITMAP: [u8; 214] = [
     0, 0, 0, 0, // sessionId
 ];
 
-/// Writes a Demand Active PDU for a picture of this size at the end. An `Err` leaves a front of it there.
-#[tactic(auto, unfolding(crate::specs::DemandActive::demand_active))]
+/// Writes a Demand Active PDU for a picture of this size at the end, with a desktopResizeFlag of 0. An `Err` leaves a front of it
+/// there.
 pub fn write_demand(out: &mut Vec<u8>, size: Size) -> Result<(), OutOfMemory>
     requires wide { size.w ≤ 65535 }
     requires high { size.h ≤ 65535 }
-    ensures ok { OnOk result (out.new.items ≡ out.old.items ++ demand_active size) }
+    ensures ok { OnOk result (out.new.items ≡ out.old.items ++ demand_active size false) }
     ensures size { OnOk result (length out.new.items ≡ length out.old.items + 288) }
-    ensures memory { OnErr result (AppendsFront out.old.items (demand_active size) out.new.items) }
+    ensures memory { OnErr result (AppendsFront out.old.items (demand_active size false) out.new.items) }
+{
+    write_demand_with(out, size, false)
+}
+
+/// Writes a Demand Active PDU for a picture of this size at the end, with whether the client is to take that size for its window.
+/// An `Err` leaves a front of it there.
+#[tactic(auto, unfolding(crate::specs::DemandActive::demand_active))]
+pub fn write_demand_with(out: &mut Vec<u8>, size: Size, resizes: bool) -> Result<(), OutOfMemory>
+    requires wide { size.w ≤ 65535 }
+    requires high { size.h ≤ 65535 }
+    ensures ok { OnOk result (out.new.items ≡ out.old.items ++ demand_active size resizes) }
+    ensures size { OnOk result (length out.new.items ≡ length out.old.items + 288) }
+    ensures memory { OnErr result (AppendsFront out.old.items (demand_active size resizes) out.new.items) }
 {
     put_before(out)?;
-    put_bitmap(out, size)?;
+    put_bitmap(out, size, resizes)?;
     put_after(out)?;
     Ok(())
 }
@@ -93,17 +108,25 @@ fn put_before(out: &mut Vec<u8>) -> Result<(), OutOfMemory>
 }
 
 /// Writes the Bitmap set.
-fn put_bitmap(out: &mut Vec<u8>, size: Size) -> Result<(), OutOfMemory>
+fn put_bitmap(out: &mut Vec<u8>, size: Size, resizes: bool) -> Result<(), OutOfMemory>
     requires wide { size.w ≤ 65535 }
     requires high { size.h ≤ 65535 }
-    ensures ok { OnOk result (out.new.items ≡ out.old.items ++ bitmap_set size) }
-    ensures memory { OnErr result (AppendsFront out.old.items (bitmap_set size) out.new.items) }
+    ensures ok { OnOk result (out.new.items ≡ out.old.items ++ bitmap_set size resizes) }
+    ensures memory { OnErr result (AppendsFront out.old.items (bitmap_set size resizes) out.new.items) }
 {
     let mut set = BITMAP;
     LittleEndian::write_u16(&mut set[DESKTOP_WIDTH..], size.w as u16);
     LittleEndian::write_u16(&mut set[DESKTOP_HEIGHT..], size.h as u16);
+    LittleEndian::write_u16(&mut set[DESKTOP_RESIZE_FLAG..], flag(resizes));
     out.extend_from_slice(&set)?;
     Ok(())
+}
+
+/// A flag of two bytes.
+fn flag(is: bool) -> u16
+    ensures { result ≡ flag is }
+{
+    if is { 1 } else { 0 }
 }
 
 /// Writes what stands after the Bitmap set.

@@ -14,12 +14,13 @@ mod glyph_cache_set;
 mod order_set;
 mod preset_words;
 mod set_kind;
+mod sets_so_far;
 
 pub use cache_size::CacheSize;
 pub use caches::{BITMAP_CACHES, Caches, Caches3, Caches10, GLYPH_CACHES};
 pub use caps_fault::CapsFault;
 pub use confirm_active::{confirms_are_read_exactly, read_confirm};
 pub use confirmed::Confirmed;
-pub use demand_active::write_demand;
+pub use demand_active::{write_demand, write_demand_with};
 pub use preset_words::preset;
 pub use wire_num::OutOfMemory;

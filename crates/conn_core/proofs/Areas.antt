@@ -1,11 +1,10 @@
 -- The areas of a Refresh Rect, as steps.
-use Rattle.std.proofs.Common.{◌≡◌, ℕ, ◌+◌, ◌<◌, ◌-◌, List, [], ◌∷◌, ◌++◌, refl, ap, ◌∙◌, sym, arith}
+use Rattle.std.proofs.Common.{◌≡◌, ℕ, ◌+◌, ◌<◌, ◌-◌, List, [], ◌∷◌, ◌++◌, ap, ◌∙◌, arith}
 use Rattle.std.specs.Prelude.{Option, Some, None, Ok, IsOk}
 use Rattle.wire_num.specs.Field.{Read}
 use Rattle.px_core.specs.declared.rectangle.Rect.{Rect}
 use Rattle.share_pdu.specs.Bodies.{area_at, areas_at, areas_by}
 use Rattle.share_pdu.proofs.Areas.{areas_listed}
-use Rattle.conn_rules.specs.declared.conn_step.ConnStep.{ConnStep}
 use Rattle.conn_rules.specs.declared.conn_step.ConnStep.TheVariants as step
 use Rattle.conn_rules.specs.Told.{area_steps}
 

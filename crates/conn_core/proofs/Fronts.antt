@@ -3,7 +3,6 @@ use Rattle.std.proofs.Common.{◌≡◌, ℕ, ◌+◌, ◌<◌, ◌≤◌, List,
 use Rattle.std.specs.Prelude.{map}
 use Rattle.std.proofs.Math.Seq.{drop-cons, drop-length}
 use Rattle.wire_num.specs.Written.{AppendsFront}
-use Rattle.wire_num.proofs.Fronts.{front_before, front_after}
 use Rattle.input_pdu.specs.declared.event.Event.{Event}
 use Rattle.conn_rules.specs.declared.conn_step.ConnStep.{ConnStep}
 use Rattle.conn_rules.specs.declared.conn_step.ConnStep.TheVariants as step

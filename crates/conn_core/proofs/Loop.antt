@@ -1,12 +1,11 @@
 -- Bytes heard one stretch after another.
-use Rattle.std.proofs.Common.{◌≡◌, ℕ, ◌≤◌, List, [], ◌∷◌, ◌++◌, length, take, drop, refl, ap, sym, ◌∙◌, subst, append_assoc, append-nil, arith}
+use Rattle.std.proofs.Common.{◌≡◌, ℕ, List, [], ◌∷◌, ◌++◌, length, take, drop, refl, ap, sym, ◌∙◌, subst, append_assoc, append-nil, arith}
 use Rattle.std.proofs.lemmas.List.{take-append-drop}
-use Rattle.wire_num.specs.Written.{AppendsFront}
 use Rattle.wire_num.proofs.Fronts.{front_before, front_after}
 use Rattle.conn_rules.specs.declared.conn_step.ConnStep.{ConnStep}
 use Rattle.conn_rules.specs.Hearing.{Hearing, Heard, silent, then_heard, heard}
 use Rattle.conn_rules.proofs.Pieces.{heard_then, then_assoc}
-use Rattle.conn_core.specs.Feeds.{TellsFront, Appends, AppendsSome}
+use Rattle.conn_core.specs.Feeds.{Appends, AppendsSome}
 use Rattle.conn_core.proofs.Fronts.{none_sent, none_told, told_before, told_after}
 use Rattle.conn_core.proofs.Part.{then_silent, silence}
 use Rattle.conn_core.specs.declared.talk.Talk.{Talk}

@@ -6,13 +6,13 @@ use Rattle.tpkt_x224.specs.declared.tpkt.Packet.{Packet}
 use Rattle.tpkt_x224.specs.declared.tpkt.Packet.TheVariants.{Whole, Part, NotTpkt, BadLength}
 use Rattle.tpkt_x224.specs.Tpkt.{packet_at}
 use Rattle.tpkt_x224.specs.Pieces.{Cut, after_packets, cut_by, cut_from, packets_of}
-use Rattle.tpkt_x224.proofs.Cutting.{uncut, once, whole_is_cut, rest_is_uncut}
+use Rattle.tpkt_x224.proofs.Cutting.{once, whole_is_cut}
 use Rattle.tpkt_x224.proofs.Stream.{starts, none_left}
 use Rattle.conn_rules.specs.declared.conn_step.ConnStep.{ConnStep}
 use Rattle.conn_rules.specs.Answers.{Judged}
 use Rattle.conn_rules.specs.Packets.{packet_judged}
 use Rattle.conn_rules.specs.Hearing.{Hearing, Heard, silent, then_heard, is_over, refused_here, judged_heard, packet_heard, packets_heard, between, with_head, with_rest, before_rest, cut_heard, heard}
-use Rattle.conn_rules.proofs.Pieces.{packets_between, over_heard, between_is, heard_then, then_assoc}
+use Rattle.conn_rules.proofs.Pieces.{packets_between, over_heard}
 use Rattle.conn_core.specs.Stream.{IsStanding}
 
 abbrev heard_with : List ℕ → List ConnStep → Hearing → Heard

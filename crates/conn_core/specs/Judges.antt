@@ -1,5 +1,5 @@
 -- What calls say that read a packet.
-use Rattle.std.specs.Prelude.{◌≡◌, ◌≤◌, ℕ, List, Result, Ok, Err}
+use Rattle.std.specs.Prelude.{◌≡◌, ◌≤◌, ℕ, Result, Ok, Err}
 use Rattle.wire_num.specs.declared.range.Range.{Range}
 use Rattle.conn_rules.specs.declared.answer.Reply.{Reply}
 use Rattle.conn_rules.specs.declared.answer.Reply.TheVariants.{Nothing, Confirm, Response, Attached, Joined, Welcome, Final}
@@ -20,7 +20,7 @@ IsWritable (Confirm request) = Unit {0}
 IsWritable (Response channels asked) = channels ≤ 31
 IsWritable (Attached user) = 1001 ≤ user
 IsWritable (Joined user channel) = 1001 ≤ user
-IsWritable Welcome = Unit {0}
+IsWritable (Welcome client) = Unit {0}
 IsWritable (Final which user) = Unit {0}
 
 -- a part of so many bytes

@@ -17,9 +17,9 @@ pub record ConnOf : Type 0 where
 abbrev pub IsUnrefused : Stage → Type 0
 IsUnrefused stage.Request = Unit {0}
 IsUnrefused (stage.Initial asked) = Unit {0}
-IsUnrefused (stage.Erect channels) = Unit {0}
-IsUnrefused (stage.Attach channels) = Unit {0}
-IsUnrefused (stage.Joins channels user io) = Unit {0}
+IsUnrefused (stage.Erect client) = Unit {0}
+IsUnrefused (stage.Attach client) = Unit {0}
+IsUnrefused (stage.Joins client user io) = Unit {0}
 IsUnrefused (stage.Shares channels here) = Unit {0}
 IsUnrefused stage.Over = Unit {0}
 IsUnrefused (stage.Refused k at) = ⊥

@@ -1,18 +1,18 @@
 //! The X.224 Connection Request and the MCS Connect-Initial in the sequence ([MS-RDPBCGR] 1.3.1.1).
 
-ghost use Rattle.std.specs.Prelude.{◌≡◌, IfOk};
+ghost use Rattle.std.specs.Prelude.{◌≡◌, ◌≤◌, IfOk};
 ghost use Rattle.tpkt_x224.specs.Request.{request_of};
 ghost use Rattle.mcs_ber.specs.ConnectInitial.{user_data_of};
 ghost use Rattle.gcc_per.specs.ClientData.{client_data_of};
 ghost use Rattle.conn_rules.specs.Numbers.{place_behind};
-ghost use Rattle.conn_rules.specs.Connecting.{protocols_of, request_judged, client_judged, initial_judged};
+ghost use Rattle.conn_rules.specs.Connecting.{protocols_of, request_judged, remembered, client_judged, initial_judged};
 ghost use Rattle.conn_rules.specs.Packets.{mcs_place};
 ghost use Rattle.conn_core.specs.Judges.{IsWritable};
 
 use crate::domain::MCS_PLACE;
 use crate::refusals::{BAD_BER, BAD_GCC, BAD_TPDU, DEPTH_NOT_OFFERED, TOO_MANY_CHANNELS};
-use conn_rules::{Answer, News, Refusal, Reply, Stage};
-use gcc_per::{GccFault, read_client};
+use conn_rules::{Answer, Client, News, Refusal, Reply, Stage};
+use gcc_per::{ClientData, GccFault, read_client};
 use mcs_ber::read_initial;
 use tpkt_x224::read_request;
 
@@ -70,14 +70,14 @@ fn judge_client(asked: u32, from: usize, user: &[u8]) -> Result<Answer, Refusal>
     ensures writable { IfOk result (λ answer. IsWritable answer.reply) }
 {
     match read_client(user) {
-        Ok(client) => Ok(Answer {
+        Ok(given) => Ok(Answer {
             reply: Reply::Response {
-                channels: client.channels as u8,
+                channels: given.channels as u8,
                 asked,
             },
             news: News::Nothing,
             next: Stage::Erect {
-                channels: client.channels as u8,
+                client: remembered(given),
             },
         }),
         Err(GccFault::BadGcc { at }) => Err(Refusal {
@@ -92,5 +92,18 @@ fn judge_client(asked: u32, from: usize, user: &[u8]) -> Result<Answer, Refusal>
             k: TOO_MANY_CHANNELS,
             at: from.saturating_add(at),
         }),
+    }
+}
+
+/// What is remembered of client data.
+fn remembered(given: ClientData) -> Client
+    requires { given.channels ≤ 31 }
+    ensures { result ≡ remembered given }
+{
+    Client {
+        channels: given.channels as u8,
+        width: given.asked_width,
+        height: given.asked_height,
+        build: given.build,
     }
 }

@@ -9,7 +9,7 @@ ghost use Rattle.conn_rules.specs.Packets.{mcs_place, pdu_in};
 ghost use Rattle.conn_core.specs.Judges.{IsWritable};
 
 use crate::refusals::{BAD_DOMAIN, WRONG_CHANNEL};
-use conn_rules::{Answer, ConnStep, News, Refusal, Reply, Stage};
+use conn_rules::{Answer, Client, ConnStep, News, Refusal, Reply, Stage};
 use mcs_dom::{DomainPdu, read_domain};
 
 /// Where the MCS PDU of a packet begins: behind the TPKT header and the X.224 Data header.
@@ -72,30 +72,30 @@ pub fn read_pdu(mcs: &[u8]) -> Result<DomainPdu, Refusal>
 }
 
 /// What an MCS PDU gives that is to be an Erect Domain Request.
-pub fn judge_erect(channels: u8, pdu: DomainPdu) -> Result<Answer, Refusal>
-    ensures exact { result ≡ erect_judged channels mcs_place pdu }
+pub fn judge_erect(client: Client, pdu: DomainPdu) -> Result<Answer, Refusal>
+    ensures exact { result ≡ erect_judged client mcs_place pdu }
     ensures writable { IfOk result (λ answer. IsWritable answer.reply) }
 {
     match pdu {
-        DomainPdu::Erect => Ok(goes_to(Stage::Attach { channels })),
+        DomainPdu::Erect => Ok(goes_to(Stage::Attach { client })),
         DomainPdu::Attach | DomainPdu::Join { .. } | DomainPdu::Data { .. } => Err(UNEXPECTED),
         DomainPdu::Bye { .. } => Ok(LEAVES),
     }
 }
 
 /// What an MCS PDU gives that is to be an Attach User Request.
-pub fn judge_attach(channels: u8, pdu: DomainPdu) -> Result<Answer, Refusal>
-    ensures exact { result ≡ attach_judged channels mcs_place pdu }
+pub fn judge_attach(client: Client, pdu: DomainPdu) -> Result<Answer, Refusal>
+    ensures exact { result ≡ attach_judged client mcs_place pdu }
     ensures writable { IfOk result (λ answer. IsWritable answer.reply) }
 {
     match pdu {
         DomainPdu::Attach => Ok(Answer {
             reply: Reply::Attached {
-                user: user_channel(channels),
+                user: user_channel(client.channels),
             },
             news: News::Nothing,
             next: Stage::Joins {
-                channels,
+                client,
                 user: false,
                 io: false,
             },
@@ -121,41 +121,41 @@ fn is_virtual_or_user(channels: u8, channel: u16) -> bool
 
 /// What a join gives; `user` and `io` say which of the first two channels were joined before.
 pub fn judge_join(
-    channels: u8,
+    client: Client,
     user: bool,
     io: bool,
     initiator: u16,
     channel: u16,
 ) -> Result<Answer, Refusal>
-    ensures exact { result ≡ own channels mcs_place initiator (joined channels mcs_place user io channel) }
+    ensures exact { result ≡ own client.channels mcs_place initiator (joined client mcs_place user io channel) }
     ensures writable { IfOk result (λ answer. IsWritable answer.reply) }
 {
-    if initiator != user_channel(channels) {
+    if initiator != user_channel(client.channels) {
         return Err(FOREIGN);
     }
     if channel == IO_CHANNEL {
-        Ok(joins(channels, user, true, channel))
-    } else if channel == user_channel(channels) {
-        Ok(joins(channels, true, io, channel))
-    } else if is_virtual_or_user(channels, channel) {
-        Ok(joins(channels, user, io, channel))
+        Ok(joins(client, user, true, channel))
+    } else if channel == user_channel(client.channels) {
+        Ok(joins(client, true, io, channel))
+    } else if is_virtual_or_user(client.channels, channel) {
+        Ok(joins(client, user, io, channel))
     } else {
         Err(NO_CHANNEL)
     }
 }
 
 /// The answer to a join.
-fn joins(channels: u8, user: bool, io: bool, channel: u16) -> Answer
-    ensures answer { replies (Reply.Joined (user_channel channels) channel) (Stage.Joins channels user io) ≡ Ok result }
+fn joins(client: Client, user: bool, io: bool, channel: u16) -> Answer
+    ensures answer { replies (Reply.Joined (user_channel client.channels) channel) (Stage.Joins client user io) ≡ Ok result }
     ensures writable { IsWritable result.reply }
 {
     Answer {
         reply: Reply::Joined {
-            user: user_channel(channels),
+            user: user_channel(client.channels),
             channel,
         },
         news: News::Nothing,
-        next: Stage::Joins { channels, user, io },
+        next: Stage::Joins { client, user, io },
     }
 }
 

@@ -24,7 +24,7 @@ use crate::domain::{
 use crate::fault::Fault;
 use crate::refusals::{BAD_INFO, BAD_TPDU};
 use crate::shares::read_deed;
-use conn_rules::{Answer, ConnStep, News, Refusal, Reply, SharePhase, Stage};
+use conn_rules::{Answer, Client, ConnStep, News, Refusal, Reply, SharePhase, Stage};
 use info_lic::{InfoFault, Name, read_info};
 use input_pdu::Event;
 use mcs_dom::DomainPdu;
@@ -84,17 +84,17 @@ fn judge_mcs(stage: Stage, mcs: &[u8], events: &mut Vec<Event>) -> Result<Answer
     match stage {
         Stage::Request | Stage::Over | Stage::Refused { .. } => Ok(goes_to(stage)),
         Stage::Initial { asked } => Ok(judge_initial(asked, mcs)?),
-        Stage::Erect { channels } => {
+        Stage::Erect { client } => {
             let pdu = read_pdu(mcs)?;
-            Ok(judge_erect(channels, pdu)?)
+            Ok(judge_erect(client, pdu)?)
         }
-        Stage::Attach { channels } => {
+        Stage::Attach { client } => {
             let pdu = read_pdu(mcs)?;
-            Ok(judge_attach(channels, pdu)?)
+            Ok(judge_attach(client, pdu)?)
         }
-        Stage::Joins { channels, user, io } => {
+        Stage::Joins { client, user, io } => {
             let pdu = read_pdu(mcs)?;
-            Ok(judge_joins(channels, user, io, mcs, pdu)?)
+            Ok(judge_joins(client, user, io, mcs, pdu)?)
         }
         Stage::Shares { channels, phase } => {
             let pdu = read_pdu(mcs)?;
@@ -105,14 +105,14 @@ fn judge_mcs(stage: Stage, mcs: &[u8], events: &mut Vec<Event>) -> Result<Answer
 
 /// What comes of an MCS PDU during the joins.
 fn judge_joins(
-    channels: u8,
+    client: Client,
     user: bool,
     io: bool,
     mcs: &[u8],
     pdu: DomainPdu,
 ) -> Result<Answer, Refusal>
     requires { HasBodyAtEnd (length mcs.now) pdu }
-    ensures exact { result ≡ joins_judged channels user io mcs.now pdu }
+    ensures exact { result ≡ joins_judged client user io mcs.now pdu }
     ensures writable { IfOk result (λ answer. IsWritable answer.reply) }
 {
     match pdu {
@@ -120,16 +120,16 @@ fn judge_joins(
         DomainPdu::Join {
             user: initiator,
             channel,
-        } => judge_join(channels, user, io, initiator, channel),
+        } => judge_join(client, user, io, initiator, channel),
         DomainPdu::Data {
             user: initiator,
             channel,
             body,
         } => {
             if user && io {
-                judge_info(channels, mcs, initiator, channel, body)
+                judge_info(client, mcs, initiator, channel, body)
             } else {
-                judge_early(channels, initiator)
+                judge_early(client.channels, initiator)
             }
         }
         DomainPdu::Bye { .. } => Ok(LEAVES),
@@ -138,30 +138,30 @@ fn judge_joins(
 
 /// What comes of data once the user channel and 1003 are joined.
 fn judge_info(
-    channels: u8,
+    client: Client,
     mcs: &[u8],
     initiator: u16,
     channel: u16,
     body: Range,
 ) -> Result<Answer, Refusal>
     requires { IsPart (length mcs.now) body }
-    ensures exact { result ≡ info_data channels true mcs.now initiator channel body }
+    ensures exact { result ≡ info_data client true mcs.now initiator channel body }
     ensures writable { IfOk result (λ answer. IsWritable answer.reply) }
 {
     if channel != IO_CHANNEL {
         let next = Stage::Joins {
-            channels,
+            client,
             user: true,
             io: true,
         };
-        return judge_dropped(channels, initiator, channel, next);
+        return judge_dropped(client.channels, initiator, channel, next);
     }
     match read_info(&mcs[body.from..body.to]) {
         Ok(name) => {
-            if initiator != user_channel(channels) {
+            if initiator != user_channel(client.channels) {
                 return Err(FOREIGN);
             }
-            Ok(welcomed(channels, name))
+            Ok(welcomed(client, name))
         }
         Err(InfoFault::BadInfo { at }) => Err(Refusal {
             k: BAD_INFO,
@@ -171,15 +171,15 @@ fn judge_info(
 }
 
 /// The answer to a Client Info of this name.
-fn welcomed(channels: u8, name: Name) -> Answer
-    ensures answer { welcomed channels name ≡ Ok result }
+fn welcomed(client: Client, name: Name) -> Answer
+    ensures answer { welcomed client name ≡ Ok result }
     ensures writable { IsWritable result.reply }
 {
     Answer {
-        reply: Reply::Welcome,
+        reply: Reply::Welcome(client),
         news: News::Step(ConnStep::Named(name)),
         next: Stage::Shares {
-            channels,
+            channels: client.channels,
             phase: SharePhase::Confirm,
         },
     }

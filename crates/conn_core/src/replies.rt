@@ -8,11 +8,11 @@ ghost use Rattle.mcs_dom.specs.SendData.{send_data_indication};
 ghost use Rattle.info_lic.specs.Licence.{licence};
 ghost use Rattle.caps_sets.specs.DemandActive.{demand_active};
 ghost use Rattle.share_pdu.specs.Final.{final_bytes};
-ghost use Rattle.conn_rules.specs.Replies.{reply_bytes};
+ghost use Rattle.conn_rules.specs.Replies.{resizes, reply_bytes};
 ghost use Rattle.conn_core.specs.Judges.{IsWritable};
 
-use caps_sets::write_demand;
-use conn_rules::Reply;
+use caps_sets::write_demand_with;
+use conn_rules::{Client, Reply};
 use gcc_per::write_server;
 use info_lic::LICENCE;
 use mcs_ber::write_response;
@@ -42,7 +42,7 @@ pub fn write_reply(
         Reply::Response { channels, asked } => respond(out, body, channels, asked),
         Reply::Attached { user } => write_attach(out, user),
         Reply::Joined { user, channel } => write_join(out, user, channel),
-        Reply::Welcome => welcome(out, size, body),
+        Reply::Welcome(client) => welcome(out, size, body, resizes(size, client)),
         Reply::Final { which, user } => finish(out, body, which, user),
     }
 }
@@ -63,15 +63,27 @@ fn respond(
     write_response(out, body)
 }
 
-/// Writes the licence, and a Demand Active behind it.
-fn welcome(out: &mut Vec<u8>, size: Size, body: &mut Vec<u8>) -> Result<(), OutOfMemory>
+/// Whether a client that states its build asked for another size than the session's (profile).
+fn resizes(size: Size, client: Client) -> bool
+    ensures { result ≡ resizes size client }
+{
+    client.build != 0 && !(u32::from(client.width) == size.w && u32::from(client.height) == size.h)
+}
+
+/// Writes the licence, and a Demand Active behind it, with whether the client is to take the session's size for its window.
+fn welcome(
+    out: &mut Vec<u8>,
+    size: Size,
+    body: &mut Vec<u8>,
+    resizes: bool,
+) -> Result<(), OutOfMemory>
     requires wide { size.w ≤ 65535 }
     requires high { size.h ≤ 65535 }
-    ensures ok { OnOk result (out.new.items ≡ out.old.items ++ (send_data_indication licence ++ send_data_indication (demand_active size))) }
-    ensures memory { OnErr result (AppendsFront out.old.items (send_data_indication licence ++ send_data_indication (demand_active size)) out.new.items) }
+    ensures ok { OnOk result (out.new.items ≡ out.old.items ++ (send_data_indication licence ++ send_data_indication (demand_active size resizes))) }
+    ensures memory { OnErr result (AppendsFront out.old.items (send_data_indication licence ++ send_data_indication (demand_active size resizes)) out.new.items) }
 {
     license(out)?;
-    demand(out, size, body)?;
+    demand(out, size, body, resizes)?;
     Ok(())
 }
 
@@ -84,14 +96,19 @@ fn license(out: &mut Vec<u8>) -> Result<(), OutOfMemory>
 }
 
 /// Writes a Demand Active.
-fn demand(out: &mut Vec<u8>, size: Size, body: &mut Vec<u8>) -> Result<(), OutOfMemory>
+fn demand(
+    out: &mut Vec<u8>,
+    size: Size,
+    body: &mut Vec<u8>,
+    resizes: bool,
+) -> Result<(), OutOfMemory>
     requires wide { size.w ≤ 65535 }
     requires high { size.h ≤ 65535 }
-    ensures ok { OnOk result (out.new.items ≡ out.old.items ++ send_data_indication (demand_active size)) }
-    ensures memory { OnErr result (AppendsFront out.old.items (send_data_indication (demand_active size)) out.new.items) }
+    ensures ok { OnOk result (out.new.items ≡ out.old.items ++ send_data_indication (demand_active size resizes)) }
+    ensures memory { OnErr result (AppendsFront out.old.items (send_data_indication (demand_active size resizes)) out.new.items) }
 {
     body.clear();
-    write_demand(body, size)?;
+    write_demand_with(body, size, resizes)?;
     write_indication(out, body)
 }
 

@@ -45,6 +45,7 @@ use Rattle.conn_rules.specs.declared.answer.News.{News}
 use Rattle.conn_rules.specs.declared.answer.News.TheVariants as news
 use Rattle.conn_rules.specs.declared.conn_step.ConnStep.{ConnStep}
 use Rattle.conn_rules.specs.declared.conn_step.ConnStep.TheVariants as step
+use Rattle.conn_rules.specs.declared.client.Client.{Client}
 use Rattle.conn_rules.specs.declared.deed.Deed.{Deed}
 use Rattle.conn_rules.specs.declared.deed.Deed.TheVariants as deed
 use Rattle.conn_rules.specs.declared.refusal.Refusal.{Refusal}
@@ -202,39 +203,39 @@ initial_suits : (asked from : ℕ) (bytes : List ℕ) (r : Result Range BadBer) 
 initial_suits asked from bytes (Ok place) = client_suits asked (place_behind from place.from) (client_data_of (slice_range bytes place.from place.to))
 initial_suits asked from bytes (Err fault) = tt
 
-erect_suits : (channels from : ℕ) (p : DomainPdu) → Suits Connecting (erect_judged channels from p)
-erect_suits channels from Erect = refl
-erect_suits channels from Attach = tt
-erect_suits channels from (Join user channel) = tt
-erect_suits channels from (Data user channel body) = tt
-erect_suits channels from (Bye reason) = refl
+erect_suits : (client : Client) (from : ℕ) (p : DomainPdu) → Suits Connecting (erect_judged client from p)
+erect_suits client from Erect = refl
+erect_suits client from Attach = tt
+erect_suits client from (Join user channel) = tt
+erect_suits client from (Data user channel body) = tt
+erect_suits client from (Bye reason) = refl
 
-attach_suits : (channels from : ℕ) (p : DomainPdu) → Suits Connecting (attach_judged channels from p)
-attach_suits channels from Erect = tt
-attach_suits channels from Attach = refl
-attach_suits channels from (Join user channel) = tt
-attach_suits channels from (Data user channel body) = tt
-attach_suits channels from (Bye reason) = refl
+attach_suits : (client : Client) (from : ℕ) (p : DomainPdu) → Suits Connecting (attach_judged client from p)
+attach_suits client from Erect = tt
+attach_suits client from Attach = refl
+attach_suits client from (Join user channel) = tt
+attach_suits client from (Data user channel body) = tt
+attach_suits client from (Bye reason) = refl
 
-joined_suits : (channels from : ℕ) (user io : Bool) (channel : ℕ) → Suits Connecting (joined channels from user io channel)
-joined_suits channels from user io channel = either_suits Connecting (channel == io_channel) _ _ refl
-    (either_suits Connecting (channel == user_channel channels) _ _ refl (either_suits Connecting (is_virtual_or_user channels channel) _ _ refl tt))
+joined_suits : (client : Client) (from : ℕ) (user io : Bool) (channel : ℕ) → Suits Connecting (joined client from user io channel)
+joined_suits client from user io channel = either_suits Connecting (channel == io_channel) _ _ refl
+    (either_suits Connecting (channel == user_channel client.channels) _ _ refl (either_suits Connecting (is_virtual_or_user client.channels channel) _ _ refl tt))
 
-info_suits : (channels from user place : ℕ) (r : Result (List ℕ) InfoFault) → Suits Connecting (info_judged channels from user place r)
-info_suits channels from user place (Ok name) = own_suits Connecting channels from user _ refl
-info_suits channels from user place (Err (BadInfo at)) = tt
+info_suits : (client : Client) (from user place : ℕ) (r : Result (List ℕ) InfoFault) → Suits Connecting (info_judged client from user place r)
+info_suits client from user place (Ok name) = own_suits Connecting client.channels from user _ refl
+info_suits client from user place (Err (BadInfo at)) = tt
 
-info_data_suits : (channels : ℕ) (b : Bool) (mcs : List ℕ) (user channel : ℕ) (body : Range) → Suits Connecting (info_data channels b mcs user channel body)
-info_data_suits channels true mcs user channel body = by_channel_suits Connecting channels mcs_place user channel (stage.Joins channels true true) _ refl
-    (info_suits channels mcs_place user (place_behind mcs_place body.from) (name_of (body_in mcs body)))
-info_data_suits channels false mcs user channel body = own_suits Connecting channels mcs_place user _ tt
+info_data_suits : (client : Client) (b : Bool) (mcs : List ℕ) (user channel : ℕ) (body : Range) → Suits Connecting (info_data client b mcs user channel body)
+info_data_suits client true mcs user channel body = by_channel_suits Connecting client.channels mcs_place user channel (stage.Joins client true true) _ refl
+    (info_suits client mcs_place user (place_behind mcs_place body.from) (name_of (body_in mcs body)))
+info_data_suits client false mcs user channel body = own_suits Connecting client.channels mcs_place user _ tt
 
-joins_suits : (channels : ℕ) (user io : Bool) (mcs : List ℕ) (p : DomainPdu) → Suits Connecting (joins_judged channels user io mcs p)
-joins_suits channels user io mcs Erect = tt
-joins_suits channels user io mcs Attach = tt
-joins_suits channels user io mcs (Join initiator channel) = own_suits Connecting channels mcs_place initiator _ (joined_suits channels mcs_place user io channel)
-joins_suits channels user io mcs (Data initiator channel body) = info_data_suits channels (both user io) mcs initiator channel body
-joins_suits channels user io mcs (Bye reason) = refl
+joins_suits : (client : Client) (user io : Bool) (mcs : List ℕ) (p : DomainPdu) → Suits Connecting (joins_judged client user io mcs p)
+joins_suits client user io mcs Erect = tt
+joins_suits client user io mcs Attach = tt
+joins_suits client user io mcs (Join initiator channel) = own_suits Connecting client.channels mcs_place initiator _ (joined_suits client mcs_place user io channel)
+joins_suits client user io mcs (Data initiator channel body) = info_data_suits client (both user io) mcs initiator channel body
+joins_suits client user io mcs (Bye reason) = refl
 
 -- ---- share PDUs
 
@@ -384,9 +385,9 @@ bind_suits here (Err refusal) next all = tt
 mcs_suits : (s : Stage) (mcs : List ℕ) → is_over s ≡ false → progress_of s ≡ progress_of s → Suits (progress_of s) (mcs_judged s mcs)
 mcs_suits stage.Request mcs e same = refl
 mcs_suits (stage.Initial asked) mcs e same = initial_suits asked mcs_place mcs (user_data_of mcs)
-mcs_suits (stage.Erect channels) mcs e same = bind_suits Connecting (pdu_in mcs) _ (λ p. erect_suits channels mcs_place p)
-mcs_suits (stage.Attach channels) mcs e same = bind_suits Connecting (pdu_in mcs) _ (λ p. attach_suits channels mcs_place p)
-mcs_suits (stage.Joins channels user io) mcs e same = bind_suits Connecting (pdu_in mcs) _ (λ p. joins_suits channels user io mcs p)
+mcs_suits (stage.Erect client) mcs e same = bind_suits Connecting (pdu_in mcs) _ (λ p. erect_suits client mcs_place p)
+mcs_suits (stage.Attach client) mcs e same = bind_suits Connecting (pdu_in mcs) _ (λ p. attach_suits client mcs_place p)
+mcs_suits (stage.Joins client user io) mcs e same = bind_suits Connecting (pdu_in mcs) _ (λ p. joins_suits client user io mcs p)
 mcs_suits (stage.Shares channels phase.Confirm) mcs e same = bind_suits Connecting (pdu_in mcs) _ (λ p. shares_suits channels phase.Confirm mcs p)
 mcs_suits (stage.Shares channels (phase.Finish before next)) mcs e same = bind_suits Connecting (pdu_in mcs) _ (λ p. shares_suits channels (phase.Finish before next) mcs p)
 mcs_suits (stage.Shares channels phase.Ready) mcs e same = bind_suits Ready (pdu_in mcs) _ (λ p. shares_suits channels phase.Ready mcs p)
@@ -400,9 +401,9 @@ headers_suit s packet (Err left) e = tt
 pub packet_suits : (s : Stage) (packet : List ℕ) → is_over s ≡ false → Suits (progress_of s) (packet_judged s packet)
 packet_suits stage.Request packet e = request_suits (request_of packet)
 packet_suits (stage.Initial asked) packet e = headers_suit (stage.Initial asked) packet (fields_at mcs_headers packet) e
-packet_suits (stage.Erect channels) packet e = headers_suit (stage.Erect channels) packet (fields_at mcs_headers packet) e
-packet_suits (stage.Attach channels) packet e = headers_suit (stage.Attach channels) packet (fields_at mcs_headers packet) e
-packet_suits (stage.Joins channels user io) packet e = headers_suit (stage.Joins channels user io) packet (fields_at mcs_headers packet) e
+packet_suits (stage.Erect client) packet e = headers_suit (stage.Erect client) packet (fields_at mcs_headers packet) e
+packet_suits (stage.Attach client) packet e = headers_suit (stage.Attach client) packet (fields_at mcs_headers packet) e
+packet_suits (stage.Joins client user io) packet e = headers_suit (stage.Joins client user io) packet (fields_at mcs_headers packet) e
 packet_suits (stage.Shares channels here) packet e = headers_suit (stage.Shares channels here) packet (fields_at mcs_headers packet) e
 packet_suits stage.Over packet e = absurd (let no : ⊥ = cc in no)
 packet_suits (stage.Refused k at) packet e = absurd (let no : ⊥ = cc in no)
@@ -482,9 +483,9 @@ later_in_order packet news.Pdu after e = subst (λ d. ComeInOrder Ready (packet_
 told_in_order : (s : Stage) (packet : List ℕ) (what : News) (after : Progress) → is_over s ≡ false → NewsOf (progress_of s) what after → ComeInOrder (progress_of s) (told_steps s packet what) after
 told_in_order stage.Request packet what after o p = early_in_order packet what after p
 told_in_order (stage.Initial asked) packet what after o p = early_in_order packet what after p
-told_in_order (stage.Erect channels) packet what after o p = early_in_order packet what after p
-told_in_order (stage.Attach channels) packet what after o p = early_in_order packet what after p
-told_in_order (stage.Joins channels user io) packet what after o p = early_in_order packet what after p
+told_in_order (stage.Erect client) packet what after o p = early_in_order packet what after p
+told_in_order (stage.Attach client) packet what after o p = early_in_order packet what after p
+told_in_order (stage.Joins client user io) packet what after o p = early_in_order packet what after p
 told_in_order (stage.Shares channels phase.Confirm) packet what after o p = early_in_order packet what after p
 told_in_order (stage.Shares channels (phase.Finish before next)) packet what after o p = early_in_order packet what after p
 told_in_order (stage.Shares channels phase.Ready) packet what after o p = later_in_order packet what after p

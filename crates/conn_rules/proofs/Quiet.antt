@@ -36,9 +36,9 @@ use Rattle.tpkt_x224.specs.Pieces.{packets_of}
 abbrev IsQuiet : Stage → Type 0
 IsQuiet stage.Request = ⊥
 IsQuiet (stage.Initial asked) = ⊥
-IsQuiet (stage.Erect channels) = ⊥
-IsQuiet (stage.Attach channels) = ⊥
-IsQuiet (stage.Joins channels user io) = ⊥
+IsQuiet (stage.Erect client) = ⊥
+IsQuiet (stage.Attach client) = ⊥
+IsQuiet (stage.Joins client user io) = ⊥
 IsQuiet (stage.Shares channels phase.Confirm) = ⊥
 IsQuiet (stage.Shares channels (phase.Finish confirmed next)) = ⊥
 IsQuiet (stage.Shares channels phase.Ready) = Unit {0}
@@ -150,9 +150,9 @@ judged_heard_quiet h packet (Err refusal) q = (refl, tt)
 packet_quiet : (s : Stage) (h : Hearing) (packet : List ℕ) → IsQuiet s → IsQuietHeard (cond (is_over s) (record { replies = []; steps = []; after = record h { stage = s } }) (judged_heard (record h { stage = s }) packet (packet_judged s packet)))
 packet_quiet stage.Request h packet q = absurd q
 packet_quiet (stage.Initial asked) h packet q = absurd q
-packet_quiet (stage.Erect channels) h packet q = absurd q
-packet_quiet (stage.Attach channels) h packet q = absurd q
-packet_quiet (stage.Joins channels user io) h packet q = absurd q
+packet_quiet (stage.Erect client) h packet q = absurd q
+packet_quiet (stage.Attach client) h packet q = absurd q
+packet_quiet (stage.Joins client user io) h packet q = absurd q
 packet_quiet (stage.Shares channels phase.Confirm) h packet q = absurd q
 packet_quiet (stage.Shares channels (phase.Finish confirmed next)) h packet q = absurd q
 packet_quiet (stage.Shares channels phase.Ready) h packet q =
@@ -171,9 +171,9 @@ packets_quiet h (p ∷ ps) q =
 ready_is_quiet : (s : Stage) → is_ready s ≡ true → IsQuiet s
 ready_is_quiet stage.Request e = absurd (let no : ⊥ = cc in no)
 ready_is_quiet (stage.Initial asked) e = absurd (let no : ⊥ = cc in no)
-ready_is_quiet (stage.Erect channels) e = absurd (let no : ⊥ = cc in no)
-ready_is_quiet (stage.Attach channels) e = absurd (let no : ⊥ = cc in no)
-ready_is_quiet (stage.Joins channels user io) e = absurd (let no : ⊥ = cc in no)
+ready_is_quiet (stage.Erect client) e = absurd (let no : ⊥ = cc in no)
+ready_is_quiet (stage.Attach client) e = absurd (let no : ⊥ = cc in no)
+ready_is_quiet (stage.Joins client user io) e = absurd (let no : ⊥ = cc in no)
 ready_is_quiet (stage.Shares channels phase.Confirm) e = absurd (let no : ⊥ = cc in no)
 ready_is_quiet (stage.Shares channels (phase.Finish confirmed next)) e = absurd (let no : ⊥ = cc in no)
 ready_is_quiet (stage.Shares channels phase.Ready) e = tt

@@ -36,6 +36,7 @@ use Rattle.share_pdu.specs.declared.share_fault.ShareFault.TheVariants.{BadShare
 use Rattle.share_pdu.specs.ClientPdu.{share_pdu_of}
 use Rattle.conn_rules.specs.declared.answer.News.{News}
 use Rattle.conn_rules.specs.declared.answer.News.TheVariants as news
+use Rattle.conn_rules.specs.declared.client.Client.{Client}
 use Rattle.conn_rules.specs.declared.deed.Deed.{Deed}
 use Rattle.conn_rules.specs.declared.deed.Deed.TheVariants as deed
 use Rattle.conn_rules.specs.declared.refusal.Refusal.{Refusal}
@@ -108,39 +109,39 @@ initial_sound : (asked from : ℕ) (bytes : List ℕ) (r : Result Range BadBer) 
 initial_sound asked from bytes (Ok place) = client_sound asked (place_behind from place.from) (client_data_of (slice_range bytes place.from place.to))
 initial_sound asked from bytes (Err fault) = number 4 (omega arith) (omega arith)
 
-erect_sound : (channels from : ℕ) (p : DomainPdu) → SoundAnswer (erect_judged channels from p)
-erect_sound channels from Erect = (tt, tt)
-erect_sound channels from Attach = domain
-erect_sound channels from (Join user channel) = domain
-erect_sound channels from (Data user channel body) = domain
-erect_sound channels from (Bye reason) = (tt, tt)
+erect_sound : (client : Client) (from : ℕ) (p : DomainPdu) → SoundAnswer (erect_judged client from p)
+erect_sound client from Erect = (tt, tt)
+erect_sound client from Attach = domain
+erect_sound client from (Join user channel) = domain
+erect_sound client from (Data user channel body) = domain
+erect_sound client from (Bye reason) = (tt, tt)
 
-attach_sound : (channels from : ℕ) (p : DomainPdu) → SoundAnswer (attach_judged channels from p)
-attach_sound channels from Erect = domain
-attach_sound channels from Attach = (tt, tt)
-attach_sound channels from (Join user channel) = domain
-attach_sound channels from (Data user channel body) = domain
-attach_sound channels from (Bye reason) = (tt, tt)
+attach_sound : (client : Client) (from : ℕ) (p : DomainPdu) → SoundAnswer (attach_judged client from p)
+attach_sound client from Erect = domain
+attach_sound client from Attach = (tt, tt)
+attach_sound client from (Join user channel) = domain
+attach_sound client from (Data user channel body) = domain
+attach_sound client from (Bye reason) = (tt, tt)
 
-joined_sound : (channels from : ℕ) (user io : Bool) (channel : ℕ) → SoundAnswer (joined channels from user io channel)
-joined_sound channels from user io channel = either_sound (channel == io_channel) _ _ (tt, tt)
-    (either_sound (channel == user_channel channels) _ _ (tt, tt) (either_sound (is_virtual_or_user channels channel) _ _ (tt, tt) wrong))
+joined_sound : (client : Client) (from : ℕ) (user io : Bool) (channel : ℕ) → SoundAnswer (joined client from user io channel)
+joined_sound client from user io channel = either_sound (channel == io_channel) _ _ (tt, tt)
+    (either_sound (channel == user_channel client.channels) _ _ (tt, tt) (either_sound (is_virtual_or_user client.channels channel) _ _ (tt, tt) wrong))
 
-info_sound : (channels from user place : ℕ) (r : Result (List ℕ) InfoFault) → SoundAnswer (info_judged channels from user place r)
-info_sound channels from user place (Ok name) = own_sound channels from user _ (tt, tt)
-info_sound channels from user place (Err (BadInfo at)) = number 10 (omega arith) (omega arith)
+info_sound : (client : Client) (from user place : ℕ) (r : Result (List ℕ) InfoFault) → SoundAnswer (info_judged client from user place r)
+info_sound client from user place (Ok name) = own_sound client.channels from user _ (tt, tt)
+info_sound client from user place (Err (BadInfo at)) = number 10 (omega arith) (omega arith)
 
-info_data_sound : (channels : ℕ) (b : Bool) (mcs : List ℕ) (user channel : ℕ) (body : Range) → SoundAnswer (info_data channels b mcs user channel body)
-info_data_sound channels true mcs user channel body = by_channel_sound channels mcs_place user channel (stage.Joins channels true true) _ tt
-    (info_sound channels mcs_place user (place_behind mcs_place body.from) (name_of (body_in mcs body)))
-info_data_sound channels false mcs user channel body = own_sound channels mcs_place user _ wrong
+info_data_sound : (client : Client) (b : Bool) (mcs : List ℕ) (user channel : ℕ) (body : Range) → SoundAnswer (info_data client b mcs user channel body)
+info_data_sound client true mcs user channel body = by_channel_sound client.channels mcs_place user channel (stage.Joins client true true) _ tt
+    (info_sound client mcs_place user (place_behind mcs_place body.from) (name_of (body_in mcs body)))
+info_data_sound client false mcs user channel body = own_sound client.channels mcs_place user _ wrong
 
-joins_sound : (channels : ℕ) (user io : Bool) (mcs : List ℕ) (p : DomainPdu) → SoundAnswer (joins_judged channels user io mcs p)
-joins_sound channels user io mcs Erect = domain
-joins_sound channels user io mcs Attach = domain
-joins_sound channels user io mcs (Join initiator channel) = own_sound channels mcs_place initiator _ (joined_sound channels mcs_place user io channel)
-joins_sound channels user io mcs (Data initiator channel body) = info_data_sound channels (both user io) mcs initiator channel body
-joins_sound channels user io mcs (Bye reason) = (tt, tt)
+joins_sound : (client : Client) (user io : Bool) (mcs : List ℕ) (p : DomainPdu) → SoundAnswer (joins_judged client user io mcs p)
+joins_sound client user io mcs Erect = domain
+joins_sound client user io mcs Attach = domain
+joins_sound client user io mcs (Join initiator channel) = own_sound client.channels mcs_place initiator _ (joined_sound client mcs_place user io channel)
+joins_sound client user io mcs (Data initiator channel body) = info_data_sound client (both user io) mcs initiator channel body
+joins_sound client user io mcs (Bye reason) = (tt, tt)
 
 -- ---- share PDUs
 
@@ -293,9 +294,9 @@ bind_sound (Err fault) f h = domain
 mcs_sound : (s : Stage) (mcs : List ℕ) → IsSound s → SoundAnswer (mcs_judged s mcs)
 mcs_sound stage.Request mcs h = (tt, tt)
 mcs_sound (stage.Initial asked) mcs h = initial_sound asked mcs_place mcs (user_data_of mcs)
-mcs_sound (stage.Erect channels) mcs h = bind_sound (domain_pdu_of mcs) (λ p. erect_judged channels mcs_place p) (erect_sound channels mcs_place)
-mcs_sound (stage.Attach channels) mcs h = bind_sound (domain_pdu_of mcs) (λ p. attach_judged channels mcs_place p) (attach_sound channels mcs_place)
-mcs_sound (stage.Joins channels user io) mcs h = bind_sound (domain_pdu_of mcs) (λ p. joins_judged channels user io mcs p) (joins_sound channels user io mcs)
+mcs_sound (stage.Erect client) mcs h = bind_sound (domain_pdu_of mcs) (λ p. erect_judged client mcs_place p) (erect_sound client mcs_place)
+mcs_sound (stage.Attach client) mcs h = bind_sound (domain_pdu_of mcs) (λ p. attach_judged client mcs_place p) (attach_sound client mcs_place)
+mcs_sound (stage.Joins client user io) mcs h = bind_sound (domain_pdu_of mcs) (λ p. joins_judged client user io mcs p) (joins_sound client user io mcs)
 mcs_sound (stage.Shares channels here) mcs h =
     bind_sound (domain_pdu_of mcs) (λ p. shares_judged channels here mcs p) (λ p. shares_sound channels here mcs p (phase_of channels here h))
   where
@@ -313,9 +314,9 @@ headers_sound packet (Err left) s h = number 3 (omega arith) (omega arith)
 pub packet_sound : (s : Stage) (packet : List ℕ) → IsSound s → SoundAnswer (packet_judged s packet)
 packet_sound stage.Request packet h = request_sound (request_of packet)
 packet_sound (stage.Initial asked) packet h = headers_sound packet (fields_at mcs_headers packet) (stage.Initial asked) h
-packet_sound (stage.Erect channels) packet h = headers_sound packet (fields_at mcs_headers packet) (stage.Erect channels) h
-packet_sound (stage.Attach channels) packet h = headers_sound packet (fields_at mcs_headers packet) (stage.Attach channels) h
-packet_sound (stage.Joins channels user io) packet h = headers_sound packet (fields_at mcs_headers packet) (stage.Joins channels user io) h
+packet_sound (stage.Erect client) packet h = headers_sound packet (fields_at mcs_headers packet) (stage.Erect client) h
+packet_sound (stage.Attach client) packet h = headers_sound packet (fields_at mcs_headers packet) (stage.Attach client) h
+packet_sound (stage.Joins client user io) packet h = headers_sound packet (fields_at mcs_headers packet) (stage.Joins client user io) h
 packet_sound (stage.Shares channels here) packet h = headers_sound packet (fields_at mcs_headers packet) (stage.Shares channels here) h
 packet_sound stage.Over packet h = (tt, tt)
 packet_sound (stage.Refused k at) packet h = (tt, h)

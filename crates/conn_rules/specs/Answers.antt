@@ -1,11 +1,10 @@
 -- Answers of common forms.
-use Rattle.std.specs.Prelude.{ℕ, Result, Ok}
+use Rattle.std.specs.Prelude.{Result, Ok}
 use Rattle.conn_rules.specs.declared.answer.Answer.{Answer}
 use Rattle.conn_rules.specs.declared.answer.Reply.{Reply}
 use Rattle.conn_rules.specs.declared.answer.Reply.TheVariants as reply
 use Rattle.conn_rules.specs.declared.answer.News.{News}
 use Rattle.conn_rules.specs.declared.answer.News.TheVariants as news
-use Rattle.conn_rules.specs.declared.conn_step.ConnStep.{ConnStep}
 use Rattle.conn_rules.specs.declared.refusal.Refusal.{Refusal}
 use Rattle.conn_rules.specs.declared.stage.Stage.{Stage}
 

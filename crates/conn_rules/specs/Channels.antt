@@ -1,6 +1,6 @@
 -- The channels of a client ([MS-RDPBCGR] 2.2.1.4.4): the I/O channel 1003, its static virtual channels from 1004 on, and behind
 -- them its user channel (profile).
-use Rattle.std.specs.Prelude.{ℕ, ◌+◌, ◌==◌, nat_le, nat_lt, Bool, ◌&&◌, ◌||◌}
+use Rattle.std.specs.Prelude.{ℕ, ◌+◌, nat_le, Bool, ◌&&◌}
 
 abbrev pub io_channel : ℕ
 io_channel = 1003

@@ -11,6 +11,7 @@ use Rattle.gcc_per.specs.declared.gcc_fault.GccFault.{GccFault}
 use Rattle.gcc_per.specs.declared.gcc_fault.GccFault.TheVariants.{BadGcc, DepthNotOffered, TooManyChannels}
 use Rattle.gcc_per.specs.ClientData.{client_data_of}
 use Rattle.conn_rules.specs.declared.answer.Reply.TheVariants as reply
+use Rattle.conn_rules.specs.declared.client.Client.{Client}
 use Rattle.conn_rules.specs.declared.stage.Stage.TheVariants as stage
 use Rattle.conn_rules.specs.Answers.{Judged, replies}
 use Rattle.conn_rules.specs.Numbers.{place_behind, bad_tpdu, bad_ber, bad_gcc, depth_not_offered, too_many_channels}
@@ -25,9 +26,13 @@ abbrev pub request_judged : Result Request BadTpdu → Judged
 request_judged (Ok request) = replies (reply.Confirm request) (stage.Initial (protocols_of request.asked))
 request_judged (Err fault) = bad_tpdu fault.at
 
+-- what is remembered of client data
+abbrev pub remembered : ClientData → Client
+remembered given = record { channels = given.channels; width = given.asked_width; height = given.asked_height; build = given.build }
+
 -- client data that begin at a place are answered by the server's
 abbrev pub client_judged : ℕ → ℕ → Result ClientData GccFault → Judged
-client_judged asked from (Ok client) = replies (reply.Response client.channels asked) (stage.Erect client.channels)
+client_judged asked from (Ok given) = replies (reply.Response given.channels asked) (stage.Erect (remembered given))
 client_judged asked from (Err (BadGcc at)) = bad_gcc (place_behind from at)
 client_judged asked from (Err (DepthNotOffered at)) = depth_not_offered (place_behind from at)
 client_judged asked from (Err (TooManyChannels at)) = too_many_channels (place_behind from at)

@@ -1,5 +1,4 @@
 -- What stands before the MCS PDU of a packet: the TPKT header ([RFC 1006] 6), and the X.224 Data header ([X.224] 13.7).
-use Rattle.std.specs.Prelude.{List, ℕ}
 use Rattle.wire_num.specs.Layout.{Layout, Open, Any, Bytes, ◌▸◌}
 use Rattle.tpkt_x224.specs.Data.{data_header}
 

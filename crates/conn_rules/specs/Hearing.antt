@@ -1,5 +1,5 @@
 -- What the host makes of a client's stream: its replies, its steps, and how it ends.
-use Rattle.std.specs.Prelude.{ℕ, zero, suc, Bool, true, false, List, [], ◌∷◌, ◌++◌, length, Result, Ok, Err, if◌then◌else◌}
+use Rattle.std.specs.Prelude.{ℕ, zero, suc, Bool, true, false, List, [], ◌∷◌, ◌++◌, length, Ok, Err, if◌then◌else◌}
 use Rattle.px_core.specs.declared.surface.Size.{Size}
 use Rattle.tpkt_x224.specs.declared.tpkt.Packet.{Packet}
 use Rattle.tpkt_x224.specs.declared.tpkt.Packet.TheVariants.{Whole, Part, NotTpkt, BadLength}
@@ -39,9 +39,9 @@ then_heard a b = record { replies = a.replies ++ b.replies; steps = a.steps ++ b
 abbrev pub is_over : Stage → Bool
 is_over stage.Request = false
 is_over (stage.Initial asked) = false
-is_over (stage.Erect channels) = false
-is_over (stage.Attach channels) = false
-is_over (stage.Joins channels user io) = false
+is_over (stage.Erect client) = false
+is_over (stage.Attach client) = false
+is_over (stage.Joins client user io) = false
 is_over (stage.Shares channels here) = false
 is_over stage.Over = true
 is_over (stage.Refused k at) = true
@@ -124,9 +124,9 @@ end_within (suc n) = Within (suc n)
 abbrev pub end_by : Stage → ℕ → StreamEnd
 end_by stage.Request n = end_within n
 end_by (stage.Initial asked) n = end_within n
-end_by (stage.Erect channels) n = end_within n
-end_by (stage.Attach channels) n = end_within n
-end_by (stage.Joins channels user io) n = end_within n
+end_by (stage.Erect client) n = end_within n
+end_by (stage.Attach client) n = end_within n
+end_by (stage.Joins client user io) n = end_within n
 end_by (stage.Shares channels here) n = end_within n
 end_by stage.Over n = Between
 end_by (stage.Refused k at) n = RefusedAt k at

@@ -11,6 +11,7 @@ use Rattle.mcs_dom.specs.declared.domain_pdu.DomainPdu.TheVariants.{Erect, Attac
 use Rattle.mcs_dom.specs.DomainPdu.{domain_pdu_of}
 use Rattle.info_lic.specs.ClientInfo.{name_of}
 use Rattle.share_pdu.specs.ClientPdu.{share_pdu_of}
+use Rattle.conn_rules.specs.declared.client.Client.{Client}
 use Rattle.conn_rules.specs.declared.refusal.Refusal.{Refusal}
 use Rattle.conn_rules.specs.declared.stage.Stage.{Stage}
 use Rattle.conn_rules.specs.declared.stage.Stage.TheVariants as stage
@@ -35,11 +36,11 @@ body_in mcs body = slice_range mcs body.from body.to
 -- ---- data
 
 -- the Client Info PDU, once the user channel and 1003 are joined
-abbrev pub info_data : ℕ → Bool → List ℕ → ℕ → ℕ → Range → Judged
-info_data channels false mcs user channel body = too_early channels mcs_place user
-info_data channels true mcs user channel body =
-    by_channel channels mcs_place user channel (stage.Joins channels true true)
-    (info_judged channels mcs_place user (place_behind mcs_place body.from) (name_of (body_in mcs body)))
+abbrev pub info_data : Client → Bool → List ℕ → ℕ → ℕ → Range → Judged
+info_data client false mcs user channel body = too_early client.channels mcs_place user
+info_data client true mcs user channel body =
+    by_channel client.channels mcs_place user channel (stage.Joins client true true)
+    (info_judged client mcs_place user (place_behind mcs_place body.from) (name_of (body_in mcs body)))
 
 abbrev pub both : Bool → Bool → Bool
 both true io = io
@@ -55,12 +56,12 @@ share_data channels here mcs user channel body =
 -- ---- domain PDUs
 
 -- joins, in any order and number, and Client Info
-abbrev pub joins_judged : ℕ → Bool → Bool → List ℕ → DomainPdu → Judged
-joins_judged channels user io mcs Erect = bad_domain mcs_place
-joins_judged channels user io mcs Attach = bad_domain mcs_place
-joins_judged channels user io mcs (Join initiator channel) = own channels mcs_place initiator (joined channels mcs_place user io channel)
-joins_judged channels user io mcs (Data initiator channel body) = info_data channels (both user io) mcs initiator channel body
-joins_judged channels user io mcs (Bye reason) = leaves
+abbrev pub joins_judged : Client → Bool → Bool → List ℕ → DomainPdu → Judged
+joins_judged client user io mcs Erect = bad_domain mcs_place
+joins_judged client user io mcs Attach = bad_domain mcs_place
+joins_judged client user io mcs (Join initiator channel) = own client.channels mcs_place initiator (joined client mcs_place user io channel)
+joins_judged client user io mcs (Data initiator channel body) = info_data client (both user io) mcs initiator channel body
+joins_judged client user io mcs (Bye reason) = leaves
 
 abbrev pub shares_judged : ℕ → SharePhase → List ℕ → DomainPdu → Judged
 shares_judged channels here mcs Erect = bad_domain mcs_place
@@ -78,9 +79,9 @@ pdu_in mcs = placed_pdu mcs_place (domain_pdu_of mcs)
 abbrev pub mcs_judged : Stage → List ℕ → Judged
 mcs_judged stage.Request mcs = goes_to stage.Request
 mcs_judged (stage.Initial asked) mcs = initial_judged asked mcs_place mcs (user_data_of mcs)
-mcs_judged (stage.Erect channels) mcs = bind (pdu_in mcs) (λ p. erect_judged channels mcs_place p)
-mcs_judged (stage.Attach channels) mcs = bind (pdu_in mcs) (λ p. attach_judged channels mcs_place p)
-mcs_judged (stage.Joins channels user io) mcs = bind (pdu_in mcs) (λ p. joins_judged channels user io mcs p)
+mcs_judged (stage.Erect client) mcs = bind (pdu_in mcs) (λ p. erect_judged client mcs_place p)
+mcs_judged (stage.Attach client) mcs = bind (pdu_in mcs) (λ p. attach_judged client mcs_place p)
+mcs_judged (stage.Joins client user io) mcs = bind (pdu_in mcs) (λ p. joins_judged client user io mcs p)
 mcs_judged (stage.Shares channels here) mcs = bind (pdu_in mcs) (λ p. shares_judged channels here mcs p)
 mcs_judged stage.Over mcs = goes_to stage.Over
 mcs_judged (stage.Refused k at) mcs = goes_to (stage.Refused k at)
@@ -94,9 +95,9 @@ behind_headers packet (Err left) here = bad_tpdu (place_in packet left)
 abbrev pub packet_judged : Stage → List ℕ → Judged
 packet_judged stage.Request packet = request_judged (request_of packet)
 packet_judged (stage.Initial asked) packet = behind_headers packet (fields_at mcs_headers packet) (stage.Initial asked)
-packet_judged (stage.Erect channels) packet = behind_headers packet (fields_at mcs_headers packet) (stage.Erect channels)
-packet_judged (stage.Attach channels) packet = behind_headers packet (fields_at mcs_headers packet) (stage.Attach channels)
-packet_judged (stage.Joins channels user io) packet = behind_headers packet (fields_at mcs_headers packet) (stage.Joins channels user io)
+packet_judged (stage.Erect client) packet = behind_headers packet (fields_at mcs_headers packet) (stage.Erect client)
+packet_judged (stage.Attach client) packet = behind_headers packet (fields_at mcs_headers packet) (stage.Attach client)
+packet_judged (stage.Joins client user io) packet = behind_headers packet (fields_at mcs_headers packet) (stage.Joins client user io)
 packet_judged (stage.Shares channels here) packet = behind_headers packet (fields_at mcs_headers packet) (stage.Shares channels here)
 packet_judged stage.Over packet = goes_to stage.Over
 packet_judged (stage.Refused k at) packet = goes_to (stage.Refused k at)

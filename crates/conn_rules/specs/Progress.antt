@@ -15,9 +15,9 @@ pub data Progress : Type 0 where
 abbrev pub progress_of : Stage → Progress
 progress_of stage.Request = Connecting
 progress_of (stage.Initial asked) = Connecting
-progress_of (stage.Erect channels) = Connecting
-progress_of (stage.Attach channels) = Connecting
-progress_of (stage.Joins channels user io) = Connecting
+progress_of (stage.Erect client) = Connecting
+progress_of (stage.Attach client) = Connecting
+progress_of (stage.Joins client user io) = Connecting
 progress_of (stage.Shares channels phase.Confirm) = Connecting
 progress_of (stage.Shares channels (phase.Finish confirmed next)) = Connecting
 progress_of (stage.Shares channels phase.Ready) = Ready

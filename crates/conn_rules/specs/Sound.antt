@@ -21,9 +21,9 @@ pub record HasItsCaches (confirmed : Confirmed) : Type 0 where
 abbrev pub IsSound : Stage → Type 0
 IsSound stage.Request = ⊤
 IsSound (stage.Initial asked) = ⊤
-IsSound (stage.Erect channels) = ⊤
-IsSound (stage.Attach channels) = ⊤
-IsSound (stage.Joins channels user io) = ⊤
+IsSound (stage.Erect client) = ⊤
+IsSound (stage.Attach client) = ⊤
+IsSound (stage.Joins client user io) = ⊤
 IsSound (stage.Shares channels phase.Confirm) = ⊤
 IsSound (stage.Shares channels (phase.Finish confirmed next)) = HasItsCaches confirmed
 IsSound (stage.Shares channels phase.Ready) = ⊤

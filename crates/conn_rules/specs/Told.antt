@@ -22,7 +22,6 @@ use Rattle.conn_rules.specs.declared.conn_step.ConnStep.{ConnStep}
 use Rattle.conn_rules.specs.declared.conn_step.ConnStep.TheVariants as step
 use Rattle.conn_rules.specs.declared.stage.Stage.{Stage}
 use Rattle.conn_rules.specs.declared.stage.Stage.TheVariants as stage
-use Rattle.conn_rules.specs.declared.stage.SharePhase.{SharePhase}
 use Rattle.conn_rules.specs.declared.stage.SharePhase.TheVariants as phase
 
 -- ---- events and areas
@@ -80,9 +79,9 @@ news_steps packet news.Pdu = packet_steps packet
 abbrev pub is_ready : Stage → Bool
 is_ready stage.Request = false
 is_ready (stage.Initial asked) = false
-is_ready (stage.Erect channels) = false
-is_ready (stage.Attach channels) = false
-is_ready (stage.Joins channels user io) = false
+is_ready (stage.Erect client) = false
+is_ready (stage.Attach client) = false
+is_ready (stage.Joins client user io) = false
 is_ready (stage.Shares channels phase.Confirm) = false
 is_ready (stage.Shares channels (phase.Finish confirmed next)) = false
 is_ready (stage.Shares channels phase.Ready) = true

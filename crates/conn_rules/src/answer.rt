@@ -1,6 +1,6 @@
 //! What the host makes of a packet.
 
-use crate::{ConnStep, Stage};
+use crate::{Client, ConnStep, Stage};
 use share_pdu::Final;
 use tpkt_x224::Request;
 
@@ -24,8 +24,8 @@ pub enum Reply {
     Attached { user: u16 },
     /// MCS Channel Join Confirm.
     Joined { user: u16, channel: u16 },
-    /// The licence, and Demand Active.
-    Welcome,
+    /// The licence, and Demand Active, to this client.
+    Welcome(Client),
     /// A PDU of the finalisation.
     Final { which: Final, user: u16 },
 }

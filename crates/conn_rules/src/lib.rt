@@ -5,6 +5,7 @@
 #![tactic(auto)]
 
 mod answer;
+mod client;
 mod conn_laws;
 mod conn_step;
 mod deed;
@@ -13,6 +14,7 @@ mod refusal;
 mod stage;
 
 pub use answer::{Answer, News, Reply};
+pub use client::Client;
 pub use conn_laws::{
     areas_lie_near, nothing_follows_the_end, once_ready_nothing_is_replied, steps_come_in_order,
     streams_are_sound,

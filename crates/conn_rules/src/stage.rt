@@ -1,5 +1,6 @@
 //! Where a client is in its connection sequence ([MS-RDPBCGR] 1.3.1.1).
 
+use crate::Client;
 use caps_sets::Confirmed;
 use share_pdu::Final;
 
@@ -10,19 +11,35 @@ pub enum Stage {
     /// X.224 Connection Request.
     Request,
     /// MCS Connect-Initial, after a request for these protocols.
-    Initial { asked: u32 },
+    Initial {
+        asked: u32,
+    },
     /// MCS Erect Domain Request.
-    Erect { channels: u8 },
+    Erect {
+        client: Client,
+    },
     /// MCS Attach User Request.
-    Attach { channels: u8 },
+    Attach {
+        client: Client,
+    },
     /// MCS Channel Join Requests, and the Client Info PDU once the user channel and the I/O channel are joined.
-    Joins { channels: u8, user: bool, io: bool },
+    Joins {
+        client: Client,
+        user: bool,
+        io: bool,
+    },
     /// Share PDUs on the I/O channel.
-    Shares { channels: u8, phase: SharePhase },
+    Shares {
+        channels: u8,
+        phase: SharePhase,
+    },
     /// Nothing: the client has left, or asked for the end.
     Over,
     /// Nothing: its stream was refused by this number at this place.
-    Refused { k: u8, at: u64 },
+    Refused {
+        k: u8,
+        at: u64,
+    },
 }
 
 /// Which share PDU is next.

@@ -29,7 +29,7 @@ network count = (3 ∷ 192 ∷ 44 ∷ 0 ∷ count ∷ 0 ∷ 0 ∷ 0 ∷ []) ++ (
     (99 ∷ 108 ∷ 105 ∷ 112 ∷ 114 ∷ 100 ∷ 114 ∷ 0 ∷ 0 ∷ 0 ∷ 0 ∷ 0 ∷ []) ++ (114 ∷ 100 ∷ 112 ∷ 115 ∷ 110 ∷ 100 ∷ 0 ∷ 0 ∷ 0 ∷ 0 ∷ 0 ∷ 0 ∷ [])))
 
 abbrev answer : ℕ → Result ClientData GccFault
-answer channels = Ok (record { channels = channels; asked_width = 64; asked_height = 48 })
+answer channels = Ok (record { channels = channels; asked_width = 64; asked_height = 48; build = 0 })
 
 sample : client_data_of (request 200 ++ (core 7 ++ (security ++ network 3))) ≡ answer 3
 unfolding create_request client_data_at user_data_at client_blocks_at blocks_at block_at kind_at length_at channels_at channel_count_at desktop_of passing_at
@@ -42,6 +42,12 @@ another_order = refl
 core_alone : client_data_of (request 144 ++ core 1) ≡ answer 0
 unfolding create_request client_data_at user_data_at client_blocks_at blocks_at block_at kind_at length_at channels_at channel_count_at desktop_of passing_at
 core_alone = refl
+
+-- clientBuild stands behind keyboardLayout, and before clientName
+built : client_data_of (request 144 ++ ((1 ∷ 192 ∷ 144 ∷ 0 ∷ 4 ∷ 0 ∷ 8 ∷ 0 ∷ 0 ∷ 2 ∷ 128 ∷ 1 ∷ 1 ∷ 202 ∷ 3 ∷ 170 ∷ 9 ∷ 4 ∷ 0 ∷ 0 ∷ 187 ∷ 71 ∷ 0 ∷ 1 ∷ 97 ∷ []) ++ (replicate 115 0 ++ (24 ∷ 0 ∷ 7 ∷ 0 ∷ []))))
+    ≡ Ok (record { channels = 0; asked_width = 512; asked_height = 384; build = 16795579 })
+unfolding create_request client_data_at user_data_at client_blocks_at blocks_at block_at kind_at length_at channels_at channel_count_at desktop_of passing_at
+built = refl
 
 no_core : client_data_of (request 56 ++ (security ++ network 3)) ≡ Err (BadGcc 79)
 unfolding create_request client_data_at user_data_at client_blocks_at blocks_at block_at kind_at length_at channels_at channel_count_at desktop_of passing_at

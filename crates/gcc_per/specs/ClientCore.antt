@@ -19,9 +19,9 @@ offers_24 None None None = false
 abbrev pub core_offers_24 : List ℕ → Bool
 core_offers_24 content = offers_24 (number_within 138 content) (number_within 136 content) (number_within 128 content)
 
--- desktopWidth and desktopHeight, where 24 bits for each pixel are offered
+-- desktopWidth, desktopHeight and clientBuild, where 24 bits for each pixel are offered
 unfoldable pub desktop_of : List ℕ → Option Desktop
 desktop_of content =
     if core_offers_24 content
-    then Some (record { width = little_number 2 (drop 4 content); height = little_number 2 (drop 6 content) })
+    then Some (record { width = little_number 2 (drop 4 content); height = little_number 2 (drop 6 content); build = little_number 4 (drop 16 content) })
     else None

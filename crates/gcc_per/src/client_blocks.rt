@@ -38,7 +38,7 @@ pub enum BlockKind {
 /// What is found in the blocks so far.
 #[derive(Clone, Copy, Debug, PartialEq, Eq)]
 pub struct ClientBlocks {
-    /// The desktop that CS_CORE asks for.
+    /// The desktop that CS_CORE asks for, and the client's build.
     pub desktop: Option<Desktop>,
     /// The channels of CS_NET.
     pub channels: Option<u16>,

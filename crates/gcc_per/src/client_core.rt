@@ -6,7 +6,9 @@
 //! | 4 | 4 | version | not read |
 //! | 8 | 2 | desktopWidth | pixels |
 //! | 10 | 2 | desktopHeight | pixels |
-//! | 12 | 120 | colorDepth to imeFileName | not read |
+//! | 12 | 8 | colorDepth, SASSequence, keyboardLayout | not read |
+//! | 20 | 4 | clientBuild | the build number of the client |
+//! | 24 | 108 | clientName to imeFileName | not read |
 //! | 132 | 2 | postBeta2ColorDepth | optional, `CA04` is 24 bits |
 //! | 134 | 6 | clientProductId, serialNumber | optional, not read |
 //! | 140 | 2 | highColorDepth | optional, bits for each pixel |
@@ -25,12 +27,14 @@ const DESKTOP_WIDTH: usize = 8 - HEADER_SIZE;
 
 const DESKTOP_HEIGHT: usize = 10 - HEADER_SIZE;
 
+const CLIENT_BUILD: usize = 20 - HEADER_SIZE;
+
 const POST_BETA2_COLOR_DEPTH: usize = 132 - HEADER_SIZE;
 
 const HIGH_COLOR_DEPTH: usize = 140 - HEADER_SIZE;
 
 const SUPPORTED_COLOR_DEPTHS: usize = 142 - HEADER_SIZE;
-/// The bytes of each of these fields.
+/// The bytes of each of the last three.
 const FIELD_SIZE: usize = 2;
 /// 24 bits for each pixel, in supportedColorDepths, highColorDepth and postBeta2ColorDepth.
 const RNS_UD_24BPP_SUPPORT: u16 = 1;
@@ -39,11 +43,12 @@ const HIGH_COLOR_24BPP: u16 = 24;
 
 const RNS_UD_COLOR_24BPP: u16 = 0xCA04;
 
-/// The size of the desktop that the client asks for, in pixels.
+/// The size of the desktop that the client asks for, in pixels, and the build number that it says.
 #[derive(Clone, Copy, Debug, PartialEq, Eq)]
 pub struct Desktop {
     pub width: u16,
     pub height: u16,
+    pub build: u32,
 }
 
 /// The desktop that the content of a CS_CORE asks for; none where 24 bits for each pixel aren't offered.
@@ -58,6 +63,7 @@ pub fn desktop_of(content: &[u8]) -> Option<Desktop>
     Some(Desktop {
         width: LittleEndian::read_u16(&content[DESKTOP_WIDTH..]),
         height: LittleEndian::read_u16(&content[DESKTOP_HEIGHT..]),
+        build: LittleEndian::read_u32(&content[CLIENT_BUILD..]),
     })
 }
 

@@ -38,6 +38,8 @@ pub struct ClientData {
     pub asked_width: u16,
     /// The height of that desktop, in pixels.
     pub asked_height: u16,
+    /// Its build number, clientBuild (MS-RDPBCGR, 2.2.1.3.2).
+    pub build: u32,
 }
 
 /// Reads a GCC Conference Create Request, which is all of the slice: the user data of a Connect-Initial (T.124, 8.7;
@@ -114,6 +116,7 @@ fn read_client_blocks(cursor: &mut Cursor<'_>) -> Result<ClientData, Cause>
             channels: channels_of(found.channels),
             asked_width: desktop.width,
             asked_height: desktop.height,
+            build: desktop.build,
         }),
         None => Err(Cause::Broken),
     }

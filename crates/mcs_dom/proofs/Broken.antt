@@ -8,13 +8,13 @@ use Rattle.tpkt_x224.specs.Grammar.{IsBrokenAt}
 use Rattle.tpkt_x224.proofs.Broken.{broken, broken_there, offset_of}
 use Rattle.mcs_dom.specs.declared.bad_domain.BadDomain.{BadDomain}
 use Rattle.mcs_dom.specs.declared.domain_pdu.DomainPdu.{DomainPdu}
-use Rattle.mcs_dom.specs.declared.domain_pdu.DomainPdu.TheVariants.{Erect, Attach}
+use Rattle.mcs_dom.specs.declared.domain_pdu.DomainPdu.TheVariants.{Erect, Attach, Bye}
 use Rattle.mcs_dom.specs.ErectDomain.{erect_domain_request}
 use Rattle.mcs_dom.specs.AttachUser.{attach_user_request}
 use Rattle.mcs_dom.specs.ChannelJoin.{channel_join_request, join_of}
 use Rattle.mcs_dom.specs.SendData.{send_data_request, data_of}
-use Rattle.mcs_dom.specs.Ultimatum.{ultimatum, bye_of}
-use Rattle.mcs_dom.specs.DomainPdu.{Choice, ErectDomainRequest, AttachUserRequest, ChannelJoinRequest, SendDataRequest, DisconnectProviderUltimatum, Other, choice_of, pdu_at, domain_pdu_of}
+use Rattle.mcs_dom.specs.Ultimatum.{ultimatum, bye_of, basic_ultimatum}
+use Rattle.mcs_dom.specs.DomainPdu.{Choice, ErectDomainRequest, AttachUserRequest, ChannelJoinRequest, SendDataRequest, DisconnectProviderUltimatum, BasicUltimatum, Other, choice_of, pdu_at, domain_pdu_of}
 use Rattle.mcs_dom.specs.Grammar.{IsBrokenBy, IsBrokenPdu}
 
 abbrev fault_at : ℕ → BadDomain
@@ -52,6 +52,7 @@ broken_by AttachUserRequest first bytes at e = seen_broken attach_user_request (
 broken_by ChannelJoinRequest first bytes at e = seen_broken channel_join_request join_of bytes at e
 broken_by SendDataRequest first bytes at e = seen_broken send_data_request (data_of (length bytes)) bytes at e
 broken_by DisconnectProviderUltimatum first bytes at e = seen_broken (ultimatum first) (bye_of first) bytes at e
+broken_by BasicUltimatum first bytes at e = seen_broken basic_ultimatum (λ _. Bye 3) bytes at e
 broken_by Other first bytes at e = let n = same_fault (length bytes - length bytes) at e in omega (arith, n)
 
 by_broken : (c : Choice) (first : ℕ) (bytes : List ℕ) (at : ℕ) → IsBrokenBy c first bytes at
@@ -61,6 +62,7 @@ by_broken AttachUserRequest first bytes at b = broken_seen attach_user_request (
 by_broken ChannelJoinRequest first bytes at b = broken_seen channel_join_request join_of bytes at b
 by_broken SendDataRequest first bytes at b = broken_seen send_data_request (data_of (length bytes)) bytes at b
 by_broken DisconnectProviderUltimatum first bytes at b = broken_seen (ultimatum first) (bye_of first) bytes at b
+by_broken BasicUltimatum first bytes at b = broken_seen basic_ultimatum (λ _. Bye 3) bytes at b
 by_broken Other first bytes at b = let n : length bytes - length bytes ≡ at = omega (arith, b) in ap refusal n
 
 pub pdu_broken : (bytes : List ℕ) (at : ℕ) → domain_pdu_of bytes ≡ Err (record { at = at }) → IsBrokenPdu bytes at

@@ -11,14 +11,14 @@ use Rattle.wire_num.proofs.Steps.{map_ok}
 use Rattle.wire_num.proofs.ReadIsText.{read_is_text}
 use Rattle.mcs_dom.specs.declared.bad_domain.BadDomain.{BadDomain}
 use Rattle.mcs_dom.specs.declared.domain_pdu.DomainPdu.{DomainPdu}
-use Rattle.mcs_dom.specs.declared.domain_pdu.DomainPdu.TheVariants.{Erect, Attach}
+use Rattle.mcs_dom.specs.declared.domain_pdu.DomainPdu.TheVariants.{Erect, Attach, Bye}
 use Rattle.mcs_dom.specs.User.{is_user}
 use Rattle.mcs_dom.specs.ErectDomain.{erect_domain_request}
 use Rattle.mcs_dom.specs.AttachUser.{attach_user_request}
 use Rattle.mcs_dom.specs.ChannelJoin.{channel_join_request, join_of}
 use Rattle.mcs_dom.specs.SendData.{send_data_request, data_of}
-use Rattle.mcs_dom.specs.Ultimatum.{reason_of, ultimatum, bye_of}
-use Rattle.mcs_dom.specs.DomainPdu.{Choice, ErectDomainRequest, AttachUserRequest, ChannelJoinRequest, SendDataRequest, DisconnectProviderUltimatum, Other, choice_of, pdu_at, domain_at, domain_pdu_of}
+use Rattle.mcs_dom.specs.Ultimatum.{reason_of, ultimatum, bye_of, basic_bytes, basic_ultimatum}
+use Rattle.mcs_dom.specs.DomainPdu.{Choice, ErectDomainRequest, AttachUserRequest, ChannelJoinRequest, SendDataRequest, DisconnectProviderUltimatum, BasicUltimatum, Other, choice_of, pdu_at, domain_at, domain_pdu_of}
 use Rattle.mcs_dom.specs.Grammar.{IsErectDomain, IsUser, IsJoin, IsEndOf, IsData, IsUltimatum, IsDomainPdu}
 
 -- ---- one byte, and the user's two
@@ -130,17 +130,19 @@ data_stands bytes values left t =
     subst (DataOf bytes) (sym all) stands
 
 -- a first byte that chooses an ultimatum
-chooses : (a b c d e f g : Bool) → cond a ErectDomainRequest (cond b AttachUserRequest (cond c ChannelJoinRequest (cond d SendDataRequest
-    (cond e DisconnectProviderUltimatum (cond f DisconnectProviderUltimatum (cond g DisconnectProviderUltimatum Other)))))) ≡ DisconnectProviderUltimatum
+chooses : (a b c d e f g h : Bool) → cond a ErectDomainRequest (cond b AttachUserRequest (cond c ChannelJoinRequest (cond d SendDataRequest
+    (cond e DisconnectProviderUltimatum (cond f DisconnectProviderUltimatum (cond g DisconnectProviderUltimatum (cond h BasicUltimatum Other)))))))
+    ≡ DisconnectProviderUltimatum
     → (e ≡ true) ⊎ ((f ≡ true) ⊎ (g ≡ true))
-chooses true b c d e f g h = absurd (let no : ⊥ = cc in no)
-chooses false true c d e f g h = absurd (let no : ⊥ = cc in no)
-chooses false false true d e f g h = absurd (let no : ⊥ = cc in no)
-chooses false false false true e f g h = absurd (let no : ⊥ = cc in no)
-chooses false false false false true f g h = inl refl
-chooses false false false false false true g h = inr (inl refl)
-chooses false false false false false false true h = inr (inr refl)
-chooses false false false false false false false h = absurd (let no : ⊥ = cc in no)
+chooses true b c d e f g h p = absurd (let no : ⊥ = cc in no)
+chooses false true c d e f g h p = absurd (let no : ⊥ = cc in no)
+chooses false false true d e f g h p = absurd (let no : ⊥ = cc in no)
+chooses false false false true e f g h p = absurd (let no : ⊥ = cc in no)
+chooses false false false false true f g h p = inl refl
+chooses false false false false false true g h p = inr (inl refl)
+chooses false false false false false false true h p = inr (inr refl)
+chooses false false false false false false false true p = absurd (let no : ⊥ = cc in no)
+chooses false false false false false false false false p = absurd (let no : ⊥ = cc in no)
 
 record InOrder (first : ℕ) : Type 0 where
   least : 32 ≤ first
@@ -157,7 +159,8 @@ chosen_by first (inr (inl e)) = in_order first 33 e (omega arith) (omega arith)
 chosen_by first (inr (inr e)) = in_order first 34 e (omega arith) (omega arith)
 
 chosen : (first : ℕ) → choice_of first ≡ DisconnectProviderUltimatum → InOrder first
-chosen first e = chosen_by first (chooses (first == 4) (first == 40) (first == 56) (first == 100) (first == 32) (first == 33) (first == 34) e)
+chosen first e =
+    chosen_by first (chooses (first == 4) (first == 40) (first == 56) (first == 100) (first == 32) (first == 33) (first == 34) (first == 48) e)
 
 known_reason : (reason : ℕ) → nat_le reason 4 ≡ true → reason ≤ 4
 known_reason reason e = grind (arith, nat_tests, e)
@@ -180,6 +183,10 @@ ultimatum_stands first bytes values left o t =
     } in
     subst (λ vs. IsUltimatum bytes (reason_of first (slice_index vs 0))) (sym all) stands
 
+basic_stands : (bytes values left : List ℕ) → IsText basic_ultimatum bytes values left → bytes ≡ basic_bytes
+unfolding basic_ultimatum
+basic_stands bytes values left t = t.1 ∙ ap (λ xs. basic_bytes ++ xs) t.2.1
+
 -- ---- the whole
 
 abbrev Stands : List ℕ → DomainPdu → Type 0
@@ -201,7 +208,10 @@ stands_by SendDataRequest first bytes y o e =
     subst (Stands bytes) m.2 (data_stands bytes m.0.0 m.0.1 (read_is_text send_data_request bytes m.0.0 m.0.1 m.1))
 stands_by DisconnectProviderUltimatum first bytes y o e =
     let m = map_ok (bye_of first) (fields_at (ultimatum first) bytes) y e in
-    subst (Stands bytes) m.2 (ultimatum_stands first bytes m.0.0 m.0.1 (chosen first o) (read_is_text (ultimatum first) bytes m.0.0 m.0.1 m.1))
+    subst (Stands bytes) m.2 (inl (ultimatum_stands first bytes m.0.0 m.0.1 (chosen first o) (read_is_text (ultimatum first) bytes m.0.0 m.0.1 m.1)))
+stands_by BasicUltimatum first bytes y o e =
+    let m = map_ok (λ _. Bye 3) (fields_at basic_ultimatum bytes) y e in
+    subst (Stands bytes) m.2 (inr (basic_stands bytes m.0.0 m.0.1 (read_is_text basic_ultimatum bytes m.0.0 m.0.1 m.1), refl))
 stands_by Other first bytes y o e = absurd (let no : ⊥ = cc in no)
 
 domain_stands : (bytes : List ℕ) (y : DomainPdu × List ℕ) → domain_at (length bytes) bytes ≡ Ok y → Stands bytes y.0

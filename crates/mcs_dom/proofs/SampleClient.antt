@@ -8,7 +8,7 @@ use Rattle.mcs_dom.specs.ErectDomain.{erect_domain_request}
 use Rattle.mcs_dom.specs.AttachUser.{attach_user_request}
 use Rattle.mcs_dom.specs.ChannelJoin.{channel_join_request}
 use Rattle.mcs_dom.specs.SendData.{send_data_request, send_data_indication}
-use Rattle.mcs_dom.specs.Ultimatum.{ultimatum, ultimatum_packet}
+use Rattle.mcs_dom.specs.Ultimatum.{ultimatum, basic_ultimatum, ultimatum_packet}
 use Rattle.mcs_dom.specs.DomainPdu.{domain_pdu_of}
 
 erects : domain_pdu_of (4 ∷ 1 ∷ 0 ∷ 1 ∷ 0 ∷ []) ≡ Ok Erect
@@ -40,6 +40,23 @@ sends = refl
 leaves : domain_pdu_of (33 ∷ 128 ∷ []) ≡ Ok (Bye 3)
 unfolding ultimatum passing_at
 leaves = refl
+
+-- by the basic encoding rules, as one client leaves: the whole is one field, and ends the PDU
+leaves_by_basic_rules : domain_pdu_of (drop 7 (3 ∷ 0 ∷ 0 ∷ 15 ∷ 2 ∷ 240 ∷ 128 ∷ 48 ∷ 6 ∷ 2 ∷ 2 ∷ 0 ∷ 3 ∷ 48 ∷ 0 ∷ [])) ≡ Ok (Bye 3)
+unfolding basic_ultimatum
+leaves_by_basic_rules = refl
+
+another_reason_by_basic_rules : domain_pdu_of (48 ∷ 6 ∷ 2 ∷ 2 ∷ 0 ∷ 4 ∷ 48 ∷ 0 ∷ []) ≡ Err (record { at = 0 })
+unfolding basic_ultimatum
+another_reason_by_basic_rules = refl
+
+cut_by_basic_rules : domain_pdu_of (48 ∷ 6 ∷ 2 ∷ 2 ∷ 0 ∷ 3 ∷ 48 ∷ []) ≡ Err (record { at = 0 })
+unfolding basic_ultimatum
+cut_by_basic_rules = refl
+
+more_by_basic_rules : domain_pdu_of (48 ∷ 6 ∷ 2 ∷ 2 ∷ 0 ∷ 3 ∷ 48 ∷ 0 ∷ 0 ∷ []) ≡ Err (record { at = 8 })
+unfolding basic_ultimatum
+more_by_basic_rules = refl
 
 left_over : domain_pdu_of (40 ∷ 0 ∷ []) ≡ Err (record { at = 1 })
 unfolding attach_user_request

@@ -1,5 +1,5 @@
 -- A domain PDU that stands there is read.
-use Rattle.std.proofs.Common.{◌≡◌, ℕ, zero, suc, ◌+◌, ◌-◌, ◌≤◌, true, List, [], ◌∷◌, ◌++◌, length, refl, ap, sym, ◌∙◌, arith, length-append, append-nil}
+use Rattle.std.proofs.Common.{◌≡◌, inl, inr, ℕ, zero, suc, ◌+◌, ◌-◌, ◌≤◌, true, List, [], ◌∷◌, ◌++◌, length, refl, ap, sym, ◌∙◌, arith, length-append, append-nil}
 use Rattle.std.specs.Prelude.{◌↔◌, Result, Ok, Err, IsErr, IfOk}
 use Rattle.std.proofs.lemmas.Bool.Decides.{nat_tests}
 use Rattle.byteorder.specs.Endian.{big_number}
@@ -16,8 +16,8 @@ use Rattle.mcs_dom.specs.ErectDomain.{erect_domain_request}
 use Rattle.mcs_dom.specs.AttachUser.{attach_user_request}
 use Rattle.mcs_dom.specs.ChannelJoin.{channel_join_request, join_of}
 use Rattle.mcs_dom.specs.SendData.{send_data_request, data_of}
-use Rattle.mcs_dom.specs.Ultimatum.{reason_of, has_reason, ultimatum, bye_of}
-use Rattle.mcs_dom.specs.DomainPdu.{Choice, ErectDomainRequest, AttachUserRequest, ChannelJoinRequest, SendDataRequest, DisconnectProviderUltimatum, choice_of, pdu_at, domain_pdu_of, HasBodyAtEnd}
+use Rattle.mcs_dom.specs.Ultimatum.{reason_of, has_reason, ultimatum, bye_of, basic_bytes, basic_ultimatum}
+use Rattle.mcs_dom.specs.DomainPdu.{Choice, ErectDomainRequest, AttachUserRequest, ChannelJoinRequest, SendDataRequest, DisconnectProviderUltimatum, BasicUltimatum, choice_of, pdu_at, domain_pdu_of, HasBodyAtEnd}
 use Rattle.mcs_dom.specs.Grammar.{IsErectDomain, IsUser, IsJoin, IsData, IsUltimatum, IsDomainPdu}
 use Rattle.mcs_dom.proofs.PduText.{pdu_ok}
 
@@ -119,6 +119,10 @@ ultimatum_again bytes reason u =
       ),
     )
 
+basic_again : (bytes : List ℕ) → bytes ≡ basic_bytes → IsText basic_ultimatum bytes [] []
+unfolding basic_ultimatum
+basic_again bytes e = ([], e, (refl, refl, refl))
+
 -- ---- the whole
 
 abbrev got : DomainPdu → Result DomainPdu BadDomain
@@ -181,12 +185,15 @@ pdu_again bytes (Data user channel body) d =
     ∙ ap got_read (same_data (1001 + big_number 2 d.initiator) (big_number 2 d.id) user channel body (length bytes - length d.carried) (length bytes)
     d.by.is d.on.is
     (place.from ∙ from_end bytes place.before d.carried place.whole) place.to))
-pdu_again bytes (Bye reason) u =
+pdu_again bytes (Bye reason) (inl u) =
     let k : ℕ = u.first - 32 in
     read_by u.first (u.second ∷ []) bytes DisconnectProviderUltimatum (Bye reason) [] u.whole
     (chosen_by u.first k (omega (arith, u.least)) (omega (arith, u.most)))
     (ap (map_read (bye_of u.first)) (text_is_read (ultimatum u.first) bytes (u.second ∷ []) [] (ultimatum_again bytes reason u))
     ∙ ap (λ r. got_read (Bye r)) (sym u.is))
+pdu_again bytes (Bye reason) (inr b) =
+    read_by 48 (6 ∷ 2 ∷ 2 ∷ 0 ∷ 3 ∷ 48 ∷ 0 ∷ []) bytes BasicUltimatum (Bye reason) [] b.0 refl
+    (ap (map_read (λ _. Bye 3)) (text_is_read basic_ultimatum bytes [] [] (basic_again bytes b.0)) ∙ ap (λ r. got_read (Bye r)) (sym b.1))
 
 -- ---- where none stands
 

@@ -10,7 +10,7 @@ use Rattle.mcs_dom.specs.ErectDomain.{erect_domain_request}
 use Rattle.mcs_dom.specs.AttachUser.{attach_user_request}
 use Rattle.mcs_dom.specs.ChannelJoin.{channel_join_request, join_of}
 use Rattle.mcs_dom.specs.SendData.{send_data_request, data_of}
-use Rattle.mcs_dom.specs.Ultimatum.{ultimatum, bye_of}
+use Rattle.mcs_dom.specs.Ultimatum.{ultimatum, bye_of, basic_ultimatum}
 
 pub data Choice : Type 0 where
   ErectDomainRequest : Choice
@@ -18,9 +18,10 @@ pub data Choice : Type 0 where
   ChannelJoinRequest : Choice
   SendDataRequest : Choice
   DisconnectProviderUltimatum : Choice
+  BasicUltimatum : Choice
   Other : Choice
 
--- the choice is in the first six bits; of a request the last two are 0
+-- the choice is in the first six bits; of a request the last two are 0. A sequence by the basic encoding rules begins with 48, which is no choice of a client
 abbrev pub choice_of : ℕ → Choice
 choice_of first =
     if first == 4 then ErectDomainRequest
@@ -30,7 +31,8 @@ choice_of first =
     else (if first == 32 then DisconnectProviderUltimatum
     else (if first == 33 then DisconnectProviderUltimatum
     else (if first == 34 then DisconnectProviderUltimatum
-    else Other))))))
+    else (if first == 48 then BasicUltimatum
+    else Other)))))))
 
 -- the PDU of a choice, in a text of so many bytes
 abbrev pub pdu_at : Choice → ℕ → ℕ → List ℕ → Read DomainPdu
@@ -39,6 +41,7 @@ pdu_at AttachUserRequest first size bs = map_read (λ _. Attach) (fields_at atta
 pdu_at ChannelJoinRequest first size bs = map_read join_of (fields_at channel_join_request bs)
 pdu_at SendDataRequest first size bs = map_read (data_of size) (fields_at send_data_request bs)
 pdu_at DisconnectProviderUltimatum first size bs = map_read (bye_of first) (fields_at (ultimatum first) bs)
+pdu_at BasicUltimatum first size bs = map_read (λ _. Bye 3) (fields_at basic_ultimatum bs)
 pdu_at Other first size bs = Err bs
 
 abbrev pub domain_at : ℕ → List ℕ → Read DomainPdu

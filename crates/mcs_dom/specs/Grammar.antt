@@ -1,5 +1,5 @@
 -- What domain PDUs are, apart from reading: which bytes stand there, and what they say.
-use Rattle.std.specs.Prelude.{◌≡◌, ◌≤◌, ℕ, ◌+◌, ◌*◌, ◌/◌, ◌%◌, true, List, [], ◌∷◌, ◌++◌, length}
+use Rattle.std.specs.Prelude.{◌≡◌, ◌≤◌, ◌⊎◌, ℕ, ◌+◌, ◌*◌, ◌/◌, ◌%◌, true, List, [], ◌∷◌, ◌++◌, length}
 use Rattle.byteorder.specs.Endian.{big_number}
 use Rattle.wire_num.specs.declared.range.Range.{Range}
 use Rattle.wire_num.specs.FieldValue.{has_bits}
@@ -11,8 +11,8 @@ use Rattle.mcs_dom.specs.ErectDomain.{erect_domain_request}
 use Rattle.mcs_dom.specs.AttachUser.{attach_user_request}
 use Rattle.mcs_dom.specs.ChannelJoin.{channel_join_request}
 use Rattle.mcs_dom.specs.SendData.{send_data_request}
-use Rattle.mcs_dom.specs.Ultimatum.{ultimatum}
-use Rattle.mcs_dom.specs.DomainPdu.{Choice, ErectDomainRequest, AttachUserRequest, ChannelJoinRequest, SendDataRequest, DisconnectProviderUltimatum, Other, choice_of}
+use Rattle.mcs_dom.specs.Ultimatum.{ultimatum, basic_bytes, basic_ultimatum}
+use Rattle.mcs_dom.specs.DomainPdu.{Choice, ErectDomainRequest, AttachUserRequest, ChannelJoinRequest, SendDataRequest, DisconnectProviderUltimatum, BasicUltimatum, Other, choice_of}
 
 -- choice; subHeight and subInterval, each a byte that counts its bytes, and the bytes; any bytes may follow
 pub record IsErectDomain (bytes : List ℕ) : Type 0 where
@@ -72,13 +72,17 @@ pub record IsUltimatum (bytes : List ℕ) (reason : ℕ) : Type 0 where
   pub is : reason ≡ 2 * (first % 4) + second / 128
   pub known : reason ≤ 4
 
+-- an ultimatum, or the eight bytes that stand for one of reason 3
+abbrev pub IsBye : List ℕ → ℕ → Type 0
+IsBye bytes reason = IsUltimatum bytes reason ⊎ ((bytes ≡ basic_bytes) × (reason ≡ 3))
+
 -- these bytes are that PDU
 abbrev pub IsDomainPdu : List ℕ → DomainPdu → Type 0
 IsDomainPdu bytes Erect = IsErectDomain bytes
 IsDomainPdu bytes Attach = bytes ≡ 40 ∷ []
 IsDomainPdu bytes (Join user channel) = IsJoin bytes user channel
 IsDomainPdu bytes (Data user channel body) = IsData bytes user channel body
-IsDomainPdu bytes (Bye reason) = IsUltimatum bytes reason
+IsDomainPdu bytes (Bye reason) = IsBye bytes reason
 
 -- the PDU of this choice breaks its rule at this offset; a byte that is no choice of a client breaks it itself
 abbrev pub IsBrokenBy : Choice → ℕ → List ℕ → ℕ → Type 0
@@ -87,6 +91,7 @@ IsBrokenBy AttachUserRequest first bytes at = IsBrokenAt attach_user_request byt
 IsBrokenBy ChannelJoinRequest first bytes at = IsBrokenAt channel_join_request bytes at
 IsBrokenBy SendDataRequest first bytes at = IsBrokenAt send_data_request bytes at
 IsBrokenBy DisconnectProviderUltimatum first bytes at = IsBrokenAt (ultimatum first) bytes at
+IsBrokenBy BasicUltimatum first bytes at = IsBrokenAt basic_ultimatum bytes at
 IsBrokenBy Other first bytes at = at ≡ 0
 
 -- the bytes are no domain PDU, and break the rule of the one that they choose at this offset

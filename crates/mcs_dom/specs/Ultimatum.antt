@@ -25,5 +25,15 @@ ultimatum first =
 abbrev pub bye_of : ℕ → List ℕ → DomainPdu
 bye_of first values = Bye (reason_of first (slice_index values 0))
 
+-- What one client in use writes in place of an ultimatum of reason 3, by the basic encoding rules: a sequence of six bytes, in it the reason as an integer of
+-- two bytes, and an empty sequence. It is one field (profile).
+abbrev pub basic_bytes : List ℕ
+basic_bytes = 48 ∷ 6 ∷ 2 ∷ 2 ∷ 0 ∷ 3 ∷ 48 ∷ 0 ∷ []
+
+unfoldable pub basic_ultimatum : Layout
+basic_ultimatum =
+    Bytes basic_bytes
+    ▸ End
+
 abbrev pub ultimatum_packet : ℕ → List ℕ
 ultimatum_packet reason = data_packet ((32 + reason / 2) ∷ (128 * (reason % 2)) ∷ [])

@@ -2,7 +2,7 @@
 //!
 //! | offset | size | field | value |
 //! |---|---|---|---|
-//! | 0 | 1 | choice | `04` Erect Domain Request, `28` Attach User Request, `38` Channel Join Request, `64` Send Data Request, `20` to `22` Disconnect Provider Ultimatum |
+//! | 0 | 1 | choice | `04` Erect Domain Request, `28` Attach User Request, `38` Channel Join Request, `64` Send Data Request, `20` to `22` Disconnect Provider Ultimatum; `30` begins one by the basic encoding rules |
 //! | 1 | | fields of the choice | each in a file of its own |
 
 ghost use Rattle.std.specs.Prelude.{◌≡◌, length, IfOk};
@@ -14,7 +14,9 @@ use crate::bad_domain::BadDomain;
 use crate::channel_join::{CHANNEL_JOIN_REQUEST, read_channel_join};
 use crate::erect_domain::{ERECT_DOMAIN_REQUEST, read_erect_domain};
 use crate::send_data::{SEND_DATA_REQUEST, read_send_data};
-use crate::ultimatum::{FIRST_ULTIMATUM, LAST_ULTIMATUM, read_ultimatum};
+use crate::ultimatum::{
+    BASIC_SEQUENCE, FIRST_ULTIMATUM, LAST_ULTIMATUM, read_basic_ultimatum, read_ultimatum,
+};
 use wire_num::{Cursor, Range, Short};
 
 /// What a client says to its domain.
@@ -65,6 +67,7 @@ fn read_pdu(bytes: &[u8], cursor: &mut Cursor<'_>) -> Result<DomainPdu, Short>
         [CHANNEL_JOIN_REQUEST, ..] => read_channel_join(cursor),
         [SEND_DATA_REQUEST, ..] => read_send_data(cursor),
         [first @ FIRST_ULTIMATUM..=LAST_ULTIMATUM, ..] => read_ultimatum(*first, cursor),
+        [BASIC_SEQUENCE, ..] => read_basic_ultimatum(cursor),
         _ => Err(Short { at: cursor.at() }),
     }
 }

@@ -4,6 +4,12 @@
 //! |---|---|---|---|
 //! | 0 | 1 | choice, and the reason's two high bits | `20`, `21` or `22` |
 //! | 1 | 1 | the reason's low bit, and padding | the bit is the top one |
+//!
+//! One client in use writes it by the basic encoding rules, with reason 3 (profile):
+//!
+//! | offset | size | field | value |
+//! |---|---|---|---|
+//! | 0 | 8 | a sequence of the reason and of an empty sequence | `30 06 02 02 00 03 30 00` |
 
 ghost use Rattle.std.specs.Prelude.{◌≡◌, ◌<◌, ◌++◌, OnOk, OnErr};
 ghost use Rattle.wire_num.specs.FieldValue.{passing_at};
@@ -12,7 +18,7 @@ ghost use Rattle.wire_num.specs.Number.{big_at};
 ghost use Rattle.wire_num.specs.Layout.{fields_at};
 ghost use Rattle.wire_num.specs.Cursor.{ReadsFields, ReadsField, rest};
 ghost use Rattle.wire_num.specs.Written.{AppendsFront};
-ghost use Rattle.mcs_dom.specs.Ultimatum.{ultimatum, ultimatum_packet, bye_of, has_reason, reason_of};
+ghost use Rattle.mcs_dom.specs.Ultimatum.{ultimatum, ultimatum_packet, basic_ultimatum, bye_of, has_reason, reason_of};
 
 use crate::DomainPdu;
 use wire_num::{Cursor, OutOfMemory, Short};
@@ -21,6 +27,12 @@ use wire_num::{Cursor, OutOfMemory, Short};
 pub const FIRST_ULTIMATUM: u8 = 0x20;
 /// The choice, with the reason 4 or 5.
 pub const LAST_ULTIMATUM: u8 = 0x22;
+/// The first byte by the basic encoding rules: a sequence.
+pub const BASIC_SEQUENCE: u8 = 0x30;
+/// The whole of it.
+const BASIC_ULTIMATUM: [u8; 8] = [0x30, 6, 2, 2, 0, 3, 0x30, 0];
+/// Its reason, rn-user-requested.
+const USER_REQUESTED: u8 = 3;
 /// The greatest reason, rn-channel-purged.
 const MOST_REASON: u8 = 4;
 
@@ -53,6 +65,18 @@ fn reason_of(first: u8, second: u8) -> u8
     ensures { result ≡ reason_of first second }
 {
     2 * (first % 4) + second / 128
+}
+
+/// Reads what stands for a Disconnect Provider Ultimatum of reason 3 by the basic encoding rules.
+#[tactic(auto, unfolding(crate::specs::Ultimatum::basic_ultimatum))]
+pub fn read_basic_ultimatum(cursor: &mut Cursor<'_>) -> Result<DomainPdu, Short>
+    ensures { ReadsFields (λ bs. map_read (λ _. DomainPdu.Bye 3) (fields_at basic_ultimatum bs)) result cursor.old cursor.new }
+{
+    cursor.expect(&BASIC_ULTIMATUM)?;
+    cursor.end()?;
+    Ok(DomainPdu::Bye {
+        reason: USER_REQUESTED,
+    })
 }
 
 /// Writes a Disconnect Provider Ultimatum with this reason at the end, as a whole packet. An `Err` leaves a front of it there.

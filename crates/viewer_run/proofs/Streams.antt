@@ -40,9 +40,9 @@ over_part h led over = ap (λ (x : Hearing). x.part) (sym (silent_after h led) �
 between_by : (s : Stage) → IsUnrefused s → end_by s 0 ≡ Between
 between_by stage.Request u = refl
 between_by (stage.Initial asked) u = refl
-between_by (stage.Erect channels) u = refl
-between_by (stage.Attach channels) u = refl
-between_by (stage.Joins channels user io) u = refl
+between_by (stage.Erect client) u = refl
+between_by (stage.Attach client) u = refl
+between_by (stage.Joins client user io) u = refl
 between_by (stage.Shares channels here) u = refl
 between_by stage.Over u = refl
 between_by (stage.Refused k at) u = absurd u
@@ -58,9 +58,9 @@ OnlyWithin (RefusedAt k at) = ⊤
 within_by : (s : Stage) (n : ℕ) → IsUnrefused s → (is_over s ≡ true → ⊥) → OnlyWithin (end_by s (suc n))
 within_by stage.Request n u o = tt
 within_by (stage.Initial asked) n u o = tt
-within_by (stage.Erect channels) n u o = tt
-within_by (stage.Attach channels) n u o = tt
-within_by (stage.Joins channels user io) n u o = tt
+within_by (stage.Erect client) n u o = tt
+within_by (stage.Attach client) n u o = tt
+within_by (stage.Joins client user io) n u o = tt
 within_by (stage.Shares channels here) n u o = tt
 within_by stage.Over n u o = absurd (o refl)
 within_by (stage.Refused k at) n u o = tt

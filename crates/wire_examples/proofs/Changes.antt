@@ -1,5 +1,5 @@
 -- The handshake on the sample client with one byte changed: each refusal, at its place in the stream.
-use Rattle.std.proofs.Common.{◌≡◌, ℕ, List, [], ◌∷◌, ◌++◌, replicate, take, refl}
+use Rattle.std.proofs.Common.{◌≡◌, ℕ, List, [], ◌∷◌, ◌++◌, refl}
 use Rattle.std.specs.Prelude.{slice_set}
 use Rattle.px_core.specs.declared.surface.Size.{Size}
 use Rattle.wire_num.specs.FieldValue.{passing_at, at_least, rest_count_at}
@@ -26,7 +26,7 @@ use Rattle.share_pdu.specs.ClientPdu.{total_length, control_header, data_header,
 use Rattle.input_pdu.specs.Events.{event_at, event_count_at}
 use Rattle.conn_rules.specs.Headers.{mcs_headers}
 use Rattle.conn_rules.specs.Hearing.{heard, host_handshake, end_of}
-use Rattle.conn_rules.specs.Hearing.StreamEnd.{Between, Within, RefusedAt}
+use Rattle.conn_rules.specs.Hearing.StreamEnd.{RefusedAt}
 use Rattle.wire_examples.proofs.Sample.{stream}
 
 abbrev size : Size

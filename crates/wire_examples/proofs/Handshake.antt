@@ -1,5 +1,5 @@
 -- The handshake on the sample client, whole and in its first packets.
-use Rattle.std.proofs.Common.{◌≡◌, ℕ, List, [], ◌∷◌, ◌++◌, replicate, take, refl}
+use Rattle.std.proofs.Common.{◌≡◌, [], ◌∷◌, ◌++◌, take, refl}
 use Rattle.std.specs.Prelude.{slice_set}
 use Rattle.px_core.specs.declared.surface.Size.{Size}
 use Rattle.wire_num.specs.FieldValue.{passing_at, at_least, rest_count_at}

@@ -21,5 +21,6 @@ pub mod BoundsOfOrders
 pub mod EdgesOfUpdates
 mod Sample
 mod Handshake
+mod Clients
 mod Changes
 mod Meanings

@@ -1,5 +1,5 @@
 -- A sample client that sends other packets, or in another order: what each is answered, told or refused by.
-use Rattle.std.proofs.Common.{◌≡◌, ℕ, List, [], ◌∷◌, ◌++◌, replicate, take, drop, refl, true, false}
+use Rattle.std.proofs.Common.{◌≡◌, ℕ, List, [], ◌∷◌, ◌++◌, take, drop, refl, true}
 use Rattle.std.specs.Prelude.{slice_set, pos}
 use Rattle.px_core.specs.declared.surface.Size.{Size}
 use Rattle.wire_num.specs.FieldValue.{passing_at, at_least, rest_count_at}
@@ -29,7 +29,6 @@ use Rattle.conn_rules.specs.Hearing.{heard, host_handshake, end_of, StreamEnd}
 use Rattle.conn_rules.specs.Hearing.StreamEnd.{Between, RefusedAt}
 use Rattle.px_core.specs.Rectangle.{boxed}
 use Rattle.caps_sets.specs.Confirmed.{plain}
-use Rattle.input_pdu.specs.declared.event.Event.TheVariants as event
 use Rattle.conn_rules.specs.declared.conn_step.ConnStep.{ConnStep}
 use Rattle.conn_rules.specs.declared.conn_step.ConnStep.TheVariants as step
 use Rattle.share_pdu.specs.Bodies.{suppress_body, refresh_header, inclusive_area, area_at, refresh_at, passed_refresh_at}

@@ -1,8 +1,7 @@
-use Rattle.std.proofs.Common.{◌≡◌, ◌-◌, List, ℕ, length, take, drop, ap, sym, subst, ◌∙◌, arith}
+use Rattle.std.proofs.Common.{◌≡◌, List, ℕ, length, take, sym, subst, ◌∙◌, arith}
 use Rattle.std.proofs.lemmas.Bool.Decides.{nat_tests}
 use Rattle.std.proofs.lemmas.List.{take_rest}
 use Rattle.std.proofs.lemmas.Result.{err_from_is_err_and}
-use Rattle.conn_rules.specs.Hearing.{Hearing}
 use Rattle.conn_core.specs.Stream.{hearing, IsStanding}
 use Rattle.conn_core.proofs.Part.{over_silence, stands_after}
 use Rattle.conn_core.proofs.Loop.{HearsSoFar, hears_more, hears_all, hears_some, hears_end}

@@ -1,4 +1,4 @@
-use Rattle.std.proofs.Common.{◌≡◌, List, ℕ, [], ap, sym, subst, ◌∙◌}
+use Rattle.std.proofs.Common.{List, ℕ, [], ap, sym, subst, ◌∙◌}
 use Rattle.std.proofs.lemmas.Result.{err_from_is_err_and}
 use Rattle.tpkt_x224.specs.Tpkt.{packet_at}
 use Rattle.conn_rules.specs.Packets.{packet_judged}

@@ -1,9 +1,9 @@
-use Rattle.std.proofs.Common.{◌≡◌, List, ℕ, ◌++◌, take, ap, sym, subst, ◌∙◌, arith}
+use Rattle.std.proofs.Common.{◌≡◌, ◌++◌, take, ap, subst, ◌∙◌, arith}
 use Rattle.std.proofs.lemmas.Result.{err_from_is_err_and}
 use Rattle.std.proofs.lemmas.Grind.{common_steps}
 use Rattle.conn_rules.specs.Hearing.{Heard}
 use Rattle.conn_core.specs.Feeds.{Appends, AppendsSome}
-use Rattle.conn_core.specs.Stream.{hearing, part_heard}
+use Rattle.conn_core.specs.Stream.{hearing}
 use Rattle.conn_core.proofs.Loop.{heard_of_part, front_heard}
 use Rattle.conn_core.proofs.hear.hear_some.Goals as goal
 
