@@ -76,9 +76,9 @@ past_greeting n name confirmed rest (step.Packet ∷ xs) after e h = absurd h
 silent_by : (h : Hearing) (s : Stage) (bytes : List ℕ) → h.stage ≡ s → IsPast (progress_of s) → (heard h bytes).replies ≡ []
 silent_by h stage.Request bytes e past = absurd past
 silent_by h (stage.Initial asked) bytes e past = absurd past
-silent_by h (stage.Erect channels) bytes e past = absurd past
-silent_by h (stage.Attach channels) bytes e past = absurd past
-silent_by h (stage.Joins channels user io) bytes e past = absurd past
+silent_by h (stage.Erect client) bytes e past = absurd past
+silent_by h (stage.Attach client) bytes e past = absurd past
+silent_by h (stage.Joins client user io) bytes e past = absurd past
 silent_by h (stage.Shares channels phase.Confirm) bytes e past = absurd past
 silent_by h (stage.Shares channels (phase.Finish confirmed next)) bytes e past = absurd past
 silent_by h (stage.Shares channels phase.Ready) bytes e past = ready_silence h bytes (ap is_ready e)
