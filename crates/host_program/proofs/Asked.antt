@@ -4,7 +4,7 @@ use Rattle.std.specs.Prelude.{Option, Some, None}
 use Rattle.std.specs.Option.{option_map, option_and_then}
 use Rattle.px_core.specs.declared.surface.Size.{Size}
 use Rattle.script_rules.specs.Capture.{number_between}
-use Rattle.host_program.specs.Serving.{HostingOf, hosting_with, hosting_of_args, rows_of_words}
+use Rattle.host_program.specs.Serving.{hosting_with, hosting_of_args, rows_of_words}
 use Rattle.host_program.specs.Answering.{size_of_words}
 
 -- five arguments or more, one by one

@@ -1,5 +1,5 @@
 -- The mode answer: its words, and the statuses that it ends with.
-use Rattle.std.specs.Prelude.{◌≡◌, ◌≢◌, ℕ, ◌+◌, List, [], ◌∷◌, Bool, Option, Some, None, IsTrue, IfErr, codes, if◌then◌else◌}
+use Rattle.std.specs.Prelude.{◌≡◌, ◌≢◌, ℕ, ◌+◌, List, [], ◌∷◌, Option, None, IsTrue, IfErr, codes, if◌then◌else◌}
 use Rattle.std.specs.Option.{option_and_then}
 use Rattle.std.specs.Bool.{then_some}
 use Rattle.std.specs.declared.result.Result.{Result}

@@ -1,5 +1,5 @@
 -- The mode serve: its words.
-use Rattle.std.specs.Prelude.{◌≡◌, ℕ, ◌==◌, nat_le, Bool, ◌&&◌, List, [], ◌∷◌, length, Option, Some, None, IsTrue, codes, if◌then◌else◌}
+use Rattle.std.specs.Prelude.{ℕ, nat_le, List, [], ◌∷◌, length, Option, Some, None, IsTrue, codes, if◌then◌else◌}
 use Rattle.std.specs.Option.{option_map, option_and_then}
 use Rattle.std.specs.Bool.{then_some}
 use Rattle.std.specs.Io.BufRead.{ends_with_byte, strip_last}

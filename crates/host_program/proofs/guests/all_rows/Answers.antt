@@ -1,4 +1,4 @@
-use Rattle.std.proofs.Common.{◌≡◌, ◌+◌, ◌∷◌, ◌++◌, ℕ, List, drop, map, sym, ◌∙◌, ap}
+use Rattle.std.proofs.Common.{◌+◌, ◌++◌, ℕ, List, drop, map, sym, ◌∙◌, ap}
 use Rattle.std.specs.Borrow.{Bor}
 use Rattle.std.specs.Option.{option_map}
 use Rattle.session_rules.specs.Journal.{Row}

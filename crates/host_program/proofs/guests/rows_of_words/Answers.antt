@@ -1,4 +1,4 @@
-use Rattle.std.proofs.Common.{map, length, ◌≡◌, ◌≤◌, sym, ◌∙◌, ap, arith}
+use Rattle.std.proofs.Common.{map, length, ◌≡◌, sym, ◌∙◌, ap, arith}
 use Rattle.std.specs.Prelude.{ℕ, List}
 use Rattle.std.specs.Borrow.{Bor}
 use Rattle.std.proofs.lemmas.List.{length-map}

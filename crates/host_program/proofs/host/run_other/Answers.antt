@@ -1,9 +1,9 @@
-use Rattle.std.proofs.Common.{rules, ◌≡◌, IfSome, Some, subst, sym, ◌∙◌, refl}
+use Rattle.std.proofs.Common.{IfSome, subst, sym, ◌∙◌}
 use Rattle.std.specs.declared.option.Option.{Option}
 use Rattle.host_program.specs.declared.loading.Load.{Load}
-use Rattle.host_program.specs.Loading.{load_of, RunsDemo}
+use Rattle.host_program.specs.Loading.{RunsDemo}
 use Rattle.gate_run.specs.Gates.{gate_state}
-use Rattle.host_program.specs.Serving.{HostingOf, hosting_of}
+use Rattle.host_program.specs.Serving.{HostingOf}
 use Rattle.host_program.specs.Hosting.{RunsServe}
 use Rattle.host_program.proofs.Modes.{client_or_load, client_or_hosting, load_or_hosting}
 use Rattle.host_program.proofs.host.run_other.Goals as goal
