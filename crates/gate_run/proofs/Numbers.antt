@@ -1,5 +1,5 @@
 -- The numbers of viewers: no two links joined as one.
-use Rattle.std.proofs.Common.{◌≡◌, ℕ, ◌<◌, List, [], ◌∷◌, ◌++◌, length, get_or, sym, refl, ap, ◌∙◌, subst, arith, Some}
+use Rattle.std.proofs.Common.{◌≡◌, ℕ, List, [], ◌∷◌, get_or, sym, refl, ◌∙◌, subst, arith, Some}
 use Rattle.std.specs.Prelude.{Contains, All, AllPairs, slice_get}
 use Rattle.std.proofs.lemmas.List.Elements.{All-nil, All-cons}
 use Rattle.session_rules.specs.declared.entry.Entry.{Entry}

@@ -1,9 +1,7 @@
 -- A gate that was opened, or couldn't be.
-use Rattle.std.proofs.Common.{◌≡◌, ℕ, Bool, false, List, [], ◌++◌, sym, refl, ap, ◌∙◌, subst, arith, append-nil, Some}
+use Rattle.std.proofs.Common.{◌≡◌, ℕ, false, List, [], ◌++◌, sym, refl, ap, ◌∙◌, subst, arith, append-nil, Some}
 use Rattle.std.specs.Prelude.{AllPairs}
-use Rattle.std.specs.declared.option.Option.{Option}
 use Rattle.edge_io.specs.Faults.{Rose}
-use Rattle.edge_io.specs.Gate.{Asked}
 use Rattle.session_rules.specs.declared.entry.Entry.{Entry}
 use Rattle.session_rules.specs.Journal.{Head, IsLegalJournal}
 use Rattle.serve_rules.specs.declared.told.ConnReport.{ConnReport}

@@ -1,7 +1,6 @@
 -- The work for the links of a gate, in threads or done.
-use Rattle.std.specs.Prelude.{◌≡◌, ℕ, List, [], ◌∷◌, ◌++◌, ◌||◌, true, is_some, IfSome}
+use Rattle.std.specs.Prelude.{◌≡◌, List, [], ◌∷◌, ◌++◌, ◌||◌, true, is_some, IfSome}
 use Rattle.edge_io.specs.declared.link.Link as links
-use Rattle.session_rules.specs.declared.entry.Entry.{Entry}
 use Rattle.session_rules.specs.Journal.{Head}
 use Rattle.grow_lock.specs.Journal.{StartsWith, IsDisjoint}
 use Rattle.grow_lock.specs.Passes.{LockModel, IsPassOf}
