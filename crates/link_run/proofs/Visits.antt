@@ -6,6 +6,7 @@ use Rattle.std.specs.List.{range_with_len}
 use Rattle.std.specs.Prelude.{Option, Some, Bool, true, false, All, slice_get, option_to_list, Ok}
 use Rattle.std.specs.declared.option.Option as std_option
 use Rattle.std.specs.declared.option.Option.TheVariants as std
+use Rattle.std.specs.Io.KnownBytes.{Appends}
 use Rattle.std.proofs.KnownBytes.{Appends-trans}
 use Rattle.edge_io.specs.Faults.{Rose}
 use Rattle.px_core.specs.declared.surface.Size.{Size}
@@ -24,6 +25,7 @@ use Rattle.frame_rules.specs.Encoder.{first_encoder, bytes_of_takes}
 use Rattle.frame_rules.specs.Describes.{HasAllCaches}
 use Rattle.frame_shows.proofs.JournalShown.{frame_shows_journal}
 use Rattle.headline.proofs.Takes.{takes_see}
+use Rattle.headline.proofs.CaptureFronts.{front_sees}
 use Rattle.grow_lock.specs.Journal.{StartsWith}
 use Rattle.grow_lock.proofs.Lists.{starts_trans, length_starts}
 use Rattle.serve_rules.specs.Turns.{SessionPass, IsTurn, Idles}
@@ -290,6 +292,15 @@ module _ (head : Head) (p p1 r : SessionPass) (size : Size) (conn : Hearing) (na
               (link_state left2 out2 rf2 wf2) mid wm wf2 (ap₂ ◌++◌ replied (same_frames ∙ view.bytes) ∙ sym (append_assoc a.written view.written view.unwritten))
               (Appends-trans out out1 mid a.written view.written a.told view.told) view.all_written s);
           sees = takes_see head confirmed (frame_shows_journal head confirmed) sized caches r.seen legal view.takes view.last view.follow within;
+          viewed = view.written;
+          viewed_front = record { rest = view.unwritten; joined = same_frames ∙ view.bytes };
+          said = s.written;
+          told = subst (Appends out out2)
+              (append_assoc a.written view.written s.written ∙ ap (λ l. l ++ (view.written ++ s.written)) (sym replied))
+              (Appends-trans out mid out2 (a.written ++ view.written) s.written (Appends-trans out out1 mid a.written view.written a.told view.told) s.told);
+          sees_first = front_sees head.size confirmed r.seen (map (λ (t : TakeOf). t.number) view.takes) frames view.written
+              (takes_see head confirmed (frame_shows_journal head confirmed) sized caches r.seen legal view.takes view.last view.follow within)
+              (record { rest = view.unwritten; joined = same_frames ∙ view.bytes });
           ends = view_said left read (host_handshake head.size read).after (notice_after_all no_notice steps) rf rf2 wf wm wf2 visit.end said noted.shutdown mid out2
               (view_then left left1 a.fed view.fed (host_handshake head.size read).after (notice_in t1) (notice_after_all no_notice steps) rf rf1 rf2 wf wf1 wm visit.end
               (consumes_then left left1 (std.Some []) a.fed view.fed a.taken) a.came.3 a.came.4 same_notice

@@ -1,6 +1,6 @@
 -- A client's connection, served from its first byte to its last.
 use Rattle.std.specs.Prelude.{◌≡◌, ◌⊎◌, ℕ, suc, ◌+◌, ◌≤◌, ◌<◌, ⊤, true, false, List, [], ◌∷◌, ◌++◌, length, map, drop, All, Contains, slice_get, Some, Err}
-use Rattle.std.specs.Io.KnownBytes.{Consumes}
+use Rattle.std.specs.Io.KnownBytes.{Consumes, Appends}
 use Rattle.edge_io.specs.Faults.{Rose}
 use Rattle.input_pdu.specs.declared.event.Event.{Event}
 use Rattle.caps_sets.specs.declared.confirmed.Confirmed.{Confirmed}
@@ -21,6 +21,7 @@ use Rattle.session_core.specs.declared.faults.JoinFault.TheVariants as join
 use Rattle.frame_rules.specs.FrameBytes.{joined_bytes}
 use Rattle.frame_rules.specs.Encoder.{first_encoder, bytes_of_takes}
 use Rattle.headline.specs.Headline.{SeesJournal}
+use Rattle.headline.specs.Fronts.{IsFront, SeesFirstOfJournal}
 use Rattle.grow_lock.specs.Journal.{StartsWith}
 use Rattle.serve_rules.specs.Turns.{SessionPass}
 use Rattle.serve_rules.specs.Events.{Act, HappenFrom, places_of, Ascend, AreOfEvents, IsWithin}
@@ -131,6 +132,13 @@ pub record IsVisit (head : Head) (before after : SessionPass) (report : ConnRepo
       ((host_handshake head.size read).replies ++ (joined_bytes (bytes_of_takes head.size confirmed after.seen first_encoder takes) ++ word)) link spent
   pub sees : SeesJournal head.size confirmed after.seen (map (λ (t : TakeOf). t.number) takes)
       (joined_bytes (bytes_of_takes head.size confirmed after.seen first_encoder takes))
+  -- of the frames this was written, behind the replies and before a front of the last word: wherever it was cut it isn't refused, and its marks show the first
+  -- of these pictures
+  pub viewed : List ℕ
+  pub viewed_front : IsFront viewed (joined_bytes (bytes_of_takes head.size confirmed after.seen first_encoder takes))
+  pub said : List ℕ
+  pub told : Appends link.told spent.told ((host_handshake head.size read).replies ++ (viewed ++ said))
+  pub sees_first : SeesFirstOfJournal head.size confirmed after.seen (map (λ (t : TakeOf). t.number) takes) viewed
   -- the connection's end, and the last mark at it
   pub ends : ViewEnd link.left read (host_handshake head.size read).after (notice_after_all no_notice steps) link.reads spent.reads link.writes spent.writes report.end
   pub shown : wants_last report.end (notice_after_all no_notice steps) ≡ true
