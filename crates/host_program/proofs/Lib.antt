@@ -1,2 +1,5 @@
 pub mod Names
 pub mod Modes
+pub mod Invited
+pub mod Rowed
+pub mod Asked

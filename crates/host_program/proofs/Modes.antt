@@ -9,7 +9,8 @@ use Rattle.host_program.specs.declared.answering.Client.{Client}
 use Rattle.host_program.specs.declared.loading.Load.{Load}
 use Rattle.host_program.specs.Answering.{client_of_args, client_of}
 use Rattle.host_program.specs.Loading.{load_of_args, load_of}
-use Rattle.host_program.specs.Top.{is_script_request, client_of_request, load_of_request, asks_for_mode}
+use Rattle.host_program.specs.Serving.{HostingOf, hosting_of_args, hosting_of}
+use Rattle.host_program.specs.Top.{is_script_request, client_of_request, load_of_request, hosting_of_request, asks_for_mode}
 
 -- another number of arguments than two asks for no load
 none_of : (args : List (List ℕ)) → (length args ≡ 2 → ⊥) → load_of_args args ≡ None
@@ -35,16 +36,33 @@ client_or_load request client asks = by (is_same_word request.mode (codes "answe
     by false e k = absurd (cc k)
     by true e k = ap (λ mode. if is_same_word mode (codes "demo") then load_of_args request.args else None) (same_word request.mode (codes "answer") e)
 
-neither : (script : Bool) (client : Option Client) (load : Option Load) → script ≡ false
-    → ((script || is_some (if script then None else client)) || is_some load) ≡ false → (client ≡ None) × (load ≡ None)
-neither true client load s e = absurd (cc s)
-neither false None None s e = (refl, refl)
-neither false None (Some l) s e = absurd (cc e)
-neither false (Some c) load s e = absurd (cc e)
+-- nor for links
+pub client_or_hosting : (request : RequestOf) (client : Client) → client_of request ≡ Some client → hosting_of request ≡ None
+client_or_hosting request client asks = by (is_same_word request.mode (codes "answer")) refl asks
+  where
+    by : (b : Bool) → is_same_word request.mode (codes "answer") ≡ b → (if b then client_of_args request.args else None) ≡ Some client → hosting_of request ≡ None
+    by false e k = absurd (cc k)
+    by true e k = ap (λ mode. if is_same_word mode (codes "serve") then hosting_of_args request.args else None) (same_word request.mode (codes "answer") e)
 
--- words that ask for no mode ask for neither
+-- who asks for a load asks for no links
+pub load_or_hosting : (request : RequestOf) (load : Load) → load_of request ≡ Some load → hosting_of request ≡ None
+load_or_hosting request load asks = by (is_same_word request.mode (codes "demo")) refl asks
+  where
+    by : (b : Bool) → is_same_word request.mode (codes "demo") ≡ b → (if b then load_of_args request.args else None) ≡ Some load → hosting_of request ≡ None
+    by false e k = absurd (cc k)
+    by true e k = ap (λ mode. if is_same_word mode (codes "serve") then hosting_of_args request.args else None) (same_word request.mode (codes "demo") e)
+
+neither : (script : Bool) (client : Option Client) (load : Option Load) (hosting : Option HostingOf) → script ≡ false
+    → (((script || is_some (if script then None else client)) || is_some load) || is_some hosting) ≡ false → (client ≡ None) × (load ≡ None) × (hosting ≡ None)
+neither true client load hosting s e = absurd (cc s)
+neither false None None None s e = (refl, refl, refl)
+neither false None None (Some h) s e = absurd (cc e)
+neither false None (Some l) hosting s e = absurd (cc e)
+neither false (Some c) load hosting s e = absurd (cc e)
+
+-- words that ask for no mode ask for none of them
 pub no_mode : (words : List (List ℕ)) (request : RequestOf) → request_of words ≡ Some request → is_script_request (Some request) ≡ false → asks_for_mode words ≡ false
-    → (client_of request ≡ None) × (load_of request ≡ None)
+    → (client_of request ≡ None) × (load_of request ≡ None) × (hosting_of request ≡ None)
 no_mode words request is script asks =
-    neither (is_script_request (Some request)) (client_of request) (load_of request) script
-    (subst (λ r. ((is_script_request r || is_some (client_of_request r)) || is_some (load_of_request r)) ≡ false) is asks)
+    neither (is_script_request (Some request)) (client_of request) (load_of request) (hosting_of request) script
+    (subst (λ r. (((is_script_request r || is_some (client_of_request r)) || is_some (load_of_request r)) || is_some (hosting_of_request r)) ≡ false) is asks)

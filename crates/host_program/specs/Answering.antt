@@ -21,10 +21,13 @@ use Rattle.host_program.specs.Outside.{Outside}
 abbrev pub client_with : Size → List ℕ → Client
 client_with size owner = record { size = size; owner = owner }
 
+-- columns and rows of pixels, as words
+abbrev pub size_of_words : List ℕ → List ℕ → Option Size
+size_of_words w h = option_and_then (λ m. option_and_then (size_with m) (number_up_to 2048 h)) (number_up_to 2048 w)
+
 -- columns, rows and the owner's name, as words
 abbrev pub client_of_words : List ℕ → List ℕ → List ℕ → Option Client
-client_of_words w h owner = option_and_then (λ m. option_and_then (λ n. option_and_then (λ size. then_some (is_name owner) (client_with size owner)) (size_with m n))
-    (number_up_to 2048 h)) (number_up_to 2048 w)
+client_of_words w h owner = option_and_then (λ size. then_some (is_name owner) (client_with size owner)) (size_of_words w h)
 
 abbrev pub client_of_args : List (List ℕ) → Option Client
 client_of_args [] = None

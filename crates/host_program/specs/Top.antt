@@ -12,6 +12,7 @@ use Rattle.host_program.specs.declared.answering.Client.{Client}
 use Rattle.host_program.specs.Answering.{client_of}
 use Rattle.host_program.specs.declared.loading.Load.{Load}
 use Rattle.host_program.specs.Loading.{load_of}
+use Rattle.host_program.specs.Serving.{HostingOf, hosting_of}
 use Rattle.host_program.specs.Statuses.{script_status}
 use Rattle.host_program.specs.Outside.{Outside}
 use Rattle.script_run.specs.Run.{RunsScript, ReadsCause, WritesCause}
@@ -46,13 +47,22 @@ load_of_request (Some request) = load_of request
 abbrev pub load_asked : List (List ℕ) → Option Load
 load_asked words = load_of_request (request_of words)
 
+-- what a request asks to serve
+abbrev pub hosting_of_request : Option RequestOf → Option HostingOf
+hosting_of_request None = None
+hosting_of_request (Some request) = hosting_of request
+
+-- what the words ask to serve, by the mode serve
+abbrev pub hosting_asked : List (List ℕ) → Option HostingOf
+hosting_asked words = hosting_of_request (request_of words)
+
 -- the words ask for a mode that reads the input
 abbrev pub asks_for_reading : List (List ℕ) → Bool
 asks_for_reading words = asks_for_script words || is_some (client_asked words)
 
 -- the words ask for a mode
 abbrev pub asks_for_mode : List (List ℕ) → Bool
-asks_for_mode words = asks_for_reading words || is_some (load_asked words)
+asks_for_mode words = (asks_for_reading words || is_some (load_asked words)) || is_some (hosting_asked words)
 
 -- what is printed where the words ask for no mode
 abbrev pub usage : List ℕ

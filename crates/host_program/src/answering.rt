@@ -1,18 +1,16 @@
 //! The mode `answer`: its words, and the status that it ends with.
 
-ghost use Rattle.std.specs.Prelude.{◌≡◌, IsTrue, IfSome, IfErr};
-ghost use Rattle.px_core.specs.Rectangle.{is_session_size};
-ghost use Rattle.line_text.specs.Numbers.{number_up_to};
-ghost use Rattle.script_rules.specs.Script.{size_with};
+ghost use Rattle.std.specs.Prelude.{◌≡◌, IfSome, IfErr};
 ghost use Rattle.answer_run.specs.Serves.{IsNumberedFault};
 ghost use Rattle.host_program.specs.Answering.{client_of, client_of_words, answer_status, IsServable};
 
 use crate::host::{DONE, OUT_OF_MEMORY, READ_FAULT, WRITE_FAULT};
+use crate::size::size_of_words;
 use answer_run::AnswerFault;
 use command_words::Request;
 use info_lic::Name;
-use line_text::{is_same_word, read_number};
-use px_core::{Size, is_session_size};
+use line_text::is_same_word;
+use px_core::Size;
 use script_lines::is_name;
 
 /// The word of the mode that serves one client.
@@ -20,9 +18,6 @@ const ANSWER: &str = "answer";
 
 /// How many arguments it has: columns, rows and the owner's name.
 const ARGS: usize = 3;
-
-/// The most columns, and the most rows, of a session's picture (profile).
-const MOST_SIDE: u64 = 2_048;
 
 /// What the number of a refusal, 1 to 14, is added to.
 const REFUSED: u8 = 20;
@@ -63,30 +58,10 @@ fn client_of_words(w: &[u8], h: &[u8], owner: &[u8]) -> Option<Client>
     ensures form { result ≡ client_of_words w.now h.now owner.now }
     ensures range { IfSome result IsServable }
 {
-    let size = session_size(read_side(w)?, read_side(h)?)?;
+    let size = size_of_words(w, h)?;
     if is_name(owner) {
         let owner = Name::new(owner);
         Some(Client { size, owner })
-    } else {
-        None
-    }
-}
-
-/// The number of a picture's columns or rows.
-fn read_side(word: &[u8]) -> Option<u32>
-    ensures { result ≡ number_up_to 2048 word.now }
-{
-    let side = read_number(word, MOST_SIDE)?;
-    Some(side as u32)
-}
-
-/// The size of these sides, where a session may have it.
-fn session_size(w: u32, h: u32) -> Option<Size>
-    ensures size { result ≡ size_with w h }
-    ensures range { IfSome result (λ size. IsTrue (is_session_size size.w size.h)) }
-{
-    if is_session_size(w, h) {
-        Some(Size { w, h })
     } else {
         None
     }

@@ -1,13 +1,16 @@
 //! How the program ends.
 
-ghost use Rattle.std.specs.Prelude.{◌≡◌, ℕ, [], Some, false, map, string_bytes, IsTrue, IfSome, IsNone};
+ghost use Rattle.std.specs.Prelude.{◌≡◌, ℕ, [], Some, None, false, map, string_bytes, IsTrue, IfSome, IsNone};
 ghost use Rattle.std.specs.Process.{exit_status};
 ghost use Rattle.host_program.specs.declared.answering.Client.{Client};
 ghost use Rattle.host_program.specs.declared.loading.Load.{Load};
 ghost use Rattle.host_program.specs.Answering.{RunsService};
+ghost use Rattle.gate_run.specs.Gates.{gate_state};
 ghost use Rattle.host_program.specs.Loading.{RunsDemo};
+ghost use Rattle.host_program.specs.Serving.{HostingOf};
+ghost use Rattle.host_program.specs.Hosting.{RunsServe};
 ghost use Rattle.host_program.specs.Outside.{outside};
-ghost use Rattle.host_program.specs.Top.{asks_for_script, asks_for_mode, client_asked, load_asked, RunsMode, WritesUsage};
+ghost use Rattle.host_program.specs.Top.{asks_for_script, asks_for_mode, client_asked, load_asked, hosting_asked, RunsMode, WritesUsage};
 
 use crate::host::{OUT_OF_MEMORY, top};
 use edge_io::{Gate, Sink, Source};
@@ -62,11 +65,14 @@ impl Ending {
             (outside (S.left input.new) (K.told output.new) (S.faults input.new) (K.faults output.new))) }
         ensures demo { IfSome words (λ ws. (load : Load) → load_asked (map string_bytes ws.items) ≡ Some load
             → RunsDemo result load (K.told output.old) (K.told output.new) (K.faults output.old) (K.faults output.new)) }
+        ensures serve { IfSome words (λ ws. (hosting : HostingOf) → hosting_asked (map string_bytes ws.items) ≡ Some hosting → RunsServe result hosting
+            (gate_state G.Gate G.Link.Link gate.old) (gate_state G.Gate G.Link.Link gate.new)
+            (K.told output.old) (K.told output.new) (K.faults output.old) (K.faults output.new)) }
         ensures usage { IfSome words (λ ws. asks_for_mode (map string_bytes ws.items) ≡ false
             → WritesUsage result (K.told output.old) (K.told output.new) (K.faults output.old) (K.faults output.new)) }
         ensures memory { IsNone words → result ≡ 6 }
-        ensures nothing { IsNone words → (input.new ≡ input.old) × (output.new ≡ output.old) }
-        ensures gate { gate.new ≡ gate.old }
+        ensures nothing { IsNone words → (input.new ≡ input.old) × (output.new ≡ output.old) × (gate.new ≡ gate.old) }
+        ensures gate { IfSome words (λ ws. hosting_asked (map string_bytes ws.items) ≡ None → gate.new ≡ gate.old) }
     {
         match words {
             Some(words) => Ending {

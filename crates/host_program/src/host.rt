@@ -1,14 +1,19 @@
 ghost use Rattle.std.specs.Prelude.{◌≡◌, [], false, Some, None, map, string_bytes, IsTrue, IfSome};
+ghost use Rattle.gate_run.specs.Gates.{gate_state};
 ghost use Rattle.host_program.specs.declared.answering.Client.{Client};
 ghost use Rattle.host_program.specs.Outside.{outside};
 ghost use Rattle.host_program.specs.declared.loading.Load.{Load};
 ghost use Rattle.host_program.specs.Answering.{client_of, IsServable, RunsService};
 ghost use Rattle.host_program.specs.Loading.{load_of, RunsDemo};
+ghost use Rattle.host_program.specs.Serving.{HostingOf, hosting_of};
+ghost use Rattle.host_program.specs.Hosting.{RunsServe};
 ghost use Rattle.host_program.specs.Statuses.{script_status};
-ghost use Rattle.host_program.specs.Top.{asks_for_script, asks_for_reading, asks_for_mode, client_asked, load_asked, is_script_request, RunsMode, WritesUsage};
+ghost use Rattle.host_program.specs.Top.{asks_for_script, asks_for_reading, asks_for_mode, client_asked, load_asked, hosting_asked, is_script_request, RunsMode, WritesUsage};
 
 use crate::answering::{answer_status, client_of};
+use crate::hosting::host_links;
 use crate::loading::load_of;
+use crate::serving::hosting_of;
 use answer_run::run_answer;
 use command_words::{OutOfMemory, Request};
 use demo_run::run_demo;
@@ -43,14 +48,18 @@ pub(crate) const WRITE_FAULT: u8 = 5;
 /// The exit status where no memory was left.
 pub(crate) const OUT_OF_MEMORY: u8 = 6;
 
+/// The exit status where the gate couldn't be opened, or failed to give a link.
+pub(crate) const GATE_FAULT: u8 = 7;
+
 /// The whole program, over any input, output and gate; the answer is its exit status. The words begin with the program's name.
 ///
 /// The words are read by `clap` as one simple command with a mode and its arguments. `script` reads a script from the input and writes
 /// its capture to the output. `answer W H OWNER` serves one client, whose bytes come from the input, and whose answer goes to the output.
-/// `demo SEED STEPS` runs the demonstration load and writes the line that counts its run. Other words write the usage line. Only the
-/// first two modes touch the input, and none touches the gate.
+/// `demo SEED STEPS` runs the demonstration load and writes the line that counts its run. `serve PORT W H LINKS OWNER GUEST ..` serves
+/// at most LINKS links of the gate, opened at PORT, each in a thread of its own, over one session; when all of them have ended it writes
+/// the line of each. Other words write the usage line. Only the first two modes touch the input, and only the last touches the gate.
 pub fn top<R: Threads + Wait + Sync, S: Source, K: Sink, G: Gate>(
-    _rt: &R,
+    rt: &R,
     alloc: Global,
     words: &[String],
     input: &mut S,
@@ -74,34 +83,47 @@ pub fn top<R: Threads + Wait + Sync, S: Source, K: Sink, G: Gate>(
     // The line of the demonstration load's counts, of which the marks are those that its viewers' clients read.
     ensures demo { (load : Load) → load_asked (map string_bytes words.now) ≡ Some load
         → RunsDemo result load (K.told output.old) (K.told output.new) (K.faults output.old) (K.faults output.new) }
+    // The gate's own clause: for one legal journal, that of the session which all links share, each link was served as its report says,
+    // and the lines of the reports are written in the order of the links.
+    ensures serve { (hosting : HostingOf) → hosting_asked (map string_bytes words.now) ≡ Some hosting → RunsServe result hosting
+        (gate_state G.Gate G.Link.Link gate.old) (gate_state G.Gate G.Link.Link gate.new)
+        (K.told output.old) (K.told output.new) (K.faults output.old) (K.faults output.new) }
     ensures usage { asks_for_mode (map string_bytes words.now) ≡ false
         → WritesUsage result (K.told output.old) (K.told output.new) (K.faults output.old) (K.faults output.new) }
     ensures input { asks_for_reading (map string_bytes words.now) ≡ false → input.new ≡ input.old }
-    ensures gate { gate.new ≡ gate.old }
+    ensures gate { hosting_asked (map string_bytes words.now) ≡ None → gate.new ≡ gate.old }
 {
     match Request::read(alloc, words) {
         Ok(Some(request)) if is_script(&request) => status(run_script(alloc, input, output)),
-        Ok(Some(request)) => run_other(alloc, &request, input, output),
+        Ok(Some(request)) => run_other(rt, alloc, &request, input, output, gate),
         Ok(None) => refuse_words(output),
         Err(OutOfMemory) => OUT_OF_MEMORY,
     }
 }
 
 /// Does what a request of another mode than `script` asks for, where it asks for something.
-fn run_other<S: Source, K: Sink>(
+fn run_other<R: Threads + Wait + Sync, S: Source, K: Sink, G: Gate>(
+    rt: &R,
     alloc: Global,
     request: &Request<'_>,
     input: &mut S,
     output: &mut K,
+    gate: &mut G,
 ) -> u8
+    requires unused { G.given gate.old ≡ [] }
+    requires open { G.ended gate.old ≡ false }
     ensures answer { IfSome (client_of request.now) (λ client. RunsService result client
         (outside (S.left input.old) (K.told output.old) (S.faults input.old) (K.faults output.old))
         (outside (S.left input.new) (K.told output.new) (S.faults input.new) (K.faults output.new))) }
     ensures demo { IfSome (load_of request.now) (λ load. RunsDemo result load
         (K.told output.old) (K.told output.new) (K.faults output.old) (K.faults output.new)) }
-    ensures usage { client_of request.now ≡ None → load_of request.now ≡ None
+    ensures serve { IfSome (hosting_of request.now) (λ hosting. RunsServe result hosting
+        (gate_state G.Gate G.Link.Link gate.old) (gate_state G.Gate G.Link.Link gate.new)
+        (K.told output.old) (K.told output.new) (K.faults output.old) (K.faults output.new)) }
+    ensures usage { client_of request.now ≡ None → load_of request.now ≡ None → hosting_of request.now ≡ None
         → WritesUsage result (K.told output.old) (K.told output.new) (K.faults output.old) (K.faults output.new) }
     ensures input { client_of request.now ≡ None → input.new ≡ input.old }
+    ensures gate { hosting_of request.now ≡ None → gate.new ≡ gate.old }
 {
     if let Some(client) = client_of(request) {
         let answer = run_answer(alloc, client.size, &client.owner, input, output);
@@ -109,7 +131,31 @@ fn run_other<S: Source, K: Sink>(
     }
     match load_of(request) {
         Some(load) => status(run_demo(alloc, load.seed, load.steps, output)),
-        None => refuse_words(output),
+        None => run_serve(rt, alloc, request, output, gate),
+    }
+}
+
+/// Serves the links that a request asks for, where it asks for some.
+fn run_serve<R: Threads + Wait + Sync, K: Sink, G: Gate>(
+    rt: &R,
+    alloc: Global,
+    request: &Request<'_>,
+    output: &mut K,
+    gate: &mut G,
+) -> u8
+    requires unused { G.given gate.old ≡ [] }
+    requires open { G.ended gate.old ≡ false }
+    ensures serve { IfSome (hosting_of request.now) (λ hosting. RunsServe result hosting
+        (gate_state G.Gate G.Link.Link gate.old) (gate_state G.Gate G.Link.Link gate.new)
+        (K.told output.old) (K.told output.new) (K.faults output.old) (K.faults output.new)) }
+    ensures usage { hosting_of request.now ≡ None
+        → WritesUsage result (K.told output.old) (K.told output.new) (K.faults output.old) (K.faults output.new) }
+    ensures gate { hosting_of request.now ≡ None → gate.new ≡ gate.old }
+{
+    match hosting_of(alloc, request) {
+        Ok(Some(hosting)) => host_links(rt, alloc, &hosting, output, gate),
+        Ok(None) => refuse_words(output),
+        Err(OutOfMemory) => OUT_OF_MEMORY,
     }
 }
 
@@ -121,7 +167,7 @@ fn is_script(request: &Request<'_>) -> bool
 }
 
 /// The exit status that an answer of a script's run is.
-fn status(answer: Result<(), ScriptFault>) -> u8
+pub(crate) fn status(answer: Result<(), ScriptFault>) -> u8
     ensures { result ≡ script_status answer }
 {
     match answer {

@@ -4,8 +4,13 @@
 mod answering;
 mod ending;
 mod entry;
+mod guests;
 mod host;
+mod hosting;
+mod links;
 mod loading;
+mod serving;
+mod size;
 mod words;
 
 pub use answer_run::{AnswerFault, run_answer};

@@ -1,10 +1,10 @@
-//! Statuses: worked scripts, scripts that meet faults, and words that ask for no mode. Captures stand as they were worked out by hand from the
+//! Statuses: worked scripts, scripts and gates that meet faults, and words that ask for no mode. Captures stand as they were worked out by hand from the
 //! standard's tables.
 ghost use Rattle.std.specs.Io.{WritesAtMost};
 
 use crate::top;
 use crate::words::words as words_given;
-use edge_io::{Bytes, Keep, PlanGate, PlanSink, PlanSource};
+use edge_io::{Bytes, Keep, MemLink, PlanGate, PlanSink, PlanSource};
 use std::alloc::Global;
 use std::env::{Env, FillError};
 use std::process::Abort;
@@ -125,18 +125,50 @@ fn a_first_read_or_write_that_fails_gives_its_status(rt: HostRuntime) -> Result<
     Ok(())
 }
 
+/// The status of serving the one client of a gate that fails in this call, and what is written. The client sends nothing.
+fn serve_failing<R: Threads + Wait + Sync>(
+    rt: &R,
+    alloc: Global,
+    call: u32,
+) -> Result<(u8, Vec<u8>), Fail> {
+    let words = words_of(alloc, &["serve", "3389", "64", "48", "2", "ann"])?;
+    let mut links = Vec::new(alloc);
+    links.push(MemLink {
+        reader: PlanSource::new(Vec::new(alloc), Vec::new(alloc), Vec::new(alloc)),
+        writer: PlanSink::new(alloc, Vec::new(alloc)),
+    })?;
+    let mut input = Bytes::new(Vec::new(alloc), Vec::new(alloc));
+    let mut output = Keep::new(alloc);
+    let mut gate = PlanGate::new(alloc, links, vec![in alloc; call; 1]?)?;
+    let status = top(rt, alloc, &words, &mut input, &mut output, &mut gate);
+    Ok((status, output.bytes().to_vec(alloc)?))
+}
+
+#[test]
+fn a_gate_that_fails_gives_its_status(rt: HostRuntime) -> Result<(), Fail> {
+    let alloc = rt.alloc();
+    // it can't be opened, it fails before it gives the link, and behind it
+    let calls: [(u32, &[u8]); 3] = [(1, b""), (2, b""), (3, b"1 0 35 0\n")];
+    for (call, written) in calls {
+        must_end(&rt, &serve_failing(&rt, alloc, call)?, 7, written);
+    }
+    Ok(())
+}
+
 /// The line of words that ask for no mode.
 const USAGE: &[u8] = b"usage: rdp_host MODE ARGS\n";
 
 #[test]
 fn other_words_give_the_usage_line(rt: HostRuntime) -> Result<(), Fail> {
     let alloc = rt.alloc();
-    // no mode, none of this name, a number with a leading zero, and a picture's width that isn't a multiple of four
-    let lists: [&[&str]; 4] = [
+    // no mode, none of this name, a number with a leading zero, a picture's width that isn't a multiple of four, and one
+    // guest twice
+    let lists: [&[&str]; 5] = [
         &[],
         &["scripts"],
         &["demo", "01", "5"],
         &["answer", "62", "48", "ann"],
+        &["serve", "3389", "64", "48", "1", "ann", "bob", "bob+"],
     ];
     for list in lists {
         let words = words_of(alloc, list)?;

@@ -1,5 +1,6 @@
 //! The session host: `rdp_host script` reads a script and writes the capture of what each viewer is sent, `rdp_host answer W H OWNER`
-//! serves one client, and `rdp_host demo SEED STEPS` runs the demonstration load and writes the line of its counts.
+//! serves one client, `rdp_host demo SEED STEPS` runs the demonstration load and writes the line of its counts, and
+//! `rdp_host serve PORT W H LINKS OWNER GUEST ..` serves the clients that connect to a port and writes the line of each.
 #![tactic(auto)]
 
 pub use host_program::top;

@@ -2,7 +2,10 @@ use Rattle.std.proofs.Common.{rules, ◌≡◌, IfSome, Some, subst, sym, ◌∙
 use Rattle.std.specs.declared.option.Option.{Option}
 use Rattle.host_program.specs.declared.loading.Load.{Load}
 use Rattle.host_program.specs.Loading.{load_of, RunsDemo}
-use Rattle.host_program.proofs.Modes.{client_or_load}
+use Rattle.gate_run.specs.Gates.{gate_state}
+use Rattle.host_program.specs.Serving.{HostingOf, hosting_of}
+use Rattle.host_program.specs.Hosting.{RunsServe}
+use Rattle.host_program.proofs.Modes.{client_or_load, client_or_hosting, load_or_hosting}
 use Rattle.host_program.proofs.host.run_other.Goals as goal
 
 pub returns-in-Some-clause-demo : goal.returns-in-Some-clause-demo
@@ -15,3 +18,15 @@ returns-in-Some-load_of-clause-demo g c = subst (λ (load : Option Load). IfSome
     (g.K.Sink.faults c.args.output.now) (g.K.Sink.faults c.run_demo.new.output)))
     (sym (sym c.load_of.ensures.form ∙ c.in-Some-load_of.is))
     (record { answer = c.run_demo.result; status_is = c.status.ensures; written = c.run_demo.ensures.written; front = c.run_demo.ensures.front; fault = c.run_demo.ensures.fault; write_cause = c.run_demo.ensures.cause })
+
+pub returns-in-Some-clause-serve : goal.returns-in-Some-clause-serve
+returns-in-Some-clause-serve g c = subst (λ (hosting : Option HostingOf). IfSome hosting (λ h. RunsServe c.answer_status.result h
+    (gate_state g.G.Gate g.G.Link.Link c.args.gate.now) (gate_state g.G.Gate g.G.Link.Link c.args.gate.now)
+    (g.K.Sink.told c.args.output.now) (g.K.Sink.told c.run_answer-answer.new.output) (g.K.Sink.faults c.args.output.now) (g.K.Sink.faults c.run_answer-answer.new.output)))
+    (sym (client_or_hosting c.args.request.now c.in-Some.client (sym c.client_of.ensures.form ∙ c.in-Some.is))) tt
+
+pub returns-in-Some-load_of-clause-serve : goal.returns-in-Some-load_of-clause-serve
+returns-in-Some-load_of-clause-serve g c = subst (λ (hosting : Option HostingOf). IfSome hosting (λ h. RunsServe c.status.result h
+    (gate_state g.G.Gate g.G.Link.Link c.args.gate.now) (gate_state g.G.Gate g.G.Link.Link c.args.gate.now)
+    (g.K.Sink.told c.args.output.now) (g.K.Sink.told c.run_demo.new.output) (g.K.Sink.faults c.args.output.now) (g.K.Sink.faults c.run_demo.new.output)))
+    (sym (load_or_hosting c.args.request.now c.in-Some-load_of.load (sym c.load_of.ensures.form ∙ c.in-Some-load_of.is))) tt

@@ -1,0 +1,73 @@
+-- A gate that was opened, or couldn't be.
+use Rattle.std.proofs.Common.{◌≡◌, ℕ, Bool, false, List, [], ◌++◌, sym, refl, ap, ◌∙◌, subst, arith, append-nil, Some}
+use Rattle.std.specs.Prelude.{AllPairs}
+use Rattle.std.specs.declared.option.Option.{Option}
+use Rattle.edge_io.specs.Faults.{Rose}
+use Rattle.edge_io.specs.Gate.{Asked}
+use Rattle.session_rules.specs.declared.entry.Entry.{Entry}
+use Rattle.session_rules.specs.Journal.{Head, IsLegalJournal}
+use Rattle.serve_rules.specs.declared.told.ConnReport.{ConnReport}
+use Rattle.link_run.specs.Links.{LinkState}
+use Rattle.gate_run.specs.declared.served.GateEnd.{GateEnd}
+use Rattle.gate_run.specs.declared.served.GateEnd.TheVariants.{Ended, Failed, NoListen}
+use Rattle.gate_run.specs.Gates.{GateState, EachServed, AreApart, AskedFor, EndCause, ServesGate}
+use Rattle.gate_run.specs.OpenGate.{GivesNoMore, ServesLinks}
+
+-- a gate was opened for so many links, and else is as before
+pub record Opens (port links : ℕ) (before opened : GateState) : Type 0 where
+  pub given : opened.given ≡ before.given
+  pub finished : opened.finished ≡ before.finished
+  pub asked : opened.asked ≡ Some (record { port = port; links = links })
+  pub ended : opened.ended ≡ before.ended
+  pub faults : opened.faults ≡ before.faults
+
+asked_for : (end : GateEnd) (port links : ℕ) (before opened after : GateState) → Opens port links before opened → after.asked ≡ opened.asked
+    → GivesNoMore end opened.ended after.ended opened.faults after.faults → AskedFor end port links before.asked after.asked
+asked_for Ended port links before opened after o same cause = same ∙ o.asked
+asked_for Failed port links before opened after o same cause = same ∙ o.asked
+asked_for NoListen port links before opened after o same cause = absurd cause
+
+end_cause : (end : GateEnd) (port links : ℕ) (joined : List LinkState) (before opened after : GateState) → before.ended ≡ false → Opens port links before opened
+    → GivesNoMore end opened.ended after.ended opened.faults after.faults → EndCause end joined before after
+end_cause Ended port links joined before opened after new o cause = (new, cause.0, cause.1 ∙ o.faults)
+end_cause Failed port links joined before opened after new o cause = (cause.0 ∙ o.ended, subst (λ f. Rose f after.faults) o.faults cause.1)
+end_cause NoListen port links joined before opened after new o cause = absurd cause
+
+-- a gate was opened and its links were served
+pub serves_opened : (head : Head) (port links : ℕ) (before opened after : GateState) (j : List Entry) (reports : List ConnReport) (end : GateEnd) → before.ended ≡ false
+    → Opens port links before opened → ServesLinks head opened after j reports end → ServesGate head port links before after j reports end
+serves_opened head port links before opened after j reports end new o s =
+    record {
+      joined = s.joined;
+      spent = s.spent;
+      given = s.given ∙ ap (λ l. l ++ s.joined) o.given;
+      finished = s.finished ∙ ap (λ l. l ++ s.spent) o.finished;
+      served = s.served;
+      legal = s.legal;
+      apart = s.apart;
+      asked = asked_for end port links before opened after o s.asked s.cause;
+      cause = end_cause end port links s.joined before opened after new o s.cause;
+    }
+
+-- a gate couldn't be opened, and else is as before
+pub record StaysShut (before after : GateState) : Type 0 where
+  pub given : after.given ≡ before.given
+  pub finished : after.finished ≡ before.finished
+  pub asked : after.asked ≡ before.asked
+  pub ended : after.ended ≡ before.ended
+  pub faults : Rose before.faults after.faults
+
+pub serves_none : (head : Head) (port links : ℕ) (before after : GateState) (j : List Entry) (reports : List ConnReport) → StaysShut before after → IsLegalJournal head j → reports ≡ []
+    → ServesGate head port links before after j reports NoListen
+serves_none head port links before after j reports s legal none =
+    record {
+      joined = [];
+      spent = [];
+      given = s.given ∙ sym (append-nil before.given);
+      finished = s.finished ∙ sym (append-nil before.finished);
+      served = subst (λ rs. EachServed head j [] rs []) (sym none) tt;
+      legal = legal;
+      apart = subst (AllPairs AreApart) (sym none) (λ i k d lt within. absurd (omega (arith, within)));
+      asked = s.asked;
+      cause = (refl, s.ended, s.faults);
+    }

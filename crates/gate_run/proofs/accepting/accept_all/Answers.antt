@@ -1,0 +1,52 @@
+use Rattle.std.proofs.Common.{◌<◌, ◌∷◌, [], ◌++◌, length, map, All, sym, ap, ◌∙◌, subst, arith}
+use Rattle.std.proofs.lemmas.List.{map-append, length-map}
+use Rattle.std.proofs.lemmas.List.Elements.{All-push}
+use Rattle.edge_io.specs.Gate.{IsBelow}
+use Rattle.edge_io.specs.Faults.{Rose}
+use Rattle.gate_run.specs.Working.{IsWork}
+use Rattle.gate_run.proofs.accepting.accept_all.Goals as goal
+
+pub returns-in-End-clause-taken : goal.returns-in-End-clause-taken
+returns-in-End-clause-taken g c =
+    let inv = c.loop.invariant in let kept = c.collect_ended.ensures in let last = c.in-End.ensures in
+    record {
+      few = omega (arith, c.collect_ended.new.jobs.ok.0, kept.len, inv.few);
+      given = last.given ∙ (inv.given ∙ sym kept.links);
+      work = kept.work c.args.lock.now inv.work;
+      no_more = (last.ended, last.cause ∙ inv.faults);
+      finished = last.finished ∙ inv.finished;
+      asked = last.asked ∙ inv.asked;
+    }
+
+pub returns-in-Failed-clause-taken : goal.returns-in-Failed-clause-taken
+returns-in-Failed-clause-taken g c =
+    let inv = c.loop.invariant in let kept = c.collect_ended.ensures in let last = c.in-Failed.ensures in
+    record {
+      few = omega (arith, c.collect_ended.new.jobs.ok.0, kept.len, inv.few);
+      given = last.given ∙ (inv.given ∙ sym kept.links);
+      work = kept.work c.args.lock.now inv.work;
+      no_more = (last.ended ∙ inv.ended, subst (λ f. Rose f (g.G.Gate.faults c.next.new.self)) inv.faults last.cause);
+      finished = last.finished ∙ inv.finished;
+      asked = last.asked ∙ inv.asked;
+    }
+
+pub loop-preserved : goal.loop-preserved
+loop-preserved g c =
+    let inv = c.loop.invariant in let next = c.in-Link.ensures in let kept = c.collect_ended.ensures in let jobs = c.collect_ended.new.jobs in
+    let job = c.start_link-job in let push = c.push_reserved.ensures in let given = g.G.Gate.given c.loop.gate in
+    let below : length given < c.args.links = subst (IsBelow (length given)) (inv.asked ∙ c.requires.gate.asked.1) next.limit.0 in
+    let count = ap length inv.given ∙ length-map c.loop.jobs.items (λ j. j.given.link.value) in
+    record {
+      passed = c.split-part.ensures.unchanged ∙ inv.passed;
+      made = omega (arith, push.len, kept.len, inv.made);
+      few = omega (arith, push.len, kept.len, below, count, c.loop.jobs.ok.0);
+      room = omega (arith, push.capacity, kept.capacity, inv.room);
+      given = next.given ∙ (ap (λ l. l ++ c.in-Link.link ∷ []) (inv.given ∙ sym kept.links) ∙ (ap (λ x. map (λ j. j.given.link.value) jobs.items ++ x ∷ []) (sym job.ensures.link)
+          ∙ (sym (map-append (λ j. j.given.link.value) jobs.items (job.result ∷ [])) ∙ ap (map (λ j. j.given.link.value)) (sym push.items))));
+      work = subst (All (IsWork g.G.Link.Link c.args.lock.now)) (sym push.items)
+          (All-push (IsWork g.G.Link.Link c.args.lock.now) jobs.items job.result (kept.work c.args.lock.now inv.work) job.ensures.work);
+      finished = next.finished ∙ inv.finished;
+      asked = next.asked ∙ inv.asked;
+      ended = next.ended ∙ inv.ended;
+      faults = next.cause ∙ inv.faults;
+    }

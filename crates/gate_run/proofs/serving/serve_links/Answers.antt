@@ -1,0 +1,28 @@
+use Rattle.std.proofs.Common.{◌++◌, map, sym, ap, ◌∙◌, subst}
+use Rattle.std.proofs.lemmas.List.{map-append}
+use Rattle.gate_run.specs.Gates.{given_state, spent_state}
+use Rattle.gate_run.specs.OpenGate.{GivesNoMore}
+use Rattle.gate_run.proofs.Ending.{each_goes_on}
+use Rattle.gate_run.proofs.Numbers.{each_has_joined, apart}
+use Rattle.gate_run.proofs.serving.serve_links.Goals as goal
+
+pub returns-clause-links : goal.returns-clause-links
+returns-clause-links g c =
+    let gives = given_state g.G.Link.Link in let spends = spent_state g.G.Link.Link in let gate = g.G.Gate in
+    let opened = c.args.gate.now in let closed = c.accept_links-pass.new.gate in let after = c.finish_all-pass.new.gate in
+    let taken = c.accept_links-pass.ensures.taken in let end = c.finish_all-pass.ensures in let all = end.all in
+    let head = c.args.lock.head in let j = c.close.result.journal in let reports = c.finish_all-pass.new.reports.items in
+    let joined = map gives (map (λ x. x.given.link.value) c.from_vec-jobs.result.items) in let spent = map spends all.spents in
+    let served = each_goes_on head c.finish_all-pass.result.seen j joined reports spent c.close.ensures.seen all.served in
+    record {
+      joined = joined;
+      spent = spent;
+      given = ap (map gives) (end.given ∙ (taken.given ∙ ap (map (λ x. x.given.link.value)) (sym c.from_vec-jobs.ensures.items))) ∙ ap (λ l. map gives l ++ joined) (sym c.requires.gate.given);
+      finished = ap (map spends) (all.finished ∙ ap (λ l. l ++ all.spents) taken.finished) ∙ map-append spends (gate.finished opened) all.spents;
+      served = served;
+      legal = c.close.ensures.legal;
+      apart = apart head j reports c.close.ensures.legal (each_has_joined head j joined reports spent served) all.places;
+      asked = end.asked ∙ taken.asked;
+      cause = subst (λ e. GivesNoMore c.accept_links-pass.result.2 (gate.ended opened) e (gate.faults opened) (gate.faults after)) (sym end.ended)
+          (subst (λ f. GivesNoMore c.accept_links-pass.result.2 (gate.ended opened) (gate.ended closed) (gate.faults opened) f) (sym end.faults) taken.no_more);
+    }

@@ -1,0 +1,93 @@
+-- What serving a gate comes to.
+use Rattle.std.specs.Prelude.{◌≡◌, ℕ, ⊤, Bool, true, false, List, [], ◌∷◌, ◌++◌, map, AllPairs}
+use Rattle.std.specs.declared.option.Option.{Option}
+use Rattle.std.specs.declared.option.Option.TheVariants.{Some}
+use Rattle.edge_io.specs.Faults.{Rose}
+use Rattle.edge_io.specs.Gate.{Asked}
+use Rattle.edge_io.specs.declared.gate.Gate as gates
+use Rattle.edge_io.specs.declared.link.Link as links
+use Rattle.session_rules.specs.declared.entry.Entry.{Entry}
+use Rattle.session_rules.specs.Journal.{Head, IsLegalJournal}
+use Rattle.grow_lock.specs.Journal.{StartsWith, IsDisjoint}
+use Rattle.serve_rules.specs.Turns.{SessionPass}
+use Rattle.serve_rules.specs.declared.told.ConnReport.{ConnReport}
+use Rattle.link_run.specs.Links.{LinkState, link_state}
+use Rattle.link_run.specs.Serving.{ServesViewer}
+use Rattle.gate_run.specs.declared.served.GateEnd.{GateEnd}
+use Rattle.gate_run.specs.declared.served.GateEnd.TheVariants.{Ended, Failed, NoListen}
+
+-- ---- a gate
+
+-- the links that a gate gave and those that came back, what it was asked to open, whether it has ended, and how often it has failed
+pub record GateState : Type 0 where
+  pub given : List LinkState
+  pub finished : List LinkState
+  pub asked : Option Asked
+  pub ended : Bool
+  pub faults : ℕ
+
+module _ {L Reader Writer Spent : Type 0} (link : links.Ghosts L Reader Writer Spent) where
+  -- a link as it was given
+  abbrev pub given_state : L → LinkState
+  given_state x = link_state (link.left x) (link.told x) (link.reader_faults x) (link.writer_faults x)
+
+  -- a link as it came back
+  abbrev pub spent_state : Spent → LinkState
+  spent_state x = link_state (link.spent_left x) (link.spent_told x) (link.spent_reader_faults x) (link.spent_writer_faults x)
+
+-- a gate as it is now
+abbrev pub gate_state : {G L Reader Writer Spent : Type 0} → gates.Ghosts G L Reader Writer Spent → links.Ghosts L Reader Writer Spent → G → GateState
+gate_state gate link x =
+    record { given = map (given_state link) (gate.given x); finished = map (spent_state link) (gate.finished x); asked = gate.asked x; ended = gate.ended x; faults = gate.faults x }
+
+-- ---- its links
+
+-- a link was served by a pass of its own, which had no turn before, and what it saw is the front of a journal
+pub record IsServed (head : Head) (j : List Entry) (link : LinkState) (report : ConnReport) (spent : LinkState) : Type 0 where
+  pub before : SessionPass
+  pub after : SessionPass
+  pub no_turn : before.found ≡ []
+  pub no_place : before.mine ≡ []
+  pub serves : ServesViewer head before after report link spent
+  pub within : StartsWith j after.seen
+
+-- links were served, each with its report and as it came back
+abbrev pub EachServed : Head → List Entry → List LinkState → List ConnReport → List LinkState → Type 0
+EachServed head j [] [] [] = ⊤
+EachServed head j [] [] (spent ∷ spents) = ⊥
+EachServed head j [] (report ∷ reports) spents = ⊥
+EachServed head j (link ∷ links) [] spents = ⊥
+EachServed head j (link ∷ links) (report ∷ reports) [] = ⊥
+EachServed head j (link ∷ links) (report ∷ reports) (spent ∷ spents) = IsServed head j link report spent × EachServed head j links reports spents
+
+-- two reports are of two viewers, if of any, and no place is in both
+pub record AreApart (report other : ConnReport) : Type 0 where
+  pub viewers : (report.viewer ≡ 0 → ⊥) → report.viewer ≡ other.viewer → ⊥
+  pub places : IsDisjoint report.places.list other.places.list
+
+-- ---- all of it
+
+-- what a gate was asked to open: this port for so many links, unless it can't be opened
+abbrev pub AskedFor : GateEnd → ℕ → ℕ → Option Asked → Option Asked → Type 0
+AskedFor Ended port links before after = after ≡ Some (record { port = port; links = links })
+AskedFor Failed port links before after = after ≡ Some (record { port = port; links = links })
+AskedFor NoListen port links before after = after ≡ before
+
+-- how the serving ended: the gate said that no further link will come, or its count of faults rose, in the last case before it gave any link
+abbrev pub EndCause : GateEnd → List LinkState → GateState → GateState → Type 0
+EndCause Ended joined before after = (before.ended ≡ false) × (after.ended ≡ true) × (after.faults ≡ before.faults)
+EndCause Failed joined before after = (after.ended ≡ before.ended) × Rose before.faults after.faults
+EndCause NoListen joined before after = (joined ≡ []) × (after.ended ≡ before.ended) × Rose before.faults after.faults
+
+-- a gate was opened and its links were served, over a session that ends with this journal: the links that were given and those that came back, in one order with
+-- the reports
+pub record ServesGate (head : Head) (port links : ℕ) (before after : GateState) (j : List Entry) (reports : List ConnReport) (end : GateEnd) : Type 0 where
+  pub joined : List LinkState
+  pub spent : List LinkState
+  pub given : after.given ≡ before.given ++ joined
+  pub finished : after.finished ≡ before.finished ++ spent
+  pub served : EachServed head j joined reports spent
+  pub legal : IsLegalJournal head j
+  pub apart : AllPairs AreApart reports
+  pub asked : AskedFor end port links before.asked after.asked
+  pub cause : EndCause end joined before after

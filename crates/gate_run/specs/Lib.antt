@@ -1,0 +1,4 @@
+pub mod Gates
+pub mod Working
+pub mod OpenGate
+pub mod Taking

@@ -1,0 +1,121 @@
+//! A gate's links, each of which is served in a thread of its own while the next one is waited for.
+ghost use Rattle.std.specs.Prelude.{◌≡◌, [], ◌++◌, ◌≤◌, length, map, All, vec_len, vec_capacity};
+ghost use Rattle.session_rules.specs.Journal.{Head};
+ghost use Rattle.grow_lock.specs.Passes.{LockModel, IsPassOf};
+ghost use Rattle.gate_run.specs.Taking.{CanTake, HasTaken};
+ghost use Rattle.gate_run.specs.Working.{IsFresh, IsWork};
+
+use crate::GateEnd;
+use crate::jobs::{Job, start_link};
+use edge_io::{Gate, Link, Next};
+use grow_lock::{GrowLock, Pass};
+use session_core::Session;
+use std::alloc::Global;
+use std::sync::Wait;
+use std::sync::atomic::AtomicBool;
+use std::thread;
+use std::thread::{Scope, Threads};
+
+/// Starts a job for each link that an open gate gives until it gives no more, and returns when each job's thread has ended.
+pub fn accept_links<R: Threads + Wait + Sync, G: Gate>(
+    rt: &R,
+    alloc: Global,
+    lock: &GrowLock<Session>,
+    flags: &[AtomicBool],
+    pass: Pass<Session>,
+    links: u16,
+    gate: &mut G,
+    jobs: Vec<Job<G::Link>>,
+) -> (Pass<Session>, Vec<Job<G::Link>>, GateEnd)
+    requires lock { IsPassOf lock.now pass }
+    requires gate { CanTake G.Gate links gate.old jobs.items (vec_capacity jobs) (length flags.now) }
+    ensures pass { result.0 ≡ pass }
+    ensures taken { HasTaken G.Gate G.Link.Link lock.now links gate.old gate.new result.1.items result.2 }
+{
+    let (pass, jobs, gate, end) = accept_in_scope(rt, alloc, lock, flags, pass, links, gate, jobs);
+    take_back(gate);
+    (pass, jobs, end)
+}
+
+/// What was lent comes back as it is.
+fn take_back<T>(lent: &mut T)
+    ensures { lent.new ≡ lent.old }
+{}
+
+fn accept_in_scope<'g, R: Threads + Wait + Sync, G: Gate>(
+    rt: &R,
+    alloc: Global,
+    lock: &GrowLock<Session>,
+    flags: &[AtomicBool],
+    pass: Pass<Session>,
+    links: u16,
+    gate: &'g mut G,
+    jobs: Vec<Job<G::Link>>,
+) -> (Pass<Session>, Vec<Job<G::Link>>, &'g mut G, GateEnd)
+    requires lock { IsPassOf lock.now pass }
+    requires gate { CanTake G.Gate links gate.old jobs.items (vec_capacity jobs) (length flags.now) }
+    ensures pass { result.0 ≡ pass }
+    ensures same { result.2.ghost_name ≡ gate.entry.ghost_name }
+    ensures taken { HasTaken G.Gate G.Link.Link lock.now links gate.entry.now result.2.now result.1.items result.3 }
+{
+    thread::scope(
+        thread::scope_env(),
+        rt,
+        move |scope| -> (Pass<Session>, Vec<Job<G::Link>>, &mut G, GateEnd)
+            requires { IsPassOf lock.now pass × CanTake G.Gate links gate.now jobs.items (vec_capacity jobs) (length flags.now) }
+            ensures { (result.0 ≡ pass) × (result.2.ghost_name ≡ gate.entry.ghost_name) × HasTaken G.Gate G.Link.Link lock.entry.now links gate.entry.now result.2.now result.1.items result.3 }
+        { accept_all(rt, alloc, scope, lock, flags, pass, links, gate, jobs) },
+    )
+}
+
+/// Starts a job for each link that an open gate gives until it gives no more. Before it waits for the next one it collects
+/// the jobs whose threads have ended.
+fn accept_all<'s, 'g, E, R: Threads + Wait + Sync, G: Gate>(
+    rt: &'s R,
+    alloc: Global,
+    scope: &Scope<'s, E>,
+    lock: &'s GrowLock<Session>,
+    flags: &'s [AtomicBool],
+    pass: Pass<Session>,
+    links: u16,
+    gate: &'g mut G,
+    jobs: Vec<Job<G::Link>>,
+) -> (Pass<Session>, Vec<Job<G::Link>>, &'g mut G, GateEnd)
+where
+    G::Link: 's,
+    requires lock { IsPassOf lock.now pass }
+    requires gate { CanTake G.Gate links gate.old jobs.items (vec_capacity jobs) (length flags.now) }
+    ensures pass { result.0 ≡ pass }
+    ensures same { result.2.ghost_name ≡ gate.entry.ghost_name }
+    ensures taken { HasTaken G.Gate G.Link.Link lock.now links gate.entry.now result.2.now result.1.items result.3 }
+{
+    let mut pass = pass;
+    let mut jobs = jobs;
+    for _ in 0..u32::from(links) + 1 {
+        collect_ended(rt, &mut jobs, flags);
+        match gate.next() {
+            Next::Link(link) => {
+                let flag = &flags[jobs.len()];
+                let part = lock.split(&mut pass);
+                let job = start_link(rt, alloc, scope, lock, flag, part, link);
+                jobs.push_reserved(job);
+            }
+            Next::End => return (pass, jobs, gate, GateEnd::Ended),
+            Next::Failed => return (pass, jobs, gate, GateEnd::Failed),
+        }
+    }
+    unreachable!()
+}
+
+/// Collects the jobs whose flags are set. A thread that has ended keeps its stack until it is joined.
+fn collect_ended<R: Threads, L: Link>(rt: &R, jobs: &mut Vec<Job<L>>, flags: &[AtomicBool])
+    requires { vec_len jobs.old ≤ length flags.now }
+    ensures links { map (λ j. j.given.link.value) jobs.new.items ≡ map (λ j. j.given.link.value) jobs.old.items }
+    ensures work { (lock : LockModel Head) → All (IsWork L.Link lock) jobs.old.items → All (IsWork L.Link lock) jobs.new.items }
+    ensures len { vec_len jobs.new ≡ vec_len jobs.old }
+    ensures capacity { vec_capacity jobs.new ≡ vec_capacity jobs.old }
+{
+    for i in 0..jobs.len() {
+        jobs[i].collect(rt, &flags[i]);
+    }
+}

@@ -1,0 +1,149 @@
+//! The work for one link: in a thread, or done.
+ghost use Rattle.std.specs.Prelude.{◌≡◌, [], ◌||◌, true, is_some, IfSome};
+ghost use Rattle.std.specs.Thread.{IsSync};
+ghost use Rattle.session_rules.specs.Journal.{Head};
+ghost use Rattle.grow_lock.specs.Passes.{LockModel, IsPassOf};
+ghost use Rattle.gate_run.specs.Gates.{given_state, spent_state};
+ghost use Rattle.gate_run.specs.Working.{IsFresh, IsDone, IsWork};
+
+use edge_io::Link;
+use grow_lock::{GrowLock, Pass};
+use link_run::serve_viewer;
+use serve_rules::ConnReport;
+use session_core::Session;
+use std::alloc::Global;
+use std::snapshot::Snapshot;
+use std::sync::Wait;
+use std::sync::atomic::{AtomicBool, Ordering};
+use std::thread::{Promise, PromisedHandle, Scope, Threads};
+
+/// What the work for a link hands back.
+#[derive(Drop)]
+pub struct Outcome<S: Drop> {
+    pub pass: Pass<Session>,
+    pub report: ConnReport,
+    pub spent: S,
+}
+
+/// Which lock, pass and link a job was given. It has no bytes.
+#[derive(Drop)]
+pub struct Given<L: Link> {
+    lock: Snapshot<GrowLock<Session>>,
+    pass: Snapshot<Pass<Session>>,
+    link: Snapshot<L>,
+}
+
+impl<L: Link> Promise<Outcome<L::Spent>> for Given<L> {
+    ghost kept_by = { λ p o. IsDone p.lock.value p.pass.value (given_state L.Link p.link.value) o.pass o.report (spent_state L.Link o.spent) };
+}
+
+/// The work for a link: in a thread, or done where it has ended or no thread could be started.
+#[derive(Drop)]
+pub struct Job<L: Link> {
+    given: Given<L>,
+    handle: Option<PromisedHandle<Outcome<L::Spent>, Given<L>>>,
+    outcome: Option<Outcome<L::Spent>>,
+}
+
+impl<L: Link> Job<L> {
+    /// Where the flag is set, clears it, waits for the work's thread, if it has one, and keeps what it came to.
+    pub fn collect<R: Threads>(&mut self, rt: &R, flag: &AtomicBool)
+        ensures given { self.new.given ≡ self.old.given }
+        ensures work { (lock : LockModel Head) → IsWork L.Link lock self.old → IsWork L.Link lock self.new }
+    {
+        if !flag.load(Ordering::SeqCst) {
+            return;
+        }
+        flag.store(false, Ordering::SeqCst);
+        if let Some(handle) = self.handle.take() {
+            self.outcome = Some(handle.join(rt));
+        }
+    }
+
+    /// Waits for the work's thread, if it has one, and gives what it came to.
+    pub fn finish<R: Threads>(self, rt: &R, lock: &GrowLock<Session>) -> Outcome<L::Spent>
+        requires { IsWork L.Link lock.now self }
+        ensures { IsDone lock.now self.given.pass.value (given_state L.Link self.given.link.value) result.pass result.report (spent_state L.Link result.spent) }
+    {
+        let Job {
+            given: _,
+            handle,
+            outcome,
+        } = self;
+        if let Some(handle) = handle {
+            return handle.join(rt);
+        }
+        outcome.unwrap()
+    }
+}
+
+/// Serves a link, and sets its flag as its last act.
+fn serve_link<R: Threads + Wait + Sync, L: Link>(
+    rt: &R,
+    alloc: Global,
+    lock: &GrowLock<Session>,
+    flag: &AtomicBool,
+    pass: Pass<Session>,
+    link: L,
+) -> Outcome<L::Spent>
+    requires { IsPassOf lock.now pass }
+    ensures { IsDone lock.now pass (given_state L.Link link) result.pass result.report (spent_state L.Link result.spent) }
+{
+    let (pass, report, spent) = serve_viewer(rt, alloc, lock, pass, link);
+    flag.store(true, Ordering::SeqCst);
+    Outcome {
+        pass,
+        report,
+        spent,
+    }
+}
+
+/// Starts the work for a link in a thread of the scope, and does it here where no thread can be started.
+pub fn start_link<'s, E, R: Threads + Wait + Sync, L: Link>(
+    rt: &'s R,
+    alloc: Global,
+    scope: &Scope<'s, E>,
+    lock: &'s GrowLock<Session>,
+    flag: &'s AtomicBool,
+    pass: Pass<Session>,
+    link: L,
+) -> Job<L>
+where
+    L: 's,
+    requires lock { IsPassOf lock.now pass }
+    requires fresh { IsFresh pass }
+    ensures link { result.given.link.value ≡ link }
+    ensures work { IsWork L.Link lock.now result }
+{
+    let given = Given {
+        lock: Snapshot::of(lock),
+        pass: Snapshot::of(&pass),
+        link: Snapshot::of(&link),
+    };
+    let promise = Given {
+        lock: Snapshot::of(lock),
+        pass: Snapshot::of(&pass),
+        link: Snapshot::of(&link),
+    };
+    match scope.spawn_with(
+        promise,
+        move || -> Outcome<L::Spent>
+            requires { IsPassOf lock.now pass × IsSync R.row }
+            ensures { IsDone lock.entry.now pass (given_state L.Link link) result.pass result.report (spent_state L.Link result.spent) }
+        { serve_link(rt, alloc, lock, flag, pass, link) },
+    ) {
+        Ok(handle) => Job {
+            given,
+            handle: Some(handle),
+            outcome: None,
+        },
+        Err(refused) => {
+            let outcome = (refused.value)();
+            Job {
+                given,
+                handle: None,
+                outcome: Some(outcome),
+            }
+        }
+    }
+}

@@ -1,0 +1,13 @@
+//! The links of a gate, each served in a thread of its own over one session behind its lock (profile).
+#![tactic(auto)]
+
+mod accepting;
+mod finishing;
+mod jobs;
+mod served;
+mod serving;
+
+pub use serve_rules::ConnReport;
+pub use served::{GateEnd, Served};
+pub use serving::serve_gate;
+pub use wire_num::OutOfMemory;

@@ -1,0 +1,142 @@
+//! A gate, from its opening to its end.
+ghost use Rattle.std.specs.Prelude.{◌≡◌, [], ◌+◌, ◌≤◌, false, length, IfOk, OnErr, vec_len, vec_capacity};
+ghost use Rattle.session_rules.specs.Journal.{IsLegalJournal};
+ghost use Rattle.grow_lock.specs.Journal.{StartsWith};
+ghost use Rattle.grow_lock.specs.Passes.{IsPassOf};
+ghost use Rattle.gate_run.specs.OpenGate.{ServesLinks};
+ghost use Rattle.gate_run.specs.Taking.{CanTake};
+ghost use Rattle.gate_run.specs.Gates.{gate_state, ServesGate};
+
+use crate::accepting::accept_links;
+use crate::finishing::finish_all;
+use crate::jobs::Job;
+use crate::{GateEnd, OutOfMemory, Served};
+use edge_io::{Gate, Link};
+use grow_lock::{GrowLock, Pass};
+use serve_rules::ConnReport;
+use session_core::Session;
+use std::alloc::Global;
+use std::collections::VecDeque;
+use std::sync::Wait;
+use std::sync::atomic::AtomicBool;
+use std::thread::Threads;
+
+/// Room for the work on so many links, and a flag for each.
+#[derive(Drop)]
+struct Room<L: Link> {
+    jobs: Vec<Job<L>>,
+    reports: Vec<ConnReport>,
+    flags: Vec<AtomicBool>,
+}
+
+impl<L: Link> Room<L> {
+    fn new(alloc: Global, links: u16) -> Result<Room<L>, OutOfMemory>
+        ensures jobs { IfOk result (λ room. (room.jobs.items ≡ []) × (links ≤ vec_capacity room.jobs)) }
+        ensures reports { IfOk result (λ room. (room.reports.items ≡ []) × (vec_len room.reports + links ≤ vec_capacity room.reports)) }
+        ensures flags { IfOk result (λ room. vec_len room.flags ≡ links) }
+    {
+        Ok(Room {
+            jobs: Vec::with_capacity(alloc, usize::from(links))?,
+            reports: Vec::with_capacity(alloc, usize::from(links))?,
+            flags: new_flags(alloc, links)?,
+        })
+    }
+}
+
+/// So many flags, none of which is set.
+fn new_flags(alloc: Global, count: u16) -> Result<Vec<AtomicBool>, OutOfMemory>
+    ensures { IfOk result (λ flags. vec_len flags ≡ count) }
+{
+    let mut flags = Vec::with_capacity(alloc, usize::from(count))?;
+    for _ in 0..count {
+        flags.push_reserved(AtomicBool::new(false));
+    }
+    Ok(flags)
+}
+
+/// Opens a gate and serves its links, each in a thread of its own, over this session: at most `links` of them, until the gate
+/// says that no further link will come, or fails. Then it waits for all that were started, gives each link back in the order
+/// in which they were given, and hands out the closing session and a report for each link.
+///
+/// An `Err` comes before the gate is opened, leaves it as it was, and drops the session. Where no thread can be started a
+/// link is served before the next one is taken.
+pub fn serve_gate<R: Threads + Wait + Sync, G: Gate>(
+    rt: &R,
+    alloc: Global,
+    session: Session,
+    port: u16,
+    links: u16,
+    gate: &mut G,
+) -> Result<Served, OutOfMemory>
+    requires given { G.given gate.old ≡ [] }
+    requires ended { G.ended gate.old ≡ false }
+    ensures head { IfOk result (λ served. served.session.head ≡ session.head) }
+    ensures gate { IfOk result (λ served. ServesGate session.head port links (gate_state G.Gate G.Link.Link gate.old) (gate_state G.Gate G.Link.Link gate.new)
+        served.session.journal served.reports.items served.end) }
+    ensures memory { OnErr result (gate.new ≡ gate.old) }
+{
+    let room = Room::new(alloc, links)?;
+    let (lock, pass) = GrowLock::new(alloc, session)?;
+    if gate.listen(port, links) {
+        return Ok(serve_links(rt, alloc, lock, pass, room, links, gate));
+    }
+    Ok(Served {
+        session: close(rt, lock, pass),
+        reports: room.reports,
+        end: GateEnd::NoListen,
+    })
+}
+
+/// Serves the links of an open gate.
+fn serve_links<R: Threads + Wait + Sync, G: Gate>(
+    rt: &R,
+    alloc: Global,
+    lock: GrowLock<Session>,
+    pass: Pass<Session>,
+    room: Room<G::Link>,
+    links: u16,
+    gate: &mut G,
+) -> Served
+    requires lock { IsPassOf lock pass }
+    requires mine { pass.mine ≡ [] }
+    requires gate { CanTake G.Gate links gate.old room.jobs.items (vec_capacity room.jobs) (vec_len room.flags) }
+    requires finished { G.finished gate.old ≡ [] }
+    requires reports { (room.reports.items ≡ []) × (vec_len room.reports + links ≤ vec_capacity room.reports) }
+    ensures head { result.session.head ≡ lock.head }
+    ensures links { ServesLinks lock.head (gate_state G.Gate G.Link.Link gate.old) (gate_state G.Gate G.Link.Link gate.new) result.session.journal result.reports.items result.end }
+{
+    let Room {
+        jobs,
+        mut reports,
+        flags,
+    } = room;
+    let (pass, jobs, end) = accept_links(
+        rt,
+        alloc,
+        &lock,
+        flags.as_slice(),
+        pass,
+        links,
+        gate,
+        jobs,
+    );
+    let jobs = VecDeque::from_vec(jobs);
+    let pass = finish_all(rt, &lock, pass, jobs, gate, &mut reports);
+    Served {
+        session: close(rt, lock, pass),
+        reports,
+        end,
+    }
+}
+
+/// The value of the lock, when all passes have met.
+fn close<R: Wait>(rt: &R, lock: GrowLock<Session>, pass: Pass<Session>) -> Session
+    requires { IsPassOf lock pass }
+    ensures head { result.head ≡ lock.head }
+    ensures legal { IsLegalJournal lock.head result.journal }
+    ensures seen { StartsWith result.journal pass.seen }
+{
+    let session = lock.close(rt, pass);
+    session.recall_legal();
+    session
+}

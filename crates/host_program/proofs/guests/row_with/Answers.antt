@@ -1,0 +1,6 @@
+use Rattle.std.proofs.Common.{sym, ◌∙◌}
+use Rattle.script_host.proofs.Inviting.{is_short_ascii}
+use Rattle.host_program.proofs.guests.row_with.Goals as goal
+
+pub new-name-requires : goal.new-name-requires
+new-name-requires c = is_short_ascii c.args.word.now (sym c.is_name.ensures ∙ c.if-is_name.true)

@@ -1,0 +1,68 @@
+-- The mode serve: what a run of it comes to.
+use Rattle.std.specs.Prelude.{◌≡◌, ℕ, List, OnOk, OnErr, IfErr}
+use Rattle.std.specs.Io.KnownBytes.{Appends}
+use Rattle.std.specs.declared.option.Option.{Option}
+use Rattle.std.specs.declared.result.Result.{Result}
+use Rattle.edge_io.specs.Sink.{WritesFront}
+use Rattle.session_rules.specs.declared.entry.Entry.{Entry}
+use Rattle.session_rules.specs.Journal.{Head}
+use Rattle.serve_rules.specs.declared.told.ConnReport.{ConnReport}
+use Rattle.gate_run.specs.declared.served.GateEnd.{GateEnd}
+use Rattle.gate_run.specs.declared.served.GateEnd.TheVariants.{Ended, Failed, NoListen}
+use Rattle.gate_run.specs.Gates.{GateState, ServesGate}
+use Rattle.script_run.specs.Run.{WritesCause}
+use Rattle.script_run.specs.Steps.{IsWriteFault}
+use Rattle.script_run.specs.declared.fault.ScriptFault.{ScriptFault}
+use Rattle.host_program.specs.Statuses.{script_status}
+use Rattle.host_program.specs.Serving.{HostingOf}
+use Rattle.host_program.specs.Links.{served_text}
+
+-- the size and the rows of the session
+abbrev pub head_of : HostingOf → Head
+head_of hosting = record { size = hosting.size; rows = hosting.rows }
+
+-- the exit status, by how the gate ended and by what the writing of the links' lines is answered: a gate that failed, or can't be opened, is 7 whatever that is
+abbrev pub served_status : GateEnd → Result (Unit {0}) ScriptFault → ℕ
+served_status Ended answer = script_status answer
+served_status Failed answer = 7
+served_status NoListen answer = 7
+
+-- the links' lines were written; after a fault of the sink, whose count rose, and after want of memory a front of them
+pub record WritesLinks (answer : Result (Unit {0}) ScriptFault) (reports : List ConnReport) (told telling : Option (List ℕ)) (writes wrote : ℕ) : Type 0 where
+  pub written : OnOk answer (Appends told telling (served_text reports))
+  pub front : OnErr answer (WritesFront told telling (served_text reports))
+  pub fault : IfErr answer IsWriteFault
+  pub write_cause : WritesCause answer writes wrote
+
+-- the links' lines were written, but nothing where the gate can't be opened
+abbrev pub WritesIfOpened : GateEnd → Result (Unit {0}) ScriptFault → List ConnReport → (told telling : Option (List ℕ)) → (writes wrote : ℕ) → Type 0
+WritesIfOpened Ended answer reports told telling writes wrote = WritesLinks answer reports told telling writes wrote
+WritesIfOpened Failed answer reports told telling writes wrote = WritesLinks answer reports told telling writes wrote
+WritesIfOpened NoListen answer reports told telling writes wrote = (telling ≡ told) × (wrote ≡ writes)
+
+-- what was written after a gate's end, and the exit status
+pub record PrintsLinks (status : ℕ) (end : GateEnd) (reports : List ConnReport) (told telling : Option (List ℕ)) (writes wrote : ℕ) : Type 0 where
+  pub answer : Result (Unit {0}) ScriptFault
+  pub status_is : status ≡ served_status end answer
+  pub writes_links : WritesIfOpened end answer reports told telling writes wrote
+
+-- the links of the gate were served, over one session whose journal is legal, and the line of each one's report was written: 0 is that the gate ended and all of them
+-- stand there, 5 and 6 are a fault of the sink and want of memory behind a front of them, and 7 is a fault of the gate, whose count rose
+pub record HostsLinks (status : ℕ) (hosting : HostingOf) (before now : GateState) (told telling : Option (List ℕ)) (writes wrote : ℕ) : Type 0 where
+  pub j : List Entry
+  pub reports : List ConnReport
+  pub end : GateEnd
+  pub serves : ServesGate (head_of hosting) hosting.port hosting.links before now j reports end
+  pub prints : PrintsLinks status end reports told telling writes wrote
+
+-- memory was wanted before the gate was opened: nothing was done
+pub record WantsMemory (status : ℕ) (before now : GateState) (told telling : Option (List ℕ)) (writes wrote : ℕ) : Type 0 where
+  pub status_is : status ≡ 6
+  pub gate : now ≡ before
+  pub told_is : telling ≡ told
+  pub writes_are : wrote ≡ writes
+
+-- what a run of the mode comes to
+pub data RunsServe (status : ℕ) (hosting : HostingOf) (before now : GateState) (told telling : Option (List ℕ)) (writes wrote : ℕ) : Type 0 where
+  Wants : WantsMemory status before now told telling writes wrote → RunsServe status hosting before now told telling writes wrote
+  Hosts : HostsLinks status hosting before now told telling writes wrote → RunsServe status hosting before now told telling writes wrote

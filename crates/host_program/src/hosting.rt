@@ -1,0 +1,55 @@
+//! The mode `serve`: a gate's links are served over one session, and then the line of each is written.
+
+ghost use Rattle.std.specs.Prelude.{◌≡◌, [], false};
+ghost use Rattle.gate_run.specs.Gates.{gate_state};
+ghost use Rattle.host_program.specs.Serving.{IsHostable};
+ghost use Rattle.host_program.specs.Hosting.{PrintsLinks, RunsServe};
+
+use crate::host::{GATE_FAULT, OUT_OF_MEMORY, status};
+use crate::links::put_links;
+use crate::serving::Hosting;
+use edge_io::{Gate, Sink};
+use gate_run::{GateEnd, serve_gate};
+use serve_rules::ConnReport;
+use session_core::Session;
+use std::alloc::Global;
+use std::sync::Wait;
+use std::thread::Threads;
+
+/// Serves what the words ask for, and answers the exit status.
+pub(crate) fn host_links<R: Threads + Wait + Sync, K: Sink, G: Gate>(
+    rt: &R,
+    alloc: Global,
+    hosting: &Hosting,
+    output: &mut K,
+    gate: &mut G,
+) -> u8
+    requires hostable { IsHostable hosting.now }
+    requires unused { G.given gate.old ≡ [] }
+    requires open { G.ended gate.old ≡ false }
+    ensures { RunsServe result hosting.now (gate_state G.Gate G.Link.Link gate.old) (gate_state G.Gate G.Link.Link gate.new)
+        (K.told output.old) (K.told output.new) (K.faults output.old) (K.faults output.new) }
+{
+    let Ok(session) = Session::new(alloc, hosting.size, &hosting.rows) else {
+        return OUT_OF_MEMORY;
+    };
+    match serve_gate(rt, alloc, session, hosting.port, hosting.links, gate) {
+        Ok(served) => print_links(alloc, output, &served.reports, served.end),
+        Err(_) => OUT_OF_MEMORY,
+    }
+}
+
+/// Writes the line of each link after the gate's end, unless the gate couldn't be opened, and answers the exit status. Where the gate
+/// failed it is that of its fault, whatever the output does.
+fn print_links<K: Sink>(alloc: Global, output: &mut K, reports: &[ConnReport], end: GateEnd) -> u8
+    ensures { PrintsLinks result end reports.now (K.told output.old) (K.told output.new) (K.faults output.old) (K.faults output.new) }
+{
+    match end {
+        GateEnd::Ended => status(put_links(alloc, output, reports)),
+        GateEnd::Failed => {
+            let _written = put_links(alloc, output, reports);
+            GATE_FAULT
+        }
+        GateEnd::NoListen => GATE_FAULT,
+    }
+}
