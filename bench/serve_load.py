@@ -377,11 +377,12 @@ def links(room):
         room.ends(link, [LEFT])
         link.send(BYE)
         link.to_end()
-        if i in looks: looks[i] = room.memory(), room.status('VmSize'), room.status('Threads')
+        if i in looks: looks[i] = room.memory(), room.status('Threads')
     took = time.perf_counter() - begin
     row(f'{count} links one after another: each', milliseconds(took / count))
-    for i, (memory, space, threads) in looks.items():
-        row(f'after {i} of them: memory, address space, threads', f'{memory} KiB, {space} KiB, {threads}', 'flat')
+    for i, (memory, threads) in looks.items(): row(f'after {i} of them: memory, threads', f'{memory} KiB, {threads}', 'flat')
+    (first, (little, _)), _, (last, (much, _)) = looks.items()
+    row('memory for each link more', f'{1024 * (much - little) / (last - first):.0f} bytes')
 
 
 def stuck(room):
