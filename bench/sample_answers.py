@@ -378,7 +378,8 @@ def sharedata(kind, body):
     total = 18 + len(body)
     return data(total.to_bytes(2, 'little') + bytes([0x17, 0, 0xEF, 3, 0xEA, 3, 1, 0, 0, 1]) + (total - 14).to_bytes(2, 'little') + bytes([kind, 0, 0, 0]) + body)
 
-def sample():
+def packets(name):
+    """The sample client's packets, for a client of this name."""
     core = bytearray(144)
     core[0:4] = bytes([1, 0xC0, 0x90, 0]); core[4:8] = bytes([4, 0, 8, 0])
     core[8] = 64; core[10] = 48; core[140] = 24; core[142] = 7
@@ -388,11 +389,12 @@ def sample():
     gcc = bytes.fromhex('00050014 7c0001 80d6 0008001000 01c000 44756361 80c8'.replace(' ', '')) + blocks
     ci = bytes.fromhex('040101 040101 0101ff'.replace(' ', '')) + params(34, 2, 0, 1, 0, 1, 65535, 2) + params(1, 1, 1, 1, 0, 1, 1056, 2) \
         + params(65535, 64535, 65535, 1, 0, 1, 65535, 2) + bytes([4, 0x81, len(gcc)]) + gcc
-    s = bytes.fromhex('030000130ee00000000000') + bytes.fromhex('0100080000000000')
-    s += pkt(bytes([0x7F, 0x65, 0x82]) + len(ci).to_bytes(2, 'big') + ci)
-    s += pkt([4, 1, 0, 1, 0]) + pkt([0x28])
-    for c in (0x3EF, 0x3EB, 0x3EC, 0x3ED, 0x3EE): s += pkt(bytes([0x38, 0, 6]) + c.to_bytes(2, 'big'))
-    s += data(bytes.fromhex('40000000 00000000 10000000 0000 0600 0000 0000 0000'.replace(' ', '')) + bytes(2) + 'ann'.encode('utf-16le') + bytes(2) + bytes(6))
+    s = [bytes.fromhex('030000130ee00000000000') + bytes.fromhex('0100080000000000')]
+    s += [pkt(bytes([0x7F, 0x65, 0x82]) + len(ci).to_bytes(2, 'big') + ci)]
+    s += [pkt([4, 1, 0, 1, 0]), pkt([0x28])]
+    for c in (0x3EF, 0x3EB, 0x3EC, 0x3ED, 0x3EE): s += [pkt(bytes([0x38, 0, 6]) + c.to_bytes(2, 'big'))]
+    user = name.encode('utf-16le')
+    s += [data(bytes.fromhex('40000000 00000000 10000000 0000'.replace(' ', '')) + len(user).to_bytes(2, 'little') + bytes(6) + bytes(2) + user + bytes(2) + bytes(6))]
     sets = b''
     def st(t, n, put=()):
         v = bytearray(n)
@@ -401,10 +403,12 @@ def sample():
         return bytes(v)
     sets = st(1, 24) + st(3, 88, [(34, 0x82), (37, 1)]) + st(4, 40) + st(15, 8) + st(16, 52) + st(8, 10)
     ca = bytes.fromhex('ea030100 ea03 0400'.replace(' ', '')) + (len(sets) + 4).to_bytes(2, 'little') + b'RDP\0' + bytes([6, 0, 0, 0]) + sets
-    s += data((6 + len(ca)).to_bytes(2, 'little') + bytes([0x13, 0, 0xEF, 3]) + ca)
-    s += sharedata(0x1F, bytes.fromhex('0100ea03')) + sharedata(0x14, bytes([4]) + bytes(7)) + sharedata(0x14, bytes([1]) + bytes(7))
-    s += sharedata(0x27, bytes.fromhex('0000000003003200'))
+    s += [data((6 + len(ca)).to_bytes(2, 'little') + bytes([0x13, 0, 0xEF, 3]) + ca)]
+    s += [sharedata(0x1F, bytes.fromhex('0100ea03')), sharedata(0x14, bytes([4]) + bytes(7)), sharedata(0x14, bytes([1]) + bytes(7))]
+    s += [sharedata(0x27, bytes.fromhex('0000000003003200'))]
     return s
+
+def sample(): return b''.join(packets('ann'))
 
 def answer(b):
     e = handshake(b)

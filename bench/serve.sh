@@ -1,0 +1,45 @@
+#!/bin/sh
+# Serves the clients of bench/serve_load.py over the loopback interface: for each part of the load it starts `rdp_host serve`, lets the
+# part's clients come, prints what they saw as rows of a table, and compares the program's status and the line of each link with what the
+# clients did. Times are by the clock, so what else the machine does is in them; its load is printed first.
+# Wanted: less than 1% of a processor for 16 idle viewers; a median below 5 ms from the holder's click to the last of at most 16 marks, on a
+# machine that does nothing else; memory that stays flat over many links, one after another; fifteen viewers who don't notice a sixteenth
+# that never reads.
+#
+# usage: sh bench/serve.sh [PART ..]      (idle clicks rate stuck links; there is hostile too. It needs python3 and Linux's /proc.
+#                                          MANY=N: the part links has N links, 10,000)
+bench=serve
+. "$(dirname "$0")/programs.sh"
+needs "$rdp_host"
+[ "$#" -gt 0 ] || set -- idle clicks rate stuck links
+host=
+trap 'rm -rf "$work"; [ -z "$host" ] || kill "$host" 2>/dev/null || true' EXIT
+
+load() { python3 "$here/bench/serve_load.py" "$@"; }
+
+# Whether the program's lines are those that the clients expect; else the first that isn't.
+are_lines_right() {
+    awk 'NR == FNR { want[++wanted] = $0; next }
+        $0 !~ want[++seen] { printf "line %s, and not %s\n", $0, want[seen]; wrong = 1; exit }
+        END { if (wrong) exit 1; if (seen != wanted) { printf "%d lines, and not %d\n", seen, wanted; exit 1 } }' "$work/wanted" "$work/lines"
+}
+
+# A part of the load, with a program of its own.
+part() {
+    port=$(load port)
+    "$rdp_host" serve "$port" 1024 768 "$(load links "$1")" ann bob </dev/null >"$work/lines" &
+    host=$!
+    load "$1" "$port" "$host" "$work/wanted"
+    ended=0
+    wait "$host" || ended=$?
+    host=
+    [ "$ended" -eq 0 ] || { echo "$bench: $1 ended with status $ended" >&2; exit 1; }
+    are_lines_right || exit 1
+}
+
+[ ! -r /proc/loadavg ] || echo "load before: $(cut -d ' ' -f 1-3 /proc/loadavg), of $(nproc) processors; $(date -u '+%Y-%m-%d %H:%M') UTC"
+echo '| what | seen | wanted |'
+echo '|---|---:|---:|'
+for name in "$@"; do
+    part "$name"
+done

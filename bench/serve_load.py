@@ -1,0 +1,497 @@
+#!/usr/bin/env python3
+"""Clients of `rdp_host serve`, over the loopback interface: an owner who clicks, guests who watch, clients that never read or go without a
+word. They go through the connection sequence as the sample client does, which confirms fills and no cache, and count what they are sent:
+packets, orders, tiles and marks. They don't look at pixels.
+
+python3 bench/serve_load.py PART PORT PID FILE
+python3 bench/serve_load.py links PART
+python3 bench/serve_load.py port
+
+PART is one of those at the end of this file. PORT is where the program listens on this machine, with the owner `ann` and the guest `bob`, for
+just as many links as the part makes. PID is its process: what processor time and memory it takes is read in /proc. The rows of a table go to
+standard output. To FILE goes what the program must write at its end: for each link, in their order, an expression of awk for its line. The
+other two print how many links a part makes, and a port that is free. `bench/serve.sh` runs each part with a program of its own.
+"""
+import os
+import select
+import socket
+import statistics
+import struct
+import sys
+import threading
+import time
+
+from sample_answers import packets, pkt, sharedata
+
+# How many packets the host answers each packet of the sample client with; the first frame comes behind the last answer.
+ANSWERS = [1, 1, 0, 1, 1, 1, 1, 1, 1, 2, 0, 1, 1, 1, 1]
+
+# The update that ends a frame of a client which confirmed no frame markers: a Synchronize.
+MARK = bytes.fromhex('0300002402f08068000103eb70161600' '1700ea03ea030100000108000200000003000000')
+
+# A client's ultimatum of reason 3, user requested, and the host's to a client that it doesn't serve.
+BYE = pkt([0x21, 0x80])
+REFUSED = pkt([0x20, 0x80])
+
+# How long anything may take, in seconds, before the load gives up.
+PATIENCE = 240
+
+# The codes of the ends of links.
+LEFT, READ_FAULT, WRITE_FAULT, BAD_PACKET, TRUNCATED, NOT_INVITED, ROOM_FULL = 0, 4, 5, 21, 35, 36, 37
+
+# How many links come one after another in the part `links`.
+MANY = int(os.environ.get('MANY', '10000'))
+
+# The most viewers of a session, and the sides of the picture that the clicks lie in.
+MOST = 16
+WIDE, HIGH = 1024, 768
+
+
+def event(kind, a, b, c):
+    """An Input packet of one event."""
+    return sharedata(0x1C, struct.pack('<HHIHHHH', 1, 0, 0, kind, a, b, c))
+
+
+def click(i):
+    """A press of the left button: a dot of 5 by 5 pixels in the ink."""
+    return event(0x8001, 0x9000, 8 + i * 37 % (WIDE - 16), 8 + i * 53 % (HIGH - 16))
+
+
+# F2 pressed: the whole picture inverted, which goes to these clients as all tiles, unpacked: 192 of them, 2.4 MB.
+INVERT = event(4, 0, 0x3C, 0)
+
+# So many such frames are more than the system keeps for a client that doesn't read.
+FRAMES = 3
+
+
+class Link:
+    """A connection to the host, with what it was sent so far."""
+
+    def __init__(self, port, kept=None):
+        begin = time.perf_counter()
+        while True:
+            self.socket = socket.socket()
+            self.socket.settimeout(PATIENCE)
+            if kept:
+                self.socket.setsockopt(socket.SOL_SOCKET, socket.SO_RCVBUF, kept)
+            try:
+                self.socket.connect(('127.0.0.1', port))
+                break
+            except ConnectionRefusedError:
+                # the program hasn't opened its port yet
+                if time.perf_counter() - begin > PATIENCE: raise
+                self.socket.close()
+                time.sleep(0.05)
+        self.socket.setsockopt(socket.IPPROTO_TCP, socket.TCP_NODELAY, 1)
+        self.rest = b''
+        self.last = b''
+        self.packets = self.orders = self.tiles = self.marks = 0
+        self.is_over = False
+
+    def send(self, data): self.socket.sendall(data)
+
+    def read(self):
+        """Reads once, and counts the whole packets."""
+        data = self.socket.recv(1 << 18)
+        if not data: self.is_over = True
+        held = self.rest + data
+        at = 0
+        while len(held) - at >= 4:
+            if held[at] != 3: raise ValueError('no packet begins here')
+            end = at + (held[at+2] << 8 | held[at+3])
+            if end > len(held): break
+            self.count(held[at:end])
+            at = end
+        self.rest = held[at:]
+
+    def count(self, packet):
+        self.packets += 1
+        self.last = packet
+        if packet == MARK: self.marks += 1
+        elif len(packet) >= 40 and packet[7] == 0x68:
+            # behind the header of the data, whose count has one or two bytes, and of the share
+            kind = 28 + (packet[13] >> 7)
+            if packet[kind] == 2:
+                update, first, second = struct.unpack_from('<HHH', packet, kind + 4)
+                if update == 0: self.orders += second
+                if update == 1: self.tiles += first
+
+    def until(self, done):
+        """Reads until this is so, or the host has ended the connection."""
+        while not done() and not self.is_over: self.read()
+        if not done(): raise ValueError('the host ended a connection')
+
+    def to_end(self):
+        """Reads until the host ends the connection, and gives it up."""
+        while not self.is_over: self.read()
+        self.socket.close()
+
+    def reset(self):
+        """Gives the connection up so that the host's side is reset."""
+        self.socket.setsockopt(socket.SOL_SOCKET, socket.SO_LINGER, struct.pack('ii', 1, 0))
+        self.socket.close()
+
+
+class GivenUp:
+    """Waits in a thread of its own until the host ends a link."""
+
+    def __init__(self, link):
+        self.link = link
+        self.began = time.perf_counter()
+        self.thread = threading.Thread(target=self.wait)
+        self.thread.start()
+
+    def wait(self):
+        self.link.to_end()
+        self.took = time.perf_counter() - self.began
+
+    def time(self):
+        self.thread.join()
+        return self.took
+
+
+class Room:
+    """A host, with the links to it in their order, and what it must say of each at its end."""
+
+    def __init__(self, port, pid):
+        self.port, self.pid = port, pid
+        self.lines = []
+        self.joins = 0
+        self.viewers = []
+        self.ready = select.epoll()
+        self.by_number = {}
+
+    def connect(self, kept=None):
+        link = Link(self.port, kept)
+        self.lines.append(None)
+        link.number, link.viewer = len(self.lines), 0
+        return link
+
+    def ends(self, link, codes, place=0):
+        """How the host must say that a link ended: by one of these codes."""
+        self.lines[link.number - 1] = f'{link.number} {link.viewer} ({"|".join(map(str, codes))}) {place}'
+
+    def greet(self, name, kept=None):
+        """A client that went through the connection sequence."""
+        link = self.connect(kept)
+        for packet, answers in zip(packets(name), ANSWERS):
+            wanted = link.packets + answers
+            link.send(packet)
+            link.until(lambda: link.packets >= wanted)
+        return link
+
+    def join(self, name='bob', kept=None):
+        """A viewer with its first frame, whom the others have heard of."""
+        others = {link: link.marks + 1 for link in self.viewers}
+        link = self.greet(name, kept)
+        link.until(lambda: link.marks)
+        self.joins += 1
+        link.viewer = self.joins
+        self.ends(link, [LEFT])
+        self.read_until(others)
+        self.viewers.append(link)
+        self.by_number[link.socket.fileno()] = link
+        self.ready.register(link.socket, select.EPOLLIN)
+        return link
+
+    def fill(self, count=MOST):
+        """Lets viewers in until there are so many."""
+        while len(self.viewers) < count: self.join()
+
+    def forget(self, link):
+        """Reads no more of a viewer's link."""
+        self.viewers.remove(link)
+        del self.by_number[link.socket.fileno()]
+        self.ready.unregister(link.socket)
+
+    def read_until(self, due):
+        """Reads until each of these viewers has so many marks; when that was."""
+        begin = time.perf_counter()
+        due = {link: marks for link, marks in due.items() if link.marks < marks}
+        while due:
+            if time.perf_counter() - begin > PATIENCE: raise TimeoutError(f'{len(due)} viewers wait for a mark')
+            for number, _ in self.ready.poll(1):
+                link = self.by_number[number]
+                link.read()
+                if link.is_over: raise ValueError('the host ended a connection')
+                if link in due and link.marks >= due[link]: del due[link]
+        return time.perf_counter()
+
+    def one_more(self): return {link: link.marks + 1 for link in self.viewers}
+
+    def follow(self, packet):
+        """Sends a packet of the first viewer, who holds control, that makes an entry; the time until the last viewer's mark."""
+        due = self.one_more()
+        begin = time.perf_counter()
+        self.viewers[0].send(packet)
+        return self.read_until(due) - begin
+
+    def times_of_clicks(self, count):
+        """The times from a click to the last viewer's mark, with a pause before each."""
+        times = []
+        for i in range(count):
+            time.sleep(0.005)
+            times.append(self.follow(click(i)))
+        return times
+
+    def end(self, link, how):
+        """Ends a viewer's link, and waits until it has left and the others have heard of it."""
+        self.forget(link)
+        due = self.one_more()
+        how(link)
+        link.to_end()
+        self.read_until(due)
+
+    def close(self):
+        """Has all viewers leave, the holder last."""
+        while self.viewers: self.end(self.viewers[-1], lambda link: link.send(BYE))
+
+    def processor(self):
+        """The processor time of the host's threads, in seconds. Of threads that have ended it has none."""
+        spent = 0
+        for thread in os.listdir(f'/proc/{self.pid}/task'):
+            with open(f'/proc/{self.pid}/task/{thread}/schedstat') as it: spent += int(it.read().split()[0])
+        return spent / 1e9
+
+    def status(self, field):
+        """A field of the host's status; the system gives memory in KiB."""
+        with open(f'/proc/{self.pid}/status') as it:
+            for line in it:
+                if line.startswith(field + ':'): return int(line.split()[1])
+
+    def memory(self): return self.status('VmRSS')
+
+
+def row(what, seen, wanted=''): print(f'| {what} | {seen} | {wanted} |', flush=True)
+
+
+def milliseconds(seconds): return f'{1000 * seconds:.2f} ms'
+
+
+def spread(times):
+    """The median of times, and what 19 of 20 of them don't pass."""
+    return f'{milliseconds(statistics.median(times))}, {milliseconds(statistics.quantiles(times, n=20)[-1])}'
+
+
+def idle(room):
+    """16 viewers who do nothing: processor time, and memory."""
+    room.join('ann')
+    one = room.memory()
+    room.fill()
+    all_of_them = room.memory()
+    packets_before = [link.packets for link in room.viewers]
+    begin, spent = time.perf_counter(), room.processor()
+    time.sleep(10)
+    spent, took = room.processor() - spent, time.perf_counter() - begin
+    if [link.packets for link in room.viewers] != packets_before: raise ValueError('somebody was sent something')
+    row('processor time of 16 idle viewers over 10 s', f'{100 * spent / took:.2f}% of a processor', 'below 1%')
+    row('memory with 1 viewer, with 16', f'{one} KiB, {all_of_them} KiB')
+    row('memory for each viewer more', f'{(all_of_them - one) / (MOST - 1):.0f} KiB')
+    room.close()
+
+
+def clicks(room):
+    """The time from the holder's click to the last mark of N viewers."""
+    room.join('ann')
+    for count in (1, 2, 4, 8, 16):
+        room.fill(count)
+        spent = room.processor()
+        times = room.times_of_clicks(200)
+        spent = (room.processor() - spent) / len(times)
+        row(f'from a click to the last mark, {count} viewers: median, 19 of 20', spread(times), 'median below 5 ms')
+        row(f'processor time of the host for such a click, {count} viewers', milliseconds(spent))
+    room.close()
+
+
+def paced(room, rate, count):
+    """So many clicks, at so many a second: how long sending them took, how much later all viewers had the last one, and how many tiles
+    they were sent. A viewer who falls more than 256 drawings behind is sent tiles in place of orders."""
+    holder = room.viewers[0]
+    goals = {link: link.orders + count for link in room.viewers}
+    tiles = sum(link.tiles for link in room.viewers)
+    made, waiting = 0, b''
+    begin = time.perf_counter()
+    sent = None
+    while goals:
+        now = time.perf_counter()
+        due = min(count, int((now - begin) * rate) + 1)
+        waiting += b''.join(click(i) for i in range(made, due))
+        made = due
+        if waiting:
+            try: waiting = waiting[holder.socket.send(waiting, socket.MSG_DONTWAIT):]
+            except BlockingIOError: pass
+            if made == count and not waiting: sent = time.perf_counter()
+        for number, _ in room.ready.poll(0 if waiting else 0.0005):
+            link = room.by_number[number]
+            link.read()
+            if link in goals and link.orders >= goals[link]: del goals[link]
+        more = sum(link.tiles for link in room.viewers) - tiles
+        if more: break
+        if now - begin > PATIENCE: raise TimeoutError('the last drawing')
+    over = time.perf_counter()
+    return (sent or over) - begin, over - (sent or over), more
+
+
+def quiet(room, while_=1.0):
+    """Reads until nothing comes for a while."""
+    while True:
+        came = room.ready.poll(while_)
+        if not came: return
+        for number, _ in came: room.by_number[number].read()
+
+
+def rate(room):
+    """How many drawings a second 16 viewers can follow."""
+    room.join('ann')
+    room.fill()
+    best = None
+    for per_second in (250, 500, 1000, 2000, 3000, 4000, 6000, 8000, 12000, 16000):
+        marks, spent = sum(link.marks for link in room.viewers), room.processor()
+        took, later, tiles = paced(room, per_second, 2 * per_second)
+        spent = room.processor() - spent
+        frames = (sum(link.marks for link in room.viewers) - marks) / MOST
+        quiet(room)
+        print(f'{per_second} a second: sent in {took:.2f} s, the last mark {milliseconds(later)} later, {frames:.0f} frames a viewer, '
+              f'{spent:.2f} s of processor time, {tiles} tiles', file=sys.stderr)
+        if tiles or later > 0.1 or took > 2.1: break
+        best = per_second, later, frames / took, spent / took
+    if best:
+        row('drawings a second that 16 viewers follow for 2 s, each as an order, and 0.1 s behind at most', best[0])
+        row('at that: the last mark after the last click; frames a second for each viewer; processors', f'{milliseconds(best[1])}; {best[2]:.0f}; {best[3]:.2f}')
+    else: row('drawings a second that 16 viewers follow', 'fewer than 250')
+    room.close()
+
+
+def links(room):
+    """Many links, one after another."""
+    count = MANY
+    looks = {count // 100: None, count // 2: None, count - 1: None}
+    whole = b''.join(packets('ann'))
+    begin = time.perf_counter()
+    for i in range(1, count + 1):
+        link = room.connect()
+        link.send(whole)
+        link.until(lambda: link.marks)
+        room.joins += 1
+        link.viewer = room.joins
+        room.ends(link, [LEFT])
+        link.send(BYE)
+        link.to_end()
+        if i in looks: looks[i] = room.memory(), room.status('Threads')
+    took = time.perf_counter() - begin
+    row(f'{count} links one after another: each', milliseconds(took / count))
+    for i, (memory, threads) in looks.items(): row(f'after {i} of them: memory, threads', f'{memory} KiB, {threads}', 'flat')
+    (first, (little, _)), _, (last, (much, _)) = looks.items()
+    row('memory for each link more', f'{1024 * (much - little) / (last - first):.0f} bytes')
+
+
+def stuck(room):
+    """A viewer that never reads, beside fifteen that do."""
+    room.join('ann')
+    room.fill(MOST - 1)
+    who = room.join(kept=4096)
+    row('from a click to the last mark of 16 who read: median, 19 of 20', spread(room.times_of_clicks(100)), 'median below 5 ms')
+    room.forget(who)
+    room.ends(who, [WRITE_FAULT])
+    before = room.memory()
+    begin = time.perf_counter()
+    for _ in range(FRAMES): room.follow(INVERT)
+    took = (time.perf_counter() - begin) / FRAMES
+    row('one reads no more: a frame of 192 tiles, unpacked, to the last of the fifteen others', milliseconds(took))
+    row('from a click to the last mark of the fifteen: median, 19 of 20', spread(room.times_of_clicks(200)), 'median below 5 ms')
+    row('memory before, and with one that reads no more', f'{before} KiB, {room.memory()} KiB')
+    due = room.one_more()
+    gone = room.read_until(due) - begin
+    row('from the first of these frames until the host gave it up', f'{gone:.1f} s')
+    row('from a click to the last mark of the fifteen then', spread(room.times_of_clicks(100)), 'median below 5 ms')
+    room.close()
+    who.socket.close()
+
+
+def hostile(room):
+    """Clients that mean no good, beside an owner and a viewer who are served all the while."""
+    room.join('ann')
+    room.join()
+    before = room.memory()
+
+    def served(what): row(f'from a click to the last mark {what}: median, 19 of 20', spread(room.times_of_clicks(100)), 'median below 5 ms')
+
+    served('of two viewers')
+    whole = b''.join(packets('bob'))
+
+    silent = room.connect()
+    room.ends(silent, [READ_FAULT])
+    given_up = GivenUp(silent)
+
+    halves = []
+    for at in (5, 200, 700):
+        link = room.connect()
+        link.send(whole[:at])
+        room.ends(link, [TRUNCATED])
+        halves.append(link)
+    half = room.join()
+    half.send(click(0)[:20])
+    room.ends(half, [TRUNCATED])
+    served('beside one that says nothing and four that stop inside a packet')
+
+    for i in range(64):
+        link = room.connect()
+        # half of them begin as a packet does
+        link.send(bytes([3 if i % 2 else 0x16]))
+        room.ends(link, [TRUNCATED] if i % 2 else [BAD_PACKET])
+        link.socket.close()
+    served('after 64 that sent a byte each and went')
+
+    for _ in range(4):
+        link = room.join()
+        room.forget(link)
+        room.ends(link, [READ_FAULT, WRITE_FAULT])
+        room.viewers[0].send(INVERT)
+        while link.tiles < 10: link.read()
+        link.reset()
+        quiet(room)
+    served('after four that reset inside a frame')
+
+    stranger = room.greet('dan')
+    stranger.to_end()
+    if stranger.last != REFUSED: raise ValueError('a stranger is told that it is refused')
+    room.ends(stranger, [NOT_INVITED])
+
+    room.fill()
+    served('of 16')
+    more = room.greet('bob')
+    more.to_end()
+    if more.last != REFUSED: raise ValueError('who finds the room full is told that it is refused')
+    room.ends(more, [ROOM_FULL])
+
+    row('until the one that said nothing was given up', f'{given_up.time():.1f} s', '30 s')
+    for link in halves:
+        link.socket.shutdown(socket.SHUT_WR)
+        link.to_end()
+    room.end(half, lambda link: link.socket.shutdown(socket.SHUT_WR))
+    row('memory at first, and with 15 viewers at the end', f'{before} KiB, {room.memory()} KiB')
+    room.close()
+
+
+# The parts, with the links that each makes.
+PARTS = {'idle': (idle, MOST), 'clicks': (clicks, MOST), 'rate': (rate, MOST), 'stuck': (stuck, MOST), 'links': (links, MANY), 'hostile': (hostile, 90)}
+
+
+def free_port():
+    with socket.socket() as it:
+        it.bind(('127.0.0.1', 0))
+        return it.getsockname()[1]
+
+
+def main():
+    if sys.argv[1:] == ['port']: print(free_port())
+    elif sys.argv[1] == 'links' and len(sys.argv) == 3: print(PARTS[sys.argv[2]][1])
+    else:
+        part, port, pid, file = sys.argv[1:]
+        room = Room(int(port), int(pid))
+        PARTS[part][0](room)
+        with open(file, 'w') as it:
+            for line in room.lines: it.write(f'^{line}$\n')
+
+
+if __name__ == '__main__': main()
