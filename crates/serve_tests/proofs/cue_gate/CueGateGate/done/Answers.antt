@@ -1,0 +1,13 @@
+use Rattle.std.proofs.Common.{length, arith, ap}
+use Rattle.serve_tests.proofs.Links.{how_many}
+use Rattle.serve_tests.proofs.cue_gate.CueGateGate.done.Goals as goal
+
+pub push_reserved-requires : goal.push_reserved-requires
+push_reserved-requires c =
+    omega (arith, c.requires, how_many c.self.inside.given, c.self.invariant.1, ap (λ v. length v.finished) c.self.view_is, ap (λ v. length v.given) c.self.view_is)
+
+pub invariant_of-self : goal.invariant_of-self
+invariant_of-self c = (
+  omega (arith, c.push_reserved.ensures.len, c.requires, how_many c.self.inside.given, ap (λ v. length v.finished) c.self.view_is, ap (λ v. length v.given) c.self.view_is),
+  omega (arith, c.self.invariant.1, c.push_reserved.ensures.capacity),
+)
