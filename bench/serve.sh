@@ -6,8 +6,8 @@
 # machine that does nothing else; memory that stays flat over many links, one after another; fifteen viewers who don't notice a sixteenth
 # that never reads.
 #
-# usage: sh bench/serve.sh [PART ..]      (idle clicks rate stuck links; there is hostile too. It needs python3 and Linux's /proc.
-#                                          MANY=N: the part links has N links, 10,000)
+# usage: sh bench/serve.sh [PART ..]      (idle clicks rate stuck links; there are hostile, and same, which needs rdp_look.
+#                                          It needs python3 and Linux's /proc. MANY=N: the part links has N links, 10,000)
 bench=serve
 . "$(dirname "$0")/programs.sh"
 needs "$rdp_host"
@@ -15,7 +15,7 @@ needs "$rdp_host"
 host=
 trap 'rm -rf "$work"; [ -z "$host" ] || kill "$host" 2>/dev/null || true' EXIT
 
-load() { python3 "$here/bench/serve_load.py" "$@"; }
+load() { RDP_LOOK=$rdp_look python3 "$here/bench/serve_load.py" "$@"; }
 
 # Whether the program's lines are those that the clients expect; else the first that isn't.
 are_lines_right() {
@@ -27,7 +27,12 @@ are_lines_right() {
 # A part of the load, with a program of its own.
 part() {
     port=$(load port)
-    "$rdp_host" serve "$port" 1024 768 "$(load links "$1")" ann bob </dev/null >"$work/lines" &
+    size='1024 768'
+    if [ "$1" = same ]; then
+        needs "$rdp_look"
+        size='256 192'
+    fi
+    "$rdp_host" serve "$port" $size "$(load links "$1")" ann bob cy+ </dev/null >"$work/lines" &
     host=$!
     load "$1" "$port" "$host" "$work/wanted"
     ended=0
