@@ -1,9 +1,9 @@
 -- Each entry that is written is read back, behind its length too, whatever follows it.
-use Rattle.std.proofs.Common.{◌≡◌, ℕ, ◌+◌, ◌<◌, ◌≤◌, Bool, true, false, List, [], ◌∷◌, ◌++◌, length, refl, ap, sym, ◌∙◌, arith, Ok, Err, Some, None, append_assoc, append-nil}
-use Rattle.std.specs.Prelude.{Option, nat_lt, nat_le, ◌==◌, ◌&&◌, if◌then◌else◌}
+use Rattle.std.proofs.Common.{◌≡◌, ℕ, Bool, true, false, List, [], ◌∷◌, ◌++◌, length, refl, ap, sym, ◌∙◌, Ok, Some, None, append_assoc, append-nil}
+use Rattle.std.specs.Prelude.{Option, nat_le, ◌==◌, ◌&&◌}
 use Rattle.std.proofs.lemmas.Bool.{and_parts}
 use Rattle.wire_num.specs.Field.{Read, then_read, map_read, bytes_at, all_of}
-use Rattle.wire_num.specs.FieldValue.{is_at_most, passing_at, as_one_field}
+use Rattle.wire_num.specs.FieldValue.{is_at_most, as_one_field}
 use Rattle.wire_num.specs.Caused.{then_caused, before_caused, caused}
 use Rattle.px_core.specs.declared.rectangle.Rect.{Rect}
 use Rattle.draw_ops.specs.Ranges.{is_u16, is_u32}
@@ -15,16 +15,16 @@ use Rattle.session_rules.specs.declared.entry.Role.TheVariants.{Owner, Control, 
 use Rattle.session_rules.specs.declared.entry.Entry.{Entry}
 use Rattle.session_rules.specs.declared.entry.Entry.TheVariants.{Join, Leave, Give, Input, Draw}
 use Rattle.record_rules.specs.declared.field.Field.{Field}
-use Rattle.record_rules.specs.declared.field.Field.TheVariants.{Byte, Short, Long, SignedByte, SignedShort, Color}
-use Rattle.record_rules.specs.Fields.{field_bytes, fields_bytes, is_in_place, are_in_place}
-use Rattle.record_rules.specs.Tables.{flag, role_number, event_row, event_fields, rect_fields, clip_fields, shape_fields, shape_rest, entry_fields, entry_rest, body_bytes, entry_bytes, is_recordable, is_entry_rest_in_place}
-use Rattle.record_rules.specs.Reading.{Lack, byte_at, short_at, long_at, flag_at, zero_at, rect_at, shape_at, clip_at, clip_by, role_at, role_numbered, last_role, last_tag, zeros_at, key_at, mouse_at, event_at, event_by, join_at, leave_at, give_at, input_at, draw_at, entry_at, entry_by, is_kind, body_at, counted_at, framed_at}
+use Rattle.record_rules.specs.declared.field.Field.TheVariants.{Byte, Short, Long}
+use Rattle.record_rules.specs.Fields.{field_bytes, fields_bytes, are_in_place}
+use Rattle.record_rules.specs.Tables.{flag, role_number, event_fields, rect_fields, clip_fields, shape_fields, shape_rest, entry_fields, entry_rest, body_bytes, entry_bytes, is_recordable, is_entry_rest_in_place}
+use Rattle.record_rules.specs.Reading.{byte_at, short_at, long_at, flag_at, zero_at, shape_at, clip_at, clip_by, role_at, role_numbered, last_role, last_tag, zeros_at, key_at, mouse_at, event_at, event_by, join_at, leave_at, give_at, input_at, draw_at, entry_at, entry_by, is_kind, body_at, counted_at, framed_at}
 use Rattle.record_rules.specs.Reading.Lack.{Missing, Broken}
 use Rattle.record_rules.proofs.FieldsBack.{then_back, map_back, passing_back, byte_back, short_back, long_back, bytes_back, rect_back}
 use Rattle.record_rules.proofs.ShapesBack.{in_place_parts, first_in_place, shape_back}
 
 -- fields after fields
-fields_bytes-append : (xs ys : List Field) → fields_bytes (xs ++ ys) ≡ fields_bytes xs ++ fields_bytes ys
+pub fields_bytes-append : (xs ys : List Field) → fields_bytes (xs ++ ys) ≡ fields_bytes xs ++ fields_bytes ys
 fields_bytes-append [] ys = refl
 fields_bytes-append (x ∷ xs) ys = ap (λ bs. field_bytes x ++ bs) (fields_bytes-append xs ys) ∙ sym (append_assoc (field_bytes x) (fields_bytes xs) (fields_bytes ys))
 

@@ -1,22 +1,20 @@
 -- Each field that is written is read back, whatever follows it.
-use Rattle.std.proofs.Common.{◌≡◌, ℕ, zero, suc, ◌+◌, ◌*◌, ◌^◌, ◌<◌, ◌≤◌, Bool, true, false, List, [], ◌∷◌, ◌++◌, length, refl, ap, sym, ◌∙◌, arith, Ok, Err, Some, None, append_assoc}
-use Rattle.std.specs.Prelude.{ℤ, pos, negsuc, int_le, nat_lt, nat_le, ◌==◌, ◌&&◌, IsTrue, if◌then◌else◌}
-use Rattle.std.proofs.lemmas.Bool.{and_from, and_parts}
+use Rattle.std.proofs.Common.{◌≡◌, ℕ, ◌+◌, ◌*◌, ◌<◌, Bool, true, List, [], ◌∷◌, ◌++◌, length, refl, ap, sym, ◌∙◌, arith, Ok, Err}
+use Rattle.std.specs.Prelude.{ℤ, pos, negsuc, int_le, nat_lt, if◌then◌else◌}
+use Rattle.std.proofs.lemmas.Bool.{and_parts}
 use Rattle.std.proofs.lemmas.Bool.Decides.{nat_tests}
 use Rattle.std.proofs.lemmas.Int.{ints}
-use Rattle.byteorder.specs.Endian.{little_bytes, big_bytes}
 use Rattle.wire_num.specs.Field.{Read, then_read, map_read, bytes_at, taken}
 use Rattle.wire_num.specs.FieldValue.{passing_at}
-use Rattle.wire_num.specs.Number.{little_signed, IsSigned, big_value, big_at}
+use Rattle.wire_num.specs.Number.{IsSigned}
 use Rattle.wire_num.proofs.Bytes.{taken_back}
 use Rattle.wire_num.proofs.Numbers.{little_at_back, big_at_back, big_back, little_signed_at_back}
 use Rattle.px_core.specs.declared.rectangle.Rect.{Rect}
 use Rattle.px_core.specs.Rectangle.{boxed}
 use Rattle.px_core.specs.Colors.{is_color, are_colors}
-use Rattle.draw_ops.specs.Ranges.{is_u8, is_u16, is_u32}
-use Rattle.record_rules.specs.declared.field.Field.{Field}
-use Rattle.record_rules.specs.declared.field.Field.TheVariants.{Byte, Short, Long, SignedByte, SignedShort, Color}
-use Rattle.record_rules.specs.Fields.{field_bytes, fields_bytes, colors_bytes, pairs_bytes, is_in_place, are_in_place, is_i8, is_i16}
+use Rattle.draw_ops.specs.Ranges.{is_u16, is_u32}
+use Rattle.record_rules.specs.declared.field.Field.TheVariants.{Short, Long, SignedByte, SignedShort, Color}
+use Rattle.record_rules.specs.Fields.{field_bytes, fields_bytes, colors_bytes, pairs_bytes, are_in_place, is_i8, is_i16}
 use Rattle.record_rules.specs.Tables.{rect_fields}
 use Rattle.record_rules.specs.Reading.{byte_at, short_at, long_at, signed_byte_at, signed_short_at, color_at, colors_in, colors_at, pairs_in, pairs_at, point_at, rect_at}
 
@@ -68,7 +66,7 @@ color_back c rest h = big_at_back 3 c rest (below c 16777216 h)
 pub bytes_back : (n : ℕ) (xs rest : List ℕ) → length xs ≡ n → bytes_at n (xs ++ rest) ≡ Ok (xs, rest)
 bytes_back n xs rest e = ap (λ m. taken (xs ++ rest) m (xs ++ rest)) (sym e) ∙ taken_back (xs ++ rest) xs rest
 
-length-colors : (cs : List ℕ) → length (colors_bytes cs) ≡ 3 * length cs
+pub length-colors : (cs : List ℕ) → length (colors_bytes cs) ≡ 3 * length cs
 length-colors [] = refl
 length-colors (c ∷ cs) = let more = length-colors cs in omega (arith, more)
 
@@ -82,7 +80,7 @@ pub colors_back : (n : ℕ) (cs rest : List ℕ) → length cs ≡ n → are_col
 colors_back n cs rest e h =
     map_back _ (colors_bytes cs) rest colors_in (bytes_back (3 * n) (colors_bytes cs) rest (length-colors cs ∙ ap (λ m. 3 * m) e)) ∙ ap (λ xs. Ok (xs, rest)) (colors_in-bytes cs h)
 
-length-pairs : (ps : List (ℕ × ℕ)) → length (pairs_bytes ps) ≡ 2 * length ps
+pub length-pairs : (ps : List (ℕ × ℕ)) → length (pairs_bytes ps) ≡ 2 * length ps
 length-pairs [] = refl
 length-pairs (p ∷ ps) = let more = length-pairs ps in omega (arith, more)
 

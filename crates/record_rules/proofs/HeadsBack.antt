@@ -1,13 +1,12 @@
 -- A head that is written is read back, whatever follows it.
-use Rattle.std.proofs.Common.{◌≡◌, ℕ, ◌%◌, ◌<◌, ◌≤◌, Bool, true, false, List, [], ◌∷◌, ◌++◌, length, refl, ap, sym, subst, ◌∙◌, arith, Ok, Err, Some, None, append_assoc, append-nil, eq-eqb}
-use Rattle.std.specs.Prelude.{Option, nat_lt, nat_le, ◌==◌, ◌&&◌, not, is_none, if◌then◌else◌}
+use Rattle.std.proofs.Common.{◌≡◌, ℕ, ◌%◌, Bool, true, false, List, [], ◌∷◌, ◌++◌, length, refl, ap, sym, ◌∙◌, arith, Ok, Err, Some, append_assoc, append-nil, eq-eqb}
+use Rattle.std.specs.Prelude.{nat_le, ◌==◌, ◌&&◌, not, is_none, if◌then◌else◌}
 use Rattle.std.proofs.lemmas.Bool.{and_from, and_parts, eqb-true}
 use Rattle.std.proofs.lemmas.Bool.Decides.{nat_tests}
 use Rattle.line_text.specs.Words.{is_same_word}
-use Rattle.wire_num.specs.Field.{Read, then_read, bytes_at}
+use Rattle.wire_num.specs.Field.{Read, bytes_at}
 use Rattle.wire_num.specs.FieldValue.{is_at_most}
 use Rattle.wire_num.specs.Caused.{Caused, then_caused, map_caused}
-use Rattle.px_core.specs.declared.surface.Size.{Size}
 use Rattle.px_core.specs.Rectangle.{is_session_size}
 use Rattle.draw_ops.specs.Ranges.{is_u16}
 use Rattle.session_rules.specs.declared.entry.Role.{Role}
@@ -15,7 +14,7 @@ use Rattle.session_rules.specs.declared.entry.Role.TheVariants.{Owner, Control, 
 use Rattle.session_rules.specs.Journal.{Head, Row}
 use Rattle.session_rules.specs.Steps.{row_role, is_new_name, are_names_distinct}
 use Rattle.script_rules.specs.Script.{is_name, is_name_byte, all_bytes, row_limit}
-use Rattle.record_rules.specs.declared.field.Field.TheVariants.{Byte, Short}
+use Rattle.record_rules.specs.declared.field.Field.TheVariants.{Short}
 use Rattle.record_rules.specs.Fields.{field_bytes, fields_bytes}
 use Rattle.record_rules.specs.Tables.{record_mark, role_number, head_fields, row_bytes, rows_bytes, head_bytes, are_named, is_recordable_head}
 use Rattle.record_rules.specs.Reading.{Lack, byte_at, short_at, role_numbered, last_role, tested, tested_at, is_record_mark, is_width, is_height, is_name_length, is_next_name, row_at, rows_at, head_at}

@@ -1,12 +1,11 @@
 -- A record stands for its head and its entries, each front of it with the whole head for the longest list of whole entries in it, and for no other.
-use Rattle.std.proofs.Common.{◌≡◌, ℕ, zero, suc, ◌+◌, ◌*◌, ◌/◌, ◌%◌, ◌<◌, ◌≤◌, Bool, true, false, List, [], ◌∷◌, ◌++◌, length, take, drop, refl, ap, sym, subst, ◌∙◌, arith, Ok, Err, Some, None, append_assoc, append-nil, inl, inr}
-use Rattle.std.specs.Prelude.{◌-◌, ◌⊎◌, Option, nat_lt, nat_le, ◌==◌, ◌&&◌, IsTrue, if◌then◌else◌}
-use Rattle.std.proofs.lemmas.Bool.{and_from, and_parts}
+use Rattle.std.proofs.Common.{◌≡◌, ℕ, zero, suc, ◌+◌, ◌/◌, ◌%◌, ◌<◌, ◌≤◌, Bool, true, false, List, [], ◌∷◌, ◌++◌, length, take, drop, refl, ap, sym, ◌∙◌, arith, Ok, Err, Some, append_assoc, inl, inr}
+use Rattle.std.specs.Prelude.{nat_lt, if◌then◌else◌}
+use Rattle.std.proofs.lemmas.Bool.{and_parts}
 use Rattle.std.proofs.lemmas.Bool.Decides.{nat_tests}
-use Rattle.std.proofs.lemmas.List.{length-append, append_cancel_left, take-append-le, take-append-drop, drop-append-le}
-use Rattle.std.proofs.Math.Seq.{take-append_seam, drop-append_seam, take-length}
+use Rattle.std.proofs.lemmas.List.{length-append}
 use Rattle.byteorder.specs.Endian.{little_bytes, little_number}
-use Rattle.wire_num.specs.Field.{Read, then_read, bytes_at, place_in}
+use Rattle.wire_num.specs.Field.{then_read, bytes_at, place_in}
 use Rattle.wire_num.specs.FieldValue.{as_one_field}
 use Rattle.wire_num.specs.Caused.{Caused, then_caused, before_caused, caused}
 use Rattle.wire_num.proofs.Numbers.{little_at_is}
@@ -16,7 +15,7 @@ use Rattle.session_rules.specs.Journal.{Head}
 use Rattle.record_rules.specs.Tables.{body_bytes, entry_bytes, entries_bytes, head_bytes, record_bytes, is_recordable, are_recordable, is_recordable_head}
 use Rattle.record_rules.specs.Reading.{Lack, short_at, counted_at, framed_at, body_at, head_at}
 use Rattle.record_rules.specs.Reading.Lack.{Missing, Broken}
-use Rattle.record_rules.specs.Records.{Entries, entry_and, with_entry, entries_in, entries_of, recorded, recorded_entries, journal_of_record, IsPart, StandsFor}
+use Rattle.record_rules.specs.Records.{entry_and, with_entry, entries_in, entries_of, recorded, recorded_entries, journal_of_record, IsPart, StandsFor}
 use Rattle.record_rules.specs.Records.End.{Unfinished}
 use Rattle.record_rules.proofs.EntriesBack.{framed_back}
 use Rattle.record_rules.proofs.HeadsBack.{head_back}

@@ -11,7 +11,7 @@ use Rattle.record_rules.specs.Tables.{record_bytes}
 use Rattle.wire_num.specs.FieldValue.{passing_at}
 use Rattle.record_rules.specs.Reading.{head_at, row_at, framed_at, counted_at, entry_at, entry_by, join_at, role_at, draw_at, clip_at, clip_by, shape_at, shape_by, fill_at, rect_at}
 use Rattle.record_rules.specs.Records.{journal_of_record}
-use Rattle.record_rules.specs.Records.End.{Unfinished, Faulty}
+use Rattle.record_rules.specs.Records.End.{Unfinished}
 
 -- a session of 64 by 48 with one row, the owner `host`
 abbrev one_owner : Head

@@ -1,21 +1,20 @@
 -- Each shape that is written is read back, whatever follows it.
-use Rattle.std.proofs.Common.{◌≡◌, ℕ, ◌*◌, Bool, true, false, List, [], ◌∷◌, ◌++◌, length, refl, ap, sym, ◌∙◌, arith, Ok, Err, append_assoc}
-use Rattle.std.specs.Prelude.{ℤ, nat_lt, nat_le, ◌==◌, ◌&&◌, if◌then◌else◌}
+use Rattle.std.proofs.Common.{◌≡◌, ℕ, ◌*◌, true, List, [], ◌∷◌, ◌++◌, length, refl, ◌∙◌, Ok}
+use Rattle.std.specs.Prelude.{ℤ, nat_le, ◌==◌}
 use Rattle.std.proofs.lemmas.Bool.{and_from, and_parts, eqb-true}
 use Rattle.wire_num.specs.Field.{Read, then_read, map_read, bytes_at}
 use Rattle.wire_num.specs.FieldValue.{is_at_most}
 use Rattle.px_core.specs.declared.rectangle.Rect.{Rect}
-use Rattle.px_core.specs.Rectangle.{boxed}
-use Rattle.px_core.specs.Colors.{is_color, are_colors}
-use Rattle.draw_ops.specs.Ranges.{is_u8, is_u16, are_bytes, are_byte_pairs, is_brush_in_range}
+use Rattle.px_core.specs.Colors.{are_colors}
+use Rattle.draw_ops.specs.Ranges.{are_bytes, is_brush_in_range}
 use Rattle.draw_ops.specs.Content.{ImageOf, GlyphOf}
 use Rattle.draw_ops.specs.declared.shape.Shape.{Shape}
 use Rattle.draw_ops.specs.declared.shape.Shape.TheVariants.{Fill, Dst, Pat, Copy, Blit, Blit3, Text, Line, Save, Restore, LoadImage, LoadBrush, LoadGlyph}
 use Rattle.record_rules.specs.declared.field.Field.{Field}
-use Rattle.record_rules.specs.declared.field.Field.TheVariants.{Byte, Short, Long, SignedByte, SignedShort, Color}
-use Rattle.record_rules.specs.Fields.{field_bytes, fields_bytes, colors_bytes, pairs_bytes, is_in_place, are_in_place, is_i8, is_i16}
+use Rattle.record_rules.specs.declared.field.Field.TheVariants.{Byte, SignedByte, SignedShort, Color}
+use Rattle.record_rules.specs.Fields.{fields_bytes, colors_bytes, pairs_bytes, is_in_place, are_in_place}
 use Rattle.record_rules.specs.Tables.{rect_fields, shape_fields, shape_rest, is_rest_in_place, glyph_bytes}
-use Rattle.record_rules.specs.Reading.{byte_at, short_at, signed_byte_at, color_at, colors_at, pairs_at, point_at, rect_at, fill_at, dst_at, pat_at, copy_at, blit_at, blit3_at, text_at, line_at, save_at, restore_at, image_at, brush_at, glyph_at, shape_by, shape_at, byte_up_to, last_shape, brush_pixels}
+use Rattle.record_rules.specs.Reading.{byte_at, signed_byte_at, color_at, colors_at, pairs_at, point_at, rect_at, fill_at, dst_at, pat_at, copy_at, blit_at, blit3_at, text_at, line_at, save_at, restore_at, image_at, brush_at, glyph_at, shape_by, shape_at, last_shape, brush_pixels}
 use Rattle.record_rules.proofs.FieldsBack.{then_back, map_back, passing_back, byte_back, signed_byte_back, color_back, bytes_back, colors_back, pairs_back, point_back, rect_back}
 
 pub in_place_parts : (xs ys : List Field) → are_in_place (xs ++ ys) ≡ true → (are_in_place xs ≡ true) × (are_in_place ys ≡ true)

@@ -1,5 +1,5 @@
 -- The fields of a record: their bytes, and what has place in them.
-use Rattle.std.specs.Prelude.{ℕ, Bool, true, ◌&&◌, ℤ, negsuc, pos, int_le, List, [], ◌∷◌, ◌++◌, flat_map}
+use Rattle.std.specs.Prelude.{ℕ, Bool, true, ◌&&◌, ℤ, negsuc, pos, int_le, List, [], ◌∷◌, flat_map}
 use Rattle.byteorder.specs.Endian.{little_bytes, big_bytes}
 use Rattle.wire_num.specs.Number.{little_signed}
 use Rattle.px_core.specs.Colors.{is_color}
@@ -17,8 +17,7 @@ field_bytes (Color color) = big_bytes 3 color
 
 -- fields one after the other
 abbrev pub fields_bytes : List Field → List ℕ
-fields_bytes [] = []
-fields_bytes (f ∷ fs) = field_bytes f ++ fields_bytes fs
+fields_bytes fs = flat_map field_bytes fs
 
 -- a colour after the other
 abbrev pub colors_bytes : List ℕ → List ℕ

@@ -1,11 +1,10 @@
 -- Reading a record field by field. A field that breaks its rule is refused at its first byte, and so is one whose bytes aren't all there.
-use Rattle.std.specs.Prelude.{ℕ, zero, suc, ◌*◌, ◌==◌, nat_le, Bool, true, false, ◌&&◌, ℤ, pos, List, [], ◌∷◌, ◌++◌, Option, Some, None, Result, Ok, Err, if◌then◌else◌}
+use Rattle.std.specs.Prelude.{ℕ, zero, suc, ◌*◌, ◌==◌, nat_le, Bool, ◌&&◌, ℤ, List, [], ◌∷◌, ◌++◌, Option, Some, None, Ok, Err, if◌then◌else◌}
 use Rattle.line_text.specs.Words.{is_same_word}
 use Rattle.wire_num.specs.Field.{Read, then_read, map_read, all_of, bytes_at}
 use Rattle.wire_num.specs.FieldValue.{passing_at, is_at_most, as_one_field}
 use Rattle.wire_num.specs.Number.{little_at, big_at, big_value, little_signed_at}
 use Rattle.wire_num.specs.Caused.{Caused, then_caused, map_caused, before_caused, caused}
-use Rattle.px_core.specs.declared.surface.Size.{Size}
 use Rattle.px_core.specs.declared.rectangle.Rect.{Rect}
 use Rattle.px_core.specs.Rectangle.{boxed, is_session_size}
 use Rattle.draw_ops.specs.declared.shape.Shape.{Shape}

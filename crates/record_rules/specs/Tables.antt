@@ -1,12 +1,10 @@
 -- A record's bytes, as tables of fields: the head, and the entries by their kinds, with the drawings' shapes in the order of their numbers.
-use Rattle.std.specs.Prelude.{ℕ, ◌+◌, ◌*◌, ◌/◌, ◌==◌, nat_le, Bool, true, false, ◌&&◌, List, [], ◌∷◌, ◌++◌, length, flat_map, Option, Some, None, if◌then◌else◌}
+use Rattle.std.specs.Prelude.{ℕ, ◌+◌, ◌*◌, ◌/◌, ◌==◌, nat_le, Bool, true, false, ◌&&◌, List, [], ◌∷◌, ◌++◌, length, flat_map, Option, Some, None}
 use Rattle.byteorder.specs.Endian.{little_bytes}
-use Rattle.px_core.specs.declared.surface.Size.{Size}
 use Rattle.px_core.specs.declared.rectangle.Rect.{Rect}
 use Rattle.px_core.specs.Rectangle.{is_session_size}
 use Rattle.px_core.specs.Colors.{are_colors}
 use Rattle.draw_ops.specs.Ranges.{is_u16, are_bytes, are_byte_pairs, is_brush_in_range}
-use Rattle.draw_ops.specs.declared.shape.Drawing.{Drawing}
 use Rattle.draw_ops.specs.declared.shape.Shape.{Shape}
 use Rattle.draw_ops.specs.declared.shape.Shape.TheVariants.{Fill, Dst, Pat, Copy, Blit, Blit3, Text, Line, Save, Restore, LoadImage, LoadBrush, LoadGlyph}
 use Rattle.input_pdu.specs.declared.event.Event.{Event}
