@@ -27,36 +27,36 @@ ghost use Rattle.record_rules.specs.Tables.{clip_fields, shape_fields, shape_res
 
 use crate::OutOfMemory;
 use crate::put::{put_bytes, put_colors, put_fields, put_pairs};
-use draw_ops::Shape;
+use draw_ops::{Drawing, Shape};
 use px_core::Rect;
 use record_rules::Field;
 
 /// The numbers of the shapes.
-pub const FILL: u8 = 0;
+pub const FILL: u32 = 0;
 
-pub const DST: u8 = 1;
+pub const DST: u32 = 1;
 
-pub const PAT: u8 = 2;
+pub const PAT: u32 = 2;
 
-pub const COPY: u8 = 3;
+pub const COPY: u32 = 3;
 
-pub const BLIT: u8 = 4;
+pub const BLIT: u32 = 4;
 
-pub const BLIT3: u8 = 5;
+pub const BLIT3: u32 = 5;
 
-pub const TEXT: u8 = 6;
+pub const TEXT: u32 = 6;
 
-pub const LINE: u8 = 7;
+pub const LINE: u32 = 7;
 
-pub const SAVE: u8 = 8;
+pub const SAVE: u32 = 8;
 
-pub const RESTORE: u8 = 9;
+pub const RESTORE: u32 = 9;
 
-pub const LOAD_IMAGE: u8 = 10;
+pub const LOAD_IMAGE: u32 = 10;
 
-pub const LOAD_BRUSH: u8 = 11;
+pub const LOAD_BRUSH: u32 = 11;
 
-pub const LOAD_GLYPH: u8 = 12;
+pub const LOAD_GLYPH: u32 = 12;
 
 /// How many bytes a rectangle has.
 const RECT_SIZE: usize = 8;
@@ -90,22 +90,22 @@ fn rect_fields(r: Rect) -> (Field, Field, Field, Field)
 }
 
 /// Writes the flag of a clip, and the clip, at the end. An `Err` leaves a front of them there.
-pub fn put_clip(out: &mut Vec<u8>, clip: Option<Rect>) -> Result<(), OutOfMemory>
+fn put_clip(out: &mut Vec<u8>, clip: Option<Rect>) -> Result<(), OutOfMemory>
     requires { IsTrue (are_in_place (clip_fields clip)) }
     ensures ok { OnOk result (out.new.items ≡ out.old.items ++ fields_bytes (clip_fields clip)) }
     ensures memory { OnErr result (AppendsFront out.old.items (fields_bytes (clip_fields clip)) out.new.items) }
 {
     match clip {
-        None => put_fields(out, &[byte(0)]),
+        None => put_fields(out, &[Field::Byte(0)]),
         Some(r) => {
             let (x, y, w, h) = rect_fields(r);
-            put_fields(out, &[byte(1), x, y, w, h])
+            put_fields(out, &[Field::Byte(1), x, y, w, h])
         }
     }
 }
 
 /// How many bytes the flag of a clip and the clip have.
-pub fn clip_length(clip: Option<Rect>) -> usize
+fn clip_length(clip: Option<Rect>) -> usize
     ensures { result ≡ length (fields_bytes (clip_fields clip)) }
 {
     match clip {
@@ -115,7 +115,7 @@ pub fn clip_length(clip: Option<Rect>) -> usize
 }
 
 /// Writes a shape's number and its fields at the end, up to what stands behind them. An `Err` leaves a front of them there.
-pub fn put_shape_fields(out: &mut Vec<u8>, shape: &Shape) -> Result<(), OutOfMemory>
+fn put_shape_fields(out: &mut Vec<u8>, shape: &Shape) -> Result<(), OutOfMemory>
     requires { IsTrue (are_in_place (shape_fields shape.now)) }
     ensures ok { OnOk result (out.new.items ≡ out.old.items ++ fields_bytes (shape_fields shape.now)) }
     ensures memory { OnErr result (AppendsFront out.old.items (fields_bytes (shape_fields shape.now)) out.new.items) }
@@ -123,20 +123,20 @@ pub fn put_shape_fields(out: &mut Vec<u8>, shape: &Shape) -> Result<(), OutOfMem
     match shape {
         Shape::Fill { rect, color } => {
             let (x, y, w, h) = rect_fields(*rect);
-            put_fields(out, &[byte(FILL), x, y, w, h, Field::Color(*color)])
+            put_fields(out, &[Field::Byte(FILL), x, y, w, h, Field::Color(*color)])
         }
         Shape::Dst { rect, rop } => {
             let (x, y, w, h) = rect_fields(*rect);
-            put_fields(out, &[byte(DST), x, y, w, h, byte(*rop)])
+            put_fields(out, &[Field::Byte(DST), x, y, w, h, byte(*rop)])
         }
         Shape::Pat { rect, rop, brush } => {
             let (x, y, w, h) = rect_fields(*rect);
-            put_fields(out, &[byte(PAT), x, y, w, h, byte(*rop), byte(*brush)])
+            put_fields(out, &[Field::Byte(PAT), x, y, w, h, byte(*rop), byte(*brush)])
         }
         Shape::Copy { rect, rop, sx, sy } => {
             let (x, y, w, h) = rect_fields(*rect);
             let (sx, sy) = (Field::SignedShort(*sx), Field::SignedShort(*sy));
-            put_fields(out, &[byte(COPY), x, y, w, h, byte(*rop), sx, sy])
+            put_fields(out, &[Field::Byte(COPY), x, y, w, h, byte(*rop), sx, sy])
         }
         Shape::Blit {
             rect,
@@ -149,7 +149,7 @@ pub fn put_shape_fields(out: &mut Vec<u8>, shape: &Shape) -> Result<(), OutOfMem
             let (sx, sy) = (Field::SignedShort(*sx), Field::SignedShort(*sy));
             put_fields(
                 out,
-                &[byte(BLIT), x, y, w, h, byte(*rop), byte(*image), sx, sy],
+                &[Field::Byte(BLIT), x, y, w, h, byte(*rop), byte(*image), sx, sy],
             )
         }
         Shape::Blit3 {
@@ -165,7 +165,7 @@ pub fn put_shape_fields(out: &mut Vec<u8>, shape: &Shape) -> Result<(), OutOfMem
             put_fields(
                 out,
                 &[
-                    byte(BLIT3),
+                    Field::Byte(BLIT3),
                     x,
                     y,
                     w,
@@ -187,7 +187,7 @@ pub fn put_shape_fields(out: &mut Vec<u8>, shape: &Shape) -> Result<(), OutOfMem
         } => put_fields(
             out,
             &[
-                byte(TEXT),
+                Field::Byte(TEXT),
                 Field::SignedShort(*x),
                 Field::SignedShort(*y),
                 Field::Color(*color),
@@ -204,7 +204,7 @@ pub fn put_shape_fields(out: &mut Vec<u8>, shape: &Shape) -> Result<(), OutOfMem
         } => put_fields(
             out,
             &[
-                byte(LINE),
+                Field::Byte(LINE),
                 Field::SignedShort(*x0),
                 Field::SignedShort(*y0),
                 Field::SignedShort(*x1),
@@ -214,24 +214,24 @@ pub fn put_shape_fields(out: &mut Vec<u8>, shape: &Shape) -> Result<(), OutOfMem
         ),
         Shape::Save { slot, rect } => {
             let (x, y, w, h) = rect_fields(*rect);
-            put_fields(out, &[byte(SAVE), byte(*slot), x, y, w, h])
+            put_fields(out, &[Field::Byte(SAVE), byte(*slot), x, y, w, h])
         }
         Shape::Restore { slot, x, y } => {
             let (x, y) = (Field::SignedShort(*x), Field::SignedShort(*y));
-            put_fields(out, &[byte(RESTORE), byte(*slot), x, y])
+            put_fields(out, &[Field::Byte(RESTORE), byte(*slot), x, y])
         }
         Shape::LoadImage { slot, image } => {
             let (w, h) = (
                 Field::Byte(u32::from(image.w())),
                 Field::Byte(u32::from(image.h())),
             );
-            put_fields(out, &[byte(LOAD_IMAGE), byte(*slot), w, h])
+            put_fields(out, &[Field::Byte(LOAD_IMAGE), byte(*slot), w, h])
         }
-        Shape::LoadBrush { slot, .. } => put_fields(out, &[byte(LOAD_BRUSH), byte(*slot)]),
+        Shape::LoadBrush { slot, .. } => put_fields(out, &[Field::Byte(LOAD_BRUSH), byte(*slot)]),
         Shape::LoadGlyph { font, code, glyph } => put_fields(
             out,
             &[
-                byte(LOAD_GLYPH),
+                Field::Byte(LOAD_GLYPH),
                 byte(*font),
                 byte(*code),
                 Field::SignedByte(glyph.x()),
@@ -244,7 +244,7 @@ pub fn put_shape_fields(out: &mut Vec<u8>, shape: &Shape) -> Result<(), OutOfMem
 }
 
 /// How many bytes a shape's number and its fields have, up to what stands behind them.
-pub fn shape_length(shape: &Shape) -> usize
+fn shape_length(shape: &Shape) -> usize
     ensures { result ≡ length (fields_bytes (shape_fields shape.now)) }
 {
     match shape {
@@ -287,7 +287,7 @@ pub fn put_shape_rest(out: &mut Vec<u8>, shape: &Shape) -> Result<(), OutOfMemor
 }
 
 /// How many bytes stand behind a shape's fields.
-pub fn rest_length(shape: &Shape) -> usize
+fn rest_length(shape: &Shape) -> usize
     requires { length (shape_rest shape.now) ≤ 65535 }
     ensures { result ≡ length (shape_rest shape.now) }
 {
@@ -306,4 +306,22 @@ pub fn rest_length(shape: &Shape) -> usize
         | Shape::Save { .. }
         | Shape::Restore { .. } => 0,
     }
+}
+
+/// Writes the fields of a drawing at the end, up to what stands behind them. An `Err` leaves a front of them there.
+pub fn put_drawing_fields(out: &mut Vec<u8>, d: &Drawing) -> Result<(), OutOfMemory>
+    requires { IsTrue (are_in_place (clip_fields d.now.clip ++ shape_fields d.now.shape)) }
+    ensures ok { OnOk result (out.new.items ≡ out.old.items ++ fields_bytes (clip_fields d.now.clip ++ shape_fields d.now.shape)) }
+    ensures memory { OnErr result (AppendsFront out.old.items (fields_bytes (clip_fields d.now.clip ++ shape_fields d.now.shape)) out.new.items) }
+{
+    put_clip(out, d.clip)?;
+    put_shape_fields(out, &d.shape)
+}
+
+/// How many bytes a drawing has.
+pub fn drawing_length(d: &Drawing) -> usize
+    requires { length (shape_rest d.now.shape) ≤ 65535 }
+    ensures { result ≡ length (fields_bytes (clip_fields d.now.clip ++ shape_fields d.now.shape) ++ shape_rest d.now.shape) }
+{
+    clip_length(d.clip) + shape_length(&d.shape) + rest_length(&d.shape)
 }

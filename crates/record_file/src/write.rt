@@ -31,7 +31,7 @@ ghost use Rattle.record_rules.specs.Fields.{fields_bytes, are_in_place};
 ghost use Rattle.record_rules.specs.Tables.{role_number, row_bytes, rows_bytes, head_bytes, event_row, event_fields, entry_fields, entry_rest, body_bytes, entry_bytes, are_named, is_recordable, is_recordable_head};
 ghost use Rattle.script_rules.specs.Script.{is_name};
 
-use crate::drawing::{clip_length, put_clip, put_shape_fields, put_shape_rest, rest_length, shape_length};
+use crate::drawing::{drawing_length, put_drawing_fields, put_shape_rest};
 use crate::put::{put_bytes, put_fields};
 use crate::{Entry, Invite, OutOfMemory};
 use draw_ops::Drawing;
@@ -137,15 +137,14 @@ fn event_numbers(event: Event) -> (u32, u32, u32, u32)
     }
 }
 
-/// Writes the fields of a Draw at the end. An `Err` leaves a front of them there.
-fn put_drawing_fields(out: &mut Vec<u8>, by: u32, d: &Drawing) -> Result<(), OutOfMemory>
+/// Writes the fields of a Draw at the end, up to what stands behind them. An `Err` leaves a front of them there.
+fn put_draw_fields(out: &mut Vec<u8>, by: u32, d: &Drawing) -> Result<(), OutOfMemory>
     requires { IsTrue (are_in_place (entry_fields (Draw by d.now))) }
     ensures ok { OnOk result (out.new.items ≡ out.old.items ++ fields_bytes (entry_fields (Draw by d.now))) }
     ensures memory { OnErr result (AppendsFront out.old.items (fields_bytes (entry_fields (Draw by d.now))) out.new.items) }
 {
     put_fields(out, &[Field::Byte(DRAW), Field::Long(by)])?;
-    put_clip(out, d.clip)?;
-    put_shape_fields(out, &d.shape)
+    put_drawing_fields(out, d)
 }
 
 /// Writes the fields of an entry at the end, up to what stands behind them. An `Err` leaves a front of them there.
@@ -181,7 +180,7 @@ fn put_entry_fields(out: &mut Vec<u8>, e: &Entry) -> Result<(), OutOfMemory>
                 ],
             )
         }
-        Entry::Draw { by, d } => put_drawing_fields(out, *by, d),
+        Entry::Draw { by, d } => put_draw_fields(out, *by, d),
     }
 }
 
@@ -208,9 +207,7 @@ fn body_length(e: &Entry) -> u16
         Entry::Leave { .. } => BY_SIZE,
         Entry::Give { .. } => BY_SIZE + VIEWER_SIZE,
         Entry::Input { .. } => BY_SIZE + EVENT_SIZE,
-        Entry::Draw { d, .. } => {
-            BY_SIZE + clip_length(d.clip) + shape_length(&d.shape) + rest_length(&d.shape)
-        }
+        Entry::Draw { d, .. } => BY_SIZE + drawing_length(d),
     };
     length as u16
 }

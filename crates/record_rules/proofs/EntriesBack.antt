@@ -48,21 +48,20 @@ flag_is : (up : Bool) → (flag up == 1) ≡ up
 flag_is true = refl
 flag_is false = refl
 
-zeros_back : (event : Event) (rest : List ℕ) → zeros_at event (fields_bytes (Short 0 ∷ Short 0 ∷ Short 0 ∷ []) ++ rest) ≡ Ok (event, rest)
+zeros_back : (rest : List ℕ) → zeros_at (fields_bytes (Short 0 ∷ Short 0 ∷ Short 0 ∷ []) ++ rest) ≡ Ok (0, rest)
 unfolding zeros_at
-zeros_back event rest =
-    then_back _ 0 (fields_bytes (Short 0 ∷ Short 0 ∷ []) ++ rest) (λ _ more. then_read (zero_at more) (λ _ more. map_read (λ _. event) (zero_at more))) (zero_back _)
-    ∙ then_back _ 0 (fields_bytes (Short 0 ∷ []) ++ rest) (λ _ more. map_read (λ _. event) (zero_at more)) (zero_back _)
-    ∙ map_back _ 0 rest (λ _. event) (zero_back rest)
+zeros_back rest =
+    then_back _ 0 (fields_bytes (Short 0 ∷ Short 0 ∷ []) ++ rest) (λ _ more. then_read (zero_at more) (λ _ more. zero_at more)) (zero_back _)
+    ∙ then_back _ 0 (fields_bytes (Short 0 ∷ []) ++ rest) (λ _ more. zero_at more) (zero_back _)
+    ∙ zero_back rest
 
-key_back : (key : ℕ → Bool → Event) (code : ℕ) (up : Bool) (rest : List ℕ) → is_u16 code ≡ true
-    → key_at key (fields_bytes (Short code ∷ Short (flag up) ∷ Short 0 ∷ []) ++ rest) ≡ Ok (key code up, rest)
+key_back : (code : ℕ) (up : Bool) (rest : List ℕ) → is_u16 code ≡ true → key_at (fields_bytes (Short code ∷ Short (flag up) ∷ Short 0 ∷ []) ++ rest) ≡ Ok ((code, up), rest)
 unfolding key_at
-key_back key code up rest h =
-    short_first code (fields_bytes (Short (flag up) ∷ Short 0 ∷ []) ++ rest) (λ code more. then_read (flag_at more) (λ up more. map_read (λ _. key code (up == 1)) (zero_at more))) h
-    ∙ then_back _ (flag up) (fields_bytes (Short 0 ∷ []) ++ rest) (λ up more. map_read (λ _. key code (up == 1)) (zero_at more)) (flag_back up _)
-    ∙ map_back _ 0 rest (λ _. key code (flag up == 1)) (zero_back rest)
-    ∙ ap (λ b. Ok (key code b, rest)) (flag_is up)
+key_back code up rest h =
+    short_first code (fields_bytes (Short (flag up) ∷ Short 0 ∷ []) ++ rest) (λ code more. then_read (flag_at more) (λ up more. map_read (λ _. (code, up == 1)) (zero_at more))) h
+    ∙ then_back _ (flag up) (fields_bytes (Short 0 ∷ []) ++ rest) (λ up more. map_read (λ _. (code, up == 1)) (zero_at more)) (flag_back up _)
+    ∙ map_back _ 0 rest (λ _. (code, flag up == 1)) (zero_back rest)
+    ∙ ap (λ (b : Bool). Ok ((code, b), rest)) (flag_is up)
 
 mouse_back : (flags x y : ℕ) (rest : List ℕ) → are_in_place (Short flags ∷ Short x ∷ Short y ∷ []) ≡ true
     → mouse_at (fields_bytes (Short flags ∷ Short x ∷ Short y ∷ []) ++ rest) ≡ Ok (Mouse flags x y, rest)
@@ -80,11 +79,11 @@ tagged n more h = then_back _ n more (λ tag more. event_by tag more) (passing_b
 
 event_back : (e : Event) (rest : List ℕ) → are_in_place (event_fields e) ≡ true → event_at (fields_bytes (event_fields e) ++ rest) ≡ Ok (e, rest)
 unfolding event_by
-event_back Sync rest h = tagged 0 _ refl ∙ zeros_back Sync rest
-event_back (Scan code up) rest h = tagged 1 _ refl ∙ key_back (λ code up. Scan code up) code up rest (first_in_place (Short code) (Short (flag up) ∷ Short 0 ∷ []) h).0
-event_back (Unicode code up) rest h = tagged 2 _ refl ∙ key_back (λ code up. Unicode code up) code up rest (first_in_place (Short code) (Short (flag up) ∷ Short 0 ∷ []) h).0
+event_back Sync rest h = tagged 0 _ refl ∙ map_back _ 0 rest (λ _. Sync) (zeros_back rest)
+event_back (Scan code up) rest h = tagged 1 _ refl ∙ map_back _ (code, up) rest (λ k. Scan k.0 k.1) (key_back code up rest (first_in_place (Short code) (Short (flag up) ∷ Short 0 ∷ []) h).0)
+event_back (Unicode code up) rest h = tagged 2 _ refl ∙ map_back _ (code, up) rest (λ k. Unicode k.0 k.1) (key_back code up rest (first_in_place (Short code) (Short (flag up) ∷ Short 0 ∷ []) h).0)
 event_back (Mouse flags x y) rest h = tagged 3 _ refl ∙ mouse_back flags x y rest h
-event_back MouseX rest h = tagged 4 _ refl ∙ zeros_back MouseX rest
+event_back MouseX rest h = tagged 4 _ refl ∙ map_back _ 0 rest (λ _. MouseX) (zeros_back rest)
 
 -- ---- drawings
 

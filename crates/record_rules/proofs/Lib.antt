@@ -4,3 +4,6 @@ pub mod ShapesBack
 pub mod EntriesBack
 pub mod HeadsBack
 pub mod RecordsBack
+pub mod Recordable
+pub mod Extends
+pub mod Holders

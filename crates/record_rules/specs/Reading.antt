@@ -183,23 +183,23 @@ unfoldable pub role_at : List ℕ → Read Role
 role_at bs = map_read role_numbered (byte_up_to last_role bs)
 
 -- three zeros
-unfoldable pub zeros_at : Event → List ℕ → Read Event
-zeros_at event bs = then_read (zero_at bs) (λ _ more. then_read (zero_at more) (λ _ more. map_read (λ _. event) (zero_at more)))
+unfoldable pub zeros_at : List ℕ → Read ℕ
+zeros_at bs = then_read (zero_at bs) (λ _ more. then_read (zero_at more) (λ _ more. zero_at more))
 
 -- a key's code, its release, and a zero
-unfoldable pub key_at : (ℕ → Bool → Event) → List ℕ → Read Event
-key_at key bs = then_read (short_at bs) (λ code more. then_read (flag_at more) (λ up more. map_read (λ _. key code (up == 1)) (zero_at more)))
+unfoldable pub key_at : List ℕ → Read (ℕ × Bool)
+key_at bs = then_read (short_at bs) (λ code more. then_read (flag_at more) (λ up more. map_read (λ _. (code, up == 1)) (zero_at more)))
 
 unfoldable pub mouse_at : List ℕ → Read Event
 mouse_at bs = then_read (short_at bs) (λ flags more. then_read (short_at more) (λ x more. map_read (λ y. Mouse flags x y) (short_at more)))
 
 unfoldable pub event_by : ℕ → List ℕ → Read Event
 event_by tag bs =
-    if tag == 0 then zeros_at Sync bs
-    else (if tag == 1 then key_at (λ code up. Scan code up) bs
-    else (if tag == 2 then key_at (λ code up. Unicode code up) bs
+    if tag == 0 then map_read (λ _. Sync) (zeros_at bs)
+    else (if tag == 1 then map_read (λ k. Scan k.0 k.1) (key_at bs)
+    else (if tag == 2 then map_read (λ k. Unicode k.0 k.1) (key_at bs)
     else (if tag == 3 then mouse_at bs
-    else zeros_at MouseX bs)))
+    else map_read (λ _. MouseX) (zeros_at bs))))
 
 -- the greatest tag of an event
 abbrev pub last_tag : ℕ

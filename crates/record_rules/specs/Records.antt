@@ -68,3 +68,7 @@ pub record StandsFor (bytes : List ℕ) (head : Head) (j : List Entry) : Type 0 
   pub part : List ℕ
   pub whole : bytes ≡ record_bytes head j ++ part
   pub partial : IsPart part
+
+-- a list of entries goes on as another one
+abbrev pub BeginsWith : List Entry → List Entry → Type 0
+BeginsWith front all = (more : List Entry) × (all ≡ front ++ more)

@@ -2,11 +2,12 @@
 
 ghost use Rattle.std.specs.Prelude.{◌≡◌, ◌≤◌, ◌++◌, List, [], ℕ, Ok, Some, length, take, IsTrue};
 ghost use Rattle.session_rules.specs.declared.entry.Entry.{Entry};
-ghost use Rattle.session_rules.specs.Journal.{Head};
+ghost use Rattle.px_core.specs.Rectangle.{is_session_size};
+ghost use Rattle.session_rules.specs.Journal.{Head, IsLegalJournal};
 ghost use Rattle.record_rules.specs.Tables.{head_bytes, entry_bytes, record_bytes, is_recordable, are_recordable, is_recordable_head};
 ghost use Rattle.record_rules.specs.Reading.{head_at, framed_at};
-ghost use Rattle.record_rules.specs.Records.{journal_of_record, StandsFor};
-ghost use Rattle.record_rules.specs.Records.End.{Unfinished};
+ghost use Rattle.record_rules.specs.Records.{journal_of_record, StandsFor, BeginsWith};
+ghost use Rattle.record_rules.specs.Records.End.{Unfinished, Faulty};
 
 /// A head and an entry that are written are read back, whatever follows them.
 pub fn fields_are_read_back()
@@ -34,4 +35,16 @@ pub fn no_record_begins_another()
     ensures { (head other : Head) (j i : List Entry) (more : List ℕ) → IsTrue (is_recordable_head head) → IsTrue (is_recordable_head other)
         → IsTrue (are_recordable j) → IsTrue (are_recordable i) → length j ≡ length i → record_bytes head j ++ more ≡ record_bytes other i
         → (head ≡ other) × (j ≡ i) × (more ≡ []) }
+{}
+
+/// A record can hold each entry of a legal journal.
+pub fn legal_journals_are_recordable()
+    ensures { (head : Head) (j : List Entry) → IsTrue (is_session_size head.size.w head.size.h) → IsLegalJournal head j → IsTrue (are_recordable j) }
+{}
+
+/// More bytes change nothing of what was read: a refused record is refused so for ever, a whole head stays, and the entries stay.
+pub fn records_go_on()
+    ensures refused { (bytes more : List ℕ) (at : ℕ) → (journal_of_record bytes).end ≡ Faulty at → journal_of_record (bytes ++ more) ≡ journal_of_record bytes }
+    ensures begun { (bytes more : List ℕ) (head : Head) → (journal_of_record bytes).head ≡ Some head
+        → ((journal_of_record (bytes ++ more)).head ≡ Some head) × BeginsWith (journal_of_record bytes).entries (journal_of_record (bytes ++ more)).entries }
 {}
