@@ -102,15 +102,15 @@ pub record Prompt {A : Type 0} (read : List ℕ → Caused Lack A) : Type 0 wher
   pub ok : (bs more : List ℕ) (v : A) (rest : List ℕ) → Looks (read bs) v rest → Looks (read (bs ++ more)) v (rest ++ more)
   pub broken : (bs more left : List ℕ) → Lacks (read bs) Broken left → Lacks (read (bs ++ more)) Broken (left ++ more)
 
+abbrev tested_by : {A : Type 0} → List ℕ → A × List ℕ → Bool → Caused Lack A
+tested_by bs u t = if t then Ok u else Err (Broken, bs)
+
 tested_prompt : {A : Type 0} (test : A → Bool) (read : List ℕ → Read A) → ReadsOn read → Prompt (tested_at test read)
 tested_prompt {A = A} test read on = record {
   ok = λ bs more v rest e. ok_by bs more v rest (read bs) refl e;
   broken = λ bs more left e. broken_by bs more left (read bs) refl e;
 }
   where
-    abbrev tested_by : List ℕ → A × List ℕ → Bool → Caused Lack A
-    tested_by bs u t = if t then Ok u else Err (Broken, bs)
-
     ok_test : (bs more : List ℕ) (v : A) (rest : List ℕ) (u : A × List ℕ) (t : Bool) → test u.0 ≡ t → read bs ≡ Ok u → Looks (tested_by bs u t) v rest
         → Looks (tested_at test read (bs ++ more)) v (rest ++ more)
     ok_test bs more v rest u true t is h =

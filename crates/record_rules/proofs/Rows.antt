@@ -9,9 +9,9 @@ use Rattle.session_rules.specs.declared.entry.Entry.TheVariants.{Join, Draw}
 use Rattle.session_rules.specs.Journal.{Head}
 use Rattle.record_rules.specs.Tables.{record_bytes}
 use Rattle.wire_num.specs.FieldValue.{passing_at}
-use Rattle.record_rules.specs.Reading.{head_at, row_at, framed_at, counted_at, entry_at, entry_by, join_at, role_at, draw_at, clip_at, clip_by, shape_at, shape_by, fill_at, rect_at}
+use Rattle.record_rules.specs.Reading.{head_at, row_at, framed_at, counted_at, entry_at, entry_by, join_at, leave_at, role_at, input_at, event_at, event_by, zeros_at, draw_at, clip_at, clip_by, shape_at, shape_by, fill_at, rect_at}
 use Rattle.record_rules.specs.Records.{journal_of_record}
-use Rattle.record_rules.specs.Records.End.{Unfinished}
+use Rattle.record_rules.specs.Records.End.{Unfinished, Faulty}
 
 -- a session of 64 by 48 with one row, the owner `host`
 abbrev one_owner : Head
@@ -46,3 +46,25 @@ a_fill_is_read = refl
 a_last_entry_without_its_last_byte_is_dropped : journal_of_record (first_row ++ take 19 second_row) ≡ record { head = Some one_owner; entries = one_join; end = Unfinished 25 }
 unfolding journal_of_record head_at row_at framed_at counted_at entry_at passing_at entry_by join_at role_at draw_at clip_at clip_by shape_at shape_by fill_at rect_at
 a_last_entry_without_its_last_byte_is_dropped = refl
+
+-- ---- where a record isn't right
+
+an_empty_record_has_no_mark : (journal_of_record []).end ≡ Unfinished 0
+unfolding journal_of_record head_at
+an_empty_record_has_no_mark = refl
+
+a_bad_width_stands_at_its_field : (journal_of_record (take 6 first_row ++ 0x41 ∷ 0x00 ∷ [])).end ≡ Faulty 6
+unfolding journal_of_record head_at
+a_bad_width_stands_at_its_field = refl
+
+an_entry_of_no_bytes_has_no_kind : (journal_of_record (first_row ++ 0x00 ∷ 0x00 ∷ [])).end ≡ Faulty 27
+unfolding journal_of_record head_at row_at framed_at counted_at entry_at passing_at entry_by join_at role_at
+an_entry_of_no_bytes_has_no_kind = refl
+
+a_byte_behind_an_entry_is_left_over : (journal_of_record (take 17 first_row ++ 0x06 ∷ 0x00 ∷ 0x02 ∷ 0x01 ∷ 0x00 ∷ 0x00 ∷ 0x00 ∷ 0x00 ∷ [])).end ≡ Faulty 24
+unfolding journal_of_record head_at row_at framed_at counted_at entry_at passing_at entry_by leave_at
+a_byte_behind_an_entry_is_left_over = refl
+
+a_sync_has_zeros : (journal_of_record (first_row ++ 0x0C ∷ 0x00 ∷ 0x04 ∷ 0x01 ∷ 0x00 ∷ 0x00 ∷ 0x00 ∷ 0x00 ∷ 0x00 ∷ 0x00 ∷ 0x00 ∷ 0x00 ∷ 0x01 ∷ 0x00 ∷ [])).end ≡ Faulty 37
+unfolding journal_of_record head_at row_at framed_at counted_at entry_at passing_at entry_by join_at role_at input_at event_at event_by zeros_at
+a_sync_has_zeros = refl
