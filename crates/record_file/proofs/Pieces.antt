@@ -1,6 +1,6 @@
 -- Items of a list that are written one by one.
 use Rattle.std.proofs.Common.{◌≡◌, ℕ, zero, suc, ◌+◌, ◌<◌, ◌≤◌, List, [], ◌∷◌, ◌++◌, length, drop, refl, ap, sym, ◌∙◌, arith, true}
-use Rattle.std.specs.Prelude.{flat_map, get_or, IsTrue, ◌&&◌}
+use Rattle.std.specs.Prelude.{flat_map, get_or}
 use Rattle.std.proofs.lemmas.Bool.{and_parts}
 use Rattle.record_rules.specs.declared.field.Field.{Field}
 use Rattle.record_rules.specs.Fields.{fields_bytes, is_in_place, are_in_place}

@@ -21,6 +21,7 @@
 
 ghost use Rattle.std.specs.Prelude.{◌≡◌, ◌++◌, ◌∷◌, [], length, OnOk, OnErr, IsTrue, ◌≤◌};
 ghost use Rattle.wire_num.specs.Written.{AppendsFront};
+ghost use Rattle.draw_ops.specs.declared.shape.Shape.TheVariants.{Copy, Blit, Blit3};
 ghost use Rattle.record_rules.specs.declared.field.Field.TheVariants.{Byte, SignedShort, Short};
 ghost use Rattle.record_rules.specs.Fields.{fields_bytes, are_in_place};
 ghost use Rattle.record_rules.specs.Tables.{clip_fields, shape_fields, shape_rest};
@@ -89,6 +90,60 @@ fn rect_fields(r: Rect) -> (Field, Field, Field, Field)
     )
 }
 
+/// The fields of a Copy.
+fn copy_fields(r: Rect, rop: u8, sx: i32, sy: i32) -> [Field; 8]
+    ensures { result ≡ shape_fields (Copy r rop sx sy) }
+{
+    let (x, y, w, h) = rect_fields(r);
+    [
+        Field::Byte(COPY),
+        x,
+        y,
+        w,
+        h,
+        byte(rop),
+        Field::SignedShort(sx),
+        Field::SignedShort(sy),
+    ]
+}
+
+/// The fields of a Blit.
+fn blit_fields(r: Rect, rop: u8, image: u8, sx: i32, sy: i32) -> [Field; 9]
+    ensures { result ≡ shape_fields (Blit r rop image sx sy) }
+{
+    let (x, y, w, h) = rect_fields(r);
+    [
+        Field::Byte(BLIT),
+        x,
+        y,
+        w,
+        h,
+        byte(rop),
+        byte(image),
+        Field::SignedShort(sx),
+        Field::SignedShort(sy),
+    ]
+}
+
+/// The fields of a Blit3.
+fn blit3_fields(r: Rect, rop: u8, image: u8, sx: i32, sy: i32, brush: u8) -> [Field; 10]
+    ensures { result ≡ shape_fields (Blit3 r rop image sx sy brush) }
+{
+    let (x, y, w, h) = rect_fields(r);
+    [
+        Field::Byte(BLIT3),
+        x,
+        y,
+        w,
+        h,
+        byte(rop),
+        byte(image),
+        Field::SignedShort(sx),
+        Field::SignedShort(sy),
+        byte(brush),
+    ]
+}
+
 /// Writes the flag of a clip, and the clip, at the end. An `Err` leaves a front of them there.
 fn put_clip(out: &mut Vec<u8>, clip: Option<Rect>) -> Result<(), OutOfMemory>
     requires { IsTrue (are_in_place (clip_fields clip)) }
@@ -131,12 +186,13 @@ fn put_shape_fields(out: &mut Vec<u8>, shape: &Shape) -> Result<(), OutOfMemory>
         }
         Shape::Pat { rect, rop, brush } => {
             let (x, y, w, h) = rect_fields(*rect);
-            put_fields(out, &[Field::Byte(PAT), x, y, w, h, byte(*rop), byte(*brush)])
+            put_fields(
+                out,
+                &[Field::Byte(PAT), x, y, w, h, byte(*rop), byte(*brush)],
+            )
         }
         Shape::Copy { rect, rop, sx, sy } => {
-            let (x, y, w, h) = rect_fields(*rect);
-            let (sx, sy) = (Field::SignedShort(*sx), Field::SignedShort(*sy));
-            put_fields(out, &[Field::Byte(COPY), x, y, w, h, byte(*rop), sx, sy])
+            put_fields(out, &copy_fields(*rect, *rop, *sx, *sy))
         }
         Shape::Blit {
             rect,
@@ -144,14 +200,7 @@ fn put_shape_fields(out: &mut Vec<u8>, shape: &Shape) -> Result<(), OutOfMemory>
             image,
             sx,
             sy,
-        } => {
-            let (x, y, w, h) = rect_fields(*rect);
-            let (sx, sy) = (Field::SignedShort(*sx), Field::SignedShort(*sy));
-            put_fields(
-                out,
-                &[Field::Byte(BLIT), x, y, w, h, byte(*rop), byte(*image), sx, sy],
-            )
-        }
+        } => put_fields(out, &blit_fields(*rect, *rop, *image, *sx, *sy)),
         Shape::Blit3 {
             rect,
             rop,
@@ -159,25 +208,7 @@ fn put_shape_fields(out: &mut Vec<u8>, shape: &Shape) -> Result<(), OutOfMemory>
             sx,
             sy,
             brush,
-        } => {
-            let (x, y, w, h) = rect_fields(*rect);
-            let (sx, sy) = (Field::SignedShort(*sx), Field::SignedShort(*sy));
-            put_fields(
-                out,
-                &[
-                    Field::Byte(BLIT3),
-                    x,
-                    y,
-                    w,
-                    h,
-                    byte(*rop),
-                    byte(*image),
-                    sx,
-                    sy,
-                    byte(*brush),
-                ],
-            )
-        }
+        } => put_fields(out, &blit3_fields(*rect, *rop, *image, *sx, *sy, *brush)),
         Shape::Text {
             x,
             y,

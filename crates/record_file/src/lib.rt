@@ -1,12 +1,8 @@
-//! A session's record (profile): writing it entry by entry, and replaying it in whatever pieces it comes.
+//! A session's record (profile), written entry by entry.
 #![tactic(auto)]
 
-mod body_fault;
 mod drawing;
-mod field;
 mod put;
-mod read_drawing;
-mod read_entry;
 mod write;
 
 pub use session_core::{Entry, Invite};

@@ -164,7 +164,10 @@ fn put_entry_fields(out: &mut Vec<u8>, e: &Entry) -> Result<(), OutOfMemory>
         ),
         Entry::Leave { v } => put_fields(out, &[Field::Byte(LEAVE), Field::Long(*v)]),
         Entry::Give { by, to } => {
-            put_fields(out, &[Field::Byte(GIVE), Field::Long(*by), Field::Long(*to)])
+            put_fields(
+                out,
+                &[Field::Byte(GIVE), Field::Long(*by), Field::Long(*to)],
+            )
         }
         Entry::Input { by, event } => {
             let (tag, a, b, c) = event_numbers(*event);

@@ -103,10 +103,10 @@ drawing_back by d rest h k held =
     let behind : List ℕ = shape_rest d.shape ++ rest in
     let joined = ap (λ bs. bs ++ behind) (fields_bytes-append (clip_fields d.clip) (shape_fields d.shape)) ∙ append_assoc (fields_bytes (clip_fields d.clip)) (fields_bytes (shape_fields d.shape)) behind in
     long_first by (fields_bytes (clip_fields d.clip ++ shape_fields d.shape) ++ behind)
-        (λ by more. then_read (clip_at more) (λ clip more. map_read (λ shape. Draw by (record { shape = shape; clip = clip })) (shape_at more))) h
+    (λ by more. then_read (clip_at more) (λ clip more. map_read (λ shape. Draw by (record { shape = shape; clip = clip })) (shape_at more))) h
     ∙ ap (λ bs. then_read (clip_at bs) (λ clip more. map_read (λ shape. Draw by (record { shape = shape; clip = clip })) (shape_at more))) joined
     ∙ then_back _ d.clip (fields_bytes (shape_fields d.shape) ++ behind) (λ clip more. map_read (λ shape. Draw by (record { shape = shape; clip = clip })) (shape_at more))
-        (clip_back d.clip (fields_bytes (shape_fields d.shape) ++ behind) parts.0)
+    (clip_back d.clip (fields_bytes (shape_fields d.shape) ++ behind) parts.0)
     ∙ map_back _ d.shape rest (λ shape. Draw by (record { shape = shape; clip = d.clip })) (shape_back d.shape rest parts.1 held)
 
 -- ---- entries

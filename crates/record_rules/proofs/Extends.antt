@@ -1,12 +1,12 @@
 -- What is read of bytes is read of them with more bytes behind too, and a field that breaks its rule is refused for ever.
-use Rattle.std.proofs.Common.{◌≡◌, ℕ, zero, suc, ◌+◌, ◌<◌, ◌≤◌, Bool, true, false, List, [], ◌∷◌, ◌++◌, length, take, drop, refl, ap, sym, subst, ◌∙◌, arith, Ok, Err, Some, None, append_assoc}
-use Rattle.std.specs.Prelude.{◌-◌, Option, nat_lt, if◌then◌else◌}
+use Rattle.std.proofs.Common.{◌≡◌, ℕ, zero, suc, ◌<◌, ◌≤◌, Bool, true, false, List, [], ◌∷◌, ◌++◌, length, take, drop, refl, ap, sym, subst, ◌∙◌, arith, Ok, Err, Some, None, append_assoc}
+use Rattle.std.specs.Prelude.{nat_lt, if◌then◌else◌}
 use Rattle.std.proofs.lemmas.Bool.Decides.{nat_tests}
 use Rattle.std.proofs.lemmas.List.{length-append, length-drop, take-append-le, drop-append-le}
 use Rattle.byteorder.specs.Endian.{little_number}
 use Rattle.wire_num.specs.Field.{Read, then_read, map_read, bytes_at, place_in}
 use Rattle.wire_num.specs.FieldValue.{is_at_most, as_one_field}
-use Rattle.wire_num.specs.Number.{little_at, little_value, big_at, big_value}
+use Rattle.wire_num.specs.Number.{little_value, big_value}
 use Rattle.wire_num.specs.Caused.{Caused, then_caused, map_caused, before_caused, caused}
 use Rattle.wire_num.proofs.Numbers.{little_at_is}
 use Rattle.wire_num.proofs.Bytes.{bytes_at_is}
@@ -15,8 +15,8 @@ use Rattle.session_rules.specs.Journal.{Head, Row}
 use Rattle.script_rules.specs.Script.{row_limit}
 use Rattle.record_rules.specs.Reading.{Lack, byte_at, short_at, last_role, role_numbered, tested, tested_at, counted_at, framed_at, body_at, is_record_mark, is_width, is_height, is_name_length, is_next_name, row_at, rows_at, head_at}
 use Rattle.record_rules.specs.Reading.Lack.{Missing, Broken}
-use Rattle.record_rules.specs.Records.{Entries, Recorded, entry_and, with_entry, entries_in, entries_of, end_by, recorded, recorded_entries, journal_of_record, BeginsWith}
-use Rattle.record_rules.specs.Records.End.{Faulty, Unfinished}
+use Rattle.record_rules.specs.Records.{Entries, entry_and, with_entry, entries_in, entries_of, end_by, recorded, recorded_entries, journal_of_record, BeginsWith}
+use Rattle.record_rules.specs.Records.End.{Faulty}
 
 -- ---- what an answer holds
 
@@ -168,12 +168,12 @@ row_prompt : (earlier : List Row) → Prompt (row_at earlier)
 unfolding row_at
 row_prompt earlier =
     then_prompt (tested_at (is_at_most last_role) byte_at)
-        (λ number more. then_caused (tested_at is_name_length byte_at more) (λ n more. map_caused (λ name. record { name = name; role = role_numbered number }) (tested_at (is_next_name earlier) (bytes_at n) more)))
-        (tested_prompt (is_at_most last_role) byte_at byte_on)
-        (λ number. then_prompt (tested_at is_name_length byte_at)
-            (λ n more. map_caused (λ name. record { name = name; role = role_numbered number }) (tested_at (is_next_name earlier) (bytes_at n) more))
-            (tested_prompt is_name_length byte_at byte_on)
-            (λ n. map_prompt (λ (name : List ℕ). record { name = name; role = role_numbered number }) (tested_at (is_next_name earlier) (bytes_at n)) (tested_prompt (is_next_name earlier) (bytes_at n) (bytes_on n))))
+    (λ number more. then_caused (tested_at is_name_length byte_at more) (λ n more. map_caused (λ name. record { name = name; role = role_numbered number }) (tested_at (is_next_name earlier) (bytes_at n) more)))
+    (tested_prompt (is_at_most last_role) byte_at byte_on)
+    (λ number. then_prompt (tested_at is_name_length byte_at)
+    (λ n more. map_caused (λ name. record { name = name; role = role_numbered number }) (tested_at (is_next_name earlier) (bytes_at n) more))
+    (tested_prompt is_name_length byte_at byte_on)
+    (λ n. map_prompt (λ (name : List ℕ). record { name = name; role = role_numbered number }) (tested_at (is_next_name earlier) (bytes_at n)) (tested_prompt (is_next_name earlier) (bytes_at n) (bytes_on n))))
 
 rows_prompt : (n : ℕ) (earlier : List Row) → Prompt (rows_at n earlier)
 rows_prompt zero earlier = record {
@@ -187,29 +187,29 @@ pub head_prompt : Prompt head_at
 unfolding head_at
 head_prompt =
     then_prompt (tested_at is_record_mark (bytes_at 6))
-        (λ _ more. then_caused (tested_at is_width short_at more) (λ w more. then_caused (tested_at is_height short_at more) (λ h more. then_caused (tested_at (is_at_most row_limit) byte_at more) (λ n more.
-        map_caused (λ rows. record { size = record { w = w; h = h }; rows = rows }) (rows_at n [] more)))))
-        (tested_prompt is_record_mark (bytes_at 6) (bytes_on 6))
-        (λ _. then_prompt (tested_at is_width short_at)
-            (λ w more. then_caused (tested_at is_height short_at more) (λ h more. then_caused (tested_at (is_at_most row_limit) byte_at more) (λ n more.
-            map_caused (λ rows. record { size = record { w = w; h = h }; rows = rows }) (rows_at n [] more))))
-            (tested_prompt is_width short_at short_on)
-            (λ w. then_prompt (tested_at is_height short_at)
-                (λ h more. then_caused (tested_at (is_at_most row_limit) byte_at more) (λ n more. map_caused (λ rows. record { size = record { w = w; h = h }; rows = rows }) (rows_at n [] more)))
-                (tested_prompt is_height short_at short_on)
-                (λ h. then_prompt (tested_at (is_at_most row_limit) byte_at)
-                    (λ n more. map_caused (λ rows. record { size = record { w = w; h = h }; rows = rows }) (rows_at n [] more))
-                    (tested_prompt (is_at_most row_limit) byte_at byte_on)
-                    (λ n. map_prompt (λ (rows : List Row). record { size = record { w = w; h = h }; rows = rows }) (rows_at n []) (rows_prompt n [])))))
+    (λ _ more. then_caused (tested_at is_width short_at more) (λ w more. then_caused (tested_at is_height short_at more) (λ h more. then_caused (tested_at (is_at_most row_limit) byte_at more) (λ n more.
+    map_caused (λ rows. record { size = record { w = w; h = h }; rows = rows }) (rows_at n [] more)))))
+    (tested_prompt is_record_mark (bytes_at 6) (bytes_on 6))
+    (λ _. then_prompt (tested_at is_width short_at)
+    (λ w more. then_caused (tested_at is_height short_at more) (λ h more. then_caused (tested_at (is_at_most row_limit) byte_at more) (λ n more.
+    map_caused (λ rows. record { size = record { w = w; h = h }; rows = rows }) (rows_at n [] more))))
+    (tested_prompt is_width short_at short_on)
+    (λ w. then_prompt (tested_at is_height short_at)
+    (λ h more. then_caused (tested_at (is_at_most row_limit) byte_at more) (λ n more. map_caused (λ rows. record { size = record { w = w; h = h }; rows = rows }) (rows_at n [] more)))
+    (tested_prompt is_height short_at short_on)
+    (λ h. then_prompt (tested_at (is_at_most row_limit) byte_at)
+    (λ n more. map_caused (λ rows. record { size = record { w = w; h = h }; rows = rows }) (rows_at n [] more))
+    (tested_prompt (is_at_most row_limit) byte_at byte_on)
+    (λ n. map_prompt (λ (rows : List Row). record { size = record { w = w; h = h }; rows = rows }) (rows_at n []) (rows_prompt n [])))))
 
 -- ---- an entry
 
-abbrev counted_by : List ℕ → Bool → Bool → Read (List ℕ)
+abbrev pub counted_by : List ℕ → Bool → Bool → Read (List ℕ)
 counted_by bs true few = Err bs
 counted_by bs false true = Err bs
 counted_by bs false false = Ok (take (little_number 2 bs) (drop 2 bs), drop (little_number 2 bs) (drop 2 bs))
 
-counted_is : (bs : List ℕ) → counted_at bs ≡ counted_by bs (nat_lt (length bs) 2) (nat_lt (length (drop 2 bs)) (little_number 2 bs))
+pub counted_is : (bs : List ℕ) → counted_at bs ≡ counted_by bs (nat_lt (length bs) 2) (nat_lt (length (drop 2 bs)) (little_number 2 bs))
 unfolding counted_at
 counted_is bs = ap (λ r. as_one_field bs (then_read r (λ n more. bytes_at n more))) (little_at_is 2 bs) ∙ by (nat_lt (length bs) 2)
   where
@@ -263,10 +263,10 @@ counted_on : ReadsOn counted_at
 unfolding counted_at
 counted_on = one_on (λ bs. then_read (short_at bs) (λ n more. bytes_at n more)) (then_on short_at (λ n more. bytes_at n more) short_on bytes_on)
 
-abbrev framed : Read (List ℕ) → Caused Lack Entry
+abbrev pub framed : Read (List ℕ) → Caused Lack Entry
 framed r = then_caused (caused Missing r) (λ body after. before_caused after (caused Broken (body_at body)))
 
-framed_is : (bs : List ℕ) → framed_at bs ≡ framed (counted_at bs)
+pub framed_is : (bs : List ℕ) → framed_at bs ≡ framed (counted_at bs)
 unfolding framed_at
 framed_is bs = refl
 
@@ -356,7 +356,7 @@ go_on (suc n) bs more h = by (go_on n) (framed_at bs) refl
     by others (Ok v) is =
         let less = framed_shorter bs v.0 v.1 is in
         subst (λ (there : Entries). GoesOn (with_entry v.0 (entries_in n v.1)) more there) (sym (entries_step (bs ++ more) v.0 (v.1 ++ more) (framed_prompt.ok bs more v.0 v.1 is)))
-            (later v.0 (entries_in n v.1) (entries_of (v.1 ++ more)) (others v.1 more (omega (arith, h, less))))
+        (later v.0 (entries_in n v.1) (entries_of (v.1 ++ more)) (others v.1 more (omega (arith, h, less))))
     by others (Err (Missing, left)) is =
         (λ l. absurd (cc l), λ l. ap (λ xs. entries_of (xs ++ more)) (sym (framed_missing bs left is)))
     by others (Err (Broken, left)) is =
@@ -415,5 +415,5 @@ records_begin bytes more head h = by (head_at bytes) refl h
         → ((recorded (bytes ++ more) (head_at (bytes ++ more))).head ≡ Some head) × BeginsWith (recorded bytes r).entries (recorded (bytes ++ more) (head_at (bytes ++ more))).entries
     by (Ok v) is k =
         subst (λ (q : Caused Lack Head). ((recorded (bytes ++ more) q).head ≡ Some head) × BeginsWith (entries_of v.1).entries (recorded (bytes ++ more) q).entries)
-            (sym (head_prompt.ok bytes more v.0 v.1 is)) (k, begins v.1 more (entries_of v.1).lack refl)
+        (sym (head_prompt.ok bytes more v.0 v.1 is)) (k, begins v.1 more (entries_of v.1).lack refl)
     by (Err e) is k = absurd (cc k)

@@ -108,10 +108,10 @@ rect_back r rest h =
     let c = and_parts (is_u16 r.w) (are_in_place (Short r.h ∷ [])) b.1 in
     let d = and_parts (is_u16 r.h) true c.1 in
     then_back _ r.x (fields_bytes (SignedShort r.y ∷ Short r.w ∷ Short r.h ∷ []) ++ rest)
-        (λ x more. then_read (signed_short_at more) (λ y more. then_read (short_at more) (λ w more. map_read (λ h. boxed x y w h) (short_at more))))
-        (signed_short_back r.x _ a.0)
+    (λ x more. then_read (signed_short_at more) (λ y more. then_read (short_at more) (λ w more. map_read (λ h. boxed x y w h) (short_at more))))
+    (signed_short_back r.x _ a.0)
     ∙ then_back _ r.y (fields_bytes (Short r.w ∷ Short r.h ∷ []) ++ rest)
-        (λ y more. then_read (short_at more) (λ w more. map_read (λ h. boxed r.x y w h) (short_at more)))
-        (signed_short_back r.y _ b.0)
+    (λ y more. then_read (short_at more) (λ w more. map_read (λ h. boxed r.x y w h) (short_at more)))
+    (signed_short_back r.y _ b.0)
     ∙ then_back _ r.w (fields_bytes (Short r.h ∷ []) ++ rest) (λ w more. map_read (λ h. boxed r.x r.y w h) (short_at more)) (short_back r.w _ c.0)
     ∙ map_back _ r.h rest (λ h. boxed r.x r.y r.w h) (short_back r.h rest d.0)

@@ -85,13 +85,13 @@ row_back : (earlier : List Row) (row : Row) (rest : List ℕ) → is_name row.na
 unfolding row_at
 row_back earlier row rest named new =
     caused_back _ (role_number row.role) (length row.name ∷ (row.name ++ rest))
-        (λ number more. then_caused (tested_at is_name_length byte_at more) (λ n more. map_caused (λ name. record { name = name; role = role_numbered number }) (tested_at (is_next_name earlier) (bytes_at n) more)))
-        (tested_back (is_at_most last_role) byte_at (role_number row.role ∷ length row.name ∷ (row.name ++ rest)) (role_number row.role) (length row.name ∷ (row.name ++ rest)) (byte_back (role_number row.role) (length row.name ∷ (row.name ++ rest))) (role_number_small row.role))
+    (λ number more. then_caused (tested_at is_name_length byte_at more) (λ n more. map_caused (λ name. record { name = name; role = role_numbered number }) (tested_at (is_next_name earlier) (bytes_at n) more)))
+    (tested_back (is_at_most last_role) byte_at (role_number row.role ∷ length row.name ∷ (row.name ++ rest)) (role_number row.role) (length row.name ∷ (row.name ++ rest)) (byte_back (role_number row.role) (length row.name ∷ (row.name ++ rest))) (role_number_small row.role))
     ∙ caused_back _ (length row.name) (row.name ++ rest)
-        (λ n more. map_caused (λ name. record { name = name; role = role_numbered (role_number row.role) }) (tested_at (is_next_name earlier) (bytes_at n) more))
-        (tested_back is_name_length byte_at (length row.name ∷ (row.name ++ rest)) (length row.name) (row.name ++ rest) (byte_back (length row.name) (row.name ++ rest)) (name_length row.name named))
+    (λ n more. map_caused (λ name. record { name = name; role = role_numbered (role_number row.role) }) (tested_at (is_next_name earlier) (bytes_at n) more))
+    (tested_back is_name_length byte_at (length row.name ∷ (row.name ++ rest)) (length row.name) (row.name ++ rest) (byte_back (length row.name) (row.name ++ rest)) (name_length row.name named))
     ∙ ap (map_caused (λ (name : List ℕ). record { name = name; role = role_numbered (role_number row.role) }))
-        (tested_back (is_next_name earlier) (bytes_at (length row.name)) (row.name ++ rest) row.name rest (bytes_back (length row.name) row.name rest refl) (and_from (is_name row.name) (is_new_name row.name earlier) named new))
+    (tested_back (is_next_name earlier) (bytes_at (length row.name)) (row.name ++ rest) row.name rest (bytes_back (length row.name) row.name rest refl) (and_from (is_name row.name) (is_new_name row.name earlier) named new))
     ∙ ap (λ (role : Role). Ok (record { name = row.name; role = role }, rest)) (role_numbered-number row.role)
 
 rows_back : (earlier rows : List Row) (rest : List ℕ) → are_named rows ≡ true → are_names_distinct (earlier ++ rows) ≡ true → rows_at (length rows) earlier (rows_bytes rows ++ rest) ≡ Ok (earlier ++ rows, rest)
@@ -134,16 +134,16 @@ head_back head rest h =
     let high = height_alone head.size.w head.size.h k.0 in
     let behind : List ℕ = rows_bytes head.rows ++ rest in
     caused_back _ record_mark (fields_bytes (head_fields head) ++ behind)
-        (λ _ more. then_caused (tested_at is_width short_at more) (λ w more. then_caused (tested_at is_height short_at more) (λ h more. then_caused (tested_at (is_at_most row_limit) byte_at more) (λ n more.
-        map_caused (λ (rows : List Row). record { size = record { w = w; h = h }; rows = rows }) (rows_at n [] more)))))
-        (tested_back is_record_mark (bytes_at 6) (head_bytes head ++ rest) record_mark (fields_bytes (head_fields head) ++ behind) (bytes_back 6 record_mark (fields_bytes (head_fields head) ++ behind) refl) refl)
+    (λ _ more. then_caused (tested_at is_width short_at more) (λ w more. then_caused (tested_at is_height short_at more) (λ h more. then_caused (tested_at (is_at_most row_limit) byte_at more) (λ n more.
+    map_caused (λ (rows : List Row). record { size = record { w = w; h = h }; rows = rows }) (rows_at n [] more)))))
+    (tested_back is_record_mark (bytes_at 6) (head_bytes head ++ rest) record_mark (fields_bytes (head_fields head) ++ behind) (bytes_back 6 record_mark (fields_bytes (head_fields head) ++ behind) refl) refl)
     ∙ caused_back _ head.size.w (field_bytes (Short head.size.h) ++ length head.rows ∷ behind)
-        (λ w more. then_caused (tested_at is_height short_at more) (λ h more. then_caused (tested_at (is_at_most row_limit) byte_at more) (λ n more.
-        map_caused (λ (rows : List Row). record { size = record { w = w; h = h }; rows = rows }) (rows_at n [] more))))
-        (tested_back is_width short_at (fields_bytes (head_fields head) ++ behind) head.size.w (field_bytes (Short head.size.h) ++ length head.rows ∷ behind) (short_back head.size.w _ (width_small head.size.w wide)) wide)
+    (λ w more. then_caused (tested_at is_height short_at more) (λ h more. then_caused (tested_at (is_at_most row_limit) byte_at more) (λ n more.
+    map_caused (λ (rows : List Row). record { size = record { w = w; h = h }; rows = rows }) (rows_at n [] more))))
+    (tested_back is_width short_at (fields_bytes (head_fields head) ++ behind) head.size.w (field_bytes (Short head.size.h) ++ length head.rows ∷ behind) (short_back head.size.w _ (width_small head.size.w wide)) wide)
     ∙ caused_back _ head.size.h (length head.rows ∷ behind)
-        (λ h more. then_caused (tested_at (is_at_most row_limit) byte_at more) (λ n more. map_caused (λ (rows : List Row). record { size = record { w = head.size.w; h = h }; rows = rows }) (rows_at n [] more)))
-        (tested_back is_height short_at (field_bytes (Short head.size.h) ++ length head.rows ∷ behind) head.size.h (length head.rows ∷ behind) (short_back head.size.h _ (height_small head.size.h high)) high)
+    (λ h more. then_caused (tested_at (is_at_most row_limit) byte_at more) (λ n more. map_caused (λ (rows : List Row). record { size = record { w = head.size.w; h = h }; rows = rows }) (rows_at n [] more)))
+    (tested_back is_height short_at (field_bytes (Short head.size.h) ++ length head.rows ∷ behind) head.size.h (length head.rows ∷ behind) (short_back head.size.h _ (height_small head.size.h high)) high)
     ∙ caused_back _ (length head.rows) behind (λ n more. map_caused (λ (rows : List Row). record { size = record { w = head.size.w; h = head.size.h }; rows = rows }) (rows_at n [] more))
-        (tested_back (is_at_most row_limit) byte_at (length head.rows ∷ behind) (length head.rows) behind (byte_back (length head.rows) behind) m.0)
+    (tested_back (is_at_most row_limit) byte_at (length head.rows ∷ behind) (length head.rows) behind (byte_back (length head.rows) behind) m.0)
     ∙ ap (map_caused (λ (rows : List Row). record { size = record { w = head.size.w; h = head.size.h }; rows = rows })) (rows_back [] head.rows rest n.0 n.1)

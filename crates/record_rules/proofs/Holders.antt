@@ -1,11 +1,11 @@
 -- Who holds control is present.
-use Rattle.std.proofs.Common.{◌≡◌, ℕ, ◌+◌, Bool, true, false, List, [], ◌∷◌, ◌++◌, refl, ap, sym, subst, ◌∙◌, arith, Some, None, inl, inr, eq-eqb}
+use Rattle.std.proofs.Common.{◌≡◌, ℕ, Bool, true, false, List, [], ◌∷◌, ◌++◌, refl, ap, sym, subst, ◌∙◌, Some, None, inl, inr, eq-eqb}
 use Rattle.std.specs.Prelude.{◌⊎◌, Option, option_map, cond, find, is_some, is_none, ◌==◌, nat_lt, ◌&&◌, ◌||◌, not, IsTrue, if◌then◌else◌}
-use Rattle.std.proofs.lemmas.Bool.{and_from, and_parts, eqb-true}
+use Rattle.std.proofs.lemmas.Bool.{and_parts, eqb-true}
 use Rattle.session_rules.specs.declared.entry.Role.{Role}
 use Rattle.session_rules.specs.declared.entry.Entry.{Entry}
 use Rattle.session_rules.specs.declared.entry.Entry.TheVariants.{Join, Leave, Give, Input, Draw}
-use Rattle.session_rules.specs.Journal.{Head, Reached, Viewer, unless, refusal_of, entry_tests, holds, may_give, may_hold, next_of, is_owner, is_control, is_owner_here, is_present, role_of, least_viewer, first_number, successor, without_viewer, holder_after, viewers_after, reached_at_first, reached_after_entry, reached_after, are_legal_after, IsLegalJournal}
+use Rattle.session_rules.specs.Journal.{Head, Reached, Viewer, refusal_of, holds, may_give, may_hold, next_of, is_owner, is_control, is_owner_here, is_present, role_of, least_viewer, first_number, successor, without_viewer, holder_after, viewers_after, reached_at_first, reached_after_entry, reached_after, are_legal_after, IsLegalJournal}
 use Rattle.session_rules.specs.Journal.Refusal.{NotHolder}
 use Rattle.session_rules.proofs.OwnSteps.{tests-legal, unless-none, is_none-≡}
 
@@ -135,5 +135,6 @@ absent_holds r v h absent = by (v == r.holder) (v == 0) refl refl
     by true false e f =
         let same = eqb-true v r.holder e in
         elim h [
-          inl k ↦ absurd (cc (ap (λ n. n == 0) same, f, k))
-          | inr k ↦ absurd (cc (ap (λ n. is_present n r.viewers) same, absent, k)) ]
+          | inl k ↦ absurd (cc (ap (λ n. n == 0) same, f, k))
+          | inr k ↦ absurd (cc (ap (λ n. is_present n r.viewers) same, absent, k))
+        ]

@@ -1,5 +1,5 @@
 -- A record can hold each entry of a legal journal.
-use Rattle.std.proofs.Common.{◌≡◌, ℕ, zero, suc, ◌+◌, ◌*◌, ◌/◌, ◌<◌, ◌≤◌, Bool, true, false, List, [], ◌∷◌, ◌++◌, length, refl, ap, sym, subst, ◌∙◌, arith, Some, None, inl, inr}
+use Rattle.std.proofs.Common.{◌≡◌, ℕ, zero, suc, ◌+◌, ◌*◌, ◌/◌, ◌<◌, ◌≤◌, Bool, true, false, List, [], ◌∷◌, ◌++◌, length, refl, ap, subst, ◌∙◌, arith, Some, None, inl, inr}
 use Rattle.std.specs.Prelude.{⊤, ◌⊎◌, Option, option_map, ℤ, pos, negsuc, ◌+ℤ◌, int_le, nat_lt, nat_le, ◌==◌, ◌&&◌, ◌||◌, not, is_none, IsTrue}
 use Rattle.std.proofs.lemmas.Bool.{and_from, and_parts, eqb-true}
 use Rattle.std.proofs.lemmas.Bool.Decides.{nat_tests}
@@ -13,10 +13,10 @@ use Rattle.px_core.specs.Colors.{is_color, are_colors}
 use Rattle.draw_ops.specs.declared.shape.Drawing.{Drawing}
 use Rattle.draw_ops.specs.declared.shape.Shape.{Shape}
 use Rattle.draw_ops.specs.declared.shape.Shape.TheVariants.{Fill, Dst, Pat, Copy, Blit, Blit3, Text, Line, Save, Restore, LoadImage, LoadBrush, LoadGlyph}
-use Rattle.draw_ops.specs.Content.{ImageOf, GlyphOf}
+use Rattle.draw_ops.specs.Content.{ImageOf}
 use Rattle.draw_ops.specs.Slots.{SurfaceState, Slots, Loaded, lookup, filled_slot, empty_slots, opening_surface}
 use Rattle.draw_ops.specs.Drawing.{loaded, slots_after, state_after_drawing, state_after_drawings}
-use Rattle.draw_ops.specs.Fits.{first_some, broken_if, is_side, is_corner, rect_rule, place_rule, clip_rule, no_clip_rule, copied_rule, image_rule, is_offset, glyph_rule, line_rule, starts_at_0, deltas_are_small, run_rule, rules_of, broken_rule, empty_if_none, too_small_if, source_test, slot_tests, slot_misfit, FitsState, AllFitState, Misfit}
+use Rattle.draw_ops.specs.Fits.{first_some, broken_if, is_side, is_corner, rect_rule, place_rule, clip_rule, no_clip_rule, image_rule, is_offset, starts_at_0, deltas_are_small, rules_of, broken_rule, empty_if_none, too_small_if, source_test, slot_tests, slot_misfit, FitsState, AllFitState, Misfit}
 use Rattle.draw_ops.specs.Fits.Misfit.{Rule}
 use Rattle.draw_ops.specs.Ranges.{is_u8, is_u16, is_u32, are_bytes, are_byte_pairs, is_point_in_range, is_rect_in_range, is_image_in_range, is_brush_in_range, is_glyph_in_range, is_clip_in_range, is_shape_in_range, is_drawing_in_range}
 use Rattle.std.specs.Ordering.{int_eq}
@@ -27,16 +27,16 @@ use Rattle.session_rules.specs.declared.entry.Role.TheVariants.{Owner, Control, 
 use Rattle.session_rules.specs.declared.entry.Entry.{Entry}
 use Rattle.session_rules.specs.declared.entry.Entry.TheVariants.{Join, Leave, Give, Input, Draw}
 use Rattle.session_rules.specs.Board.{board_reaction}
-use Rattle.session_rules.specs.Journal.{Head, Reached, refusal_of, is_event_in_range, is_entry_in_range, reached_at_first, reached_after_entry, are_legal_after, IsLegalJournal}
+use Rattle.session_rules.specs.Journal.{Head, Reached, refusal_of, is_event_in_range, reached_at_first, reached_after_entry, are_legal_after, IsLegalJournal}
 use Rattle.session_rules.specs.Reaching.{IsSoundReached}
 use Rattle.session_rules.proofs.OwnSteps.{is_entry_in_range-legal, FitsState-legal, is_none-≡}
 use Rattle.session_rules.proofs.Sound.{sound_after, sound_at_first}
 use Rattle.session_rules.proofs.Fitting.{sides_of}
 use Rattle.session_rules.proofs.BoardReactions.{board_reacts}
 use Rattle.record_rules.specs.declared.field.Field.{Field}
-use Rattle.record_rules.specs.declared.field.Field.TheVariants.{Byte, Short, Long, SignedByte, SignedShort, Color}
-use Rattle.record_rules.specs.Fields.{fields_bytes, colors_bytes, pairs_bytes, is_in_place, are_in_place, is_i8, is_i16}
-use Rattle.record_rules.specs.Tables.{flag, role_number, event_fields, rect_fields, clip_fields, shape_fields, shape_rest, entry_fields, entry_rest, body_bytes, glyph_bytes, is_rest_in_place, is_entry_rest_in_place, is_recordable, are_recordable}
+use Rattle.record_rules.specs.declared.field.Field.TheVariants.{Byte, Short, SignedShort, Color}
+use Rattle.record_rules.specs.Fields.{fields_bytes, is_in_place, are_in_place, is_i8, is_i16}
+use Rattle.record_rules.specs.Tables.{flag, role_number, event_fields, rect_fields, clip_fields, shape_fields, shape_rest, body_bytes, is_rest_in_place, is_recordable, are_recordable}
 use Rattle.record_rules.proofs.FieldsBack.{length-colors, length-pairs}
 use Rattle.record_rules.proofs.EntriesBack.{fields_bytes-append}
 
@@ -145,7 +145,9 @@ small_slots size st clip (Line x0 y0 x1 y1 color) h is = is
 small_slots size st clip (Save slot r) h is = is
 small_slots size st clip (Restore slot x y) h is = is
 small_slots size st clip (LoadImage slot image) h is = λ k x e. elim (lookup-filled st.images slot k (loaded st image) x e) [
-  inl same ↦ subst (λ (l : Loaded ImageOf). image_rule l.content ≡ None) same (passed (rules_of size clip (LoadImage slot image)) h).1.1.0 | inr there ↦ is k x there ]
+  | inl same ↦ subst (λ (l : Loaded ImageOf). image_rule l.content ≡ None) same (passed (rules_of size clip (LoadImage slot image)) h).1.1.0
+  | inr there ↦ is k x there
+]
 small_slots size st clip (LoadBrush slot brush) h is = is
 small_slots size st clip (LoadGlyph font code glyph) h is = is
 
@@ -444,7 +446,7 @@ recordable_from head r (e ∷ es) size sound small h =
     let k = and_parts (is_none (refusal_of head r e)) (are_legal_after head (reached_after_entry head.size r e) es) h in
     let legal = is_none-≡ (refusal_of head r e) k.0 in
     both _ _ (entry_recordable head r e (large head.size size) small legal)
-        (recordable_from head (reached_after_entry head.size r e) es size (sound_after head r e size sound legal) (small_after head r e size sound legal small) k.1)
+    (recordable_from head (reached_after_entry head.size r e) es size (sound_after head r e size sound legal) (small_after head r e size sound legal small) k.1)
 
 -- each entry of a legal journal
 pub legal_recordable : (head : Head) (j : List Entry) → is_session_size head.size.w head.size.h ≡ true → IsLegalJournal head j → are_recordable j ≡ true

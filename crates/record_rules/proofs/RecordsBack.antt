@@ -100,7 +100,7 @@ same_entries (d ∷ ds) (f ∷ fs) x h k n e =
     let a = and_parts (is_recordable d) (are_recordable ds) h in
     let b = and_parts (is_recordable f) (are_recordable fs) k in
     let parts = ok_parts d f (entries_bytes ds ++ x) (entries_bytes fs) (framed_at (entries_bytes (f ∷ fs)))
-        (ap framed_at (sym e ∙ append_assoc (entry_bytes d) (entries_bytes ds) x) ∙ framed_back d (entries_bytes ds ++ x) a.0) (framed_back f (entries_bytes fs) b.0) in
+    (ap framed_at (sym e ∙ append_assoc (entry_bytes d) (entries_bytes ds) x) ∙ framed_back d (entries_bytes ds ++ x) a.0) (framed_back f (entries_bytes fs) b.0) in
     let more = same_entries ds fs x a.1 b.1 (omega (arith, n)) parts.1 in
     (ap (λ e. e ∷ ds) parts.0 ∙ ap (λ es. f ∷ es) more.0, more.1)
 
@@ -108,7 +108,7 @@ pub no_prefix : (head other : Head) (j i : List Entry) (x : List ℕ) → is_rec
     → length j ≡ length i → record_bytes head j ++ x ≡ record_bytes other i → (head ≡ other) × (j ≡ i) × (x ≡ [])
 no_prefix head other j i x h k l m n e =
     let parts = ok_parts head other (entries_bytes j ++ x) (entries_bytes i) (head_at (record_bytes other i))
-        (ap head_at (sym e ∙ append_assoc (head_bytes head) (entries_bytes j) x) ∙ head_back head (entries_bytes j ++ x) h) (head_back other (entries_bytes i) k) in
+    (ap head_at (sym e ∙ append_assoc (head_bytes head) (entries_bytes j) x) ∙ head_back head (entries_bytes j ++ x) h) (head_back other (entries_bytes i) k) in
     let more = same_entries j i x l m n parts.1 in
     (parts.0, more.0, more.1)
 
@@ -178,16 +178,19 @@ pub front_stands : (head : Head) (j : List Entry) (front rest : List ℕ) → ar
     → (k : ℕ) × StandsFor front head (take k j) × ((i : ℕ) → i ≤ length j → length (record_bytes head (take i j)) ≤ length front → i ≤ k)
 front_stands head j front rest h e long =
     let behind = front_of (head_bytes head) (entries_bytes j) front rest e long in
-    let parts = cut j behind.0 rest h behind.2 in
-    (parts.0, record {
-      part = parts.1;
-      whole = behind.1 ∙ ap (λ bs. head_bytes head ++ bs) parts.2 ∙ sym (append_assoc (head_bytes head) (entries_bytes (take parts.0 j)) parts.1);
-      partial = parts.3;
-    }, λ i few fits.
-        let l = length-append (head_bytes head) (entries_bytes (take i j)) in
-        let n = ap length behind.1 ∙ length-append (head_bytes head) behind.0 in
-        let rest_fits : length (entries_bytes (take i j)) ≤ length behind.0 = omega (arith, l, n, fits) in
-        parts.4 i few rest_fits)
+    let parts = cut j behind.0 rest h behind.2 in (
+      parts.0,
+      record {
+        part = parts.1;
+        whole = behind.1 ∙ ap (λ bs. head_bytes head ++ bs) parts.2 ∙ sym (append_assoc (head_bytes head) (entries_bytes (take parts.0 j)) parts.1);
+        partial = parts.3;
+      },
+      λ i few fits.
+          let l = length-append (head_bytes head) (entries_bytes (take i j)) in
+          let n = ap length behind.1 ∙ length-append (head_bytes head) behind.0 in
+          let rest_fits : length (entries_bytes (take i j)) ≤ length behind.0 = omega (arith, l, n, fits) in
+          parts.4 i few rest_fits,
+    )
 
 -- ---- what bytes stand for
 

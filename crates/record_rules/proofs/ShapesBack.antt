@@ -93,7 +93,7 @@ blit_back r code image x y rest h =
     let k = first_in_place (Byte code) (Byte image ∷ SignedShort x ∷ SignedShort y ∷ []) (fields_after_rect r (Byte code ∷ Byte image ∷ SignedShort x ∷ SignedShort y ∷ []) h) in
     let m = first_in_place (Byte image) (SignedShort x ∷ SignedShort y ∷ []) k.1 in
     rect_first r (Byte code ∷ Byte image ∷ SignedShort x ∷ SignedShort y ∷ []) rest
-        (λ r more. then_read (byte_at more) (λ code more. then_read (byte_at more) (λ image more. map_read (λ p. Blit r code image p.0 p.1) (point_at more)))) h
+    (λ r more. then_read (byte_at more) (λ code more. then_read (byte_at more) (λ image more. map_read (λ p. Blit r code image p.0 p.1) (point_at more)))) h
     ∙ byte_first code (Byte image ∷ SignedShort x ∷ SignedShort y ∷ []) rest (λ code more. then_read (byte_at more) (λ image more. map_read (λ p. Blit r code image p.0 p.1) (point_at more)))
     ∙ byte_first image (SignedShort x ∷ SignedShort y ∷ []) rest (λ image more. map_read (λ p. Blit r code image p.0 p.1) (point_at more))
     ∙ point_last x y rest (λ p. Blit r code image p.0 p.1) m.1
@@ -105,9 +105,9 @@ blit3_back r code image x y brush rest h =
     let k = first_in_place (Byte code) (Byte image ∷ SignedShort x ∷ SignedShort y ∷ Byte brush ∷ []) (fields_after_rect r (Byte code ∷ Byte image ∷ SignedShort x ∷ SignedShort y ∷ Byte brush ∷ []) h) in
     let m = first_in_place (Byte image) (SignedShort x ∷ SignedShort y ∷ Byte brush ∷ []) k.1 in
     rect_first r (Byte code ∷ Byte image ∷ SignedShort x ∷ SignedShort y ∷ Byte brush ∷ []) rest
-        (λ r more. then_read (byte_at more) (λ code more. then_read (byte_at more) (λ image more. then_read (point_at more) (λ p more. map_read (λ brush. Blit3 r code image p.0 p.1 brush) (byte_at more))))) h
+    (λ r more. then_read (byte_at more) (λ code more. then_read (byte_at more) (λ image more. then_read (point_at more) (λ p more. map_read (λ brush. Blit3 r code image p.0 p.1 brush) (byte_at more))))) h
     ∙ byte_first code (Byte image ∷ SignedShort x ∷ SignedShort y ∷ Byte brush ∷ []) rest
-        (λ code more. then_read (byte_at more) (λ image more. then_read (point_at more) (λ p more. map_read (λ brush. Blit3 r code image p.0 p.1 brush) (byte_at more))))
+    (λ code more. then_read (byte_at more) (λ image more. then_read (point_at more) (λ p more. map_read (λ brush. Blit3 r code image p.0 p.1 brush) (byte_at more))))
     ∙ byte_first image (SignedShort x ∷ SignedShort y ∷ Byte brush ∷ []) rest (λ image more. then_read (point_at more) (λ p more. map_read (λ brush. Blit3 r code image p.0 p.1 brush) (byte_at more)))
     ∙ point_first x y (Byte brush ∷ []) rest (λ p more. map_read (λ brush. Blit3 r code image p.0 p.1 brush) (byte_at more)) m.1
     ∙ map_back _ brush rest (λ brush. Blit3 r code image x y brush) (byte_back brush rest)
@@ -118,10 +118,10 @@ unfolding text_at
 text_back x y color font run rest h =
     let k = first_in_place (Color color) (Byte font ∷ Byte (length run) ∷ []) (fields_after_point x y (Color color ∷ Byte font ∷ Byte (length run) ∷ []) h) in
     point_first x y (Color color ∷ Byte font ∷ Byte (length run) ∷ []) (pairs_bytes run ++ rest)
-        (λ p more. then_read (color_at more) (λ color more. then_read (byte_at more) (λ font more. then_read (byte_at more) (λ count more. map_read (λ run. Text p.0 p.1 color font run) (pairs_at count more))))) h
+    (λ p more. then_read (color_at more) (λ color more. then_read (byte_at more) (λ font more. then_read (byte_at more) (λ count more. map_read (λ run. Text p.0 p.1 color font run) (pairs_at count more))))) h
     ∙ then_back _ color (fields_bytes (Byte font ∷ Byte (length run) ∷ []) ++ (pairs_bytes run ++ rest))
-        (λ color more. then_read (byte_at more) (λ font more. then_read (byte_at more) (λ count more. map_read (λ run. Text x y color font run) (pairs_at count more))))
-        (color_back color (fields_bytes (Byte font ∷ Byte (length run) ∷ []) ++ (pairs_bytes run ++ rest)) k.0)
+    (λ color more. then_read (byte_at more) (λ font more. then_read (byte_at more) (λ count more. map_read (λ run. Text x y color font run) (pairs_at count more))))
+    (color_back color (fields_bytes (Byte font ∷ Byte (length run) ∷ []) ++ (pairs_bytes run ++ rest)) k.0)
     ∙ byte_first font (Byte (length run) ∷ []) (pairs_bytes run ++ rest) (λ font more. then_read (byte_at more) (λ count more. map_read (λ run. Text x y color font run) (pairs_at count more)))
     ∙ byte_first (length run) [] (pairs_bytes run ++ rest) (λ count more. map_read (λ run. Text x y color font run) (pairs_at count more))
     ∙ map_back _ run rest (λ run. Text x y color font run) (pairs_back run rest)
@@ -154,12 +154,12 @@ unfolding image_at
 image_back slot image rest h =
     let k = and_parts (length image.pixels == image.w * image.h) (are_colors image.pixels) h in
     byte_first slot (Byte image.w ∷ Byte image.h ∷ []) (colors_bytes image.pixels ++ rest)
-        (λ slot more. then_read (byte_at more) (λ w more. then_read (byte_at more) (λ h more. map_read (λ pixels. LoadImage slot (record { w = w; h = h; pixels = pixels })) (colors_at (w * h) more))))
+    (λ slot more. then_read (byte_at more) (λ w more. then_read (byte_at more) (λ h more. map_read (λ pixels. LoadImage slot (record { w = w; h = h; pixels = pixels })) (colors_at (w * h) more))))
     ∙ byte_first image.w (Byte image.h ∷ []) (colors_bytes image.pixels ++ rest)
-        (λ w more. then_read (byte_at more) (λ h more. map_read (λ pixels. LoadImage slot (record { w = w; h = h; pixels = pixels })) (colors_at (w * h) more)))
+    (λ w more. then_read (byte_at more) (λ h more. map_read (λ pixels. LoadImage slot (record { w = w; h = h; pixels = pixels })) (colors_at (w * h) more)))
     ∙ byte_first image.h [] (colors_bytes image.pixels ++ rest) (λ h more. map_read (λ pixels. LoadImage slot (record { w = image.w; h = h; pixels = pixels })) (colors_at (image.w * h) more))
     ∙ map_back _ image.pixels rest (λ (pixels : List ℕ). LoadImage slot (record { w = image.w; h = image.h; pixels = pixels }))
-        (colors_back (image.w * image.h) image.pixels rest (eqb-true (length image.pixels) (image.w * image.h) k.0) k.1)
+    (colors_back (image.w * image.h) image.pixels rest (eqb-true (length image.pixels) (image.w * image.h) k.0) k.1)
 
 brush_back : (slot : ℕ) (brush rest : List ℕ) → is_brush_in_range brush ≡ true → brush_at (fields_bytes (Byte slot ∷ []) ++ (colors_bytes brush ++ rest)) ≡ Ok (LoadBrush slot brush, rest)
 unfolding brush_at
@@ -175,28 +175,28 @@ unfolding glyph_at
 glyph_back font code glyph rest h held =
     let k = and_parts (length glyph.bits == glyph_bytes glyph.cx glyph.cy) (are_bytes glyph.bits) held in
     let a = first_in_place (Byte code) (SignedByte glyph.x ∷ SignedByte glyph.y ∷ Byte glyph.cx ∷ Byte glyph.cy ∷ [])
-        (first_in_place (Byte font) (Byte code ∷ SignedByte glyph.x ∷ SignedByte glyph.y ∷ Byte glyph.cx ∷ Byte glyph.cy ∷ []) h).1 in
+    (first_in_place (Byte font) (Byte code ∷ SignedByte glyph.x ∷ SignedByte glyph.y ∷ Byte glyph.cx ∷ Byte glyph.cy ∷ []) h).1 in
     let b = first_in_place (SignedByte glyph.x) (SignedByte glyph.y ∷ Byte glyph.cx ∷ Byte glyph.cy ∷ []) a.1 in
     let c = first_in_place (SignedByte glyph.y) (Byte glyph.cx ∷ Byte glyph.cy ∷ []) b.1 in
     let more : List ℕ = glyph.bits ++ rest in
     byte_first font (Byte code ∷ SignedByte glyph.x ∷ SignedByte glyph.y ∷ Byte glyph.cx ∷ Byte glyph.cy ∷ []) more
-        (λ font more. then_read (byte_at more) (λ code more. then_read (signed_byte_at more) (λ x more. then_read (signed_byte_at more) (λ y more. then_read (byte_at more) (λ cx more. then_read (byte_at more) (λ cy more.
-        map_read (λ bits. LoadGlyph font code (record { x = x; y = y; cx = cx; cy = cy; bits = bits })) (bytes_at (glyph_bytes cx cy) more)))))))
+    (λ font more. then_read (byte_at more) (λ code more. then_read (signed_byte_at more) (λ x more. then_read (signed_byte_at more) (λ y more. then_read (byte_at more) (λ cx more. then_read (byte_at more) (λ cy more.
+    map_read (λ bits. LoadGlyph font code (record { x = x; y = y; cx = cx; cy = cy; bits = bits })) (bytes_at (glyph_bytes cx cy) more)))))))
     ∙ byte_first code (SignedByte glyph.x ∷ SignedByte glyph.y ∷ Byte glyph.cx ∷ Byte glyph.cy ∷ []) more
-        (λ code more. then_read (signed_byte_at more) (λ x more. then_read (signed_byte_at more) (λ y more. then_read (byte_at more) (λ cx more. then_read (byte_at more) (λ cy more.
-        map_read (λ bits. LoadGlyph font code (record { x = x; y = y; cx = cx; cy = cy; bits = bits })) (bytes_at (glyph_bytes cx cy) more))))))
+    (λ code more. then_read (signed_byte_at more) (λ x more. then_read (signed_byte_at more) (λ y more. then_read (byte_at more) (λ cx more. then_read (byte_at more) (λ cy more.
+    map_read (λ bits. LoadGlyph font code (record { x = x; y = y; cx = cx; cy = cy; bits = bits })) (bytes_at (glyph_bytes cx cy) more))))))
     ∙ then_back _ glyph.x (fields_bytes (SignedByte glyph.y ∷ Byte glyph.cx ∷ Byte glyph.cy ∷ []) ++ more)
-        (λ x more. then_read (signed_byte_at more) (λ y more. then_read (byte_at more) (λ cx more. then_read (byte_at more) (λ cy more.
-        map_read (λ bits. LoadGlyph font code (record { x = x; y = y; cx = cx; cy = cy; bits = bits })) (bytes_at (glyph_bytes cx cy) more)))))
-        (signed_byte_back glyph.x (fields_bytes (SignedByte glyph.y ∷ Byte glyph.cx ∷ Byte glyph.cy ∷ []) ++ more) b.0)
+    (λ x more. then_read (signed_byte_at more) (λ y more. then_read (byte_at more) (λ cx more. then_read (byte_at more) (λ cy more.
+    map_read (λ bits. LoadGlyph font code (record { x = x; y = y; cx = cx; cy = cy; bits = bits })) (bytes_at (glyph_bytes cx cy) more)))))
+    (signed_byte_back glyph.x (fields_bytes (SignedByte glyph.y ∷ Byte glyph.cx ∷ Byte glyph.cy ∷ []) ++ more) b.0)
     ∙ then_back _ glyph.y (fields_bytes (Byte glyph.cx ∷ Byte glyph.cy ∷ []) ++ more)
-        (λ y more. then_read (byte_at more) (λ cx more. then_read (byte_at more) (λ cy more.
-        map_read (λ bits. LoadGlyph font code (record { x = glyph.x; y = y; cx = cx; cy = cy; bits = bits })) (bytes_at (glyph_bytes cx cy) more))))
-        (signed_byte_back glyph.y (fields_bytes (Byte glyph.cx ∷ Byte glyph.cy ∷ []) ++ more) c.0)
+    (λ y more. then_read (byte_at more) (λ cx more. then_read (byte_at more) (λ cy more.
+    map_read (λ bits. LoadGlyph font code (record { x = glyph.x; y = y; cx = cx; cy = cy; bits = bits })) (bytes_at (glyph_bytes cx cy) more))))
+    (signed_byte_back glyph.y (fields_bytes (Byte glyph.cx ∷ Byte glyph.cy ∷ []) ++ more) c.0)
     ∙ byte_first glyph.cx (Byte glyph.cy ∷ []) more (λ cx more. then_read (byte_at more) (λ cy more. map_read (λ bits. LoadGlyph font code (record { x = glyph.x; y = glyph.y; cx = cx; cy = cy; bits = bits })) (bytes_at (glyph_bytes cx cy) more)))
     ∙ byte_first glyph.cy [] more (λ cy more. map_read (λ bits. LoadGlyph font code (record { x = glyph.x; y = glyph.y; cx = glyph.cx; cy = cy; bits = bits })) (bytes_at (glyph_bytes glyph.cx cy) more))
     ∙ map_back _ glyph.bits rest (λ (bits : List ℕ). LoadGlyph font code (record { x = glyph.x; y = glyph.y; cx = glyph.cx; cy = glyph.cy; bits = bits }))
-        (bytes_back (glyph_bytes glyph.cx glyph.cy) glyph.bits rest (eqb-true (length glyph.bits) (glyph_bytes glyph.cx glyph.cy) k.0))
+    (bytes_back (glyph_bytes glyph.cx glyph.cy) glyph.bits rest (eqb-true (length glyph.bits) (glyph_bytes glyph.cx glyph.cy) k.0))
 
 -- ---- behind its number
 

@@ -1,4 +1,3 @@
-use Rattle.std.proofs.Common.{sym}
 use Rattle.std.proofs.lemmas.Result.{err_from_is_err_and}
 use Rattle.wire_num.proofs.Fronts.{front_before}
 use Rattle.order_fields.proofs.Sent.{both_sent, both_cut}

@@ -1,4 +1,4 @@
-use Rattle.std.proofs.Common.{◌≡◌, ◌∙◌, ap, sym, length, ◌*◌}
+use Rattle.std.proofs.Common.{◌∙◌, ap, sym, length, ◌*◌}
 use Rattle.record_rules.specs.Tables.{shape_rest}
 use Rattle.record_rules.proofs.FieldsBack.{length-colors, length-pairs}
 use Rattle.record_file.proofs.drawing.rest_length.Goals as goal

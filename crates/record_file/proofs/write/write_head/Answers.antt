@@ -13,5 +13,5 @@ returns-in_err-put_fields-clause-memory c =
     let p = err_from_is_err_and c.from_residual.result c.from_residual.ensures.1 in
     let rows = c.args.rows.now in
     let head : Head = record { size = c.args.size; rows = rows_of rows } in
-    let count : length (rows_of rows) ≡ length rows = length-map _ rows in
+    let count : length (rows_of rows) ≡ length rows = length-map rows _ in
     rw p.1 (front_before _ (record_mark ++ fields_bytes (head_fields head)) (rows_bytes (rows_of rows)) _ (rw (sym count) at c.in_err-put_fields.ensures.memory))
