@@ -1,0 +1,5 @@
+//! Tests of records: the worked bytes.
+#![tactic(auto)]
+
+#[cfg(test)]
+mod written;
