@@ -20,6 +20,7 @@ pub fn run<R: Files + AllocGlobal + Wait>(rt: &R, line: &str) -> Result<(), Trou
         "joins" => joins::run_row(rt, words),
         "stream" => streams::run_row(rt, words, Known::Whole),
         "tail" => streams::run_row(rt, words, Known::Tail),
+        "lengths" => streams::run_lengths(rt, words),
         "change" => streams::run_change(rt, words),
         "changes" => handshake::run_row(rt, words),
         "look" => looks::run_row(rt, words),
