@@ -64,6 +64,10 @@ INVERT = event(4, 0, 0x3C, 0)
 FRAMES = 3
 
 
+# The most clicks that are sent together.
+BURST = 64
+
+
 class Link:
     """A connection to the host, with what it was sent so far."""
 
@@ -298,8 +302,9 @@ def clicks(room):
         spent = room.processor()
         times = room.times_of_clicks(200)
         spent = (room.processor() - spent) / len(times)
-        row(f'from a click to the last mark, {count} viewers: median, 19 of 20', spread(times), 'median below 5 ms')
-        row(f'processor time of the host for such a click, {count} viewers', milliseconds(spent))
+        many = f'{count} viewers' if count > 1 else 'one viewer'
+        row(f'from a click to the last mark, {many}: median, 19 of 20', spread(times), 'median below 5 ms')
+        row(f'processor time of the host for such a click, {many}', milliseconds(spent))
     room.close()
 
 
@@ -314,7 +319,8 @@ def paced(room, rate, count):
     sent = None
     while goals:
         now = time.perf_counter()
-        due = min(count, int((now - begin) * rate) + 1)
+        # a client that got its turn late doesn't make up for it at once
+        due = min(count, made + BURST, int((now - begin) * rate) + 1)
         waiting += b''.join(click(i) for i in range(made, due))
         made = due
         if waiting:
@@ -329,36 +335,44 @@ def paced(room, rate, count):
         if more: break
         if now - begin > PATIENCE: raise TimeoutError('the last drawing')
     over = time.perf_counter()
+    # a packet that was begun is ended
+    holder.send(waiting)
     return (sent or over) - begin, over - (sent or over), more
 
 
-def quiet(room, while_=1.0):
-    """Reads until nothing comes for a while."""
+def quiet(room):
+    """Reads until nothing comes for a second."""
     while True:
-        came = room.ready.poll(while_)
+        came = room.ready.poll(1)
         if not came: return
         for number, _ in came: room.by_number[number].read()
 
 
+def try_rate(room, per_second):
+    """Clicks at so many a second for two seconds; the row's figures, or None where a viewer didn't follow."""
+    marks, spent = sum(link.marks for link in room.viewers), room.processor()
+    took, later, tiles = paced(room, per_second, 2 * per_second)
+    spent = room.processor() - spent
+    frames = (sum(link.marks for link in room.viewers) - marks) / MOST
+    quiet(room)
+    print(f'{per_second} a second: sent in {took:.2f} s, the last mark {milliseconds(later)} later, {frames:.0f} frames a viewer, '
+          f'{spent:.2f} s of processor time, {tiles} tiles', file=sys.stderr)
+    if tiles or later > 0.1 or took > 2.1: return None
+    return f'{milliseconds(later)}; {frames / took:.0f}; {spent / took:.2f}'
+
+
 def rate(room):
-    """How many drawings a second 16 viewers can follow."""
+    """How many drawings a second 16 viewers can follow, once in three tries."""
     room.join('ann')
     room.fill()
-    best = None
+    best, figures = 0, ''
     for per_second in (250, 500, 1000, 2000, 3000, 4000, 6000, 8000, 12000, 16000):
-        marks, spent = sum(link.marks for link in room.viewers), room.processor()
-        took, later, tiles = paced(room, per_second, 2 * per_second)
-        spent = room.processor() - spent
-        frames = (sum(link.marks for link in room.viewers) - marks) / MOST
-        quiet(room)
-        print(f'{per_second} a second: sent in {took:.2f} s, the last mark {milliseconds(later)} later, {frames:.0f} frames a viewer, '
-              f'{spent:.2f} s of processor time, {tiles} tiles', file=sys.stderr)
-        if tiles or later > 0.1 or took > 2.1: break
-        best = per_second, later, frames / took, spent / took
-    if best:
-        row('drawings a second that 16 viewers follow for 2 s, each as an order, and 0.1 s behind at most', best[0])
-        row('at that: the last mark after the last click; frames a second for each viewer; processors', f'{milliseconds(best[1])}; {best[2]:.0f}; {best[3]:.2f}')
-    else: row('drawings a second that 16 viewers follow', 'fewer than 250')
+        tried = None
+        for _ in range(3): tried = tried or try_rate(room, per_second)
+        if not tried: break
+        best, figures = per_second, tried
+    row('drawings a second that 16 viewers follow for 2 s, each as an order, and 0.1 s behind at most', best)
+    row('at that: the last mark after the last click; frames a second for each viewer; processors', figures)
     room.close()
 
 

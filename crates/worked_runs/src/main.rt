@@ -1,5 +1,5 @@
-//! Runs worked examples and prints a line for each: scripts with their captures, clients' streams with their answers, captures with what
-//! they show, loads with their counts, and command lines with what they ask for.
+//! Runs worked examples and prints a line for each: scripts with their captures, clients' streams with their answers, and with the lines
+//! of the links by which they come, captures with what they show, loads with their counts, and command lines with what they ask for.
 //!
 //! The words that the program is run with name manifests. A line of a manifest is a kind of row and its words; the row's files lie beside
 //! it. Each row is run whole, byte by byte, cut in two at one place after the other, and with one read or one write failing after the other.
@@ -16,6 +16,7 @@ mod joins;
 mod looks;
 mod row;
 mod scripts;
+mod serves;
 mod streams;
 mod turns;
 mod verdict;
@@ -23,6 +24,7 @@ mod words;
 
 use std::rt::Files;
 use std::sync::Wait;
+use std::thread::Threads;
 use std::{env, fs, io};
 use verdict::Trouble;
 
@@ -34,7 +36,10 @@ fn main(rt: HostRuntime) -> io::Result<()> {
 }
 
 /// Runs the rows of a manifest.
-fn run_manifest<R: Files + AllocGlobal + Print + Wait>(rt: &R, name: &str) -> io::Result<()> {
+fn run_manifest<R: Files + AllocGlobal + Print + Threads + Wait + Sync>(
+    rt: &R,
+    name: &str,
+) -> io::Result<()> {
     let manifest = fs::read_to_string(rt, name)?;
     for line in manifest.as_str().lines() {
         if !line.is_empty() && !line.starts_with('#') {
@@ -45,7 +50,10 @@ fn run_manifest<R: Files + AllocGlobal + Print + Wait>(rt: &R, name: &str) -> io
 }
 
 /// Runs a row, and prints what it comes to.
-fn print_row<R: Files + AllocGlobal + Print + Wait>(rt: &R, line: &str) -> io::Result<()> {
+fn print_row<R: Files + AllocGlobal + Print + Threads + Wait + Sync>(
+    rt: &R,
+    line: &str,
+) -> io::Result<()> {
     let title = row::title(line);
     match row::run(rt, line) {
         Ok(()) => println!(rt; "{title}: as expected"),

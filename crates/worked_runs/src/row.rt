@@ -4,13 +4,17 @@ ghost use Rattle.std.specs.Prelude.{◌≤◌, IfOk};
 
 use crate::streams::Known;
 use crate::verdict::Trouble;
-use crate::{demos, faults, handshake, joins, looks, scripts, streams, words};
+use crate::{demos, faults, handshake, joins, looks, scripts, serves, streams, words};
 use line_text::read_number;
 use std::rt::Files;
 use std::sync::Wait;
+use std::thread::Threads;
 
 /// Runs the row of a line: its kind, and its words.
-pub fn run<R: Files + AllocGlobal + Wait>(rt: &R, line: &str) -> Result<(), Trouble> {
+pub fn run<R: Files + AllocGlobal + Threads + Wait + Sync>(
+    rt: &R,
+    line: &str,
+) -> Result<(), Trouble> {
     let words = line.split(' ').collect::<Vec<&str>>(rt.alloc())?;
     let Some((kind, words)) = words.as_slice().split_first() else {
         return Err(Trouble::NoForm);
@@ -23,6 +27,7 @@ pub fn run<R: Files + AllocGlobal + Wait>(rt: &R, line: &str) -> Result<(), Trou
         "lengths" => streams::run_lengths(rt, words),
         "change" => streams::run_change(rt, words),
         "changes" => handshake::run_row(rt, words),
+        "serve" => serves::run_row(rt, words),
         "look" => looks::run_row(rt, words),
         "fronts" => looks::run_fronts(rt, words),
         "demo" => demos::run_row(rt, words),
@@ -37,7 +42,7 @@ pub fn run<R: Files + AllocGlobal + Wait>(rt: &R, line: &str) -> Result<(), Trou
 /// How many words of a row of this kind are its title.
 fn title_words(kind: &str) -> usize {
     match kind {
-        "look" | "demo" => 3,
+        "look" | "demo" | "serve" => 3,
         "request" | "viewer" => usize::MAX,
         _ => 2,
     }

@@ -22,7 +22,7 @@ const OWNER: &str = "ann";
 const REFUSED: [u8; 9] = [3, 0, 0, 9, 2, 0xF0, 0x80, 0x20, 0x80];
 
 /// The ending of files with streams, and of files with answers.
-const STREAM: &str = "stream";
+pub const STREAM: &str = "stream";
 
 const ANSWER: &str = "answer";
 

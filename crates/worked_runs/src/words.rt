@@ -10,7 +10,7 @@ use std::alloc::{AllocError, Global};
 const NONE: &str = "none";
 
 /// The words of a command line, the program's name first.
-fn command_line(alloc: Global, behind: &[&str]) -> Result<Vec<String>, AllocError> {
+pub fn command_line(alloc: Global, behind: &[&str]) -> Result<Vec<String>, AllocError> {
     let mut words = Vec::new(alloc);
     words.push(String::from_str(alloc, "program")?)?;
     for word in behind {
