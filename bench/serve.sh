@@ -9,9 +9,10 @@
 # The clients of bench/serve_hostile.py mean no good; what the honest viewers beside them are sent must be read by `rdp_look` and show what
 # the owner drew. Wanted there: what the host does to a client as docs/operating.md says, memory that stays bounded, and viewers who don't notice.
 #
-# usage: sh bench/serve.sh [PART ..]      (idle clicks rate stuck links; there is hostile too, and of clients that mean no good silent halves
-#                                          unread resets crowd full asks. It needs python3 and Linux's /proc. MANY=N: the part links has N
-#                                          links, 10,000; DRAWS=N: the owner draws N times, 100,000, beside a client that reads nothing)
+# usage: sh bench/serve.sh [PART ..]      (idle clicks rate stuck links; there are hostile, and same, which needs rdp_look, as do the parts of
+#                                          clients that mean no good: silent halves unread resets crowd full asks.
+#                                          It needs python3 and Linux's /proc. MANY=N: the part links has N links, 10,000; DRAWS=N: the
+#                                          owner draws N times, 100,000, beside a client that reads nothing)
 bench=serve
 . "$(dirname "$0")/programs.sh"
 needs "$rdp_host"
@@ -19,12 +20,15 @@ needs "$rdp_host"
 host=
 trap 'rm -rf "$work"; [ -z "$host" ] || kill "$host" 2>/dev/null || true' EXIT
 
-load() { python3 "$here/bench/serve_load.py" "$@"; }
+load() { RDP_LOOK=$rdp_look python3 "$here/bench/serve_load.py" "$@"; }
 
 # The clients of a part.
 clients() {
     case $part in
-    silent | halves | unread | resets | crowd | full | asks) RDP_LOOK=$rdp_look python3 "$here/bench/serve_hostile.py" "$@" ;;
+    silent | halves | unread | resets | crowd | full | asks)
+        needs "$rdp_look"
+        RDP_LOOK=$rdp_look python3 "$here/bench/serve_hostile.py" "$@"
+        ;;
     *) load "$@" ;;
     esac
 }
@@ -40,7 +44,12 @@ are_lines_right() {
 part() {
     part=$1
     port=$(load port)
-    "$rdp_host" serve "$port" 1024 768 "$(clients links "$1")" ann bob </dev/null >"$work/lines" &
+    size='1024 768'
+    if [ "$1" = same ]; then
+        needs "$rdp_look"
+        size='256 192'
+    fi
+    "$rdp_host" serve "$port" $size "$(clients links "$1")" ann bob cy+ </dev/null >"$work/lines" &
     host=$!
     clients "$1" "$port" "$host" "$work/wanted"
     ended=0

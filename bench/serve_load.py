@@ -1,22 +1,25 @@
 #!/usr/bin/env python3
 """Clients of `rdp_host serve`, over the loopback interface: an owner who clicks, guests who watch, clients that never read or go without a
 word. They go through the connection sequence as the sample client does, which confirms fills and no cache, and count what they are sent:
-packets, orders, tiles and marks. They don't look at pixels.
+packets, orders, tiles and marks. They don't look at pixels, but in the part `same`, which has rdp_look do it.
 
 python3 bench/serve_load.py PART PORT PID FILE
 python3 bench/serve_load.py links PART
 python3 bench/serve_load.py port
 
-PART is one of those at the end of this file. PORT is where the program listens on this machine, with the owner `ann` and the guest `bob`, for
-just as many links as the part makes. PID is its process: what processor time and memory it takes is read in /proc. The rows of a table go to
-standard output. To FILE goes what the program must write at its end: for each link, in their order, an expression of awk for its line. The
-other two print how many links a part makes, and a port that is free. `bench/serve.sh` runs each part with a program of its own.
+PART is one of those at the end of this file. PORT is where the program listens on this machine, with the owner `ann` and the guests `bob`
+and `cy+`, for just as many links as the part makes. PID is its process: what processor time and memory it takes is read in /proc. The rows
+of a table go to standard output. To FILE goes what the program must write at its end: for each link, in their order, an expression of awk
+for its line. The other two print how many links a part makes, and a port that is free. `bench/serve.sh` runs each part with a program of its
+own.
 """
 import os
+import random
 import select
 import socket
 import statistics
 import struct
+import subprocess
 import sys
 import threading
 import time
@@ -41,6 +44,10 @@ LEFT, READ_FAULT, WRITE_FAULT, BAD_PACKET, TRUNCATED, NOT_INVITED, ROOM_FULL = 0
 
 # How many links come one after another in the part `links`.
 MANY = int(os.environ.get('MANY', '10000'))
+
+# How many events are sent in the part `same`, and the sides of its picture.
+EVENTS = 4000
+SMALL = 256, 192
 
 # The most viewers of a session, and the sides of the picture that the clicks lie in.
 MOST = 16
@@ -89,6 +96,8 @@ class Link:
         self.socket.setsockopt(socket.IPPROTO_TCP, socket.TCP_NODELAY, 1)
         self.rest = b''
         self.last = b''
+        # where this is a list, the packets behind the answers are kept in it
+        self.frames = None
         self.packets = self.orders = self.tiles = self.marks = 0
         self.is_over = False
 
@@ -111,6 +120,7 @@ class Link:
     def count(self, packet):
         self.packets += 1
         self.last = packet
+        if self.frames is not None and self.packets > sum(ANSWERS): self.frames.append(packet)
         if packet == MARK: self.marks += 1
         elif len(packet) >= 40 and packet[7] == 0x68:
             # behind the header of the data, whose count has one or two bytes, and of the share
@@ -157,6 +167,8 @@ class GivenUp:
 class Room:
     """A host, with the links to it in their order, and what it must say of each at its end."""
 
+    keeps_frames = False
+
     def __init__(self, port, pid):
         self.port, self.pid = port, pid
         self.lines = []
@@ -167,6 +179,7 @@ class Room:
 
     def connect(self, kept=None):
         link = Link(self.port, kept)
+        if self.keeps_frames: link.frames = []
         self.lines.append(None)
         link.number, link.viewer = len(self.lines), 0
         return link
@@ -487,8 +500,47 @@ def hostile(room):
     room.close()
 
 
+def any_event(chance):
+    """A packet of an event that a client may send: of the mouse, a sign, one of F1 to F5, F12, or a Refresh Rect."""
+    kind = chance.random()
+    if kind < 0.5: return event(0x8001, chance.choice([0x9000, 0x1000, 0x0800, 0x0800, 0x0800, 0xA000]), chance.randrange(300), chance.randrange(220))
+    if kind < 0.7: return event(5, 0, chance.randrange(0x20, 0x80), 0)
+    if kind < 0.85: return event(4, 0, chance.randrange(0x3B, 0x40), 0)
+    if kind < 0.95: return event(4, 0, 0x58, 0)
+    return sharedata(0x21, struct.pack('<B3x4H', 1, chance.randrange(100), chance.randrange(100), chance.randrange(100, 256), chance.randrange(100, 192)))
+
+
+def picture_of(link):
+    """What rdp_look makes of a viewer's frames: the picture at the last mark."""
+    capture = f'1 joined {SMALL[0]} {SMALL[1]} plain\n1 {b"".join(link.frames).hex()}\n'
+    shown = subprocess.run([os.environ['RDP_LOOK'], '1'], input=capture.encode(), stdout=subprocess.PIPE, check=True).stdout
+    head, picture = shown.split(b'\n255\n', 1)
+    if int(head.split()[3]) != link.marks: raise ValueError('rdp_look counts other marks')
+    return picture
+
+
+def same(room):
+    """16 viewers who all send events, and of whom one leaves and another joins after each hundred: do all see one picture?"""
+    chance = random.Random(1)
+    room.keeps_frames = True
+    room.join('ann')
+    room.fill()
+    for i in range(1, EVENTS + 1):
+        chance.choice(room.viewers).send(any_event(chance))
+        for number, _ in room.ready.poll(0): room.by_number[number].read()
+        if i % 100 == 0:
+            room.end(chance.choice(room.viewers), lambda link: link.send(BYE))
+            room.join(chance.choice(['ann', 'bob', 'cy']))
+    quiet(room)
+    pictures = {picture_of(link) for link in room.viewers}
+    row(f'{EVENTS} events of 16 viewers, who come and go: pictures that they see at the end, by rdp_look', len(pictures), 1)
+    picture = min(pictures)
+    row('marks that they had; colours of the picture', f'{sum(link.marks for link in room.viewers)}; {len({picture[i:i+3] for i in range(0, len(picture), 3)})}')
+    room.close()
+
+
 # The parts, with the links that each makes.
-PARTS = {'idle': (idle, MOST), 'clicks': (clicks, MOST), 'rate': (rate, MOST), 'stuck': (stuck, MOST), 'links': (links, MANY), 'hostile': (hostile, 90)}
+PARTS = {'idle': (idle, MOST), 'clicks': (clicks, MOST), 'rate': (rate, MOST), 'stuck': (stuck, MOST), 'links': (links, MANY), 'hostile': (hostile, 90), 'same': (same, MOST + EVENTS // 100)}
 
 
 def free_port():
