@@ -2,7 +2,7 @@
 """Runs `rdp_host` on worked inputs with one growth of its memory refused, the first, the second and so on, until a run has no such growth; and
 the same with all growths from that one on refused. Each run must end, and by want of memory: with status 6, or in the mode serve with the
 link's code 6; and what it has written must be a front of what it writes where nothing is refused. Where one growth alone is refused the run may
-also do all as if it weren't: room that a list is made with is asked for again when the list first grows.
+also do all as if it weren't: room that a list is made with is asked for again when the list first grows, and a thread is done without.
 
 python3 bench/refused_memory.py RDP_HOST REFUSE FOLDER
 
