@@ -6,8 +6,13 @@
 # machine that does nothing else; memory that stays flat over many links, one after another; fifteen viewers who don't notice a sixteenth
 # that never reads.
 #
-# usage: sh bench/serve.sh [PART ..]      (idle clicks rate stuck links; there are hostile, and same, which needs rdp_look.
-#                                          It needs python3 and Linux's /proc. MANY=N: the part links has N links, 10,000)
+# The clients of bench/serve_hostile.py mean no good; what the honest viewers beside them are sent must be read by `rdp_look` and show what
+# the owner drew. Wanted there: what the host does to a client as docs/operating.md says, memory that stays bounded, and viewers who don't notice.
+#
+# usage: sh bench/serve.sh [PART ..]      (idle clicks rate stuck links; there are hostile, and same, which needs rdp_look, as do the parts of
+#                                          clients that mean no good: silent halves unread resets crowd full asks.
+#                                          It needs python3 and Linux's /proc. MANY=N: the part links has N links, 10,000; DRAWS=N: the
+#                                          owner draws N times, 100,000, beside a client that reads nothing)
 bench=serve
 . "$(dirname "$0")/programs.sh"
 needs "$rdp_host"
@@ -16,6 +21,17 @@ host=
 trap 'rm -rf "$work"; [ -z "$host" ] || kill "$host" 2>/dev/null || true' EXIT
 
 load() { RDP_LOOK=$rdp_look python3 "$here/bench/serve_load.py" "$@"; }
+
+# The clients of a part.
+clients() {
+    case $part in
+    silent | halves | unread | resets | crowd | full | asks)
+        needs "$rdp_look"
+        RDP_LOOK=$rdp_look python3 "$here/bench/serve_hostile.py" "$@"
+        ;;
+    *) load "$@" ;;
+    esac
+}
 
 # Whether the program's lines are those that the clients expect; else the first that isn't.
 are_lines_right() {
@@ -26,15 +42,16 @@ are_lines_right() {
 
 # A part of the load, with a program of its own.
 part() {
+    part=$1
     port=$(load port)
     size='1024 768'
     if [ "$1" = same ]; then
         needs "$rdp_look"
         size='256 192'
     fi
-    "$rdp_host" serve "$port" $size "$(load links "$1")" ann bob cy+ </dev/null >"$work/lines" &
+    "$rdp_host" serve "$port" $size "$(clients links "$1")" ann bob cy+ </dev/null >"$work/lines" &
     host=$!
-    load "$1" "$port" "$host" "$work/wanted"
+    clients "$1" "$port" "$host" "$work/wanted"
     ended=0
     wait "$host" || ended=$?
     host=

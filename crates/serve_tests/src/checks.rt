@@ -86,3 +86,8 @@ pub fn must_count(rt: &impl Abort, found: u64, expected: u64) {
 pub fn must_be_written(rt: &impl Abort, found: &[u8], expected: &[u8]) {
     assert_eq!(rt; *found, *expected);
 }
+
+/// These bytes are a front of what is written where nothing fails.
+pub fn must_be_front(rt: &impl Abort, found: &[u8], whole: &[u8]) {
+    assert!(rt; whole.starts_with(found));
+}

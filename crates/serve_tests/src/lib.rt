@@ -1,4 +1,4 @@
-//! Tests of serving a gate: links in memory whose readers wait for what others are shown, links with planned faults, and clients over the loopback interface.
+//! Tests of serving a gate: links in memory whose readers wait for what others are shown, links with planned faults, one in each call in turn, and clients over the loopback interface.
 //!
 //! They use public calls alone, so they stand apart: a crate with tests of its own is proved a second time for them.
 #![tactic(auto)]
@@ -11,6 +11,8 @@ mod client;
 mod cue_gate;
 #[cfg(test)]
 mod cues;
+#[cfg(test)]
+mod failing;
 #[cfg(test)]
 mod gates;
 #[cfg(test)]

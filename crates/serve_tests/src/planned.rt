@@ -26,7 +26,7 @@ fn link(alloc: Global, name: [u8; 3], fails: &[u32]) -> Result<MemLink, OutOfMem
 }
 
 /// What serving a gate of links comes to, and the gate.
-fn served<R: Threads + Wait + Sync>(
+pub fn served<R: Threads + Wait + Sync>(
     rt: &R,
     alloc: Global,
     links: Vec<MemLink>,
@@ -37,7 +37,7 @@ fn served<R: Threads + Wait + Sync>(
 }
 
 /// What was written to a link that came back.
-fn written(gate: &PlanGate, link: usize) -> &[u8] {
+pub fn written(gate: &PlanGate, link: usize) -> &[u8] {
     match gate.finished().get(link) {
         Some(link) => link.writer.bytes(),
         None => &[],

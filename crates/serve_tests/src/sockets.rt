@@ -32,7 +32,7 @@ const PATIENCE: u64 = 30_000;
 const MOST_READS: u32 = 10_000;
 
 /// The board before it is drawn on.
-const BLACK: u32 = 0;
+pub const BLACK: u32 = 0;
 
 /// An address of this machine.
 fn local(port: u16) -> SocketAddr {
@@ -124,7 +124,7 @@ fn connected<R: Net<Listener = TcpListener, Stream = TcpStream> + Clock>(
 }
 
 /// The colour of a pixel at the last mark.
-fn pixel(client: &Client, x: u32, y: u32) -> Option<u32> {
+pub fn pixel(client: &Client, x: u32, y: u32) -> Option<u32> {
     let size = client.size();
     if x < size.w && y < size.h {
         client.marked(x, y)

@@ -60,7 +60,7 @@ fn set(stream: &mut [u8], place: usize, value: u8) {
     }
 }
 
-/// How a stream is answered that comes in one piece.
+/// How a stream is answered that comes in one piece, and the same once more where it is refused.
 fn answer_to(alloc: Global, stream: &[u8]) -> Result<Answer, Trouble> {
     let mut out = Vec::new(alloc);
     let mut steps = Vec::new(alloc);
@@ -72,8 +72,35 @@ fn answer_to(alloc: Global, stream: &[u8]) -> Result<Answer, Trouble> {
             k: 0,
             at: conn.part() as u64,
         }),
-        Err(ConnFault::Refused { k, at }) => Ok(Answer { k, at }),
+        Err(ConnFault::Refused { k, at }) => must_be_refused_again(
+            alloc,
+            &mut conn,
+            stream,
+            Answer { k, at },
+        ),
         Err(ConnFault::OutOfMemory) => Err(Trouble::OutOfMemory),
+    }
+}
+
+/// A connection that has refused its stream must answer the same of whatever comes behind, and hear nothing of it.
+fn must_be_refused_again(
+    alloc: Global,
+    conn: &mut Conn,
+    bytes: &[u8],
+    answer: Answer,
+) -> Result<Answer, Trouble> {
+    let mut out = Vec::new(alloc);
+    let mut steps = Vec::new(alloc);
+    let fault = conn.feed(bytes, &mut out, &mut steps);
+    let is_same = fault
+        == Err(ConnFault::Refused {
+            k: answer.k,
+            at: answer.at,
+        });
+    if is_same && out.is_empty() && steps.is_empty() {
+        Ok(answer)
+    } else {
+        otherwise(Way::Whole, Found::Number(answer.at))
     }
 }
 

@@ -24,6 +24,7 @@ pub fn run<R: Files + AllocGlobal + Threads + Wait + Sync>(
         "joins" => joins::run_row(rt, words),
         "stream" => streams::run_row(rt, words, Known::Whole),
         "tail" => streams::run_row(rt, words, Known::Tail),
+        "lengths" => streams::run_lengths(rt, words),
         "change" => streams::run_change(rt, words),
         "changes" => handshake::run_row(rt, words),
         "serve" => serves::run_row(rt, words),

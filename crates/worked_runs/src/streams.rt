@@ -5,8 +5,8 @@ use crate::expected::Expected;
 use crate::files;
 use crate::job::Job;
 use crate::row::number;
-use crate::turns::{Task, try_task};
-use crate::verdict::Trouble;
+use crate::turns::{Task, must_be_front, try_task, try_whole};
+use crate::verdict::{Trouble, Way};
 use px_core::Size;
 use std::rt::Files;
 use std::sync::Wait;
@@ -42,10 +42,7 @@ pub fn run_row<R: Files + AllocGlobal + Wait>(
     let [name, w, h, owner, ending @ ..] = words else {
         return Err(Trouble::NoForm);
     };
-    let size = Size {
-        w: number(w, u32::MAX.into())? as u32,
-        h: number(h, u32::MAX.into())? as u32,
-    };
+    let size = size_of(w, h)?;
     let stream = files::read_hex(rt, name, STREAM)?;
     let answer = files::read_hex(rt, name, ANSWER)?;
     let task = Task {
@@ -58,6 +55,35 @@ pub fn run_row<R: Files + AllocGlobal + Wait>(
         Known::Tail => Expected::Tail(answer),
     };
     try_task(rt, rt.alloc(), &task, &expected)
+}
+
+/// The size of a picture, by the words of its columns and rows.
+fn size_of(w: &str, h: &str) -> Result<Size, Trouble> {
+    Ok(Size {
+        w: number(w, u32::MAX.into())? as u32,
+        h: number(h, u32::MAX.into())? as u32,
+    })
+}
+
+/// Serves a client whose stream ends behind so many bytes, for each number below their number: it is truncated, and what is written is a front of the
+/// answer to the whole stream.
+pub fn run_lengths<R: Files + AllocGlobal + Wait>(rt: &R, words: &[&str]) -> Result<(), Trouble> {
+    let [name, w, h, owner] = words else {
+        return Err(Trouble::NoForm);
+    };
+    let size = size_of(w, h)?;
+    let stream = files::read_hex(rt, name, STREAM)?;
+    let answer = files::read_hex(rt, name, ANSWER)?;
+    for length in 0..stream.len() {
+        let task = Task {
+            job: Job::Stream { size, owner },
+            input: &stream[..length],
+            ending: Ending::Truncated,
+        };
+        let told = try_whole(rt, rt.alloc(), &task, &Expected::Tail(Vec::new(rt.alloc())))?;
+        must_be_front(Way::CutAt(length), &answer, &told)?;
+    }
+    Ok(())
 }
 
 /// How a client's service ends, by its words.

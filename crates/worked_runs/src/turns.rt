@@ -244,7 +244,7 @@ fn must_stand(way: Way, told: &[u8], wanted: &[u8], found: &[u8]) -> Result<(), 
 }
 
 /// What was written must be a front of the whole.
-fn must_be_front(way: Way, told: &[u8], found: &[u8]) -> Result<(), Trouble> {
+pub fn must_be_front(way: Way, told: &[u8], found: &[u8]) -> Result<(), Trouble> {
     if told.starts_with(found) {
         Ok(())
     } else {
