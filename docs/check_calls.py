@@ -10,6 +10,9 @@ type, or of the crate where there was none, and `Type::call` is of the same crat
 the first column, its calls are the second and its laws the third; there no call may give a `Result`. In the other tables the calls are the
 first column, and the last one has labels of their clauses.
 
+Of docs/faults.md it checks that each `crate::call` is a public call of a crate that one of the programs stands on, that a law is called so, and
+that labels behind it are those of its clauses.
+
 python3 docs/check_calls.py
 """
 import pathlib
@@ -19,10 +22,13 @@ import sys
 TOP = pathlib.Path(__file__).resolve().parent.parent
 HEAD = '## Public calls'
 NO_ERROR = '### Calls that answer no error'
+PROGRAMS = ['rdp_host', 'rdp_look']
 
 START = re.compile(r'\bghost\b|\b(?P<trait>(?:pub\s+)?trait)\s+(?P<named>\w+)|\bimpl\b|\bmod\s+\w+\s*\{'
                    r'|(?P<pub>\bpub(?P<within>\([^)]*\))?\s+)?(?:\bconst\s+)?(?:\bunsafe\s+)?\bfn\s+(?P<call>\w+)')
 CLAUSE = re.compile(r'\s*(requires|ensures)\s*(\w*)\s*\{')
+CITED = re.compile(r'`([a-z_0-9]+)::([\w:]+)`(?:(?:(?: and|,) `\w+`)?, clauses? ((?:`\w+`(?:, | and )?)+))?')
+LAW = re.compile(r'\blaws? (`[\w:]+`(,| and) )*$')
 QUOTED = re.compile(r"b?'(\\.[^']*|[^'\\])'")
 
 
@@ -197,11 +203,42 @@ def named(cell, crates, crate=None):
         yield crate, '::'.join(parts if len(parts) == 2 or owner is None else [owner] + parts)
 
 
+def stood_on(crates):
+    """The crates that the programs stand on, with them."""
+    found, left = set(), list(PROGRAMS)
+    while left:
+        crate = left.pop()
+        if crate not in found:
+            found.add(crate)
+            left.extend(other for other in crates[crate] if other in crates)
+    return found
+
+
+def citations(calls, run):
+    """What is wrong with the calls that docs/faults.md names."""
+    for number, line in enumerate((TOP / 'docs' / 'faults.md').read_text().splitlines(), 1):
+        for found in CITED.finditer(line):
+            crate, path, labels = found.groups()
+            call = calls.get(crate, {}).get(path)
+            where = f'docs/faults.md, line {number}: {crate}::{path}'
+            if crate in calls and crate not in run:
+                yield f'{where} is run by no program'
+            if call is None:
+                if not any(other.startswith(path + '::') for other in calls.get(crate, {})):
+                    yield f'{where} is no public call and no type that has one'
+                continue
+            if call.is_law and not LAW.search(line[:found.start()]):
+                yield f"{where} is a law, and isn't called so"
+            for label in re.findall(r'`(\w+)`', labels or ''):
+                if label not in call.labels:
+                    yield f'{where} has no clause {label}'
+
+
 def main():
-    crates = [line.split(':')[0].split()[0] for line in (TOP / 'crates.txt').read_text().splitlines()
-              if line.strip() and not line.startswith('#')]
+    crates = {line.split(':')[0].split()[0]: line.split(':')[1].split() for line in (TOP / 'crates.txt').read_text().splitlines()
+              if line.strip() and not line.startswith('#')}
     calls = {crate: public_calls(crate) for crate in crates}
-    faults, seen, labels = [], {}, []
+    faults, seen, labels = list(citations(calls, stood_on(crates))), {}, []
 
     def see(number, crate, path, is_free, is_law):
         call = calls.get(crate, {}).get(path)
