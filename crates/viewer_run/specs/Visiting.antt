@@ -63,6 +63,10 @@ pub record IsTurnedAwayIn (head : Head) (name : List ℕ) (before after : Sessio
   pub turn : IsTurn before after base []
   pub answer : IsAnswered (join_answer (Err fault)) (answer_at head (reached_at head.size base (length base)) (JoinStep name))
 
+-- a viewer isn't present after a journal
+abbrev pub IsAbsent : Head → ℕ → List Entry → Type 0
+IsAbsent head v j = is_present v (reached_at head.size j (length j)).viewers ≡ false
+
 -- a take that finds nothing for a viewer who is present leaves it with all of the journal
 abbrev pub IsUpToDate : Head → ℕ → List Entry → ℕ → Result Taken OutOfMemory → Type 0
 IsUpToDate head v j number result = is_present v (reached_at head.size j (length j)).viewers ≡ true → result ≡ Ok Nothing → number ≡ length j

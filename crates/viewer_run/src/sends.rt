@@ -1,8 +1,10 @@
 //! The send side of a viewer: frames are taken, each in a turn of its own, and encoded and written outside it.
-ghost use Rattle.std.specs.Prelude.{◌≡◌, ◌≤◌, length};
+ghost use Rattle.std.specs.Prelude.{◌≡◌, ◌≤◌, length, Ok};
+ghost use Rattle.frame_plan.specs.declared.taken.Taken.TheVariants.{Nothing};
 ghost use Rattle.viewer_sender.specs.Senders.{IsIdle};
 ghost use Rattle.viewer_sender.specs.OwnTakes.{IsOwnTake};
 ghost use Rattle.grow_lock.specs.Passes.{IsPassOf};
+ghost use Rattle.viewer_run.specs.Visiting.{IsAbsent};
 ghost use Rattle.viewer_run.specs.Sending.{TakesAs, TakesIn, IsNext, SendsTaken, SendsFrame, WritesFrame, SendsOn};
 
 use crate::reading::{NO_MEMORY, is_done};
@@ -88,6 +90,7 @@ pub fn take_once<R: Wait>(
     requires seen { sender.old.number ≤ length pass.seen }
     ensures lock { IsPassOf lock.now result.0 }
     ensures taken { TakesIn lock.now.head pass result.0 sender.old sender.new result.1 }
+    ensures absent { IsAbsent lock.now.head v result.0.seen → result.1 ≡ Ok Nothing }
 {
     let mut turn = lock.enter(rt, pass);
     let taken = take_here(alloc, turn.value(), v, sender);
@@ -107,6 +110,7 @@ fn take_here(
     ensures head { session.new.head ≡ session.old.head }
     ensures journal { session.new.journal ≡ session.old.journal }
     ensures taken { TakesAs session.old.head session.old.journal sender.old sender.new result }
+    ensures absent { IsAbsent session.old.head v session.old.journal → result ≡ Ok Nothing }
 {
     if !session.present(v) {
         return Ok(Taken::Nothing);

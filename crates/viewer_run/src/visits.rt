@@ -1,11 +1,12 @@
 //! The turns with which a viewer comes and goes: its Join with its first take, its last take, and its Leave.
-ghost use Rattle.std.specs.Prelude.{◌≡◌, ◌≤◌, ◌<◌, false, length, MatchResult, IsTrue};
+ghost use Rattle.std.specs.Prelude.{◌≡◌, ◌≤◌, ◌<◌, false, length, MatchResult, IsTrue, Ok};
+ghost use Rattle.frame_plan.specs.declared.taken.Taken.TheVariants.{Nothing};
 ghost use Rattle.session_rules.specs.Journal.{IsLegalJournal};
 ghost use Rattle.session_core.specs.SessionModel.{is_here, is_suppressed};
 ghost use Rattle.grow_lock.specs.Journal.{StartsWith};
 ghost use Rattle.grow_lock.specs.Passes.{IsPassOf};
 ghost use Rattle.viewer_run.specs.Sending.{TakesAs, TakesIn};
-ghost use Rattle.viewer_run.specs.Visiting.{Arrives, ArrivesIn, IsTurnedAway, IsTurnedAwayIn, IsFirst, IsUpToDate, LeavesHere, LeavesIn};
+ghost use Rattle.viewer_run.specs.Visiting.{Arrives, ArrivesIn, IsTurnedAway, IsTurnedAwayIn, IsFirst, IsUpToDate, IsAbsent, LeavesHere, LeavesIn};
 
 use crate::OutOfMemory;
 use caps_sets::Confirmed;
@@ -128,6 +129,7 @@ pub fn take_last<R: Wait>(
     ensures lock { IsPassOf lock.now result.0 }
     ensures taken { TakesIn lock.now.head pass result.0 sender.old sender.new result.1 }
     ensures whole { IsUpToDate lock.now.head v result.0.seen sender.old.number result.1 }
+    ensures absent { IsAbsent lock.now.head v result.0.seen → result.1 ≡ Ok Nothing }
 {
     let mut turn = lock.enter(rt, pass);
     let taken = take_last_here(alloc, turn.value(), v, sender);
@@ -148,6 +150,7 @@ fn take_last_here(
     ensures journal { session.new.journal ≡ session.old.journal }
     ensures taken { TakesAs session.old.head session.old.journal sender.old sender.new result }
     ensures whole { IsUpToDate session.old.head v session.old.journal sender.old.number result }
+    ensures absent { IsAbsent session.old.head v session.old.journal → result ≡ Ok Nothing }
 {
     if !session.present(v) {
         return Ok(Taken::Nothing);

@@ -1,5 +1,6 @@
 use Rattle.std.proofs.Common.{[], sym, ap, ◌∙◌, append-nil}
 use Rattle.session_core.specs.SessionModel.{SessionModel}
+use Rattle.viewer_run.proofs.Legal.{absent_so}
 use Rattle.viewer_run.proofs.OneTake.{taken_in}
 use Rattle.viewer_run.proofs.sends.take_once.Goals as goal
 
@@ -20,3 +21,7 @@ returns-clause-taken g c = taken_in _ _ c.enter-turn.result.pass _ c.enter-turn.
       mine_after = c.leave-pass.ensures.mine;
     })
     c.take_here-taken.ensures.journal c.take_here-taken.ensures.taken
+
+pub returns-clause-absent : goal.returns-clause-absent
+returns-clause-absent g c = λ gone. c.take_here-taken.ensures.absent (absent_so _ _ _ _ _ (ap (λ (s : SessionModel). s.head) c.value.ensures.value ∙ c.enter-turn.ensures.head)
+    (c.leave-pass.ensures.seen ∙ c.take_here-taken.ensures.journal) gone)

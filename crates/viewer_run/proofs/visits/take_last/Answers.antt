@@ -1,5 +1,6 @@
 use Rattle.std.proofs.Common.{[], sym, ap, ◌∙◌, append-nil}
 use Rattle.session_core.specs.SessionModel.{SessionModel}
+use Rattle.viewer_run.proofs.Legal.{absent_so}
 use Rattle.viewer_run.proofs.OneTake.{taken_in}
 use Rattle.viewer_run.proofs.Coming.{up_to_date_in}
 use Rattle.viewer_run.proofs.visits.take_last.Goals as goal
@@ -26,3 +27,7 @@ pub returns-clause-whole : goal.returns-clause-whole
 returns-clause-whole g c = up_to_date_in _ _ _ _ _ c.value.result.now
     (ap (λ (s : SessionModel). s.head) c.value.ensures.value ∙ c.enter-turn.ensures.head)
     (sym (c.leave-pass.ensures.seen ∙ c.take_last_here-taken.ensures.journal)) c.take_last_here-taken.ensures.whole
+
+pub returns-clause-absent : goal.returns-clause-absent
+returns-clause-absent g c = λ gone. c.take_last_here-taken.ensures.absent (absent_so _ _ _ _ _ (ap (λ (s : SessionModel). s.head) c.value.ensures.value ∙ c.enter-turn.ensures.head)
+    (c.leave-pass.ensures.seen ∙ c.take_last_here-taken.ensures.journal) gone)
