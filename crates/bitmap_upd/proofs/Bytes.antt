@@ -5,7 +5,7 @@ use Rattle.std.proofs.lemmas.Grind.{flat_map-append}
 use Rattle.wire_num.specs.Pixels.{pixel_bytes, pixels_bytes}
 use Rattle.wire_num.specs.Written.{AppendsFront}
 use Rattle.order_means.specs.WirePixels.{turned_over}
-use Rattle.order_fields.proofs.Sent.{HasSent, sent_none, sent_piece}
+use Rattle.wire_num.proofs.Sent.{HasSent, sent_none, sent_piece}
 use Rattle.bitmap_upd.proofs.Turned.{rows_left, last_row_first}
 
 -- nothing is left

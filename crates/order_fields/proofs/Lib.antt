@@ -4,7 +4,6 @@ pub mod FieldsBack
 pub mod BoundsBack
 pub mod OrderBack
 pub mod FieldsAt
-pub mod Sent
 pub mod Parts
 pub mod Named
 pub mod Present

@@ -91,7 +91,7 @@ found_first : (role : Role) (row : Row) (rows : List Row) → is_same_role role 
 found_first role row rows eq = rw (same_name-self row.name) (ap Some (sym (same_role-≡ role row.role eq)))
 
 -- where names are distinct, each role's first row is found by its name
-row_role-name_of_role : (role : Role) (rows : List Row) → are_names_distinct rows ≡ true → has_role role rows ≡ true → row_role (name_of_role role rows) rows ≡ Some role
+pub row_role-name_of_role : (role : Role) (rows : List Row) → are_names_distinct rows ≡ true → has_role role rows ≡ true → row_role (name_of_role role rows) rows ≡ Some role
 row_role-name_of_role role [] d h = absurd (cc h)
 row_role-name_of_role role (row ∷ rows) d h =
     let k = and_parts (is_new_name row.name rows) (are_names_distinct rows) d in
@@ -108,7 +108,7 @@ or_false : (b : Bool) → (b || false) ≡ true → b ≡ true
 or_false true h = refl
 or_false false h = absurd (cc h)
 
-receiver_of-legal : (r : Reached) (by to : ℕ) → may_give r by to ≡ true → receiver_of r by ≡ to
+pub receiver_of-legal : (r : Reached) (by to : ℕ) → may_give r by to ≡ true → receiver_of r by ≡ to
 receiver_of-legal r by to h = split (holds r by) (is_owner_here (role_of by r.viewers)) h
   where
     split : (t o : Bool) → ((t && (to == next_of r.viewers by)) || ((o && not t) && (to == by))) ≡ true → (if t then next_of r.viewers by else by) ≡ to

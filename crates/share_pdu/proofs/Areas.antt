@@ -42,9 +42,9 @@ is_ok_of : (r : Read (List Rect)) (v : List ℕ × List ℕ) → map_read (λ _.
 is_ok_of (Ok w) v e = refl
 is_ok_of (Err left) v e = absurd (let no : ⊥ = cc in no)
 
-is_err_of : (r : Read (List Rect)) (left : List ℕ) → map_read {B = List ℕ} (λ _. []) r ≡ Err left → IsErr r
-is_err_of (Ok w) left e = absurd (let no : ⊥ = cc in no)
-is_err_of (Err l) left e = refl
+err_of : (r : Read (List Rect)) (left : List ℕ) → map_read {B = List ℕ} (λ _. []) r ≡ Err left → r ≡ Err left
+err_of (Ok w) left e = absurd (let no : ⊥ = cc in no)
+err_of (Err l) left e = let same : l ≡ left = cc e in ap Err same
 
 abbrev on_count : Read (List ℕ) → Read (List Rect)
 on_count r = then_read r (λ values more. areas_at (slice_index values 0) more)
@@ -54,11 +54,11 @@ unfolding refresh_at
 by_count bs r e = ap on_count e
 
 -- the number isn't there, or an area isn't
-pub no_number : (bs left : List ℕ) → fields_at refresh_header bs ≡ Err left → IsErr (refresh_at bs)
-no_number bs left e = subst IsErr (sym (by_count bs (Err left) e)) refl
+pub no_number : (bs left : List ℕ) → fields_at refresh_header bs ≡ Err left → refresh_at bs ≡ Err left
+no_number bs left e = by_count bs (Err left) e
 
-pub areas_missing : (bs more left : List ℕ) (count : ℕ) → fields_at refresh_header bs ≡ Ok (count ∷ [], more) → passed_areas_at count more ≡ Err left → IsErr (refresh_at bs)
-areas_missing bs more left count e h = subst IsErr (sym (by_count bs (Ok (count ∷ [], more)) e)) (is_err_of (areas_at count more) left h)
+pub areas_missing : (bs more left : List ℕ) (count : ℕ) → fields_at refresh_header bs ≡ Ok (count ∷ [], more) → passed_areas_at count more ≡ Err left → refresh_at bs ≡ Err left
+areas_missing bs more left count e h = by_count bs (Ok (count ∷ [], more)) e ∙ err_of (areas_at count more) left h
 
 -- all are there
 pub areas_found : (bs more : List ℕ) (count : ℕ) (v : List ℕ × List ℕ) → fields_at refresh_header bs ≡ Ok (count ∷ [], more) → passed_areas_at count more ≡ Ok v

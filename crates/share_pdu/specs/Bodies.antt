@@ -99,8 +99,8 @@ passed_areas_at n bs = map_read (λ _. []) (areas_at n bs)
 unfoldable pub passed_refresh_at : List ℕ → Read (List ℕ)
 passed_refresh_at bs = then_read (fields_at refresh_header bs) (λ values more. passed_areas_at (slice_index values 0) more)
 
--- the number of areas, all of which are there, was read; or the bytes are no Refresh Rect
+-- the number of areas, all of which are there, was read; or the bytes are no Refresh Rect, and the cursor stands at what isn't there
 abbrev pub FindsAreas : Result ℕ Short → CursorOf → CursorOf → Type 0
 FindsAreas (Ok count) old new =
     (refresh_at (rest old) ≡ areas_at count (rest new)) × IsOk (areas_at count (rest new)) × (new.bytes ≡ old.bytes)
-FindsAreas (Err short) old new = IsErr (refresh_at (rest old))
+FindsAreas (Err short) old new = (refresh_at (rest old) ≡ Err (rest new)) × (new.bytes ≡ old.bytes) × (short.at ≡ new.at)

@@ -31,7 +31,8 @@ pub fn read_areas(body: &[u8], k: usize) -> Option<Rect>
     }
 }
 
-/// Reads the number of areas, all of which are there, and goes to the first one.
+/// Reads the number of areas, all of which are there, and goes to the first one. An `Err` leaves the cursor at the byte that isn't there,
+/// which the error names.
 pub fn find_areas(cursor: &mut Cursor<'_>) -> Result<u8, Short>
     ensures { FindsAreas result cursor.old cursor.new }
 {

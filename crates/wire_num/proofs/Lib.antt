@@ -12,3 +12,4 @@ pub mod Bytes
 pub mod Numbers
 pub mod Pixels
 pub mod Caused
+pub mod Sent

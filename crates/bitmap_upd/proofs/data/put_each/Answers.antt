@@ -2,7 +2,7 @@ use Rattle.std.proofs.Common.{drop, suc}
 use Rattle.std.specs.Prelude.{flat_map}
 use Rattle.std.proofs.lemmas.Result.{err_from_is_err_and}
 use Rattle.wire_num.specs.Pixels.{pixel_bytes}
-use Rattle.order_fields.proofs.Sent.{sent_part}
+use Rattle.wire_num.proofs.Sent.{sent_part}
 use Rattle.bitmap_upd.proofs.Bytes.{pixel_first}
 use Rattle.bitmap_upd.proofs.data.put_each.Goals as goal
 

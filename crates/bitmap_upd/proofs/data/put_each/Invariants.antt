@@ -1,7 +1,7 @@
 use Rattle.std.proofs.Common.{drop}
 use Rattle.std.specs.Prelude.{flat_map}
 use Rattle.wire_num.specs.Pixels.{pixel_bytes}
-use Rattle.order_fields.proofs.Sent.{HasSent}
+use Rattle.wire_num.proofs.Sent.{HasSent}
 use Rattle.bitmap_upd.proofs.data.put_each.Given as goal
 
 abbrev pub invariant-loop-pixel : goal.invariant-loop-pixel

@@ -1,7 +1,7 @@
 use Rattle.std.proofs.Common.{[], length, ◌-◌, refl, sym}
 use Rattle.std.proofs.lemmas.Result.{err_from_is_err_and}
 use Rattle.wire_num.specs.Pixels.{pixel_bytes}
-use Rattle.order_fields.proofs.Sent.{sent_piece, sent_part, sent_whole, sent_cut}
+use Rattle.wire_num.proofs.Sent.{sent_piece, sent_part, sent_whole, sent_cut}
 use Rattle.rle_enc.proofs.Counting.{flat_map_four}
 use Rattle.bitmap_upd.proofs.data.put_pixels.Goals as goal
 

@@ -1,7 +1,7 @@
 use Rattle.std.proofs.Common.{length}
 use Rattle.std.specs.Prelude.{flat_map}
 use Rattle.wire_num.specs.Pixels.{pixel_bytes}
-use Rattle.order_fields.proofs.Sent.{HasSent}
+use Rattle.wire_num.proofs.Sent.{HasSent}
 use Rattle.bitmap_upd.proofs.data.put_pixels.Given as goal
 
 -- what is written is a front of all the pixels, and the others are left

@@ -1,6 +1,6 @@
 use Rattle.std.proofs.Common.{arith}
 use Rattle.std.proofs.lemmas.Result.{err_from_is_err_and}
-use Rattle.order_fields.proofs.Sent.{sent_part}
+use Rattle.wire_num.proofs.Sent.{sent_part}
 use Rattle.bitmap_upd.proofs.Turned.{rows_left, split_is}
 use Rattle.bitmap_upd.proofs.Bytes.{turns_at_first, row_first, turns_on, turns_done}
 use Rattle.bitmap_upd.proofs.data.put_turned.Goals as goal

@@ -1,4 +1,4 @@
-use Rattle.order_fields.proofs.Sent.{both_cut}
+use Rattle.wire_num.proofs.Sent.{both_cut}
 use Rattle.bitmap_upd.proofs.tile.put_raw.Goals as goal
 
 pub returns-clause-memory : goal.returns-clause-memory

@@ -3,7 +3,7 @@ use Rattle.std.specs.Prelude.{OnOk, OnErr}
 use Rattle.std.proofs.lemmas.Result.{err_from_is_err_and}
 use Rattle.wire_num.specs.Written.{AppendsFront}
 use Rattle.wire_num.proofs.Fronts.{front_before}
-use Rattle.order_fields.proofs.Sent.{both_sent, both_cut}
+use Rattle.wire_num.proofs.Sent.{both_sent, both_cut}
 use Rattle.order_fields.proofs.write.put_order.Goals as goal
 
 pub returns-in_err-put_bytes-clause-memory : goal.returns-in_err-put_bytes-clause-memory
