@@ -1,4 +1,4 @@
-//! Tests of single calls on worked values: run lengths, entries of caches, saved blocks, orders against what the registers hold, calls that no program makes, and threads at the lock.
+//! Tests of single calls on worked values: rows of pixels, run lengths, entries of caches, saved blocks, orders against what the registers hold, calls that no program makes, and threads at the lock.
 //!
 //! They use public calls alone, so they stand apart: a crate with tests of its own is proved a second time for them.
 #![tactic(auto)]
@@ -9,6 +9,8 @@ mod bells;
 mod cached_entries;
 #[cfg(test)]
 mod checks;
+#[cfg(test)]
+mod lanes;
 #[cfg(test)]
 mod last_values;
 #[cfg(test)]

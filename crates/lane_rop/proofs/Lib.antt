@@ -1,0 +1,4 @@
+pub mod NormalForm
+pub mod SumLaws
+pub mod LaneFacts
+pub mod Counting
