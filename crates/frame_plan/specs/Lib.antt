@@ -4,4 +4,5 @@ pub mod Orders
 pub mod Walks
 pub mod Needs
 pub mod Cuts
+pub mod Cutting
 pub mod Planning

@@ -1,76 +1,48 @@
 //! What a cautious viewer's drawings are walked as: cut to the pixels that they may change, or passed over (profile).
-ghost use Rattle.std.specs.Prelude.{◌≡◌, ◌≤ℤ◌, negsuc, pos, true, IfOk, IsTrue};
+ghost use Rattle.std.specs.Prelude.{◌≡◌, ◌≤ℤ◌, negsuc, pos, true, None, IsTrue};
 ghost use Rattle.px_core.specs.Rectangle.{common, clipped, whole, is_session_size, IsPlaced};
 ghost use Rattle.frame_rules.specs.Cautious.{area_of, changes_nothing, moved, cut_to, is_cut, cut};
-ghost use Rattle.frame_plan.specs.Cuts.{AllWalkable, AllCuttable, IsCuttable, IsWalkableAs, NearSource};
-ghost use Rattle.frame_plan.specs.Walks.{all_cut, drawings_walked};
+ghost use Rattle.frame_plan.specs.Cuts.{IsCuttable, IsWalkableAs, NearSource};
+ghost use Rattle.frame_plan.specs.Cutting.{cut_with};
 
 use crate::area::{clipped, common, whole};
-use crate::{OutOfMemory, Pending};
-use caps_sets::Confirmed;
-use draw_ops::Shape;
+use draw_ops::{Drawing, Shape};
 use px_core::{Rect, Size, has_pixel};
-use std::alloc::Global;
+use session_core::SeenDrawing;
 
 /// The code of the raster operation that leaves every pixel as it was.
 const DESTINATION: u8 = 0xAA;
 
-/// What a viewer's drawings are walked as, without those that are passed over.
-pub(crate) fn drawings_walked(
-    alloc: Global,
-    size: Size,
-    confirmed: &Confirmed,
-    pending: Vec<Pending>,
-) -> Result<Vec<Pending>, OutOfMemory>
-    requires size { IsTrue (is_session_size size.w size.h) }
-    requires cuttable { AllCuttable size pending.items }
-    ensures walked { IfOk result (λ drawings. drawings.items ≡ drawings_walked size confirmed.now pending.items) }
-    ensures walkable { IfOk result (λ drawings. AllWalkable drawings.items) }
-{
-    if confirmed.cautious {
-        cut_all(alloc, size, pending)
-    } else {
-        Ok(pending)
-    }
+/// A drawing that was cut, and the rectangle that it touches.
+#[derive(Drop)]
+pub(crate) struct CutDrawing {
+    pub drawing: Drawing,
+    pub rect: Rect,
 }
 
-/// Drawings cut to the pixels that they may change.
-fn cut_all(alloc: Global, size: Size, pending: Vec<Pending>) -> Result<Vec<Pending>, OutOfMemory>
+/// A drawing of those that are cut, cut to the pixels that it may change, without a clip; `None` where there are none, or its code
+/// changes nothing.
+pub(crate) fn cut(size: Size, pending: &SeenDrawing<'_>) -> Option<CutDrawing>
     requires size { IsTrue (is_session_size size.w size.h) }
-    requires cuttable { AllCuttable size pending.items }
-    ensures cut { IfOk result (λ drawings. drawings.items ≡ all_cut size pending.items) }
-    ensures walkable { IfOk result (λ drawings. AllWalkable drawings.items) }
-{
-    let mut drawings = Vec::with_capacity(alloc, pending.len())?;
-    for drawing in pending {
-        if let Some(drawing) = cut(size, drawing) {
-            drawings.push(drawing)?;
-        }
-    }
-    Ok(drawings)
-}
-
-/// A drawing cut to the pixels that it may change, without a clip; `None` where there are none, or its code changes nothing.
-fn cut(size: Size, pending: Pending) -> Option<Pending>
-    requires size { IsTrue (is_session_size size.w size.h) }
-    requires cuttable { IsCuttable size pending }
-    ensures cut { result ≡ cut size pending }
-    ensures walkable { IsWalkableAs result }
+    requires cuttable { IsCuttable size pending.now }
+    requires shape { is_cut pending.now.drawing.shape ≡ true }
+    ensures cut { cut_with pending.now result ≡ cut size pending.now }
+    ensures walkable { IsWalkableAs (cut_with pending.now result) }
 {
     let drawing = pending.drawing();
-    if !is_cut(&drawing.shape) {
-        return Some(pending);
-    }
     let area = common(whole(size), clipped(pending.rect(), drawing.clip));
     if !has_pixel(area) {
         return None;
     }
     let shape = cut_to(area, &drawing.shape)?;
-    Some(pending.cut_to(shape, area))
+    Some(CutDrawing {
+        drawing: Drawing { shape, clip: None },
+        rect: area,
+    })
 }
 
 /// Whether a shape is one of those that are cut.
-fn is_cut(shape: &Shape) -> bool
+pub(crate) fn is_cut(shape: &Shape) -> bool
     ensures { result ≡ is_cut shape.now }
 {
     match shape {

@@ -9,16 +9,13 @@ ghost use Rattle.frame_plan.specs.Takes.{taken_as};
 ghost use Rattle.frame_plan.specs.Plans.{is_work, frame_at, taken_if, desk_if, asked_if};
 ghost use Rattle.frame_rules.specs.Frame.{jumped};
 ghost use Rattle.frame_plan.specs.Walks.{walk_of, HasWalkedAll, HasJumped};
-ghost use Rattle.frame_plan.specs.Cuts.{AllCuttable};
 ghost use Rattle.frame_plan.specs.Planning.{planned_as, HasPlanned};
 ghost use Rattle.frame_plan.specs.declared.taken.Taken.TheVariants.{Nothing};
 
 use crate::area::whole;
-use crate::cut::drawings_walked;
 use crate::tiles::cut_tiles;
 use crate::walk::Walker;
-use crate::{Desk, Orders, OutOfMemory, Pending, Take, Taken, TakenTile};
-use caps_sets::Confirmed;
+use crate::{Desk, Orders, OutOfMemory, Take, Taken, TakenTile};
 use px_core::{Size, TileSet};
 use save_plan::Blocks;
 use session_core::Session;
@@ -122,7 +119,7 @@ fn walked(alloc: Global, session: &Session, desk: &Desk) -> Result<(Walker, Orde
     let all = session.drawings_before(session.length());
     let count = all - session.drawings_before(desk.number);
     if count > MOST_ORDERS {
-        jump_over(alloc, session, desk.number, &mut walker)?;
+        jump_over(session, desk.number, &mut walker)?;
         Ok((walker, Orders::none(alloc)))
     } else {
         let sent = walk_over(alloc, session, desk, count as usize, &mut walker)?;
@@ -143,47 +140,25 @@ fn walk_over(
     ensures { IfOk result (λ sent. HasWalkedAll session.now.head.size desk.now.confirmed walker.old (pending_between session.now.head.size session.now.journal desk.now.number (length session.now.journal)) sent walker.new) }
 {
     session.recall_legal();
-    let mut pending = Vec::with_capacity(alloc, count)?;
+    let size = session.size();
+    let mut orders = Orders::with_room(alloc, count)?;
     for entry in desk.number..session.length() {
-        session.put_pending(entry, &mut pending)?;
+        let drawings = session.drawings(entry)?;
+        walker.walk_all(alloc, size, &desk.confirmed, &drawings, &mut orders)?;
     }
-    walk_drawings(alloc, session.size(), &desk.confirmed, pending, walker)
-}
-
-/// Walks over drawings as what the viewer's are walked as; answers those that go as orders.
-fn walk_drawings(
-    alloc: Global,
-    size: Size,
-    confirmed: &Confirmed,
-    pending: Vec<Pending>,
-    walker: &mut Walker,
-) -> Result<Orders, OutOfMemory>
-    requires size { IsTrue (is_session_size size.w size.h) }
-    requires cuttable { AllCuttable size pending.items }
-    ensures { IfOk result (λ sent. HasWalkedAll size confirmed.now walker.old pending.items sent walker.new) }
-{
-    let drawings = drawings_walked(alloc, size, confirmed, pending)?;
-    let positions = walker.walk_all(alloc, size, confirmed, &drawings)?;
-    Ok(Orders::new(drawings, positions))
+    Ok(orders)
 }
 
 /// Jumps over the drawings of all entries from a number on, one entry after the other.
-fn jump_over(
-    alloc: Global,
-    session: &Session,
-    before: u64,
-    walker: &mut Walker,
-) -> Result<(), OutOfMemory>
+fn jump_over(session: &Session, before: u64, walker: &mut Walker) -> Result<(), OutOfMemory>
     requires { before ≤ length session.now.journal }
     ensures { OnOk result (HasJumped walker.old (jumped session.now.head.size (walk_of walker.old) (pending_between session.now.head.size session.now.journal before (length session.now.journal))) walker.new) }
 {
     session.recall_legal();
     let size = session.size();
-    let mut pending = Vec::new(alloc);
     for entry in before..session.length() {
-        pending.clear();
-        session.put_pending(entry, &mut pending)?;
-        walker.jump_all(size, &pending);
+        let drawings = session.drawings(entry)?;
+        walker.jump_all(size, &drawings);
     }
     Ok(())
 }

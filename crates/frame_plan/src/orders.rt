@@ -1,4 +1,4 @@
-use crate::Pending;
+use crate::{OutOfMemory, Pending};
 use std::alloc::Global;
 use std::marker::Model;
 
@@ -22,8 +22,20 @@ impl Model for Orders {
 }
 
 impl Orders {
-    ghost use Rattle.std.specs.Prelude.{◌≡◌, [], length};
+    ghost use Rattle.std.specs.Prelude.{◌≡◌, [], ◌∷◌, ◌++◌, length, IfOk, OnOk, OnErr};
     ghost use Rattle.frame_plan.specs.Orders.{orders_at};
+
+    /// No drawings, with room for so many at once.
+    pub(crate) fn with_room(alloc: Global, count: usize) -> Result<Orders, OutOfMemory>
+        ensures { IfOk result (λ orders. orders ≡ []) }
+    {
+        let drawings = Vec::with_capacity(alloc, count)?;
+        let positions = Vec::with_capacity(alloc, count)?;
+        Ok(Orders {
+            drawings,
+            positions,
+        })
+    }
 
     /// No drawings.
     pub(crate) fn none(alloc: Global) -> Orders
@@ -35,15 +47,15 @@ impl Orders {
         }
     }
 
-    /// Drawings, each with its position where it goes as an order.
-    pub(crate) fn new(drawings: Vec<Pending>, positions: Vec<Option<u32>>) -> Orders
-        requires { length positions.items ≡ length drawings.items }
-        ensures { result ≡ orders_at drawings.items positions.items }
+    /// Appends a drawing that goes as an order to a position. An `Err` changes nothing.
+    pub(crate) fn push(&mut self, pending: Pending, position: u32) -> Result<(), OutOfMemory>
+        ensures ok { OnOk result (self.new ≡ self.old ++ record { pending = pending; position = position } ∷ []) }
+        ensures unchanged { OnErr result (self.new ≡ self.old) }
     {
-        Orders {
-            drawings,
-            positions,
-        }
+        self.positions.reserve(1)?;
+        self.drawings.push(pending)?;
+        self.positions.push_reserved(Some(position));
+        Ok(())
     }
 
     /// The drawings, with what their slots held, and for each its position where it goes as an order.

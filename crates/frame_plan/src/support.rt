@@ -1,5 +1,5 @@
 //! Which drawings a viewer can be sent as orders, by what it confirmed (profile).
-ghost use Rattle.std.specs.Prelude.{◌≡◌, ℕ, ◌*◌, ◌&&◌, not, is_some, map};
+ghost use Rattle.std.specs.Prelude.{◌≡◌, ℕ, ◌*◌, ◌&&◌, not, is_some, map, option_copied};
 ghost use Rattle.cache_plan.specs.CacheUse.{is_used};
 ghost use Rattle.caps_sets.specs.Confirmed.{first_cache};
 ghost use Rattle.frame_rules.specs.Support.{serves_image, greatest_cell, distinct_loads, image_cache, run_cache, has_glyph_level};
@@ -8,7 +8,7 @@ use crate::Pending;
 use crate::needs::{Needs, first_cache};
 use caps_sets::Confirmed;
 use draw_ops::Image;
-use session_core::LoadedGlyph;
+use session_core::{LoadedGlyph, LoadedImage, SeenDrawing};
 
 /// The most entries of a bitmap cache that are used.
 const BITMAP_ENTRIES: usize = 512;
@@ -26,7 +26,14 @@ const PIXEL: usize = 3;
 pub fn image_cache(confirmed: &Confirmed, pending: &Pending) -> Option<usize>
     ensures { result ≡ image_cache confirmed.now pending.now.image }
 {
-    match pending.image() {
+    cache_of_image(confirmed, pending.image())
+}
+
+/// The number of the bitmap cache that an image goes to, where there is one and one serves.
+fn cache_of_image(confirmed: &Confirmed, image: Option<&LoadedImage>) -> Option<usize>
+    ensures { result ≡ image_cache confirmed.now (option_copied image.entry) }
+{
+    match image {
         Some(image) => cache_for(confirmed, image.content()),
         None => None,
     }
@@ -49,7 +56,13 @@ fn cache_for(confirmed: &Confirmed, image: &Image) -> Option<usize>
 pub fn run_cache(confirmed: &Confirmed, pending: &Pending) -> Option<usize>
     ensures { result ≡ run_cache confirmed.now pending.now.glyphs }
 {
-    let glyphs = pending.glyphs();
+    cache_of_run(confirmed, pending.glyphs())
+}
+
+/// The number of the glyph cache that glyphs of a run go to, where one serves.
+fn cache_of_run(confirmed: &Confirmed, glyphs: &[LoadedGlyph]) -> Option<usize>
+    ensures { result ≡ run_cache confirmed.now glyphs.now }
+{
     let needs = Needs {
         entries: distinct_loads(glyphs),
         most: GLYPH_ENTRIES,
@@ -102,18 +115,18 @@ fn has_glyph_level(level: u16) -> bool
 }
 
 /// Whether the viewer has a cache that holds a drawing's image.
-pub(crate) fn supports_image(confirmed: &Confirmed, pending: &Pending) -> bool
+pub(crate) fn supports_image(confirmed: &Confirmed, pending: &SeenDrawing<'_>) -> bool
     ensures { result ≡ is_some (image_cache confirmed.now pending.now.image) }
 {
-    image_cache(confirmed, pending).is_some()
+    cache_of_image(confirmed, pending.image()).is_some()
 }
 
 /// Whether the viewer has the order of a run of glyphs, and a cache that holds them.
-pub(crate) fn supports_text(confirmed: &Confirmed, pending: &Pending) -> bool
+pub(crate) fn supports_text(confirmed: &Confirmed, pending: &SeenDrawing<'_>) -> bool
     ensures { result ≡ (not confirmed.now.cautious && ((confirmed.now.glyph && has_glyph_level confirmed.now.glyph_level) && is_some (run_cache confirmed.now pending.now.glyphs))) }
 {
     !confirmed.cautious
         && confirmed.glyph
         && has_glyph_level(confirmed.glyph_level)
-        && run_cache(confirmed, pending).is_some()
+        && cache_of_run(confirmed, pending.glyphs()).is_some()
 }

@@ -1,19 +1,22 @@
 //! The walk over pending drawings: which go as orders, and which tiles become dirty.
-ghost use Rattle.std.specs.Prelude.{◌≡◌, ◌&&◌, not, IfOk, OnOk, IsTrue};
+ghost use Rattle.std.specs.Prelude.{◌≡◌, ◌&&◌, ◌||◌, not, IfOk, OnOk, IsTrue};
 ghost use Rattle.px_core.specs.TileFlags.{tiles};
 ghost use Rattle.px_core.specs.Tiles.{share_tile, tiles_of};
 ghost use Rattle.px_core.specs.Rectangle.{is_session_size, boxed, IsPlaced};
-ghost use Rattle.frame_rules.specs.Frame.{walked, sent_if, skipped, saved_if, given_up, restored_from, block_if, first_dirty, jumped, jumped_one};
-ghost use Rattle.frame_plan.specs.Cuts.{IsWalkable, AllWalkable, AllCuttable};
-ghost use Rattle.frame_plan.specs.Walks.{walk_of, HasDecided, HasWalkedThrough, HasJumped, IsBegun};
+ghost use Rattle.frame_rules.specs.Cautious.{is_cut};
+ghost use Rattle.frame_rules.specs.Frame.{walked, walked_pending, sent_if, skipped, saved_if, given_up, restored_from, block_if, first_dirty, jumped, jumped_one};
+ghost use Rattle.frame_plan.specs.Cuts.{IsWalkable, IsCuttable, AllCuttable};
+ghost use Rattle.frame_plan.specs.Walks.{walk_of, HasDecided, HasGone, HasGoneOver, HasJumped, IsBegun};
 
 use crate::area::{clipped, whole};
+use crate::cut::{cut, is_cut};
 use crate::support::{supports_image, supports_text};
-use crate::{OutOfMemory, Pending};
+use crate::{Orders, OutOfMemory};
 use caps_sets::Confirmed;
 use draw_ops::Shape;
 use px_core::{Rect, Size, TileSet};
 use save_plan::{Blocks, PlaceFault};
+use session_core::{SeenDrawing, SeenDrawings};
 use std::alloc::Global;
 
 /// What a walk has come to: the tiles that go as bitmaps, and the blocks that the viewer holds.
@@ -41,39 +44,83 @@ impl Walker {
         })
     }
 
-    /// Walks over drawings, one after the other; answers the position of each that goes as an order.
+    /// Walks over the drawings of an entry, one after the other; appends those that go as orders.
     pub fn walk_all(
         &mut self,
         alloc: Global,
         size: Size,
         confirmed: &Confirmed,
-        drawings: &[Pending],
-    ) -> Result<Vec<Option<u32>>, OutOfMemory>
+        drawings: &SeenDrawings<'_>,
+        orders: &mut Orders,
+    ) -> Result<(), OutOfMemory>
         requires size { IsTrue (is_session_size size.w size.h) }
-        requires walkable { AllWalkable drawings.now }
-        ensures { IfOk result (λ positions. HasWalkedThrough size confirmed.now self.old drawings.now positions.items self.new) }
+        requires cuttable { AllCuttable size drawings.now }
+        ensures { OnOk result (HasGoneOver size confirmed.now self.old orders.old drawings.now self.new orders.new) }
     {
-        let mut positions = Vec::with_capacity(alloc, drawings.len())?;
-        for drawing in drawings {
-            let position = self.walk(size, confirmed, drawing)?;
-            positions.push(position)?;
+        for i in 0..drawings.len() {
+            self.walk_one(alloc, size, confirmed, &drawings.get(i), orders)?;
         }
-        Ok(positions)
+        Ok(())
+    }
+
+    /// Walks over a drawing as what the viewer's is walked as; appends it where it goes as an order.
+    fn walk_one(
+        &mut self,
+        alloc: Global,
+        size: Size,
+        confirmed: &Confirmed,
+        pending: &SeenDrawing<'_>,
+        orders: &mut Orders,
+    ) -> Result<(), OutOfMemory>
+        requires size { IsTrue (is_session_size size.w size.h) }
+        requires cuttable { IsCuttable size pending.now }
+        ensures { OnOk result (HasGone (walked_pending size confirmed.now (walk_of self.old) pending.now) orders.old self.new orders.new) }
+    {
+        if is_uncut(confirmed, &pending.drawing().shape) {
+            return self.put(alloc, size, confirmed, pending, orders);
+        }
+        match cut(size, pending) {
+            Some(cut) => {
+                let pending = pending.with_drawing(&cut.drawing, cut.rect);
+                self.put(alloc, size, confirmed, &pending, orders)
+            }
+            None => Ok(()),
+        }
+    }
+
+    /// Walks over a drawing, and appends it where it goes as an order: only such a one is shared.
+    fn put(
+        &mut self,
+        alloc: Global,
+        size: Size,
+        confirmed: &Confirmed,
+        pending: &SeenDrawing<'_>,
+        orders: &mut Orders,
+    ) -> Result<(), OutOfMemory>
+        requires size { IsTrue (is_session_size size.w size.h) }
+        requires walkable { IsWalkable pending.now }
+        ensures { OnOk result (HasGone (walked size confirmed.now (walk_of self.old) pending.now pending.now.drawing.shape) orders.old self.new orders.new) }
+    {
+        let position = self.walk(size, confirmed, pending)?;
+        if let Some(position) = position {
+            orders.push(pending.share(alloc)?, position)?;
+        }
+        Ok(())
     }
 
     /// Jumps over drawings: none goes as an order, the tiles that any of them touches are dirty, and each slot that a save names is given up.
-    pub fn jump_all(&mut self, size: Size, pending: &[Pending])
+    pub fn jump_all(&mut self, size: Size, drawings: &SeenDrawings<'_>)
         requires size { IsTrue (is_session_size size.w size.h) }
-        requires cuttable { AllCuttable size pending.now }
-        ensures { HasJumped self.old (jumped size (walk_of self.old) pending.now) self.new }
+        requires cuttable { AllCuttable size drawings.now }
+        ensures { HasJumped self.old (jumped size (walk_of self.old) drawings.now) self.new }
     {
-        for drawing in pending {
-            self.jump_one(size, drawing);
+        for i in 0..drawings.len() {
+            self.jump_one(size, &drawings.get(i));
         }
     }
 
     /// Jumps over a drawing.
-    fn jump_one(&mut self, size: Size, pending: &Pending)
+    fn jump_one(&mut self, size: Size, pending: &SeenDrawing<'_>)
         requires size { IsTrue (is_session_size size.w size.h) }
         requires walkable { IsWalkable pending.now }
         ensures { HasJumped self.old (jumped_one size (walk_of self.old) pending.now) self.new }
@@ -85,7 +132,7 @@ impl Walker {
     }
 
     /// Makes the tiles that a drawing touches dirty.
-    fn skip(&mut self, size: Size, pending: &Pending)
+    fn skip(&mut self, size: Size, pending: &SeenDrawing<'_>)
         requires size { IsTrue (is_session_size size.w size.h) }
         requires walkable { IsWalkable pending.now }
         ensures walk { walk_of self.new ≡ (skipped size (walk_of self.old) pending.now).walk }
@@ -100,7 +147,7 @@ impl Walker {
         &mut self,
         size: Size,
         confirmed: &Confirmed,
-        pending: &Pending,
+        pending: &SeenDrawing<'_>,
     ) -> Result<Option<u32>, OutOfMemory>
         requires size { IsTrue (is_session_size size.w size.h) }
         requires walkable { IsWalkable pending.now }
@@ -141,7 +188,7 @@ impl Walker {
     }
 
     /// Has a drawing go as an order where it may, and else makes its tiles dirty.
-    fn order_if(&mut self, goes: bool, size: Size, pending: &Pending) -> Option<u32>
+    fn order_if(&mut self, goes: bool, size: Size, pending: &SeenDrawing<'_>) -> Option<u32>
         requires size { IsTrue (is_session_size size.w size.h) }
         requires walkable { IsWalkable pending.now }
         ensures { HasDecided (sent_if goes size (walk_of self.old) pending.now) pending.now result self.new }
@@ -168,7 +215,7 @@ impl Walker {
         &mut self,
         goes: bool,
         size: Size,
-        pending: &Pending,
+        pending: &SeenDrawing<'_>,
         slot: u8,
         rect: Rect,
     ) -> Result<Option<u32>, OutOfMemory>
@@ -192,7 +239,13 @@ impl Walker {
     }
 
     /// Has a restore go from the block that its slot holds, where it may go as an order and there is one.
-    fn restore(&mut self, goes: bool, size: Size, pending: &Pending, slot: u8) -> Option<u32>
+    fn restore(
+        &mut self,
+        goes: bool,
+        size: Size,
+        pending: &SeenDrawing<'_>,
+        slot: u8,
+    ) -> Option<u32>
         requires size { IsTrue (is_session_size size.w size.h) }
         requires walkable { IsWalkable pending.now }
         ensures { HasDecided (restored_from size (walk_of self.old) pending.now (block_if goes slot (walk_of self.old))) pending.now result self.new }
@@ -206,6 +259,13 @@ impl Walker {
             }
         }
     }
+}
+
+/// Whether a viewer's drawings of a shape are walked as they are.
+fn is_uncut(confirmed: &Confirmed, shape: &Shape) -> bool
+    ensures { result ≡ (not confirmed.now.cautious || not (is_cut shape.now)) }
+{
+    !confirmed.cautious || !is_cut(shape)
 }
 
 /// The rectangle that a copy reads.

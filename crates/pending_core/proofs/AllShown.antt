@@ -1,13 +1,12 @@
 -- What drawings show, one more after the other.
-use Rattle.std.proofs.Common.{◌≡◌, ℕ, zero, suc, ◌+◌, ◌≤◌, ◌<◌, List, [], ◌∷◌, ◌++◌, length, take, drop, refl, ap, sym, subst, ◌∙◌, Some, None, arith, ◌∙◌, Result, Ok, Err, OnErr}
-use Rattle.std.specs.Prelude.{slice_index_or}
+use Rattle.std.proofs.Common.{◌≡◌, ℕ, zero, suc, ◌+◌, ◌≤◌, ◌<◌, List, [], ◌∷◌, ◌++◌, length, take, drop, refl, ap, sym, subst, ◌∙◌, Some, None, arith}
+use Rattle.std.specs.Prelude.{slice_index_or, slice_get}
 use Rattle.px_core.specs.declared.surface.Size.{Size}
 use Rattle.draw_ops.specs.declared.shape.Drawing.{Drawing}
 use Rattle.draw_ops.specs.Slots.{SurfaceState}
 use Rattle.draw_ops.specs.Drawing.{state_after_drawing, state_after_drawings}
 use Rattle.draw_ops.specs.Fits.{FitsState, AllFitState}
 use Rattle.session_rules.specs.Pending.{Pending, pending_of, pending_drawings}
-use Rattle.pending_core.specs.Appending.{AppendsFront}
 use Rattle.pending_core.specs.declared.shown.Shown.{Shown}
 use Rattle.pending_core.specs.Showing.{shown_with, all_shown}
 use Rattle.pending_core.proofs.LastFilling.{take_more, length_take}
@@ -52,44 +51,21 @@ take_whole {A} xs i h = subst (λ n. take n xs ≡ xs) (sym h) (all xs)
     all [] = refl
     all (y ∷ ys) = ap (λ zs. y ∷ zs) (all ys)
 
--- ---- drawings put one after the other
-
-pub shown_step : (ds : List Drawing) (ss : List Shown) (i : ℕ) (d : Drawing) (s : Shown) → i < length ds → i < length ss → d ≡ slice_index_or ds i d → s ≡ slice_index_or ss i s
-    → all_shown (take (i + 1) ds) (take (i + 1) ss) ≡ all_shown (take i ds) (take i ss) ++ shown_with d s ∷ []
-shown_step ds ss i d s below within is same =
-    ap (λ xs. all_shown xs (take (i + 1) ss)) (take_more ds i d below is) ∙ ap (all_shown (take i ds ++ d ∷ [])) (take_more ss i s within same)
-    ∙ shown_push (take i ds) (take i ss) d s (length_take ds i (omega (arith, below)) ∙ sym (length_take ss i (omega (arith, within))))
-
-pub shown_cut : (ds : List Drawing) (ss : List Shown) (i : ℕ) → all_shown ds ss ≡ all_shown (take i ds) (take i ss) ++ all_shown (drop i ds) (drop i ss)
-shown_cut ds ss zero = refl
-shown_cut [] ss (suc i) = refl
-shown_cut (d ∷ ds) [] (suc i) = none_of (drop i ds)
-  where
-    none_of : (xs : List Drawing) → [] ≡ all_shown xs []
-    none_of [] = refl
-    none_of (x ∷ xs) = refl
-shown_cut (d ∷ ds) (s ∷ ss) (suc i) = ap (λ ps. shown_with d s ∷ ps) (shown_cut ds ss i)
-
-pub shown_end : (ds : List Drawing) (ss : List Shown) (i : ℕ) → length ds ≤ i → all_shown (take i ds) (take i ss) ≡ all_shown ds ss
-shown_end [] ss zero h = refl
-shown_end [] ss (suc i) h = refl
-shown_end (d ∷ ds) ss zero h = absurd (omega (arith, h))
-shown_end (d ∷ ds) [] (suc i) h = refl
-shown_end (d ∷ ds) (s ∷ ss) (suc i) h = ap (λ ps. shown_with d s ∷ ps) (shown_end ds ss i (omega (arith, h)))
-
 pub length_pushed : {A : Type 0} (xs : List A) (x : A) → length (xs ++ x ∷ []) ≡ length xs + 1
 length_pushed [] x = refl
 length_pushed (y ∷ ys) x = ap suc (length_pushed ys x) ∙ omega arith
 
-joined : {A : Type 0} (xs ys zs : List A) → (xs ++ ys) ++ zs ≡ xs ++ (ys ++ zs)
-joined [] ys zs = refl
-joined (x ∷ xs) ys zs = ap (λ l. x ∷ l) (joined xs ys zs)
+-- ---- drawings where they lie
 
--- one more is put
-pub put_more : {A : Type 0} (old before after all : List A) (p : A) (ps : List A) → after ≡ before ++ p ∷ [] → before ≡ old ++ ps → all ≡ ps ++ p ∷ [] → after ≡ old ++ all
-put_more old before after all p ps put so_far more = put ∙ ap (λ xs. xs ++ p ∷ []) so_far ∙ joined old ps (p ∷ []) ∙ ap (λ xs. old ++ xs) (sym more)
+-- each drawing shows something
+pub length_shown : (ds : List Drawing) (ss : List Shown) → length ds ≤ length ss → length (all_shown ds ss) ≡ length ds
+length_shown [] ss h = refl
+length_shown (d ∷ ds) [] h = absurd (omega (arith, h))
+length_shown (d ∷ ds) (s ∷ ss) h = ap suc (length_shown ds ss (omega (arith, h)))
 
--- some are put when memory is wanting
-pub put_some : {A E B : Type 0} (r : Result B E) (old before after all front rest : List A) → after ≡ before → before ≡ old ++ front → all ≡ front ++ rest → OnErr r (AppendsFront old after all)
-put_some (Ok b) old before after all front rest same so_far whole = tt
-put_some (Err e) old before after all front rest same so_far whole = record { front = front; rest = rest; whole = whole; appended = same ∙ so_far }
+pub shown_get : (ds : List Drawing) (ss : List Shown) (i : ℕ) (d : Drawing) (s : Shown) → i < length ds → length ds ≤ length ss → d ≡ slice_index_or ds i d → s ≡ slice_index_or ss i s
+    → slice_get (all_shown ds ss) i ≡ Some (shown_with d s)
+shown_get [] ss i d s below enough is same = absurd (omega (arith, below))
+shown_get (x ∷ xs) [] i d s below enough is same = absurd (omega (arith, enough))
+shown_get (x ∷ xs) (y ∷ ys) zero d s below enough is same = ap Some (ap (λ z. shown_with z y) (sym is) ∙ ap (shown_with d) (sym same))
+shown_get (x ∷ xs) (y ∷ ys) (suc i) d s below enough is same = shown_get xs ys i d s (omega (arith, below)) (omega (arith, enough)) is same

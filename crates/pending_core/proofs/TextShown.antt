@@ -17,7 +17,7 @@ use Rattle.draw_ops.specs.Fits.{Misfit, first_some, broken_if, rules_of, broken_
 use Rattle.draw_ops.specs.Fits.Misfit.{Rule, Empty}
 use Rattle.session_rules.specs.Pending.{run_glyphs, onto_optional}
 use Rattle.session_rules.proofs.OwnSteps.{AllNone, first_some-each}
-use Rattle.surface_flat.specs.Surfaces.{AllInSlots}
+use Rattle.surface_parts.specs.Surfaces.{AllInSlots}
 use Rattle.pending_core.specs.Cells.{cells_along, ArePlain, IsNear, IsPen}
 
 -- ---- the rules of a drawing that fits

@@ -1,5 +1,5 @@
-pub mod Appending
 pub mod Showing
 pub mod Filled
 pub mod Cells
 pub mod Putting
+pub mod Seeing

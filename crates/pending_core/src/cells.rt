@@ -10,7 +10,7 @@ ghost use Rattle.pending_core.specs.Cells.{cells_along, ArePlain, IsPen, IsStret
 
 use draw_ops::Glyph;
 use px_core::Rect;
-use surface_flat::LoadedGlyph;
+use surface_parts::LoadedGlyph;
 
 /// The rectangle of some glyphs, each of which is drawn after its delta moved the pen from (x, y) to the right.
 pub fn run_rect(glyphs: &[LoadedGlyph], pairs: &[(u8, u8)], x: i32, y: i32) -> Rect

@@ -5,13 +5,14 @@
 mod cells;
 mod filled;
 mod pending;
-mod putting;
+mod seen;
 mod sharing;
 mod shown;
 mod slots;
 
 pub use draw_ops::OutOfMemory;
 pub use pending::Pending;
-pub use putting::{put_drawn, put_reaction};
+pub use seen::{SeenDrawing, SeenDrawings};
 pub use shown::{Held, Shown, ShownList, shown_all, shown_one};
-pub use surface_flat::{LoadedBrush, LoadedGlyph, LoadedImage, Surface};
+pub use surface_flat::Surface;
+pub use surface_parts::{LoadedBrush, LoadedGlyph, LoadedImage};

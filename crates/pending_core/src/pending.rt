@@ -1,18 +1,17 @@
 //! A drawing of the journal with what its slots held at its place.
 
-ghost use Rattle.std.specs.Prelude.{◌≡◌, [], ◌∷◌, ◌++◌, ◌≤◌, length, None, IfOk, OnOk, OnErr, option_copied};
-ghost use Rattle.pending_core.specs.Appending.{AppendsFront};
-ghost use Rattle.pending_core.specs.Showing.{shown_with, all_shown};
+ghost use Rattle.std.specs.Prelude.{◌≡◌, IfOk, option_copied};
+ghost use Rattle.pending_core.specs.Seeing.{pending_with};
 
 use crate::OutOfMemory;
 use crate::sharing::{share_drawing, share_glyphs};
-use crate::shown::{Held, Shown};
+use crate::shown::Held;
 use crate::slots::{shared_brush, shared_image};
-use draw_ops::{Drawing, Shape};
+use draw_ops::Drawing;
 use px_core::Rect;
 use std::alloc::Global;
 use std::marker::Model;
-use surface_flat::{LoadedBrush, LoadedGlyph, LoadedImage};
+use surface_parts::{LoadedBrush, LoadedGlyph, LoadedImage};
 
 /// A drawing, the rectangle that it touches, and the image, the brush and the glyphs that it draws, as its slots held them.
 #[derive(Drop)]
@@ -67,60 +66,19 @@ impl Pending {
     {
         self.glyphs.as_slice()
     }
-
-    /// The same with another shape, which touches another rectangle, and without a clip.
-    pub fn cut_to(self, shape: Shape, rect: Rect) -> Pending
-        ensures { result ≡ record self { drawing = record { shape = shape; clip = None }; rect = rect } }
-    {
-        Pending {
-            drawing: Drawing { shape, clip: None },
-            rect,
-            image: self.image,
-            brush: self.brush,
-            glyphs: self.glyphs,
-        }
-    }
 }
 
-/// Appends the pending drawings of some drawings. After an `Err` a front of them was appended.
-pub fn put_all(
-    alloc: Global,
-    ds: &[Drawing],
-    shown: &[Shown],
-    out: &mut Vec<Pending>,
-) -> Result<(), OutOfMemory>
-    requires { length ds.now ≤ length shown.now }
-    ensures ok { OnOk result (out.new.items ≡ out.old.items ++ all_shown ds.now shown.now) }
-    ensures memory { OnErr result (AppendsFront out.old.items out.new.items (all_shown ds.now shown.now)) }
-{
-    for i in 0..ds.len() {
-        put_one(alloc, &ds[i], &shown[i], out)?;
-    }
-    Ok(())
-}
-
-/// Appends the pending drawing of a drawing. An `Err` changes nothing.
-pub fn put_one(
+/// One more handle of a drawing with what it shows: its pixels and bits are shared, not copied.
+pub fn shared(
     alloc: Global,
     d: &Drawing,
-    shown: &Shown,
-    out: &mut Vec<Pending>,
-) -> Result<(), OutOfMemory>
-    ensures ok { OnOk result (out.new.items ≡ out.old.items ++ shown_with d.now shown.now ∷ []) }
-    ensures memory { OnErr result (out.new.items ≡ out.old.items) }
-{
-    let pending = pending_with(alloc, d, shown)?;
-    out.push(pending)?;
-    Ok(())
-}
-
-/// A drawing with what it shows.
-fn pending_with(alloc: Global, d: &Drawing, shown: &Shown) -> Result<Pending, OutOfMemory>
-    ensures { IfOk result (λ p. p ≡ shown_with d.now shown.now) }
+    rect: Rect,
+    held: &Option<Box<Held>>,
+) -> Result<Pending, OutOfMemory>
+    ensures { IfOk result (λ p. p ≡ pending_with d.now rect held.now) }
 {
     let drawing = share_drawing(alloc, d)?;
-    let rect = shown.rect;
-    match &shown.held {
+    match held {
         None => Ok(Pending {
             drawing,
             rect,

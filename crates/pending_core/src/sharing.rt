@@ -5,7 +5,7 @@ ghost use Rattle.std.specs.Prelude.{◌≡◌, IfOk};
 use crate::OutOfMemory;
 use draw_ops::{Drawing, Run, Shape};
 use std::alloc::Global;
-use surface_flat::LoadedGlyph;
+use surface_parts::LoadedGlyph;
 
 /// One more drawing like this.
 pub fn share_drawing(alloc: Global, d: &Drawing) -> Result<Drawing, OutOfMemory>

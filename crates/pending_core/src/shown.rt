@@ -16,7 +16,8 @@ use draw_ops::{Drawing, Shape};
 use px_core::Rect;
 use std::alloc::Global;
 use std::slice;
-use surface_flat::{LoadedBrush, LoadedGlyph, LoadedImage, Surface};
+use surface_flat::Surface;
+use surface_parts::{LoadedBrush, LoadedGlyph, LoadedImage};
 
 /// What the slots that a drawing reads held at its place.
 #[derive(Drop)]

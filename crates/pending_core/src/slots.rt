@@ -11,7 +11,8 @@ use crate::filled::{Slot, glyph_slot, last_filling};
 use draw_ops::{Drawing, Shape};
 use px_core::Size;
 use std::alloc::Global;
-use surface_flat::{LoadedBrush, LoadedGlyph, LoadedImage, Surface};
+use surface_flat::Surface;
+use surface_parts::{LoadedBrush, LoadedGlyph, LoadedImage};
 
 /// The image in a slot.
 pub fn image_after(

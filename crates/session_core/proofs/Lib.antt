@@ -11,6 +11,6 @@ pub mod DrawLimits
 pub mod EventAnswers
 pub mod Colored
 pub mod Reacted
-pub mod PutLemmas
+pub mod SeenLemmas
 pub mod Opening
 pub mod SlotMisfits

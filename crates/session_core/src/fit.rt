@@ -5,7 +5,8 @@ ghost use Rattle.session_core.specs.Refusing.{SaysFit};
 
 use crate::faults::DrawRefusal;
 use draw_ops::Drawing;
-use surface_flat::{DrawFault, Surface};
+use surface_flat::Surface;
+use surface_parts::DrawFault;
 
 /// Whether the slots that a drawing reads hold what it needs; else the first refusal.
 pub fn fit(surface: &Surface, d: &Drawing) -> Result<(), DrawRefusal>

@@ -1,6 +1,6 @@
 //! The session, in its public calls.
 
-ghost use Rattle.std.specs.Prelude.{◌≡◌, ◌≢◌, ℕ, ◌+◌, ◌≤◌, ◌<◌, [], ◌∷◌, ◌++◌, length, IsTrue, IfOk, OnOk, OnErr, Some, true, false, slice_get};
+ghost use Rattle.std.specs.Prelude.{◌≡◌, ◌≢◌, ℕ, ◌+◌, ◌≤◌, ◌<◌, [], ◌∷◌, ◌++◌, length, IsTrue, IfOk, OnErr, Some, true, false, slice_get};
 ghost use Rattle.px_core.specs.Rectangle.{is_session_size, IsPlaced};
 ghost use Rattle.px_core.specs.Tiles.{no_tiles, either_tiles, tiles_of};
 ghost use Rattle.px_core.specs.TileFlags.{tiles};
@@ -13,7 +13,6 @@ ghost use Rattle.session_rules.specs.Entering.{entry_of_step, answer_at};
 ghost use Rattle.session_rules.specs.Pending.{pending_between};
 ghost use Rattle.session_core.specs.Heads.{rows_of};
 ghost use Rattle.session_core.specs.SessionModel.{new_session, reached_by, is_here, asked_by, is_suppressed, AreInvited};
-ghost use Rattle.pending_core.specs.Appending.{AppendsFront};
 ghost use Rattle.session_core.specs.Outcomes.{IsAnswered, GoesOn};
 ghost use Rattle.session_core.specs.Entered.{answer_of_entry, entry_entered};
 ghost use Rattle.session_core.specs.Faults.{join_answer, input_answer, draw_answer};
@@ -31,7 +30,7 @@ use draw_ops::Drawing;
 use grow_lock::Grows;
 use info_lic::Name;
 use input_pdu::Event;
-use pending_core::{Pending, ShownList, put_drawn, put_reaction, shown_one};
+use pending_core::{SeenDrawings, ShownList, shown_one};
 use px_core::{Rect, Size, TileSet};
 use session_rules::Entry;
 use std::alloc::Global;
@@ -292,21 +291,21 @@ impl Session {
         }
     }
 
-    /// Appends the drawings that the entry behind the first k made, each with what its slots held. After an `Err` a front of them was appended.
-    pub fn put_pending(&self, k: u64, out: &mut Vec<Pending>) -> Result<(), OutOfMemory>
+    /// The drawings that the entry behind the first k made, where they lie, each with what its slots held; those of a reaction are made
+    /// again, and an `Err` is want of memory for them.
+    pub fn drawings(&self, k: u64) -> Result<SeenDrawings<'_>, OutOfMemory>
         requires { k < length self.now.journal }
-        ensures ok { OnOk result (out.new.items ≡ out.old.items ++ pending_between self.now.head.size self.now.journal k (k + 1)) }
-        ensures memory { OnErr result (AppendsFront out.old.items out.new.items (pending_between self.now.head.size self.now.journal k (k + 1))) }
+        ensures { IfOk result (λ seen. seen ≡ pending_between self.now.head.size self.now.journal k (k + 1)) }
     {
         let kept = &self.kept[k as usize];
         match &kept.entry {
-            Entry::Draw { d, .. } => put_drawn(self.alloc, d, kept.shown.list(), out),
+            Entry::Draw { d, .. } => Ok(SeenDrawings::drawn(d, kept.shown.list())),
             Entry::Input { event, .. } => {
-                put_reaction(self.alloc, &kept.board, *event, kept.shown.list(), out)
+                SeenDrawings::reaction(self.alloc, &kept.board, *event, kept.shown.list())
             }
-            Entry::Join { .. } => Ok(()),
-            Entry::Leave { .. } => Ok(()),
-            Entry::Give { .. } => Ok(()),
+            Entry::Join { .. } => Ok(SeenDrawings::none()),
+            Entry::Leave { .. } => Ok(SeenDrawings::none()),
+            Entry::Give { .. } => Ok(SeenDrawings::none()),
         }
     }
 

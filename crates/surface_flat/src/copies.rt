@@ -1,27 +1,63 @@
 //! Copies within the picture, row by row.
-ghost use Rattle.std.specs.Prelude.{◌≡◌, ℕ, ◌+◌, ◌<◌, ◌≤◌, length};
-ghost use Rattle.surface_flat.specs.Operands.{IsBlank};
-ghost use Rattle.surface_flat.specs.Parts.{in_part, part_at, IsCanvas, IsInside, IsRepainted};
-ghost use Rattle.surface_flat.specs.Textures.{copied_color, IsSourceInside};
+ghost use Rattle.std.specs.Prelude.{◌≡◌, ℕ, ◌+◌, ◌<◌, ◌≤◌, None, length, IsTrue};
+ghost use Rattle.px_core.specs.Picture.{rows_of};
+ghost use Rattle.px_core.specs.Rectangle.{in_clip, boxed, is_inside, IsPlaced};
+ghost use Rattle.rop3_core.specs.Palette.{session_colors};
+ghost use Rattle.draw_ops.specs.Fits.{clip_rule};
+ghost use Rattle.draw_ops.specs.Formulas.{absent, picture_after, shifted};
+ghost use Rattle.draw_ops.specs.Drawing.{mixing};
+ghost use Rattle.surface_parts.specs.Operands.{IsBlank};
+ghost use Rattle.surface_parts.specs.Parts.{in_part, part_at, IsCanvas, IsInside, IsRepainted};
+ghost use Rattle.surface_parts.specs.Textures.{copied_color, IsSourceInside};
 
-use crate::mix::ready_pattern;
-use crate::part::Part;
-use px_core::Size;
+use px_core::{Rect, Size};
 use rop3_core::rop_row;
+use surface_parts::{Part, PictureCopy, ready_pattern, source_place, visible};
 
-/// A raster operation by its code, with the picture itself as its source: the pixel at column x and row y belongs to the upper left one of
-/// what is drawn.
-#[derive(Clone, Copy)]
-pub(crate) struct PictureCopy {
-    pub(crate) rop: u8,
-    pub(crate) x: usize,
-    pub(crate) y: usize,
+/// The raster operation of a code on a rectangle, with the picture itself, from (sx, sy) on, as its source.
+pub(crate) fn copy_rect(
+    pixels: &mut [u32],
+    size: Size,
+    rect: Rect,
+    clip: Option<Rect>,
+    rop: u8,
+    sx: i32,
+    sy: i32,
+    pattern: &mut [u32],
+    source: &mut [u32],
+)
+    requires canvas { IsCanvas size pixels.old }
+    requires rect { IsPlaced rect }
+    requires clip { clip_rule size clip ≡ None }
+    requires inside { IsTrue (is_inside size (boxed sx sy rect.w rect.h)) }
+    requires pattern { 2048 ≤ length pattern.old }
+    requires source { 2048 ≤ length source.old }
+    ensures { pixels.new ≡ picture_after size (in_clip clip) (mixing rect rop (absent session_colors) (shifted (rows_of size.w size.h pixels.old) 0 rect sx sy)) pixels.old }
+{
+    match visible(size, rect, clip) {
+        None => {}
+        Some(part) => {
+            let copy = PictureCopy {
+                rop,
+                x: source_place(part.x, rect.x, sx),
+                y: source_place(part.y, rect.y, sy),
+            };
+            copy_part(
+                pixels,
+                size,
+                part,
+                copy,
+                &mut pattern[..part.w],
+                &mut source[..part.w],
+            )
+        }
+    }
 }
 
 /// Makes each pixel of a part what a raster operation makes of it. Two rows of the part's width are for the operands of one row.
 ///
 /// Where the source lies above the part, the lowest row goes first, so that no row is read after it was painted.
-pub(crate) fn copy_part(
+fn copy_part(
     pixels: &mut [u32],
     size: Size,
     part: Part,

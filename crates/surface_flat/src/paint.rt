@@ -4,16 +4,16 @@ ghost use Rattle.px_core.specs.Rectangle.{in_clip};
 ghost use Rattle.draw_ops.specs.Drawing.{drawn_picture, painting_of};
 ghost use Rattle.draw_ops.specs.Fits.{glyph_rule};
 ghost use Rattle.draw_ops.specs.Formulas.{picture_after};
-ghost use Rattle.surface_flat.specs.Held.{state_of, IsPaintable};
-ghost use Rattle.surface_flat.specs.Parts.{IsCanvas};
-ghost use Rattle.surface_flat.specs.Surfaces.{AllInSlots};
+ghost use Rattle.surface_parts.specs.Held.{state_of, IsPaintable};
+ghost use Rattle.surface_parts.specs.Parts.{IsCanvas};
+ghost use Rattle.surface_parts.specs.Surfaces.{AllInSlots};
 
-use crate::line::{Ends, draw_line};
-use crate::rects::{Blend, copy_rect, fill_rect, mix_rect, restore_block};
-use crate::slots::Slots;
-use crate::text::{Script, write_run};
+use crate::copies::copy_rect;
 use draw_ops::Shape;
 use px_core::{Rect, Size};
+use surface_parts::{
+    Blend, Ends, Script, Slots, draw_line, fill_rect, mix_rect, restore_block, write_run,
+};
 
 /// Paints a shape within a clip. The two rows are for the operands of one row.
 pub(crate) fn paint(

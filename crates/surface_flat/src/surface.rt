@@ -7,24 +7,19 @@ ghost use Rattle.draw_ops.specs.Slots.{opening_surface, lookup, glyph_slot};
 ghost use Rattle.draw_ops.specs.Drawing.{state_after_drawing, state_after_drawings};
 ghost use Rattle.draw_ops.specs.Fits.{broken_rule, slot_misfit, AllFitState};
 ghost use Rattle.draw_ops.specs.Ranges.{HasColors};
-ghost use Rattle.surface_flat.specs.Surfaces.{IsSoundSurface};
-ghost use Rattle.surface_flat.specs.Held.{AreRooms, IsRoomFor, IsSmallSave};
-ghost use Rattle.surface_flat.specs.Refused.{SaysMisfit, misfit_said};
+ghost use Rattle.surface_parts.specs.Surfaces.{IsSoundSurface};
+ghost use Rattle.surface_parts.specs.Held.{AreRooms, IsRoomFor, IsSmallSave};
+ghost use Rattle.surface_parts.specs.Refused.{SaysMisfit, misfit_said};
 
-use crate::block::black_pixels;
-use crate::fault::DrawFault;
-use crate::loaded_brush::LoadedBrush;
-use crate::loaded_glyph::LoadedGlyph;
-use crate::loaded_image::LoadedImage;
 use crate::paint::paint;
-use crate::room::Room;
-use crate::rows::cut_pixels;
-use crate::slots::Slots;
 use draw_ops::Drawing;
 use px_core::{Rect, Size};
 use std::alloc::Global;
 use std::collections::VecDeque;
 use std::marker::Model;
+use surface_parts::{
+    DrawFault, LoadedBrush, LoadedGlyph, LoadedImage, Room, Slots, black_pixels, cut_pixels,
+};
 use wire_num::OutOfMemory;
 
 /// The most columns of a session's picture.
@@ -47,8 +42,8 @@ pub struct Surface {
 
 impl Model for Surface {
     ghost use Rattle.std.specs.Prelude.{◌≡◌, ◌≤◌, length};
-    ghost use Rattle.surface_flat.specs.Surfaces.{SurfaceOf, IsSoundSurface};
-    ghost use Rattle.surface_flat.specs.Held.{state_of};
+    ghost use Rattle.surface_parts.specs.Surfaces.{SurfaceOf, IsSoundSurface};
+    ghost use Rattle.surface_parts.specs.Held.{state_of};
 
     ghost Value = { SurfaceOf };
 

@@ -1,6 +1,6 @@
-use Rattle.std.proofs.Common.{◌≡◌, ◌+◌, ◌≤◌, ◌++◌, List, ap, sym, ◌∙◌, subst, arith}
+use Rattle.std.proofs.Common.{◌+◌, ◌≤◌, sym, subst, arith}
 use Rattle.px_core.specs.declared.surface.Size.{Size}
-use Rattle.session_rules.specs.Pending.{Pending, pending_between}
+use Rattle.session_rules.specs.Pending.{pending_between}
 use Rattle.frame_rules.specs.Frame.{jumped}
 use Rattle.frame_plan.specs.Cuts.{AllCuttable}
 use Rattle.frame_plan.specs.Walks.{walk_of, HasJumped}
@@ -13,10 +13,8 @@ pub jump_all-requires-clause-cuttable : goal.jump_all-requires-clause-cuttable
 jump_all-requires-clause-cuttable c =
     let s = c.args.session.now in
     let k = c.loop-entry.entry in
-    let is : c.deref.result.now ≡ pending_between s.head.size s.journal k (k + 1) =
-    c.deref.ensures.value ∙ (c.in_ok-put_pending.ensures.ok ∙ ap (λ (ps : List Pending). ps ++ pending_between s.head.size s.journal k (k + 1)) c.clear.ensures.items) in
-    subst (λ (z : Size). AllCuttable z c.deref.result.now) (sym c.size-size.ensures)
-    (subst (AllCuttable s.head.size) (sym is) (pending_cuttable s.head s.journal c.recall_legal.ensures.size c.recall_legal.ensures.journal k (k + 1) (omega arith)))
+    subst (λ (z : Size). AllCuttable z c.in_ok-drawings.drawings) (sym c.size-size.ensures)
+    (subst (AllCuttable s.head.size) (sym c.in_ok-drawings.ensures) (pending_cuttable s.head s.journal c.recall_legal.ensures.size c.recall_legal.ensures.journal k (k + 1) (omega arith)))
 
 pub loop-entry-preserved : goal.loop-entry-preserved
 loop-entry-preserved c =
@@ -25,10 +23,8 @@ loop-entry-preserved c =
     let w = c.loop-entry.walker in
     let new = c.jump_all.new.self in
     let low : c.args.before ≤ k = c.loop-entry.auto.entry in
-    let is : c.deref.result.now ≡ pending_between s.head.size s.journal k (k + 1) =
-    c.deref.ensures.value ∙ (c.in_ok-put_pending.ensures.ok ∙ ap (λ (ps : List Pending). ps ++ pending_between s.head.size s.journal k (k + 1)) c.clear.ensures.items) in
-    let here = subst (λ (z : Size). HasJumped w (jumped z (walk_of w) c.deref.result.now) new) c.size-size.ensures c.jump_all.ensures in
-    let jumps = subst (λ (ps : List Pending). HasJumped w (jumped s.head.size (walk_of w) ps) new) is here in
+    let here = subst (λ (z : Size). HasJumped w (jumped z (walk_of w) c.in_ok-drawings.drawings) new) c.size-size.ensures c.jump_all.ensures in
+    let jumps = subst (λ ps. HasJumped w (jumped s.head.size (walk_of w) ps) new) c.in_ok-drawings.ensures here in
     jump_more s.head.size c.args.walker.now w new (pending_between s.head.size s.journal c.args.before k) (pending_between s.head.size s.journal k (k + 1))
     (pending_between s.head.size s.journal c.args.before (k + 1)) c.loop-entry.invariant jumps
     (sym (pending_parts s.head.size s.journal c.args.before k (k + 1) low (omega arith)))

@@ -1,7 +1,9 @@
-use Rattle.std.proofs.Common.{◌≡◌}
+use Rattle.std.proofs.Common.{[]}
 use Rattle.session_rules.specs.Pending.{pending_between}
+use Rattle.frame_plan.specs.Walks.{HasGoneOver}
 use Rattle.frame_plan.proofs.frame.walk_over.Given as goal
 
--- the drawings of the entries so far
+-- the walk over the drawings of the entries so far
 abbrev pub invariant-loop-entry : goal.invariant-loop-entry
-invariant-loop-entry l = l.pending.items ≡ pending_between l.session.head.size l.session.journal l.desk.number l.entry
+invariant-loop-entry l =
+    HasGoneOver l.session.head.size l.desk.confirmed l.fn.walker [] (pending_between l.session.head.size l.session.journal l.desk.number l.entry) l.walker l.orders

@@ -1,8 +1,8 @@
 use Rattle.std.proofs.Common.{◌≡◌, ◌∙◌, ap, subst}
 use Rattle.std.specs.Prelude.{Err}
 use Rattle.draw_ops.specs.Fits.{slot_misfit}
-use Rattle.surface_flat.specs.declared.fault.DrawFault.TheVariants.{OutOfMemory}
-use Rattle.surface_flat.specs.Refused.{misfit_said}
+use Rattle.surface_parts.specs.declared.fault.DrawFault.TheVariants.{OutOfMemory}
+use Rattle.surface_parts.specs.Refused.{misfit_said}
 use Rattle.session_core.proofs.SlotMisfits.{no_rule_of_slots}
 use Rattle.session_core.proofs.fit.fit.Goals as goal
 

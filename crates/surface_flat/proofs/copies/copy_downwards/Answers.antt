@@ -1,7 +1,7 @@
 use Rattle.std.proofs.Common.{◌+◌, ◌-◌, refl, arith}
 use Rattle.std.proofs.lemmas.Bool.Decides.{nat_tests}
-use Rattle.surface_flat.specs.Textures.{copied_color}
-use Rattle.surface_flat.proofs.Repaint.{same_mix, untouched, row_below_more}
+use Rattle.surface_parts.specs.Textures.{copied_color}
+use Rattle.surface_parts.proofs.Repaint.{same_mix, untouched, row_below_more}
 use Rattle.surface_flat.proofs.copies.copy_downwards.Goals as goal
 
 pub loop-k-preserved : goal.loop-k-preserved

@@ -1,5 +1,5 @@
-use Rattle.surface_flat.specs.Parts.{part_at, in_part, IsRepainted}
-use Rattle.surface_flat.specs.Textures.{copied_color}
+use Rattle.surface_parts.specs.Parts.{part_at, in_part, IsRepainted}
+use Rattle.surface_parts.specs.Textures.{copied_color}
 use Rattle.surface_flat.proofs.copies.copy_downwards.Given as goal
 
 -- the highest k rows are copied

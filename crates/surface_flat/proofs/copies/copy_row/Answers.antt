@@ -1,7 +1,7 @@
 use Rattle.std.proofs.Common.{◌≡◌, ◌+◌, ◌*◌, ◌-◌, ◌<◌, get_or, refl, ap, ◌∙◌, arith}
 use Rattle.px_core.specs.Picture.{pixel_at}
-use Rattle.surface_flat.specs.Textures.{copied_color}
-use Rattle.surface_flat.proofs.Repaint.{same_mix, stretch_fits, length_mid, stretch_pixel, row_stretch}
+use Rattle.surface_parts.specs.Textures.{copied_color}
+use Rattle.surface_parts.proofs.Repaint.{same_mix, stretch_fits, length_mid, stretch_pixel, row_stretch}
 use Rattle.surface_flat.proofs.copies.copy_row.Goals as goal
 
 pub slice_bounds-copy_from_slice-end : goal.slice_bounds-copy_from_slice-end

@@ -1,8 +1,8 @@
 use Rattle.std.proofs.Common.{◌≡◌, ℕ, ◌+◌, ◌-◌, refl, sym, subst, arith}
 use Rattle.std.proofs.lemmas.Bool.Decides.{nat_tests}
-use Rattle.surface_flat.specs.Parts.{in_part, part_at, IsRepainted}
-use Rattle.surface_flat.specs.Textures.{copied_color}
-use Rattle.surface_flat.proofs.Repaint.{same_mix, untouched, row_above_more}
+use Rattle.surface_parts.specs.Parts.{in_part, part_at, IsRepainted}
+use Rattle.surface_parts.specs.Textures.{copied_color}
+use Rattle.surface_parts.proofs.Repaint.{same_mix, untouched, row_above_more}
 use Rattle.surface_flat.proofs.copies.copy_upwards.Goals as goal
 
 pub loop-k-preserved : goal.loop-k-preserved

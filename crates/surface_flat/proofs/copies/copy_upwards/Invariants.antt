@@ -1,6 +1,6 @@
 use Rattle.std.proofs.Common.{◌+◌, ◌-◌}
-use Rattle.surface_flat.specs.Parts.{part_at, in_part, IsRepainted}
-use Rattle.surface_flat.specs.Textures.{copied_color}
+use Rattle.surface_parts.specs.Parts.{part_at, in_part, IsRepainted}
+use Rattle.surface_parts.specs.Textures.{copied_color}
 use Rattle.surface_flat.proofs.copies.copy_upwards.Given as goal
 
 -- the lowest k rows are copied

@@ -4,10 +4,10 @@ use Rattle.px_core.specs.Rectangle.{in_clip}
 use Rattle.draw_ops.specs.declared.shape.Shape.{Shape}
 use Rattle.draw_ops.specs.Drawing.{painting_of, writing}
 use Rattle.draw_ops.specs.Formulas.{picture_after}
-use Rattle.surface_flat.specs.Held.{state_of}
-use Rattle.surface_flat.specs.Lined.{lined}
-use Rattle.surface_flat.specs.Texts.{glyphs_held}
-use Rattle.surface_flat.proofs.Paintings.{nothing_is}
+use Rattle.surface_parts.specs.Held.{state_of}
+use Rattle.surface_parts.specs.Lined.{lined}
+use Rattle.surface_parts.specs.Texts.{glyphs_held}
+use Rattle.surface_parts.proofs.Paintings.{nothing_is}
 use Rattle.surface_flat.proofs.paint.paint.Goals as goal
 
 pub returns-in-Text : goal.returns-in-Text

@@ -1,9 +1,9 @@
 use Rattle.std.proofs.Common.{◌≡◌, ◌<◌, ◌+◌, List, [], ◌∷◌, ◌++◌, take, length, sym, subst, ap, ◌∙◌, arith}
 use Rattle.std.proofs.lemmas.List.{take_more}
 use Rattle.draw_ops.specs.declared.shape.Drawing.{Drawing}
-use Rattle.surface_flat.specs.declared.room.Room.{Room}
-use Rattle.surface_flat.specs.Held.{AreRooms}
-use Rattle.surface_flat.proofs.Many.{rooms_more}
+use Rattle.surface_parts.specs.declared.room.Room.{Room}
+use Rattle.surface_parts.specs.Held.{AreRooms}
+use Rattle.surface_parts.proofs.Many.{rooms_more}
 use Rattle.surface_flat.proofs.surface.take_rooms.Goals as goal
 
 pub loop-d-preserved : goal.loop-d-preserved

@@ -1,5 +1,5 @@
 use Rattle.std.proofs.Common.{take}
-use Rattle.surface_flat.specs.Held.{AreRooms}
+use Rattle.surface_parts.specs.Held.{AreRooms}
 use Rattle.surface_flat.proofs.surface.take_rooms.Given as goal
 
 -- the memory of the drawings so far

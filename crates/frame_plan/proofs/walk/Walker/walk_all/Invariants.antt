@@ -1,7 +1,7 @@
-use Rattle.std.proofs.Common.{take, drop}
-use Rattle.frame_plan.proofs.Walking.{WalksOn}
+use Rattle.std.proofs.Common.{take}
+use Rattle.frame_plan.specs.Walks.{HasGoneOver}
 use Rattle.frame_plan.proofs.walk.Walker.walk_all.Given as goal
 
-abbrev pub invariant-loop-drawing : goal.invariant-loop-drawing
-invariant-loop-drawing l =
-    WalksOn l.size l.confirmed l.fn.self l.drawings l.self (take l.drawing-index l.drawings) (drop l.drawing-index l.drawings) l.positions.items
+-- the walk over the drawings so far
+abbrev pub invariant-loop-i : goal.invariant-loop-i
+invariant-loop-i l = HasGoneOver l.size l.confirmed l.fn.self l.fn.orders (take l.i l.drawings) l.self l.orders

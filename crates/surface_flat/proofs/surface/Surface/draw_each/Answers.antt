@@ -2,7 +2,7 @@ use Rattle.std.proofs.Common.{◌<◌, List, length, sym, subst, arith}
 use Rattle.std.proofs.lemmas.List.{drop_more}
 use Rattle.draw_ops.specs.declared.shape.Drawing.{Drawing}
 use Rattle.draw_ops.specs.Fits.{FitsState, AllFitState}
-use Rattle.surface_flat.proofs.Many.{fit_rules, fit_slots}
+use Rattle.surface_parts.proofs.Many.{fit_rules, fit_slots}
 use Rattle.surface_flat.proofs.surface.Surface.draw_each.Goals as goal
 
 pub draw_ready-requires-clause-rules : goal.draw_ready-requires-clause-rules

@@ -1,7 +1,7 @@
 use Rattle.std.proofs.Common.{◌≡◌, ◌+◌, ◌<◌, ◌^◌, drop, length}
 use Rattle.draw_ops.specs.Fits.{AllFitState}
 use Rattle.draw_ops.specs.Drawing.{state_after_drawings}
-use Rattle.surface_flat.specs.Held.{AreRooms}
+use Rattle.surface_parts.specs.Held.{AreRooms}
 use Rattle.surface_flat.proofs.surface.Surface.draw_each.Given as goal
 
 -- what is left fits, has its memory, and makes of the surface what all of it makes of the first one

@@ -8,9 +8,9 @@ use Rattle.draw_ops.specs.Slots.{SurfaceState}
 use Rattle.std.specs.Vec.{with_items}
 use Rattle.std.proofs.lemmas.List.{with_items_is}
 use Rattle.draw_ops.specs.declared.shape.Drawing.{Drawing}
-use Rattle.surface_flat.specs.Surfaces.{SurfaceOf, AllInSlots, IsSoundSurface}
-use Rattle.surface_flat.specs.Held.{Held, held_in, state_of, state_filled, IsPaintable}
-use Rattle.surface_flat.proofs.Sound.{sound_after, drawn_after, is_paintable, glyphs_after, is_save_inside}
+use Rattle.surface_parts.specs.Surfaces.{SurfaceOf, AllInSlots, IsSoundSurface}
+use Rattle.surface_parts.specs.Held.{Held, held_in, state_of, state_filled, IsPaintable}
+use Rattle.surface_parts.proofs.Sound.{sound_after, drawn_after, is_paintable, glyphs_after, is_save_inside}
 use Rattle.surface_flat.proofs.surface.Surface.draw_ready.Goals as goal
 
 -- a surface after a drawing

@@ -1,7 +1,7 @@
 use Rattle.std.proofs.Common.{◌≡◌, subst}
 use Rattle.draw_ops.specs.Fits.{slot_misfit}
-use Rattle.surface_flat.specs.Surfaces.{SurfaceOf}
-use Rattle.surface_flat.specs.Refused.{misfit_said}
+use Rattle.surface_parts.specs.Surfaces.{SurfaceOf}
+use Rattle.surface_parts.specs.Refused.{misfit_said}
 use Rattle.surface_flat.proofs.surface.Surface.fit.Goals as goal
 
 pub returns : goal.returns

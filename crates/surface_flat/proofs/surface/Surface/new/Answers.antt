@@ -1,8 +1,8 @@
 use Rattle.std.proofs.Common.{ℕ, List, length, ap, sym, subst, arith}
 use Rattle.std.proofs.lemmas.List.{length-replicate}
 use Rattle.draw_ops.specs.Slots.{SurfaceState}
-use Rattle.surface_flat.specs.Surfaces.{IsSoundSurface}
-use Rattle.surface_flat.proofs.Sound.{opening_is, opening_is_sound}
+use Rattle.surface_parts.specs.Surfaces.{IsSoundSurface}
+use Rattle.surface_parts.proofs.Sound.{opening_is, opening_is_sound}
 use Rattle.surface_flat.proofs.surface.Surface.new.Goals as goal
 
 pub returns-clause-state : goal.returns-clause-state

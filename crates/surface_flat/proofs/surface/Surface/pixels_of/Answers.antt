@@ -2,7 +2,7 @@ use Rattle.std.proofs.Common.{◌≡◌, ℕ, List, true, sym, subst, ap, ◌∙
 use Rattle.std.proofs.lemmas.Result.{IfOk-weaker}
 use Rattle.px_core.specs.Colors.{are_colors}
 use Rattle.px_core.specs.Rectangle.{cut_out}
-use Rattle.surface_flat.proofs.Sound.{cut_has_colors}
+use Rattle.surface_parts.proofs.Sound.{cut_has_colors}
 use Rattle.surface_flat.proofs.surface.Surface.pixels_of.Goals as goal
 
 pub returns-clause-colors : goal.returns-clause-colors

@@ -1,4 +1,4 @@
-use Rattle.surface_flat.proofs.Many.{small_saves}
+use Rattle.surface_parts.proofs.Many.{small_saves}
 use Rattle.surface_flat.proofs.surface.Surface.rooms_for.Goals as goal
 
 pub take_rooms-requires : goal.take_rooms-requires

@@ -1,0 +1,20 @@
+use Rattle.std.proofs.Common.{◌≡◌, ◌<◌, ◌≤◌, length, ap, sym, subst, ◌∙◌, arith, Some}
+use Rattle.std.specs.Prelude.{slice_get}
+use Rattle.pending_core.specs.Showing.{all_shown}
+use Rattle.pending_core.specs.Seeing.{drawings_seen}
+use Rattle.pending_core.proofs.AllShown.{length_shown}
+use Rattle.pending_core.proofs.seen.SeenDrawings.get.Goals as goal
+
+pub seen_at-requires-clause-there : goal.seen_at-requires-clause-there
+seen_at-requires-clause-there c =
+    let all = ap length c.self.view_is in
+    let each = length_shown _ _ c.self.invariant in
+    omega (arith, c.requires, all, each, ap length c.listed.ensures)
+
+pub seen_at-requires-clause-each : goal.seen_at-requires-clause-each
+seen_at-requires-clause-each c = omega (arith, c.self.invariant, ap length c.listed.ensures)
+
+pub returns : goal.returns
+returns c =
+    let same = ap (λ ds. slice_get (all_shown ds c.self.inside.shown.now) c.args.i) (sym c.listed.ensures) ∙ c.seen_at.ensures in
+    ap (λ ps. slice_get ps c.args.i) (sym c.self.view_is) ∙ same

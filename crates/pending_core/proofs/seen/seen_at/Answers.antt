@@ -1,0 +1,5 @@
+use Rattle.pending_core.proofs.AllShown.{shown_get}
+use Rattle.pending_core.proofs.seen.seen_at.Goals as goal
+
+pub returns : goal.returns
+returns c = shown_get c.args.drawings.now c.args.shown.now c.args.i c.index-drawings-i.result c.index-shown-i.result c.requires.there c.requires.each c.index-drawings-i.is c.index-shown-i.is

@@ -1,0 +1,200 @@
+//! The drawings of an entry where they lie, each with what its slots held at its place.
+
+ghost use Rattle.std.specs.Prelude.{◌≡◌, ◌<◌, ◌≤◌, [], ◌∷◌, length, Some, IfOk, option_copied, slice_get};
+ghost use Rattle.pending_core.specs.Showing.{all_shown};
+ghost use Rattle.pending_core.specs.Seeing.{drawings_seen};
+ghost use Rattle.pending_core.specs.Putting.{drawings_made, IsBoardReady};
+
+use crate::OutOfMemory;
+use crate::pending::{Pending, shared};
+use crate::shown::{Held, Shown};
+use board_app::Board;
+use draw_ops::Drawing;
+use input_pdu::Event;
+use px_core::Rect;
+use std::alloc::Global;
+use std::marker::Model;
+use std::slice;
+use surface_parts::{LoadedGlyph, LoadedImage};
+
+/// A drawing where it lies, the rectangle that it touches, and what its slots held.
+#[derive(Drop)]
+pub struct SeenDrawing<'a> {
+    drawing: &'a Drawing,
+    rect: Rect,
+    held: &'a Option<Box<Held>>,
+}
+
+impl<'a> Model for SeenDrawing<'a> {
+    ghost use Rattle.session_rules.specs.Pending.{Pending as PendingOf};
+    ghost use Rattle.pending_core.specs.Seeing.{pending_with};
+
+    ghost Value = { PendingOf };
+
+    ghost view = { λ s. pending_with s.drawing.now s.rect s.held.now };
+}
+
+impl<'a> SeenDrawing<'a> {
+    /// The drawing.
+    pub fn drawing(&self) -> &Drawing
+        ensures { result.now ≡ self.now.drawing }
+    {
+        self.drawing
+    }
+
+    /// The rectangle that it touches.
+    pub fn rect(&self) -> Rect
+        ensures { result ≡ self.now.rect }
+    {
+        self.rect
+    }
+
+    /// The image that it draws.
+    pub fn image(&self) -> Option<&LoadedImage>
+        ensures { option_copied result ≡ self.now.image }
+    {
+        match self.held {
+            Some(held) => held.image.as_ref(),
+            None => None,
+        }
+    }
+
+    /// The glyphs of its run, in the run's order.
+    pub fn glyphs(&self) -> &[LoadedGlyph]
+        ensures { result.now ≡ self.now.glyphs }
+    {
+        match self.held {
+            Some(held) => held.glyphs.as_slice(),
+            None => &[],
+        }
+    }
+
+    /// The same with another drawing over another rectangle.
+    pub fn with_drawing<'b>(&'b self, drawing: &'b Drawing, rect: Rect) -> SeenDrawing<'b>
+        ensures { result ≡ record self.now { drawing = drawing.now; rect = rect } }
+    {
+        SeenDrawing {
+            drawing,
+            rect,
+            held: self.held,
+        }
+    }
+
+    /// One more handle of it, which outlives the journal's: pixels and bits are shared, not copied.
+    pub fn share(&self, alloc: Global) -> Result<Pending, OutOfMemory>
+        ensures { IfOk result (λ p. p ≡ self.now) }
+    {
+        shared(alloc, self.drawing, self.rect, self.held)
+    }
+}
+
+/// The drawings of an entry where they lie, each with what its slots held. Those of a reaction aren't kept: they are made again.
+#[derive(Drop)]
+pub struct SeenDrawings<'a> {
+    kept: &'a [Drawing],
+    made: Option<Vec<Drawing>>,
+    shown: &'a [Shown],
+}
+
+impl<'a> Model for SeenDrawings<'a> {
+    ghost use Rattle.std.specs.Prelude.{◌≤◌, List, length};
+    ghost use Rattle.session_rules.specs.Pending.{Pending as PendingOf};
+    ghost use Rattle.pending_core.specs.Showing.{all_shown};
+    ghost use Rattle.pending_core.specs.Seeing.{drawings_seen};
+
+    ghost Value = { List PendingOf };
+
+    ghost view = { λ s. all_shown (drawings_seen s.made s.kept.now) s.shown.now };
+
+    ghost invariant = { λ s. length (drawings_seen s.made s.kept.now) ≤ length s.shown.now };
+}
+
+impl<'a> SeenDrawings<'a> {
+    /// No drawings.
+    pub fn none() -> SeenDrawings<'a>
+        ensures { result ≡ [] }
+    {
+        SeenDrawings {
+            kept: &[],
+            made: None,
+            shown: &[],
+        }
+    }
+
+    /// A drawing with what it shows.
+    pub fn drawn(d: &'a Drawing, shown: &'a [Shown]) -> SeenDrawings<'a>
+        requires { 1 ≤ length shown.now }
+        ensures { result ≡ all_shown (d.now ∷ []) shown.now }
+    {
+        SeenDrawings {
+            kept: slice::from_ref(d),
+            made: None,
+            shown,
+        }
+    }
+
+    /// The drawings of the board's reaction to an event, which is made again, with what they show.
+    pub fn reaction(
+        alloc: Global,
+        board: &Option<Box<Board>>,
+        e: Event,
+        shown: &'a [Shown],
+    ) -> Result<SeenDrawings<'a>, OutOfMemory>
+        requires ready { IsBoardReady board.now }
+        requires each { length (drawings_made board.now e) ≤ length shown.now }
+        ensures { IfOk result (λ seen. seen ≡ all_shown (drawings_made board.now e) shown.now) }
+    {
+        match board {
+            Some(board) => {
+                let mut board = **board;
+                let made = board.react(alloc, e)?;
+                Ok(SeenDrawings {
+                    kept: &[],
+                    made: Some(made),
+                    shown,
+                })
+            }
+            None => Ok(SeenDrawings::none()),
+        }
+    }
+
+    /// How many there are.
+    pub fn len(&self) -> usize
+        ensures { result ≡ length self.now }
+    {
+        listed(&self.made, self.kept).len()
+    }
+
+    /// The one behind the first i.
+    pub fn get(&self, i: usize) -> SeenDrawing<'_>
+        requires { i < length self.now }
+        ensures { slice_get self.now i ≡ Some result }
+    {
+        seen_at(listed(&self.made, self.kept), self.shown, i)
+    }
+}
+
+/// The drawing behind the first i, with what is kept of it.
+fn seen_at<'b>(drawings: &'b [Drawing], shown: &'b [Shown], i: usize) -> SeenDrawing<'b>
+    requires there { i < length drawings.now }
+    requires each { length drawings.now ≤ length shown.now }
+    ensures { slice_get (all_shown drawings.now shown.now) i ≡ Some result }
+{
+    let drawing = &drawings[i];
+    let shown = &shown[i];
+    SeenDrawing {
+        drawing,
+        rect: shown.rect,
+        held: &shown.held,
+    }
+}
+
+/// The drawings that were made again, or else those that are kept.
+fn listed<'b>(made: &'b Option<Vec<Drawing>>, kept: &'b [Drawing]) -> &'b [Drawing]
+    ensures { result.now ≡ drawings_seen made.now kept.now }
+{
+    match made {
+        Some(made) => made.as_slice(),
+        None => kept,
+    }
+}

@@ -1,5 +1,0 @@
-use Rattle.std.proofs.Common.{rules}
-use Rattle.surface_flat.proofs.fits.fits_if.Goals as goal
-
-pub returns-else-test : goal.returns-else-test
-returns-else-test c = search rules

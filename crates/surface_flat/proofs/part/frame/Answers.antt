@@ -1,5 +1,0 @@
-use Rattle.std.proofs.Common.{rules}
-use Rattle.surface_flat.proofs.part.frame.Goals as goal
-
-pub returns-in-Some-clause-pixels : goal.returns-in-Some-clause-pixels
-returns-in-Some-clause-pixels c = search rules

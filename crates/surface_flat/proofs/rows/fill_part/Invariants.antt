@@ -1,7 +1,0 @@
-use Rattle.std.proofs.Common.{◌-◌}
-use Rattle.surface_flat.specs.Parts.{part_at, in_part, IsRepainted}
-use Rattle.surface_flat.proofs.rows.fill_part.Given as goal
-
--- the rows so far have the colour
-abbrev pub invariant-loop-y : goal.invariant-loop-y
-invariant-loop-y l = IsRepainted l.fn.size (in_part (part_at l.part.x l.part.y l.part.w (l.y - l.part.y))) (λ x y. l.color) l.initial.pixels l.pixels

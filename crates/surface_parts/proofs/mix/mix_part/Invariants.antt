@@ -1,0 +1,11 @@
+use Rattle.std.proofs.Common.{◌-◌}
+use Rattle.std.specs.Prelude.{option_copied}
+use Rattle.surface_parts.specs.Operands.{IsReady}
+use Rattle.surface_parts.specs.Parts.{part_at, in_part, IsRepainted}
+use Rattle.surface_parts.specs.Textures.{mixed_color}
+use Rattle.surface_parts.proofs.mix.mix_part.Given as goal
+
+-- the rows so far are mixed, and the row of a missing operand stays blank
+abbrev pub invariant-loop-y : goal.invariant-loop-y
+invariant-loop-y l = IsRepainted l.fn.size (in_part (part_at l.part.x l.part.y l.part.w (l.y - l.part.y))) (mixed_color l.fn.size l.initial.pixels l.part l.mix) l.initial.pixels l.pixels
+    × IsReady (option_copied l.mix.brush) l.pattern × IsReady l.mix.texture l.source

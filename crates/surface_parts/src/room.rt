@@ -1,0 +1,63 @@
+//! The memory that a drawing takes.
+ghost use Rattle.std.specs.Prelude.{◌≡◌, ◌≤◌, IfOk};
+ghost use Rattle.surface_parts.specs.Held.{IsRoomFor, IsSmallSave};
+
+use crate::OutOfMemory;
+use crate::block::Block;
+use draw_ops::{Glyph, Image, Shape, SharedBrush};
+use px_core::Rect;
+use std::alloc::Global;
+
+/// What a drawing puts into a slot, with its memory. The pixels of a block are still to be copied.
+#[derive(Drop)]
+pub enum Room {
+    Nothing,
+    Image { slot: u8, image: Image },
+    Brush { slot: u8, brush: SharedBrush },
+    Glyph { font: u8, code: u8, glyph: Glyph },
+    Block { slot: u8, rect: Rect, block: Block },
+}
+
+impl Room {
+    /// Takes the memory that a shape needs.
+    pub fn new(alloc: Global, shape: &Shape) -> Result<Room, OutOfMemory>
+        requires { IsSmallSave shape.now }
+        ensures { IfOk result (λ room. IsRoomFor shape.now room) }
+    {
+        match shape {
+            Shape::LoadImage { slot, image } => {
+                let image = image.share()?;
+                Ok(Room::Image { slot: *slot, image })
+            }
+            Shape::LoadBrush { slot, brush } => {
+                let brush = brush.share()?;
+                Ok(Room::Brush { slot: *slot, brush })
+            }
+            Shape::LoadGlyph { font, code, glyph } => {
+                let glyph = glyph.share()?;
+                Ok(Room::Glyph {
+                    font: *font,
+                    code: *code,
+                    glyph,
+                })
+            }
+            Shape::Save { slot, rect } => {
+                let block = Block::new(alloc, rect.w, rect.h)?;
+                Ok(Room::Block {
+                    slot: *slot,
+                    rect: *rect,
+                    block,
+                })
+            }
+            Shape::Fill { .. }
+            | Shape::Dst { .. }
+            | Shape::Pat { .. }
+            | Shape::Copy { .. }
+            | Shape::Blit { .. }
+            | Shape::Blit3 { .. }
+            | Shape::Text { .. }
+            | Shape::Line { .. }
+            | Shape::Restore { .. } => Ok(Room::Nothing),
+        }
+    }
+}
