@@ -10,13 +10,13 @@ use Rattle.gate_run.specs.OpenGate.{IsOpenFor, GivesNoMore}
 use Rattle.gate_run.specs.Working.{IsWork}
 
 module _ {G L Reader Writer Spent : Type 0} (gate : gates.Ghosts G L Reader Writer Spent) where
-  -- a gate is open for so many links and has given none, there are no jobs yet, and there is room and a flag for each
-  pub record CanTake (links : ℕ) (opened : G) (jobs : List (Job L Reader Writer Spent)) (room flags : ℕ) : Type 0 where
+  -- a gate is open for so many links and has given none, there are no jobs yet, and there is room for each, and for each one's number when it has ended
+  pub record CanTake (links : ℕ) (opened : G) (jobs : List (Job L Reader Writer Spent)) (room numbers : ℕ) : Type 0 where
     pub asked : IsOpenFor links (gate.asked opened)
     pub given : gate.given opened ≡ []
     pub none : jobs ≡ []
     pub enough : links ≤ room
-    pub each : flags ≡ links
+    pub each : numbers ≡ links
 
   -- each link that a gate gave until it gave no more has its job
   pub record HasTaken (link : links.Ghosts L Reader Writer Spent) (lock : LockModel Head) (links : ℕ) (opened after : G) (jobs : List (Job L Reader Writer Spent)) (end : GateEnd) : Type 0 where

@@ -1,18 +1,18 @@
 //! A gate's links, each of which is served in a thread of its own while the next one is waited for.
-ghost use Rattle.std.specs.Prelude.{◌≡◌, [], ◌++◌, ◌≤◌, length, map, All, vec_len, vec_capacity};
+ghost use Rattle.std.specs.Prelude.{◌≡◌, [], ◌++◌, ◌≤◌, map, All, vec_len, vec_capacity};
 ghost use Rattle.session_rules.specs.Journal.{Head};
 ghost use Rattle.grow_lock.specs.Passes.{LockModel, IsPassOf};
 ghost use Rattle.gate_run.specs.Taking.{CanTake, HasTaken};
 ghost use Rattle.gate_run.specs.Working.{IsFresh, IsWork};
 
 use crate::GateEnd;
+use crate::ended::Ended;
 use crate::jobs::{Job, start_link};
 use edge_io::{Gate, Link, Next};
 use grow_lock::{GrowLock, Pass};
 use session_core::Session;
 use std::alloc::Global;
 use std::sync::Wait;
-use std::sync::atomic::AtomicBool;
 use std::thread;
 use std::thread::{Scope, Threads};
 
@@ -21,18 +21,18 @@ pub fn accept_links<R: Threads + Wait + Sync, G: Gate>(
     rt: &R,
     alloc: Global,
     lock: &GrowLock<Session>,
-    flags: &[AtomicBool],
+    ended: &Ended,
     pass: Pass<Session>,
     links: u16,
     gate: &mut G,
     jobs: Vec<Job<G::Link>>,
 ) -> (Pass<Session>, Vec<Job<G::Link>>, GateEnd)
     requires lock { IsPassOf lock.now pass }
-    requires gate { CanTake G.Gate links gate.old jobs.items (vec_capacity jobs) (length flags.now) }
+    requires gate { CanTake G.Gate links gate.old jobs.items (vec_capacity jobs) (vec_len ended.now.behind) }
     ensures pass { result.0 ≡ pass }
     ensures taken { HasTaken G.Gate G.Link.Link lock.now links gate.old gate.new result.1.items result.2 }
 {
-    let (pass, jobs, gate, end) = accept_in_scope(rt, alloc, lock, flags, pass, links, gate, jobs);
+    let (pass, jobs, gate, end) = accept_in_scope(rt, alloc, lock, ended, pass, links, gate, jobs);
     take_back(gate);
     (pass, jobs, end)
 }
@@ -46,14 +46,14 @@ fn accept_in_scope<'g, R: Threads + Wait + Sync, G: Gate>(
     rt: &R,
     alloc: Global,
     lock: &GrowLock<Session>,
-    flags: &[AtomicBool],
+    ended: &Ended,
     pass: Pass<Session>,
     links: u16,
     gate: &'g mut G,
     jobs: Vec<Job<G::Link>>,
 ) -> (Pass<Session>, Vec<Job<G::Link>>, &'g mut G, GateEnd)
     requires lock { IsPassOf lock.now pass }
-    requires gate { CanTake G.Gate links gate.old jobs.items (vec_capacity jobs) (length flags.now) }
+    requires gate { CanTake G.Gate links gate.old jobs.items (vec_capacity jobs) (vec_len ended.now.behind) }
     ensures pass { result.0 ≡ pass }
     ensures same { result.2.ghost_name ≡ gate.entry.ghost_name }
     ensures taken { HasTaken G.Gate G.Link.Link lock.now links gate.entry.now result.2.now result.1.items result.3 }
@@ -62,9 +62,9 @@ fn accept_in_scope<'g, R: Threads + Wait + Sync, G: Gate>(
         thread::scope_env(),
         rt,
         move |scope| -> (Pass<Session>, Vec<Job<G::Link>>, &mut G, GateEnd)
-            requires { IsPassOf lock.now pass × CanTake G.Gate links gate.now jobs.items (vec_capacity jobs) (length flags.now) }
+            requires { IsPassOf lock.now pass × CanTake G.Gate links gate.now jobs.items (vec_capacity jobs) (vec_len ended.now.behind) }
             ensures { (result.0 ≡ pass) × (result.2.ghost_name ≡ gate.entry.ghost_name) × HasTaken G.Gate G.Link.Link lock.entry.now links gate.entry.now result.2.now result.1.items result.3 }
-        { accept_all(rt, alloc, scope, lock, flags, pass, links, gate, jobs) },
+        { accept_all(rt, alloc, scope, lock, ended, pass, links, gate, jobs) },
     )
 }
 
@@ -75,7 +75,7 @@ fn accept_all<'s, 'g, E, R: Threads + Wait + Sync, G: Gate>(
     alloc: Global,
     scope: &Scope<'s, E>,
     lock: &'s GrowLock<Session>,
-    flags: &'s [AtomicBool],
+    ended: &'s Ended,
     pass: Pass<Session>,
     links: u16,
     gate: &'g mut G,
@@ -84,7 +84,7 @@ fn accept_all<'s, 'g, E, R: Threads + Wait + Sync, G: Gate>(
 where
     G::Link: 's,
     requires lock { IsPassOf lock.now pass }
-    requires gate { CanTake G.Gate links gate.old jobs.items (vec_capacity jobs) (length flags.now) }
+    requires gate { CanTake G.Gate links gate.old jobs.items (vec_capacity jobs) (vec_len ended.now.behind) }
     ensures pass { result.0 ≡ pass }
     ensures same { result.2.ghost_name ≡ gate.entry.ghost_name }
     ensures taken { HasTaken G.Gate G.Link.Link lock.now links gate.entry.now result.2.now result.1.items result.3 }
@@ -92,12 +92,12 @@ where
     let mut pass = pass;
     let mut jobs = jobs;
     for _ in 0..u32::from(links) + 1 {
-        collect_ended(rt, &mut jobs, flags);
+        collect_ended(rt, &mut jobs, ended);
         match gate.next() {
             Next::Link(link) => {
-                let flag = &flags[jobs.len()];
+                let number = jobs.len();
                 let part = lock.split(&mut pass);
-                let job = start_link(rt, alloc, scope, lock, flag, part, link);
+                let job = start_link(rt, alloc, scope, lock, ended, number, part, link);
                 jobs.push_reserved(job);
             }
             Next::End => return (pass, jobs, gate, GateEnd::Ended),
@@ -107,15 +107,20 @@ where
     unreachable!()
 }
 
-/// Collects the jobs whose flags are set. A thread that has ended keeps its stack until it is joined.
-fn collect_ended<R: Threads, L: Link>(rt: &R, jobs: &mut Vec<Job<L>>, flags: &[AtomicBool])
-    requires { vec_len jobs.old ≤ length flags.now }
+/// Collects the jobs whose work has ended since the last look. A thread that has ended keeps its stack until it is joined.
+fn collect_ended<R: Threads, L: Link>(rt: &R, jobs: &mut Vec<Job<L>>, ended: &Ended)
+    requires { vec_len jobs.old ≤ vec_len ended.now.behind }
     ensures links { map (λ j. j.given.link.value) jobs.new.items ≡ map (λ j. j.given.link.value) jobs.old.items }
     ensures work { (lock : LockModel Head) → All (IsWork L.Link lock) jobs.old.items → All (IsWork L.Link lock) jobs.new.items }
     ensures len { vec_len jobs.new ≡ vec_len jobs.old }
     ensures capacity { vec_capacity jobs.new ≡ vec_capacity jobs.old }
 {
-    for i in 0..jobs.len() {
-        jobs[i].collect(rt, &flags[i]);
+    let mut number = ended.take();
+    for _ in 0..jobs.len() {
+        if number >= jobs.len() {
+            return;
+        }
+        jobs[number].collect(rt);
+        number = ended.after(number);
     }
 }

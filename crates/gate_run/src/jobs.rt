@@ -1,11 +1,12 @@
 //! The work for one link: in a thread, or done.
-ghost use Rattle.std.specs.Prelude.{◌≡◌, [], ◌||◌, true, is_some, IfSome};
+ghost use Rattle.std.specs.Prelude.{◌≡◌, ◌<◌, [], ◌||◌, true, is_some, IfSome, vec_len};
 ghost use Rattle.std.specs.Thread.{IsSync};
 ghost use Rattle.session_rules.specs.Journal.{Head};
 ghost use Rattle.grow_lock.specs.Passes.{LockModel, IsPassOf};
 ghost use Rattle.gate_run.specs.Gates.{given_state, spent_state};
 ghost use Rattle.gate_run.specs.Working.{IsFresh, IsDone, IsWork};
 
+use crate::ended::Ended;
 use edge_io::Link;
 use grow_lock::{GrowLock, Pass};
 use link_run::serve_viewer;
@@ -14,7 +15,6 @@ use session_core::Session;
 use std::alloc::Global;
 use std::snapshot::Snapshot;
 use std::sync::Wait;
-use std::sync::atomic::{AtomicBool, Ordering};
 use std::thread::{Promise, PromisedHandle, Scope, Threads};
 
 /// What the work for a link hands back.
@@ -46,15 +46,11 @@ pub struct Job<L: Link> {
 }
 
 impl<L: Link> Job<L> {
-    /// Where the flag is set, clears it, waits for the work's thread, if it has one, and keeps what it came to.
-    pub fn collect<R: Threads>(&mut self, rt: &R, flag: &AtomicBool)
+    /// Waits for the work's thread, if it has one that wasn't waited for, and keeps what it came to.
+    pub fn collect<R: Threads>(&mut self, rt: &R)
         ensures given { self.new.given ≡ self.old.given }
         ensures work { (lock : LockModel Head) → IsWork L.Link lock self.old → IsWork L.Link lock self.new }
     {
-        if !flag.load(Ordering::SeqCst) {
-            return;
-        }
-        flag.store(false, Ordering::SeqCst);
         if let Some(handle) = self.handle.take() {
             self.outcome = Some(handle.join(rt));
         }
@@ -77,20 +73,22 @@ impl<L: Link> Job<L> {
     }
 }
 
-/// Serves a link, and sets its flag as its last act.
+/// Serves a link, and puts its number on the chain as its last act.
 fn serve_link<R: Threads + Wait + Sync, L: Link>(
     rt: &R,
     alloc: Global,
     lock: &GrowLock<Session>,
-    flag: &AtomicBool,
+    ended: &Ended,
+    number: usize,
     pass: Pass<Session>,
     link: L,
 ) -> Outcome<L::Spent>
-    requires { IsPassOf lock.now pass }
+    requires lock { IsPassOf lock.now pass }
+    requires number { number < vec_len ended.now.behind }
     ensures { IsDone lock.now pass (given_state L.Link link) result.pass result.report (spent_state L.Link result.spent) }
 {
     let (pass, report, spent) = serve_viewer(rt, alloc, lock, pass, link);
-    flag.store(true, Ordering::SeqCst);
+    ended.put(rt, number);
     Outcome {
         pass,
         report,
@@ -104,7 +102,8 @@ pub fn start_link<'s, E, R: Threads + Wait + Sync, L: Link>(
     alloc: Global,
     scope: &Scope<'s, E>,
     lock: &'s GrowLock<Session>,
-    flag: &'s AtomicBool,
+    ended: &'s Ended,
+    number: usize,
     pass: Pass<Session>,
     link: L,
 ) -> Job<L>
@@ -112,6 +111,7 @@ where
     L: 's,
     requires lock { IsPassOf lock.now pass }
     requires fresh { IsFresh pass }
+    requires number { number < vec_len ended.now.behind }
     ensures link { result.given.link.value ≡ link }
     ensures work { IsWork L.Link lock.now result }
 {
@@ -128,9 +128,9 @@ where
     match scope.spawn_with(
         promise,
         move || -> Outcome<L::Spent>
-            requires { IsPassOf lock.now pass × IsSync R.row }
+            requires { IsPassOf lock.now pass × (number < vec_len ended.now.behind) × IsSync R.row }
             ensures { IsDone lock.entry.now pass (given_state L.Link link) result.pass result.report (spent_state L.Link result.spent) }
-        { serve_link(rt, alloc, lock, flag, pass, link) },
+        { serve_link(rt, alloc, lock, ended, number, pass, link) },
     ) {
         Ok(handle) => Job {
             given,

@@ -2,6 +2,7 @@
 #![tactic(auto)]
 
 mod accepting;
+mod ended;
 mod finishing;
 mod jobs;
 mod served;

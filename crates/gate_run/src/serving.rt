@@ -8,6 +8,7 @@ ghost use Rattle.gate_run.specs.Taking.{CanTake};
 ghost use Rattle.gate_run.specs.Gates.{gate_state, ServesGate};
 
 use crate::accepting::accept_links;
+use crate::ended::Ended;
 use crate::finishing::finish_all;
 use crate::jobs::Job;
 use crate::{GateEnd, OutOfMemory, Served};
@@ -18,40 +19,28 @@ use session_core::Session;
 use std::alloc::Global;
 use std::collections::VecDeque;
 use std::sync::Wait;
-use std::sync::atomic::AtomicBool;
 use std::thread::Threads;
 
-/// Room for the work on so many links, and a flag for each.
+/// Room for the work on so many links, and for the numbers of those that have ended.
 #[derive(Drop)]
 struct Room<L: Link> {
     jobs: Vec<Job<L>>,
     reports: Vec<ConnReport>,
-    flags: Vec<AtomicBool>,
+    ended: Ended,
 }
 
 impl<L: Link> Room<L> {
     fn new(alloc: Global, links: u16) -> Result<Room<L>, OutOfMemory>
         ensures jobs { IfOk result (λ room. (room.jobs.items ≡ []) × (links ≤ vec_capacity room.jobs)) }
         ensures reports { IfOk result (λ room. (room.reports.items ≡ []) × (vec_len room.reports + links ≤ vec_capacity room.reports)) }
-        ensures flags { IfOk result (λ room. vec_len room.flags ≡ links) }
+        ensures ended { IfOk result (λ room. vec_len room.ended.behind ≡ links) }
     {
         Ok(Room {
             jobs: Vec::with_capacity(alloc, usize::from(links))?,
             reports: Vec::with_capacity(alloc, usize::from(links))?,
-            flags: new_flags(alloc, links)?,
+            ended: Ended::new(alloc, links)?,
         })
     }
-}
-
-/// So many flags, none of which is set.
-fn new_flags(alloc: Global, count: u16) -> Result<Vec<AtomicBool>, OutOfMemory>
-    ensures { IfOk result (λ flags. vec_len flags ≡ count) }
-{
-    let mut flags = Vec::with_capacity(alloc, usize::from(count))?;
-    for _ in 0..count {
-        flags.push_reserved(AtomicBool::new(false));
-    }
-    Ok(flags)
 }
 
 /// Opens a gate and serves its links, each in a thread of its own, over this session: at most `links` of them, until the gate
@@ -99,7 +88,7 @@ fn serve_links<R: Threads + Wait + Sync, G: Gate>(
 ) -> Served
     requires lock { IsPassOf lock pass }
     requires mine { pass.mine ≡ [] }
-    requires gate { CanTake G.Gate links gate.old room.jobs.items (vec_capacity room.jobs) (vec_len room.flags) }
+    requires gate { CanTake G.Gate links gate.old room.jobs.items (vec_capacity room.jobs) (vec_len room.ended.behind) }
     requires finished { G.finished gate.old ≡ [] }
     requires reports { (room.reports.items ≡ []) × (vec_len room.reports + links ≤ vec_capacity room.reports) }
     ensures head { result.session.head ≡ lock.head }
@@ -108,18 +97,9 @@ fn serve_links<R: Threads + Wait + Sync, G: Gate>(
     let Room {
         jobs,
         mut reports,
-        flags,
+        ended,
     } = room;
-    let (pass, jobs, end) = accept_links(
-        rt,
-        alloc,
-        &lock,
-        flags.as_slice(),
-        pass,
-        links,
-        gate,
-        jobs,
-    );
+    let (pass, jobs, end) = accept_links(rt, alloc, &lock, &ended, pass, links, gate, jobs);
     let jobs = VecDeque::from_vec(jobs);
     let pass = finish_all(rt, &lock, pass, jobs, gate, &mut reports);
     Served {

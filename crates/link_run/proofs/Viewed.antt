@@ -8,8 +8,10 @@ use Rattle.wire_num.specs.declared.out_of_memory.OutOfMemory.{OutOfMemory as NoM
 use Rattle.caps_sets.specs.declared.confirmed.Confirmed.{Confirmed}
 use Rattle.conn_rules.specs.declared.conn_step.ConnStep.{ConnStep}
 use Rattle.conn_rules.specs.Hearing.{Hearing, heard}
-use Rattle.session_rules.specs.Journal.{Head, is_present, reached_at}
+use Rattle.session_rules.specs.declared.entry.Entry.{Entry}
+use Rattle.session_rules.specs.Journal.{Head, Reached, is_present, reached_at}
 use Rattle.session_rules.specs.Steps.{TakeOf, TakesFollow}
+use Rattle.session_rules.proofs.Journals.{reached_at-append}
 use Rattle.frame_rules.specs.FrameBytes.{joined_bytes}
 use Rattle.frame_rules.specs.Encoder.{first_encoder, bytes_of_takes}
 use Rattle.viewer_sender.specs.Senders.{SenderModel}
@@ -22,7 +24,7 @@ use Rattle.serve_rules.specs.declared.ends.SideEnd.{SideEnd}
 use Rattle.serve_rules.specs.declared.ends.SideEnd.TheVariants.{Done, Stopped}
 use Rattle.serve_rules.specs.declared.told.Told.{Told}
 use Rattle.serve_rules.proofs.Handling.{handles_nothing}
-use Rattle.viewer_run.specs.Sending.{IsSendEnd}
+use Rattle.viewer_run.specs.Sending.{IsPresentAtEach, IsSendEnd}
 use Rattle.viewer_run.specs.Frames.{first_take, FramesSent}
 use Rattle.viewer_run.specs.Serving.{ViewEnd, EndsSending, Attends, IsShownLast, wants_last}
 use Rattle.viewer_run.specs.Arriving.{Stays, IsUntouched}
@@ -48,6 +50,7 @@ pub record Viewed (head : Head) (v : ℕ) (confirmed : Confirmed) (rest : List C
   pub follow : TakesFollow 0 takes last
   pub within_seen : last ≤ length after.seen
   pub begins : BeginsWith (length joined.seen) end takes
+  pub present : IsPresentAtEach head v after.seen takes
   pub more_found : List ℕ
   pub found : after.found ≡ joined.found ++ more_found
   pub takes_found : IsWithin (map (λ (t : TakeOf). t.number) (drop 1 takes)) more_found
@@ -82,10 +85,10 @@ no_want end free is = cc (sym free ∙ ap is_cut is)
 
 module _ (head : Head) (v : ℕ) (confirmed : Confirmed) (rest : List ConnStep) (conn : Hearing) (p q : SessionPass) (told told' : Told) (left left' : Option (List ℕ)) (rf rf' : ℕ)
     (out out' : Option (List ℕ)) (wf wf' : ℕ) (end : ConnEnd) where
-  viewed_first : (sender : SenderModel) → Attends head v confirmed rest conn sender p q told told' left left' rf rf' out out' wf wf' end
+  viewed_first : is_present v (reached_at head.size p.seen (length p.seen)).viewers ≡ true → (sender : SenderModel) → Attends head v confirmed rest conn sender p q told told' left left' rf rf' out out' wf wf' end
       → IsShownLast head v q sender end (notice_in told')
       → Viewed head v confirmed rest conn p q told.places.list told'.places.list (notice_in told) (notice_in told') left left' rf rf' out out' wf wf' end
-  viewed_first sender a shown =
+  viewed_first here sender a shown =
       let r = a.reads in
       let f : FramesSent head v confirmed sender p q out out' wf wf' a.sent = a.frames in record {
         fed = r.fed;
@@ -102,6 +105,11 @@ module _ (head : Head) (v : ℕ) (confirmed : Confirmed) (rest : List ConnStep) 
         follow = f.follow;
         within_seen = f.within_seen;
         begins = refl;
+        present = (
+          ap (λ (j : List Entry). is_present v (reached_at head.size j (length p.seen)).viewers) f.grows.1
+              ∙ (ap (λ (x : Reached). is_present v x.viewers) (reached_at-append head.size p.seen f.grows.0 (length p.seen) (omega arith)) ∙ here),
+          f.present,
+        );
         more_found = f.more_found;
         found = f.found;
         takes_found = f.in_found;
@@ -111,9 +119,9 @@ module _ (head : Head) (v : ℕ) (confirmed : Confirmed) (rest : List ConnStep) 
         told = f.told;
         all_written = λ free. f.all (uncut_stopped a.sent end a.ended f.only free);
         calm = λ free. f.calm (uncut_stopped a.sent end a.ended f.only free);
-        shown = λ wants here.
+        shown = λ wants still.
             let free : is_cut end ≡ false = ap is_cut (wants_left end (notice_in told') wants) in
-            sym (f.after_is (uncut_stopped a.sent end a.ended f.only free)).2 ∙ shown wants here;
+            sym (f.after_is (uncut_stopped a.sent end a.ended f.only free)).2 ∙ shown wants still;
       }
 
   viewed_none : q ≡ p → IsUntouched told told' left left' rf rf' out out' wf wf' → end ≡ OutOfMemory
@@ -135,6 +143,7 @@ module _ (head : Head) (v : ℕ) (confirmed : Confirmed) (rest : List ConnStep) 
         follow = refl;
         within_seen = omega arith;
         begins = is;
+        present = tt;
         more_found = [];
         found = ap (λ (x : SessionPass). x.found) same ∙ sym (nil p.found);
         takes_found = tt;
@@ -152,7 +161,7 @@ module _ (head : Head) (v : ℕ) (confirmed : Confirmed) (rest : List ConnStep) 
       nil (x ∷ xs) = ap (λ l. x ∷ l) (nil xs)
 
   -- in either way in which a viewer stays
-  pub viewed : (first : Result FirstFrame NoMemory) → Stays head v confirmed first rest conn p q told told' left left' rf rf' out out' wf wf' end
+  pub viewed : is_present v (reached_at head.size p.seen (length p.seen)).viewers ≡ true → (first : Result FirstFrame NoMemory) → Stays head v confirmed first rest conn p q told told' left left' rf rf' out out' wf wf' end
       → Viewed head v confirmed rest conn p q told.places.list told'.places.list (notice_in told) (notice_in told') left left' rf rf' out out' wf wf' end
-  viewed (Ok first) s = viewed_first s.0 s.1 s.2
-  viewed (Err refusal) s = viewed_none s.0 s.1 s.2
+  viewed here (Ok first) s = viewed_first here s.0 s.1 s.2
+  viewed here (Err refusal) s = viewed_none s.0 s.1 s.2

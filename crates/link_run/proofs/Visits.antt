@@ -49,7 +49,8 @@ use Rattle.viewer_run.specs.Visiting.{leave_if, leave_place}
 use Rattle.viewer_run.specs.Arriving.{no_notice, IsUnnoted, ServesArrival}
 use Rattle.viewer_run.specs.Ending.{ultimatum_at}
 use Rattle.viewer_run.proofs.Attending.{wants_left}
-use Rattle.viewer_run.proofs.TakesOn.{bytes_stay}
+use Rattle.viewer_run.proofs.Coming.{present_by}
+use Rattle.viewer_run.proofs.TakesOn.{present_stays, bytes_stay}
 use Rattle.link_run.specs.Links.{link_state}
 use Rattle.link_run.specs.Ending.{is_cut, SaysLast, Writes}
 use Rattle.link_run.specs.Served.{ReportsVisit}
@@ -166,8 +167,13 @@ module _ (head : Head) (p p1 r : SessionPass) (size : Size) (conn : Hearing) (na
       let role = sa.arrives.role in
       let t1 : Told = sa.told in
       let n0 : Told = sa.noted in
+      let q_len : length q.seen ≡ suc (length b) = ap (λ (l : List Entry). length l) sa.arrives.turn.seen ∙ pushed b (Join v role) in
+      let join_q : slice_get q.seen (length b) ≡ Some (Join v role)
+      = subst (λ (l : List Entry). slice_get l (length b) ≡ Some (Join v role)) (sym sa.arrives.turn.seen) (got_end b (Join v role)) in
       let view : Viewed head v confirmed guest.rest.items conn q u n0.places.list t1.places.list (notice_in n0) (notice_in t1) left1 left2 rf1 rf2 out1 mid wf1 wm visit.end
-      = viewed head v confirmed guest.rest.items conn q u n0 t1 left1 left2 rf1 rf2 out1 mid wf1 wm visit.end sa.arrival.first sa.stays in
+      = viewed head v confirmed guest.rest.items conn q u n0 t1 left1 left2 rf1 rf2 out1 mid wf1 wm visit.end
+      (present_by (is_present v (reached_at head.size q.seen (length q.seen)).viewers) head.size q.seen v (length b) (length q.seen) role refl join_q q_len)
+      sa.arrival.first sa.stays in
       let place : Option ℕ = sa.leaves.0 in
       let c : List Entry = sa.leaves.1.base in
       let here : Bool = is_present v (reached_at head.size c (length c)).viewers in
@@ -175,13 +181,10 @@ module _ (head : Head) (p p1 r : SessionPass) (size : Size) (conn : Hearing) (na
       let s : Said visit.end noted.shutdown said mid out2 wm wf2 = said_last visit.end noted.shutdown said mid out2 wm wf2 says in
       -- the journal
       let join : ℕ = length b in
-      let q_len : length q.seen ≡ suc (length b) = ap (λ (l : List Entry). length l) sa.arrives.turn.seen ∙ pushed b (Join v role) in
       let on_u : StartsWith u.seen q.seen = view.handles.grows in
       let on_r : StartsWith r.seen u.seen = turn_grows u r c (leave_if here v) turn in
       let on_b : StartsWith r.seen b = starts_trans r.seen u.seen b on_r (starts_trans u.seen q.seen b on_u (Join v role ∷ [], sa.arrives.turn.seen)) in
-      let join_u : slice_get u.seen (length b) ≡ Some (Join v role)
-      = got_on u.seen q.seen (length b) (Join v role) on_u
-      (subst (λ (l : List Entry). slice_get l (length b) ≡ Some (Join v role)) (sym sa.arrives.turn.seen) (got_end b (Join v role))) in
+      let join_u : slice_get u.seen (length b) ≡ Some (Join v role) = got_on u.seen q.seen (length b) (Join v role) on_u join_q in
       let below_u : length b < length u.seen = omega (arith, q_len, length_starts u.seen q.seen on_u) in
       let below_c : length b < length c = omega (arith, below_u, length_starts c u.seen turn.goes_on) in
       -- the events, over the whole journal
@@ -278,6 +281,7 @@ module _ (head : Head) (p p1 r : SessionPass) (size : Size) (conn : Hearing) (na
           within_takes = within;
           begins = begins_said (suc (length b)) visit.end said view.takes (want_stays visit.end noted.shutdown said mid out2 wm wf2 s)
               (subst (λ (n : ℕ). BeginsWith n visit.end view.takes) q_len view.begins);
+          present = present_stays head v r.seen u.seen view.takes 0 view.last view.follow view.within_seen on_r view.present;
           more_found = length idle.0 ∷ (length b ∷ (view.more_found ++ length c ∷ []));
           found = found_0;
           acts_found = inr (inl (refl, acts_in));

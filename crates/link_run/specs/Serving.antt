@@ -32,6 +32,7 @@ use Rattle.serve_rules.specs.declared.ends.ConnEnd.TheVariants.{Left, Refused, T
 use Rattle.serve_rules.specs.declared.told.ConnReport.{ConnReport}
 use Rattle.viewer_run.specs.Greeting.{Greeting, greeting, StillConnects}
 use Rattle.viewer_run.specs.Greeting.Greeting.{IsReady, HasLeft}
+use Rattle.viewer_run.specs.Sending.{IsPresentAtEach}
 use Rattle.viewer_run.specs.Serving.{ViewEnd, wants_last}
 use Rattle.viewer_run.specs.Arriving.{no_notice}
 use Rattle.link_run.specs.Links.{LinkState}
@@ -114,12 +115,13 @@ pub record IsVisit (head : Head) (before after : SessionPass) (report : ConnRepo
   pub places : report.places.list ≡ join ∷ places_of head report.viewer after.seen acts ++ leave
   pub ascend : Ascend join report.places.list (length after.seen)
   pub of_events : AreOfEvents report.viewer after.seen (places_of head report.viewer after.seen acts)
-  -- its takes, the first right behind its Join
+  -- its takes, the first right behind its Join, each at a number where it is present
   pub takes : List TakeOf
   pub last : ℕ
   pub follow : TakesFollow 0 takes last
   pub within_takes : last ≤ length after.seen
   pub begins : BeginsWith (suc join) report.end takes
+  pub present : IsPresentAtEach head report.viewer after.seen takes
   -- the lengths that the pass found in its turns: the Join's, those of the events, those of the later takes
   pub more_found : List ℕ
   pub found : after.found ≡ before.found ++ more_found

@@ -30,7 +30,7 @@ use Rattle.viewer_run.specs.Frames.{FirstSent, FramesSent}
 use Rattle.viewer_run.specs.Serving.{ViewEnd, ReadsTo, EndsSending, SidesServe, Attends, ended_by, wants_last, end_of_last}
 use Rattle.viewer_run.proofs.FromFirst.{first_alone, first_then, frames_then}
 use Rattle.viewer_run.proofs.Stretches.{same_none}
-use Rattle.viewer_run.proofs.TakesOn.{bytes_stay, encoder_stays}
+use Rattle.viewer_run.proofs.TakesOn.{present_stays, bytes_stay, encoder_stays}
 
 -- ---- the end of the reading is that of the connection
 
@@ -137,6 +137,7 @@ sends_stay head s s' p q r told told' f f' end turns h grows found =
       grows = starts_trans r.seen q.seen p.seen grows h.grows;
       within_seen = omega (arith, h.within_seen, length_starts r.seen q.seen grows);
       up_to_date = h.up_to_date;
+      present = present_stays head s.v r.seen q.seen h.takes s.number h.last h.follow h.within_seen grows h.present;
       more_found = h.more_found ++ turns;
       found = found ∙ (ap (λ l. l ++ turns) h.found ∙ append_assoc p.found h.more_found turns);
       in_found = within_back turns (map (λ (t : TakeOf). t.number) h.takes) h.more_found h.in_found;

@@ -66,7 +66,7 @@ joined_journal : (head : Head) (r : Reached) (name : List ℕ) (v : ℕ) (old ne
 joined_journal head r name v old new j is = is ∙ ap (λ (e : Option Entry). old ++ option_to_list e) j.is
 
 -- who has just joined is present
-present_by : (b : Bool) (size : Size) (j : List Entry) (v a n : ℕ) (role : Role) → is_present v (reached_at size j n).viewers ≡ b → slice_get j a ≡ Some (Join v role) → n ≡ suc a
+pub present_by : (b : Bool) (size : Size) (j : List Entry) (v a n : ℕ) (role : Role) → is_present v (reached_at size j n).viewers ≡ b → slice_get j a ≡ Some (Join v role) → n ≡ suc a
     → b ≡ true
 present_by true size j v a n role is stands next = refl
 present_by false size j v a n role is stands next =

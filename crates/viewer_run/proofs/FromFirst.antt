@@ -19,13 +19,13 @@ use Rattle.grow_lock.proofs.Lists.{starts_itself, starts_trans, length_starts}
 use Rattle.serve_rules.specs.Turns.{SessionPass}
 use Rattle.serve_rules.specs.declared.ends.SideEnd.{SideEnd}
 use Rattle.serve_rules.specs.declared.ends.SideEnd.TheVariants.{Stopped}
-use Rattle.viewer_run.specs.Sending.{TakesFrame, SendsFrame, SendsOn}
+use Rattle.viewer_run.specs.Sending.{TakesFrame, SendsFrame, IsPresentAtEach, SendsOn}
 use Rattle.viewer_run.specs.Visiting.{IsFresh}
 use Rattle.viewer_run.specs.Frames.{first_take, FirstSent, FramesSent}
 use Rattle.std.proofs.lemmas.List.{map-append}
 use Rattle.serve_rules.specs.Events.{IsWithin}
 use Rattle.serve_rules.proofs.Lists.{within_then}
-use Rattle.viewer_run.proofs.TakesOn.{follow_then, at_least_lower, at_least_then, joined_then, bytes_then, encoder_then, bytes_stay, encoder_stays}
+use Rattle.viewer_run.proofs.TakesOn.{follow_then, at_least_lower, at_least_then, present_then, present_stays, joined_then, bytes_then, encoder_then, bytes_stay, encoder_stays}
 use Rattle.viewer_run.proofs.OneTake.{stands_taken}
 
 -- the first take's frame was sent
@@ -84,6 +84,7 @@ module _ (head : Head) (v : ℕ) (confirmed : Confirmed) where
     grows = starts_itself p.seen;
     within_seen = omega arith;
     up_to_date = tt;
+    present = tt;
     more_found = [];
     found = sym (append-nil p.found);
     in_found = tt;
@@ -124,6 +125,7 @@ module _ (head : Head) (v : ℕ) (confirmed : Confirmed) where
         grows = b.grows;
         within_seen = b.within_seen;
         up_to_date = b.up_to_date;
+        present = subst (λ (n : ℕ). IsPresentAtEach head n q.seen b.takes) w.0 b.present;
         more_found = b.more_found;
         found = b.found;
         in_found = b.in_found;
@@ -171,6 +173,9 @@ module _ (head : Head) (v : ℕ) (confirmed : Confirmed) where
         grows = starts_trans r.seen q.seen p.seen b.grows a.grows;
         within_seen = b.within_seen;
         up_to_date = at_least_then (length p.seen) a.later b.takes a.up_to_date (at_least_lower (length q.seen) (length p.seen) b.takes longer b.up_to_date);
+        present = present_then head v r.seen a.later b.takes
+            (present_stays head v r.seen q.seen a.later (length p.seen) a.last a.follow.2 a.within_seen b.grows a.present)
+            (subst (λ (n : ℕ). IsPresentAtEach head n r.seen b.takes) w.0 b.present);
         more_found = a.more_found ++ b.more_found;
         found = b.found ∙ (ap (λ l. l ++ b.more_found) a.found ∙ append_assoc p.found a.more_found b.more_found);
         in_found = subst (λ l. IsWithin l (a.more_found ++ b.more_found)) (sym (map-append (λ (t : TakeOf). t.number) a.later b.takes))

@@ -8,7 +8,7 @@ use Rattle.wire_num.specs.declared.out_of_memory.OutOfMemory.{OutOfMemory as NoM
 use Rattle.px_core.specs.declared.surface.Size.{Size}
 use Rattle.caps_sets.specs.declared.confirmed.Confirmed.{Confirmed}
 use Rattle.session_rules.specs.declared.entry.Entry.{Entry}
-use Rattle.session_rules.specs.Journal.{Head}
+use Rattle.session_rules.specs.Journal.{Head, is_present, reached_at}
 use Rattle.session_rules.specs.Steps.{TakeOf}
 use Rattle.session_core.specs.SessionModel.{SessionModel, asked_by}
 use Rattle.save_plan.specs.Blocks.{Held}
@@ -28,6 +28,7 @@ use Rattle.serve_rules.specs.declared.ends.SideEnd.{SideEnd}
 use Rattle.serve_rules.specs.declared.ends.SideEnd.TheVariants.{Done, Stopped}
 use Rattle.serve_rules.proofs.ReadOn.{not_stopped}
 use Rattle.serve_rules.proofs.Turning.{TurnFacts, turned}
+use Rattle.viewer_run.specs.Visiting.{IsAbsent}
 use Rattle.viewer_run.specs.Sending.{due, TakesFrame, TakesAs, TakesIn, IsSendEnd, Encodes, WritesFrame, SendsFrame, SendsTaken, IsNext, SendsOn}
 
 -- ---- a take
@@ -128,6 +129,15 @@ next_is head j s t (Ok (Frame take)) idle h = (
 next_is head j s t (Ok Nothing) idle h = tt
 next_is head j s t (Err refusal) idle h = tt
 
+-- a take that found a frame found its viewer present
+found_here : (head : Head) (v : ℕ) (j : List Entry) (take : TakeModel) (taken : Result Taken NoMemory) → taken ≡ Ok (Frame take) → (IsAbsent head v j → taken ≡ Ok Nothing)
+    → is_present v (reached_at head.size j (length j)).viewers ≡ true
+found_here head v j take taken found absent = by (is_present v (reached_at head.size j (length j)).viewers) refl
+  where
+    by : (b : Bool) → is_present v (reached_at head.size j (length j)).viewers ≡ b → b ≡ true
+    by true is = refl
+    by false is = absurd (cc (sym found ∙ absent is))
+
 module _ (head : Head) (p q : SessionPass) (s t u : SenderModel) (told told' : Option (List ℕ)) (f f' : ℕ) (end : SideEnd) where
   -- nothing was sent
   nothing_sent : IsTurn p q q.seen [] → s.number ≤ length p.seen → IsIdle s → Appends told told' [] → u ≡ s → IsSendEnd end → (end ≡ Done WriteFault → ⊥) → f' ≡ f
@@ -139,6 +149,7 @@ module _ (head : Head) (p q : SessionPass) (s t u : SenderModel) (told told' : O
     grows = turn.goes_on;
     within_seen = omega (arith, seen, length_starts q.seen p.seen turn.goes_on);
     up_to_date = tt;
+    present = tt;
     more_found = length q.seen ∷ [];
     found = turn.found;
     in_found = tt;
@@ -157,9 +168,9 @@ module _ (head : Head) (p q : SessionPass) (s t u : SenderModel) (told told' : O
     calm = λ stopped. calm;
   }
 
-  frame_sent : IsTurn p q q.seen [] → s.number ≤ length p.seen → IsIdle s → (take : TakeModel) → TakesFrame head q.seen s t take → SendsFrame t u take told told' f f' end
-      → SendsOn head s u p q told told' f f' end
-  frame_sent turn seen idle take h fr =
+  frame_sent : IsTurn p q q.seen [] → s.number ≤ length p.seen → IsIdle s → is_present s.v (reached_at head.size q.seen (length q.seen)).viewers ≡ true → (take : TakeModel)
+      → TakesFrame head q.seen s t take → SendsFrame t u take told told' f f' end → SendsOn head s u p q told told' f f' end
+  frame_sent turn seen idle here take h fr =
       let size = head.size in
       let c = s.confirmed in
       let found : TakeOf = due s q.seen h.asked in
@@ -177,6 +188,7 @@ module _ (head : Head) (p q : SessionPass) (s t u : SenderModel) (told told' : O
         grows = turn.goes_on;
         within_seen = omega arith;
         up_to_date = (longer, tt);
+        present = (here, tt);
         more_found = length q.seen ∷ [];
         found = turn.found;
         in_found = inl (refl, tt);
@@ -209,11 +221,13 @@ module _ (head : Head) (p q : SessionPass) (s t u : SenderModel) (told told' : O
       }
 
   -- one round of a send side
-  pub sends_one : (taken : Result Taken NoMemory) → TakesIn head p q s t taken → s.number ≤ length p.seen → IsIdle s → SendsTaken taken t u told told' f f' end
-      → SendsOn head s u p q told told' f f' end
-  sends_one (Ok (Frame take)) h seen idle d = frame_sent h.turn seen idle take h.takes d
-  sends_one (Ok Nothing) h seen idle d = nothing_sent h.turn seen idle d.1 (d.0 ∙ h.takes) (subst IsSendEnd (sym d.2) tt) (λ is. stopped_is_no_fault (sym d.2 ∙ is)) d.3
-  sends_one (Err refusal) h seen idle d = nothing_sent h.turn seen idle d.1 (d.0 ∙ h.takes) (subst IsSendEnd (sym d.2) tt) (λ is. memory_is_no_fault (sym d.2 ∙ is)) d.3
+  pub sends_one : (taken : Result Taken NoMemory) → TakesIn head p q s t taken → s.number ≤ length p.seen → IsIdle s → (v : ℕ) → s.v ≡ v
+      → (IsAbsent head v q.seen → taken ≡ Ok Nothing) → SendsTaken taken t u told told' f f' end → SendsOn head s u p q told told' f f' end
+  sends_one (Ok (Frame take)) h seen idle v of absent d =
+      frame_sent h.turn seen idle
+      (subst (λ (n : ℕ). is_present n (reached_at head.size q.seen (length q.seen)).viewers ≡ true) (sym of) (found_here head v q.seen take (Ok (Frame take)) refl absent)) take h.takes d
+  sends_one (Ok Nothing) h seen idle v of absent d = nothing_sent h.turn seen idle d.1 (d.0 ∙ h.takes) (subst IsSendEnd (sym d.2) tt) (λ is. stopped_is_no_fault (sym d.2 ∙ is)) d.3
+  sends_one (Err refusal) h seen idle v of absent d = nothing_sent h.turn seen idle d.1 (d.0 ∙ h.takes) (subst IsSendEnd (sym d.2) tt) (λ is. memory_is_no_fault (sym d.2 ∙ is)) d.3
 
 abbrev NumberOf : Result Taken NoMemory → ℕ → Head → List Entry → SenderModel → Type 0
 NumberOf taken number head j u = (taken ≡ Ok Nothing → number ≡ length j) → u.number ≡ length j

@@ -18,8 +18,8 @@ use Rattle.serve_rules.specs.Events.{IsWithin}
 use Rattle.serve_rules.specs.declared.ends.SideEnd.{SideEnd}
 use Rattle.serve_rules.specs.declared.ends.SideEnd.TheVariants.{Stopped}
 use Rattle.serve_rules.proofs.Lists.{within_front, within_then}
-use Rattle.viewer_run.specs.Sending.{AtLeast, SendsOn}
-use Rattle.viewer_run.proofs.TakesOn.{follow_then, at_least_lower, at_least_then, joined_then, bytes_then, encoder_then, bytes_stay, encoder_stays}
+use Rattle.viewer_run.specs.Sending.{AtLeast, IsPresentAtEach, SendsOn}
+use Rattle.viewer_run.proofs.TakesOn.{follow_then, at_least_lower, at_least_then, present_then, present_stays, joined_then, bytes_then, encoder_then, bytes_stay, encoder_stays}
 use Rattle.viewer_run.proofs.OneTake.{stopped_is_no_fault}
 
 -- nothing was done
@@ -31,6 +31,7 @@ sends_none head s p told f idle seen = record {
   grows = starts_itself p.seen;
   within_seen = seen;
   up_to_date = tt;
+  present = tt;
   more_found = [];
   found = sym (append-nil p.found);
   in_found = tt;
@@ -69,6 +70,9 @@ module _ (head : Head) where
         grows = starts_trans r.seen q.seen p.seen b.grows a.grows;
         within_seen = b.within_seen;
         up_to_date = at_least_then (length p.seen) a.takes b.takes a.up_to_date (at_least_lower (length q.seen) (length p.seen) b.takes longer b.up_to_date);
+        present = present_then head s.v r.seen a.takes b.takes
+            (present_stays head s.v r.seen q.seen a.takes s.number a.last a.follow a.within_seen b.grows a.present)
+            (subst (λ (v : ℕ). IsPresentAtEach head v r.seen b.takes) w.0 b.present);
         more_found = a.more_found ++ b.more_found;
         found = b.found ∙ (ap (λ l. l ++ b.more_found) a.found ∙ append_assoc p.found a.more_found b.more_found);
         in_found = subst (λ l. IsWithin l (a.more_found ++ b.more_found)) (sym (map-append (λ (t : TakeOf). t.number) a.takes b.takes))
@@ -124,6 +128,7 @@ module _ (head : Head) where
         grows = starts_trans m.seen b.seen p.seen grows (subst (λ (l : List Entry). StartsWith b.seen l) same h.grows);
         within_seen = omega (arith, h.within_seen, length_starts m.seen b.seen grows);
         up_to_date = subst (λ (l : List Entry). AtLeast (length l) h.takes) same h.up_to_date;
+        present = present_stays head s.v m.seen b.seen h.takes s.number h.last h.follow h.within_seen grows h.present;
         more_found = turns ++ b.found;
         found = found ∙ (ap (λ l. l ++ b.found) ahead ∙ append_assoc p.found turns b.found);
         in_found = within_front turns (numbers h.takes) b.found

@@ -3,11 +3,14 @@ use Rattle.std.proofs.Common.{◌≡◌, ℕ, ◌≤◌, List, [], ◌∷◌, �
 use Rattle.px_core.specs.declared.surface.Size.{Size}
 use Rattle.caps_sets.specs.declared.confirmed.Confirmed.{Confirmed}
 use Rattle.session_rules.specs.declared.entry.Entry.{Entry}
+use Rattle.session_rules.specs.Journal.{Head, Reached, is_present}
 use Rattle.session_rules.specs.Steps.{TakeOf, TakesFollow}
+use Rattle.session_rules.proofs.Journals.{reached_at-append}
 use Rattle.frame_rules.specs.FrameBytes.{joined_bytes}
 use Rattle.frame_rules.specs.Encoder.{Encoder, take_bytes, encoder_after, bytes_of_takes, encoder_after_takes}
 use Rattle.frame_rules.proofs.FrameLaws.{take_bytes-append, encoder_after-append}
-use Rattle.viewer_run.specs.Sending.{AtLeast}
+use Rattle.grow_lock.specs.Journal.{StartsWith}
+use Rattle.viewer_run.specs.Sending.{AtLeast, IsPresentAtEach}
 
 pub follow_up : (from : ℕ) (ts : List TakeOf) (to : ℕ) → TakesFollow from ts to → from ≤ to
 follow_up from [] to h = omega (arith, h)
@@ -25,6 +28,26 @@ at_least_lower low less (t ∷ ts) le h = (omega (arith, le, h.0), at_least_lowe
 pub at_least_then : (low : ℕ) (ts us : List TakeOf) → AtLeast low ts → AtLeast low us → AtLeast low (ts ++ us)
 at_least_then low [] us h k = k
 at_least_then low (t ∷ ts) us h k = (h.0, at_least_then low ts us h.1 k)
+
+-- who is present at takes, and at those behind them
+pub present_then : (head : Head) (v : ℕ) (j : List Entry) (ts us : List TakeOf) → IsPresentAtEach head v j ts → IsPresentAtEach head v j us → IsPresentAtEach head v j (ts ++ us)
+present_then head v j [] us h k = k
+present_then head v j (t ∷ ts) us h k = (h.0, present_then head v j ts us h.1 k)
+
+present_goes_on : (head : Head) (v : ℕ) (j more : List Entry) (ts : List TakeOf) (from last : ℕ) → TakesFollow from ts last → last ≤ length j
+    → IsPresentAtEach head v j ts → IsPresentAtEach head v (j ++ more) ts
+present_goes_on head v j more [] from last follow within h = tt
+present_goes_on head v j more (t ∷ ts) from last follow within h =
+    let below : t.number ≤ length j = omega (arith, within, follow_up t.number ts last follow.2) in (
+      ap (λ (r : Reached). is_present v r.viewers) (reached_at-append head.size j more t.number below) ∙ h.0,
+      present_goes_on head v j more ts t.number last follow.2 within h.1,
+    )
+
+-- who is present at takes is so as the journal goes on after the last of them
+pub present_stays : (head : Head) (v : ℕ) (whole j : List Entry) (ts : List TakeOf) (from last : ℕ) → TakesFollow from ts last → last ≤ length j → StartsWith whole j
+    → IsPresentAtEach head v j ts → IsPresentAtEach head v whole ts
+present_stays head v whole j ts from last follow within grows h =
+    subst (λ (l : List Entry). IsPresentAtEach head v l ts) (sym grows.1) (present_goes_on head v j grows.0 ts from last follow within h)
 
 pub joined_then : (xs ys : List (List ℕ)) → joined_bytes (xs ++ ys) ≡ joined_bytes xs ++ joined_bytes ys
 joined_then [] ys = refl

@@ -17,7 +17,7 @@ use Rattle.serve_rules.specs.Events.{IsWithin}
 use Rattle.serve_rules.specs.declared.ends.ConnEnd.TheVariants.{WriteFault}
 use Rattle.serve_rules.specs.declared.ends.SideEnd.{SideEnd}
 use Rattle.serve_rules.specs.declared.ends.SideEnd.TheVariants.{Done, Stopped}
-use Rattle.viewer_run.specs.Sending.{AtLeast, IsSendEnd}
+use Rattle.viewer_run.specs.Sending.{AtLeast, IsPresentAtEach, IsSendEnd}
 
 -- a viewer's first take, over the journal of its Join's turn
 abbrev pub first_take : List Entry → Tiles → TakeOf
@@ -38,8 +38,8 @@ pub record FirstSent (head : Head) (v : ℕ) (confirmed : Confirmed) (j : List E
   pub cause : end ≡ Done WriteFault → Rose faults_old faults_new
   pub calm : end ≡ Stopped → faults_new ≡ faults_old
 
--- a viewer's frames from the first on, between its Join's turn and another state of the pass: each later take in a turn of its own behind it; a front of the bytes
--- of all, in order, was written, and at `Stopped` all of them
+-- a viewer's frames from the first on, between its Join's turn and another state of the pass: each later take in a turn of its own behind it that found the viewer
+-- present; a front of the bytes of all, in order, was written, and at `Stopped` all of them
 pub record FramesSent (head : Head) (v : ℕ) (confirmed : Confirmed) (sender : SenderModel) (joined after : SessionPass) (told_old told_new : Option (List ℕ))
     (faults_old faults_new : ℕ) (end : SideEnd) : Type 0 where
   pub asked : Tiles
@@ -49,6 +49,7 @@ pub record FramesSent (head : Head) (v : ℕ) (confirmed : Confirmed) (sender : 
   pub grows : StartsWith after.seen joined.seen
   pub within_seen : last ≤ length after.seen
   pub up_to_date : AtLeast (length joined.seen) later
+  pub present : IsPresentAtEach head v after.seen later
   pub more_found : List ℕ
   pub found : after.found ≡ joined.found ++ more_found
   pub in_found : IsWithin (map (λ (t : TakeOf). t.number) later) more_found

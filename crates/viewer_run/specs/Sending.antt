@@ -1,12 +1,12 @@
 -- What the send side of a viewer does.
-use Rattle.std.specs.Prelude.{◌≡◌, ℕ, ◌≤◌, ⊤, ◌+◌, Result, Ok, Err, List, [], ◌∷◌, ◌++◌, length, map}
+use Rattle.std.specs.Prelude.{◌≡◌, ℕ, ◌≤◌, ⊤, ◌+◌, true, Result, Ok, Err, List, [], ◌∷◌, ◌++◌, length, map}
 use Rattle.std.specs.declared.option.Option.{Option}
 use Rattle.std.specs.Io.KnownBytes.{Appends}
 use Rattle.wire_num.specs.declared.out_of_memory.OutOfMemory.{OutOfMemory as NoMemory}
 use Rattle.px_core.specs.Tiles.{Tiles}
 use Rattle.edge_io.specs.Faults.{Rose}
 use Rattle.session_rules.specs.declared.entry.Entry.{Entry}
-use Rattle.session_rules.specs.Journal.{Head}
+use Rattle.session_rules.specs.Journal.{Head, is_present, reached_at}
 use Rattle.session_rules.specs.Steps.{TakeOf, TakesFollow}
 use Rattle.frame_rules.specs.Frame.{FrameOf, frame_of}
 use Rattle.frame_rules.specs.FrameBytes.{joined_bytes, frame_bytes}
@@ -111,8 +111,13 @@ abbrev pub AtLeast : ℕ → List TakeOf → Type 0
 AtLeast low [] = ⊤
 AtLeast low (t ∷ ts) = (low ≤ t.number) × AtLeast low ts
 
--- what a send side did between two states of its pass, its sender and its output: the takes that it had frames of, each in a turn of its own, and a front of
--- their bytes, or all of them at `Stopped`, from each encoder that the sender follows
+-- at each take its viewer is present, after so many of a journal's entries as the take found
+abbrev pub IsPresentAtEach : Head → ℕ → List Entry → List TakeOf → Type 0
+IsPresentAtEach head v j [] = ⊤
+IsPresentAtEach head v j (t ∷ ts) = (is_present v (reached_at head.size j t.number).viewers ≡ true) × IsPresentAtEach head v j ts
+
+-- what a send side did between two states of its pass, its sender and its output: the takes that it had frames of, each in a turn of its own that found its viewer
+-- present, and a front of their bytes, or all of them at `Stopped`, from each encoder that the sender follows
 pub record SendsOn (head : Head) (before after : SenderModel) (pass_before pass_after : SessionPass) (told_old told_new : Option (List ℕ)) (faults_old faults_new : ℕ)
     (end : SideEnd) : Type 0 where
   pub takes : List TakeOf
@@ -121,6 +126,7 @@ pub record SendsOn (head : Head) (before after : SenderModel) (pass_before pass_
   pub grows : StartsWith pass_after.seen pass_before.seen
   pub within_seen : last ≤ length pass_after.seen
   pub up_to_date : AtLeast (length pass_before.seen) takes
+  pub present : IsPresentAtEach head before.v pass_after.seen takes
   pub more_found : List ℕ
   pub found : pass_after.found ≡ pass_before.found ++ more_found
   pub in_found : IsWithin (map (λ (t : TakeOf). t.number) takes) more_found

@@ -9,8 +9,9 @@ ghost use Rattle.viewer_sender.specs.Stands.{CachesStand};
 ghost use Rattle.viewer_sender.specs.Writes.{Writes, used};
 ghost use Rattle.viewer_sender.specs.Goes.{FitsDrawn, ImageGoes, BrushGoes};
 
+use crate::OutOfMemory;
 use crate::plain::put_drawn;
-use crate::{FrameWriter, OutOfMemory};
+use crate::writer::FrameWriter;
 use frame_plan::{Pending, image_cache};
 use order_prim::{mem_blt, mem3_blt, pat_blt};
 use px_core::Rect;

@@ -23,7 +23,7 @@ const BRUSHES: u16 = 64;
 
 /// The caches by their numbers; one without an entry isn't made.
 #[derive(Drop)]
-pub struct Caches {
+pub(crate) struct Caches {
     caches: Vec<Option<Cache>>,
 }
 

@@ -6,10 +6,11 @@ ghost use Rattle.viewer_sender.specs.Writes.{Writes};
 ghost use Rattle.viewer_sender.specs.Goes.{SentGoes, AllGo};
 ghost use Rattle.viewer_sender.specs.Runs.{drawings_sending};
 
+use crate::OutOfMemory;
 use crate::cached::{put_blit, put_blit3, put_pat};
 use crate::plain::{put_copy, put_dst, put_fill, put_restore, put_save};
 use crate::text::put_text;
-use crate::{FrameWriter, OutOfMemory};
+use crate::writer::FrameWriter;
 use draw_ops::Shape;
 use frame_plan::Pending;
 use std::alloc::Global;

@@ -14,9 +14,10 @@ ghost use Rattle.viewer_sender.specs.Writes.{Writes};
 ghost use Rattle.viewer_sender.specs.Goes.{AllGo, TilesGo};
 ghost use Rattle.viewer_sender.specs.Runs.{frame_sending};
 
+use crate::OutOfMemory;
 use crate::drawing::put_drawings;
 use crate::plain::put_fill;
-use crate::{FrameWriter, OutOfMemory};
+use crate::writer::FrameWriter;
 use frame_plan::{Take, TakenTile};
 use px_core::{Rect, Size, meet};
 use std::alloc::Global;

@@ -14,10 +14,7 @@ mod text;
 mod updates;
 mod writer;
 
-pub use caches::Caches;
 pub use fault::SendFault;
 pub use frame_plan::{Take, Taken};
 pub use sender::Sender;
-pub use updates::Updates;
 pub use wire_num::OutOfMemory;
-pub use writer::FrameWriter;

@@ -9,8 +9,9 @@ ghost use Rattle.frame_rules.specs.FrameOrders.SentOrder.{Drawn};
 ghost use Rattle.viewer_sender.specs.Writes.{Writes, IsDrawing};
 ghost use Rattle.viewer_sender.specs.Goes.{FitsDrawn};
 
+use crate::OutOfMemory;
 use crate::bounds::bounds_of;
-use crate::{FrameWriter, OutOfMemory};
+use crate::writer::FrameWriter;
 use order_fields::Fields;
 use order_prim::{dst_blt, opaque_rect, save_bitmap, scr_blt};
 use px_core::Rect;

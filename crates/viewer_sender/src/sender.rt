@@ -14,7 +14,8 @@ ghost use Rattle.viewer_sender.specs.OwnTakes.{IsOwnTake, IsOwn};
 ghost use Rattle.viewer_sender.specs.Shown.{Shows};
 
 use crate::frame::write_frame;
-use crate::{FrameWriter, OutOfMemory, SendFault};
+use crate::writer::FrameWriter;
+use crate::{OutOfMemory, SendFault};
 use caps_sets::Confirmed;
 use frame_plan::{Desk, Take, Taken, plan};
 use session_core::Session;

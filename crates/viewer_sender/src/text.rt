@@ -12,8 +12,9 @@ ghost use Rattle.viewer_sender.specs.Writes.{Writes, IsDrawing};
 ghost use Rattle.viewer_sender.specs.Goes.{FitsDrawn, GlyphsGo};
 ghost use Rattle.viewer_sender.specs.Runs.{run_sending};
 
+use crate::OutOfMemory;
 use crate::plain::put_drawn;
-use crate::{FrameWriter, OutOfMemory};
+use crate::writer::FrameWriter;
 use draw_ops::Run;
 use frame_plan::{Pending, run_cache};
 use order_fields::Fields;

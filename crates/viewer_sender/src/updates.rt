@@ -50,7 +50,7 @@ const SYNCHRONIZE: u8 = 3;
 
 /// The updates of a frame: the packets that are whole, and the update that is begun.
 #[derive(Drop)]
-pub struct Updates {
+pub(crate) struct Updates {
     packets: Vec<u8>,
     user: Vec<u8>,
     next: Vec<u8>,

@@ -12,7 +12,9 @@ ghost use Rattle.viewer_sender.specs.Gathering.{nothing_gathered};
 ghost use Rattle.viewer_sender.specs.Stands.{CachesStand};
 ghost use Rattle.viewer_sender.specs.Writes.{Writes, used, loaded, IsDrawing};
 
-use crate::{Caches, OutOfMemory, Updates};
+use crate::OutOfMemory;
+use crate::caches::Caches;
+use crate::updates::Updates;
 use cache_plan::Use;
 use caps_sets::Confirmed;
 use draw_ops::{Brush, Glyph, Image};
@@ -28,7 +30,7 @@ const BRUSH_CACHE: usize = 13;
 
 /// What a viewer confirmed, what its client keeps, and the updates in the making.
 #[derive(Drop)]
-pub struct FrameWriter {
+pub(crate) struct FrameWriter {
     /// What the viewer confirmed.
     pub confirmed: Confirmed,
     /// The registers that the next order is written against.

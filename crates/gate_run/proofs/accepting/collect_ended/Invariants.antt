@@ -4,8 +4,8 @@ use Rattle.grow_lock.specs.Passes.{LockModel}
 use Rattle.gate_run.specs.Working.{IsWork}
 use Rattle.gate_run.proofs.accepting.collect_ended.Given as goal
 
-abbrev pub invariant-loop-i : goal.invariant-loop-i
-invariant-loop-i g l = record {
+abbrev pub invariant-loop : goal.invariant-loop
+invariant-loop g l = record {
   links : map (λ j. j.given.link.value) l.jobs.items ≡ map (λ j. j.given.link.value) l.fn.jobs.items;
   work : (lock : LockModel Head) → All (IsWork g.L.Link lock) l.fn.jobs.items → All (IsWork g.L.Link lock) l.jobs.items;
   len : vec_len l.jobs ≡ vec_len l.fn.jobs;

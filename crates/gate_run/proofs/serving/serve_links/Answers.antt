@@ -1,7 +1,8 @@
-use Rattle.std.proofs.Common.{◌++◌, map, sym, ap, ◌∙◌, subst}
+use Rattle.std.proofs.Common.{◌++◌, map, All, sym, ap, ◌∙◌, subst}
 use Rattle.std.proofs.lemmas.List.{map-append}
 use Rattle.gate_run.specs.Gates.{given_state, spent_state}
 use Rattle.gate_run.specs.OpenGate.{GivesNoMore}
+use Rattle.gate_run.specs.Working.{IsWork}
 use Rattle.gate_run.proofs.Ending.{each_goes_on}
 use Rattle.gate_run.proofs.Numbers.{each_has_joined, apart}
 use Rattle.gate_run.proofs.serving.serve_links.Goals as goal
@@ -26,3 +27,7 @@ returns-clause-links g c =
       cause = subst (λ e. GivesNoMore c.accept_links-pass.result.2 (gate.ended opened) e (gate.faults opened) (gate.faults after)) (sym end.ended)
           (subst (λ f. GivesNoMore c.accept_links-pass.result.2 (gate.ended opened) (gate.ended closed) (gate.faults opened) f) (sym end.faults) taken.no_more);
     }
+
+pub finish_all-pass-requires-clause-work : goal.finish_all-pass-requires-clause-work
+finish_all-pass-requires-clause-work g c κs within =
+    subst (All (IsWork g.G.Link.Link c.args.lock)) (sym c.from_vec-jobs.ensures.items) c.accept_links-pass.ensures.taken.work

@@ -5,7 +5,8 @@ use Rattle.viewer_run.proofs.OneTake.{sends_one, next_is, shown_all}
 use Rattle.viewer_run.proofs.viewing.send_last.Goals as goal
 
 pub returns-clause-sends : goal.returns-clause-sends
-returns-clause-sends g c = sends_one _ _ _ _ c.take_last-pass.new.sender _ _ _ _ _ _ c.take_last-pass.result.1 c.take_last-pass.ensures.taken c.requires.seen c.requires.idle c.send_last_taken-end.ensures
+returns-clause-sends g c = sends_one _ _ _ _ c.take_last-pass.new.sender _ _ _ _ _ _ c.take_last-pass.result.1 c.take_last-pass.ensures.taken c.requires.seen c.requires.idle
+    c.args.v c.requires.viewer c.take_last-pass.ensures.absent c.send_last_taken-end.ensures
 
 pub returns-clause-mine : goal.returns-clause-mine
 returns-clause-mine g c = c.take_last-pass.ensures.taken.turn.mine ∙ append-nil _
