@@ -4,8 +4,8 @@
 # 2,048 by 2,048 and to write it isn't in it; reading the capture's digits is. The second column is what the profile gives for `advance` of
 # them, in which the client is fed, and of a tile `upright_pixels`, which unpacks it and turns its rows over.
 # Then it times a capture of 100 MB.
-# Wanted of the client: an order at most 600 beside its pixels, a packed tile at most 30,000 beside unpacking it, a mark after a small fill
-# at most 20,000.
+# Wanted: a digit at most 8. Wanted of the client: an order at most 600 beside its pixels, a packed tile at most 30,000 beside unpacking it, a
+# mark after a fill of one pixel at most 500.
 #
 # usage: sh bench/look.sh      (it needs valgrind)
 bench=look
@@ -43,6 +43,15 @@ capture() {
     for i in $(seq "$2"); do echo "1 $1"; done
 }
 
+# Counts what a digit takes that is read and not obeyed, since it is another viewer's: the lines of N and of 2N bytes, each ten times.
+digits_read() {
+    for count in "$1" $((2 * $1)); do
+        bytes=$(awk -v count="$count" 'BEGIN { for (i = 0; i < count; i++) printf "%02x", i * 37 % 256 }')
+        { printf '1 joined 64 64 full\n2 joined 64 64 full\n'; for i in 1 2 3 4 5 6 7 8 9 10; do echo "2 $bytes"; done; } >"$work/capture"
+        instructions "$work/capture" "$rdp_look" 1
+    done | awk -v digits=$((20 * $1)) 'NR == 1 { few = $1 } NR == 2 { printf "%.2f", ($1 - few) / digits }'
+}
+
 # Counts what these bytes take once more: all instructions, those of the client, and those of a tile's pixels.
 fed() {
     capture "$1" 1 >"$work/capture"
@@ -70,14 +79,17 @@ order() {
 
 counted 'one more' instructions 'the client'
 printf '|---|---:|---:|\n'
+counted 'a digit that is read and not obeyed' "$(digits_read 20000)" ''
 order 1
 order 10
-small=$(fills 1 10)
-fed "$small"
-fill_all=$all
-fill_client=$client
-fed "$small$(packet 03000000)"
-counted 'a mark after a fill of 10 by 10' $((all - fill_all)) $((client - fill_client))
+for side in 1 10; do
+    small=$(fills 1 "$side")
+    fed "$small"
+    fill_all=$all
+    fill_client=$client
+    fed "$small$(packet 03000000)"
+    counted "a mark after a fill of $side by $side" $((all - fill_all)) $((client - fill_client))
+done
 fed "$(tile 60200000fff0c00f)"
 counted 'a packed tile of one colour, 8 bytes' "$all" "$client"
 counted 'the same, beside its pixels' $((all - pixel_work)) $((client - pixel_work))

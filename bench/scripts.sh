@@ -243,3 +243,9 @@ time_both 16
 greatest_script >"$work/greatest"
 [ "$(wc -c <"$work/greatest")" -eq "$greatest" ]
 /usr/bin/time -f "| of $greatest bytes | %U s and %S s in the system, %M KiB |" "$rdp_host" script <"$work/greatest" 2>&1 >"$work/output"
+
+# How often it writes, where strace is there to count it.
+if command -v strace >/dev/null; then
+    strace -f -c -e trace=write -o "$work/calls" "$rdp_host" script <"$work/greatest" >"$work/output"
+    row 'its calls of write' "$(awk '$NF == "write" { print $4 }' "$work/calls")"
+fi

@@ -1,3 +1,5 @@
+mod Feeds
+mod Writing
 pub mod Lines
 pub mod Cutting
 pub mod Judging

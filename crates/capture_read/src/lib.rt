@@ -3,6 +3,7 @@
 
 mod capture_reader;
 mod digits;
+mod find;
 mod joined;
 mod long_lines;
 mod refusals;

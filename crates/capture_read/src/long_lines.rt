@@ -6,8 +6,8 @@ ghost use Rattle.edge_io.specs.Source.{ReadCause};
 ghost use Rattle.capture_read.specs.Long.{behind, Moves, Refills, MoreCame, Cuts, CutCause};
 
 use crate::OutOfMemory;
+use crate::find::find_byte;
 use edge_io::{Got, Source};
-use line_text::find_byte;
 use std::alloc::Global;
 use std::marker::Model;
 

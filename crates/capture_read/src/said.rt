@@ -13,9 +13,10 @@ ghost use Rattle.capture_read.specs.Lines.{meant_by};
 
 use crate::OutOfMemory;
 use crate::digits::read_bytes;
+use crate::find::find_byte;
 use crate::refusals::{is_broken_line, is_nobody_line, is_step_refusal};
 use caps_sets::{Confirmed, preset};
-use line_text::{find_byte, is_same_word, read_number};
+use line_text::{is_same_word, read_number};
 use px_core::{Size, is_session_size};
 
 /// What separates words.

@@ -1,6 +1,6 @@
 -- Rows that were touched.
-use Rattle.std.proofs.Common.{◌≡◌, ℕ, ◌+◌, ◌≤◌, ◌<◌, List, length, get_or, Bool, true, false, refl, sym, ◌∙◌, arith, inl, inr}
-use Rattle.std.specs.Prelude.{Option, Some, None, IfSome, ◌&&◌, nat_le, nat_lt, pos, slice_set}
+use Rattle.std.proofs.Common.{◌≡◌, ℕ, ◌+◌, ◌≤◌, ◌<◌, List, length, get_or, Bool, true, false, refl, ap, sym, ◌∙◌, arith, ◌⊎◌, inl, inr}
+use Rattle.std.specs.Prelude.{Option, IfSome, ◌&&◌, nat_le, nat_lt, pos, slice_set}
 use Rattle.std.proofs.lemmas.Bool.{cases_lt}
 use Rattle.std.proofs.lemmas.Bool.Decides.{nat_tests}
 use Rattle.std.proofs.lemmas.List.{get_or-set_other}
@@ -8,9 +8,9 @@ use Rattle.std.proofs.lemmas.Grind.{get_or-set_at}
 use Rattle.px_core.specs.declared.surface.Size.{Size}
 use Rattle.px_core.specs.Picture.{Area}
 use Rattle.client_picture.specs.declared.part.Part.{Part}
-use Rattle.client_picture.specs.declared.touched.Columns.{Columns}
-use Rattle.client_picture.specs.Parts.{in_part, in_optional_part, IsInside}
-use Rattle.client_picture.specs.Touched.{in_columns, AddsRows, AddsPart, AddsColumns}
+use Rattle.client_picture.specs.declared.frame.Frame.{Frame}
+use Rattle.client_picture.specs.Parts.{in_frame, in_part, in_optional_part, IsInside, LiesOn}
+use Rattle.client_picture.specs.Touched.{AddsRows, AddsPart, Widens}
 
 -- one more row
 pub row_touched : (now old : List Bool) (from y : ℕ) → y < length now → ((k : ℕ) → get_or now k false ≡ false → (get_or old k false ≡ false) × (from ≤ k → k < y → ⊥))
@@ -45,19 +45,15 @@ adds_rows size area part old new added same = record {
   rows = λ y above h. let r = added.rows y h in (r.0, (λ x left. sym (same x y left above) ∙ r.1 x));
 }
 
--- its columns likewise
-pub adds_columns : (size : Size) (area : Area) (part : Option Part) (old new : Columns) → IfSome part (IsInside size)
-    → ((w : ℕ) → old.end ≤ w → IfSome part (λ p. p.x + p.w ≤ w) → new.end ≤ w)
-    → ((x y : ℕ) → in_columns new x ≡ false → (in_columns old x ≡ false) × (in_optional_part part x y ≡ false))
-    → ((x y : ℕ) → x < size.w → y < size.h → in_optional_part part x y ≡ area (pos x) (pos y)) → AddsColumns size area old new
-adds_columns size area part old new inside within beside same = record {
-  within = λ h. within size.w h (columns part inside);
+-- its frame likewise
+pub widens : (size : Size) (area : Area) (part : Option Part) (old new : Frame) → IfSome part (IsInside size)
+    → ((s : Size) → LiesOn s old → IfSome part (IsInside s) → LiesOn s new)
+    → ((x y : ℕ) → in_frame new x y ≡ false → (in_frame old x y ≡ false) × (in_optional_part part x y ≡ false))
+    → ((x y : ℕ) → x < size.w → y < size.h → in_optional_part part x y ≡ area (pos x) (pos y)) → Widens size area old new
+widens size area part old new inside within beside same = record {
+  within = λ h. within size h inside;
   beside = λ x y left above h. let r = beside x y h in (r.0, sym (same x y left above) ∙ r.1);
 }
-  where
-    columns : (p : Option Part) → IfSome p (IsInside size) → IfSome p (λ q. q.x + q.w ≤ size.w)
-    columns None h = h
-    columns (Some q) h = h.columns
 
 -- outside of a wider stretch is outside of a narrower one
 pub outside : (a b c d x : ℕ) → c ≤ a → b ≤ d → (nat_le c x && nat_lt x d) ≡ false → (nat_le a x && nat_lt x b) ≡ false
@@ -68,3 +64,50 @@ outside a b c d x low high h = elim (cases_lt x a) [
     | inr more ↦ grind (arith, nat_tests, more)
   ]
 ]
+
+both_outside : (a b c d : Bool) → (a ≡ false → c ≡ false) → (b ≡ false → d ≡ false) → (a && b) ≡ false → (c && d) ≡ false
+both_outside true true c d f g h = absurd (cc h)
+both_outside false b c d f g h = ap (λ t. t && d) (f refl)
+both_outside true false c d f g h = and_false c d (g refl)
+  where
+    and_false : (c d : Bool) → d ≡ false → (c && d) ≡ false
+    and_false true d e = e
+    and_false false d e = refl
+
+-- beside a greater frame is beside a lesser one
+pub beside_frame : (big small : Frame) → big.left ≤ small.left → big.top ≤ small.top → small.right ≤ big.right → small.bottom ≤ big.bottom
+    → (x y : ℕ) → in_frame big x y ≡ false → in_frame small x y ≡ false
+beside_frame big small left top right bottom x y =
+    both_outside (nat_le big.left x && nat_lt x big.right) (nat_le big.top y && nat_lt y big.bottom)
+    (nat_le small.left x && nat_lt x small.right) (nat_le small.top y && nat_lt y small.bottom)
+    (outside small.left small.right big.left big.right x left right) (outside small.top small.bottom big.top big.bottom y top bottom)
+
+none_within : (a b x : ℕ) → b ≤ a → (nat_le a x && nat_lt x b) ≡ false
+none_within a b x le = elim (cases_lt x a) [
+  | inl less ↦ grind (arith, nat_tests, less)
+  | inr ge ↦ grind (arith, nat_tests, ge, le)
+]
+
+-- a frame without a pixel
+pub none_in_frame : (frame : Frame) (x y : ℕ) → (frame.right ≤ frame.left) ⊎ (frame.bottom ≤ frame.top) → in_frame frame x y ≡ false
+none_in_frame frame x y (inl le) = ap (λ t. t && (nat_le frame.top y && nat_lt y frame.bottom)) (none_within frame.left frame.right x le)
+none_in_frame frame x y (inr le) =
+    both_outside true false (nat_le frame.left x && nat_lt x frame.right) (nat_le frame.top y && nat_lt y frame.bottom) (λ e. absurd (cc e))
+    (λ e. none_within frame.top frame.bottom y le) refl
+
+-- a pixel beside the columns of a frame, above its rows, or behind them
+pub out_of_columns : (frame : Frame) (x y : ℕ) → (nat_le frame.left x && nat_lt x frame.right) ≡ false → in_frame frame x y ≡ false
+out_of_columns frame x y h = ap (λ t. t && (nat_le frame.top y && nat_lt y frame.bottom)) h
+
+out_of_lines : (frame : Frame) (x y : ℕ) → (nat_le frame.top y && nat_lt y frame.bottom) ≡ false → in_frame frame x y ≡ false
+out_of_lines frame x y h = both_outside true false (nat_le frame.left x && nat_lt x frame.right) (nat_le frame.top y && nat_lt y frame.bottom) (λ e. absurd (cc e)) (λ e. h) refl
+
+pub out_of_rows : (frame : Frame) (x y : ℕ) → y < frame.top → in_frame frame x y ≡ false
+out_of_rows frame x y less = out_of_lines frame x y (grind (arith, nat_tests, less))
+
+pub behind_rows : (frame : Frame) (x y : ℕ) → frame.bottom ≤ y → in_frame frame x y ≡ false
+behind_rows frame x y le = out_of_lines frame x y (and_none (nat_le frame.top y) (nat_lt y frame.bottom) (grind (arith, nat_tests, le)))
+  where
+    and_none : (a b : Bool) → b ≡ false → (a && b) ≡ false
+    and_none true b e = e
+    and_none false b e = refl

@@ -13,7 +13,7 @@ use Rattle.client_picture.proofs.Repaint.{under_true, under_false}
 module _ (size : Size) (picture first : List (Option ℕ)) (flags : List Bool) (n : ℕ) (touched : List Bool) (marked : List (Option ℕ)) (before : AreCopied size picture first flags n touched marked) where
   -- some columns of one more row were copied, beside which both pictures were the same
   pub row_copied : (from end : ℕ) (new : List (Option ℕ)) → from ≤ end → IsRepainted size (in_part (part_at from n (end - from) 1)) (λ u v. pixel_at size picture None u v) marked new
-      → ((x y : ℕ) → x < size.w → y < size.h → (nat_le from x && nat_lt x end) ≡ false → pixel_at size picture None x y ≡ pixel_at size first None x y)
+      → ((x : ℕ) → x < size.w → n < size.h → (nat_le from x && nat_lt x end) ≡ false → pixel_at size picture None x n ≡ pixel_at size first None x n)
       → AreCopied size picture first flags (n + 1) (slice_set touched n false) new
   row_copied from end new ordered row beside = record {
     done = λ x y left above lt. elim (cases_lt y n) [
@@ -44,11 +44,14 @@ module _ (size : Size) (picture first : List (Option ℕ)) (flags : List Bool) (
       whole : from + (end - from) ≡ end
       whole = omega (arith, ordered)
 
+      same_row : (y : ℕ) → y ≡ n → (x : ℕ) → x < size.w → y < size.h → (nat_le from x && nat_lt x end) ≡ false → pixel_at size first None x y ≡ pixel_at size picture None x y
+      same_row y e x left above h = ap (λ k. pixel_at size first None x k) e ∙ sym (beside x left (omega (arith, e, above)) h) ∙ ap (λ k. pixel_at size picture None x k) (sym e)
+
       here : (b : Bool) (x y : ℕ) → x < size.w → y < size.h → (nat_le from x && nat_lt x end) ≡ b → y < n + 1 → n ≤ y → pixel_at size new None x y ≡ pixel_at size picture None x y
       here true x y left above h lt ge = row.pixel x y left above ∙ sym (under_true (in_part (part_at from n (end - from) 1) x y) (pixel_at size picture None x y) (pixel_at size marked None x y) (grind (arith, nat_tests, h, lt, ge, whole)))
       here false x y left above h lt ge =
           same x y left above (no_and (nat_le from x && nat_lt x (from + (end - from))) (nat_le n y && nat_lt y (n + 1)) (ap (λ e. nat_le from x && nat_lt x e) whole ∙ h))
-          ∙ before.rest x y left above ge ∙ sym (beside x y left above h)
+          ∙ before.rest x y left above ge ∙ same_row y (omega (arith, lt, ge)) x left above h
 
   -- a row that wasn't touched is the same
   pub row_kept : AreTouched size flags picture first → get_or touched n false ≡ false → AreCopied size picture first flags (n + 1) touched marked
@@ -63,3 +66,12 @@ module _ (size : Size) (picture first : List (Option ℕ)) (flags : List Bool) (
     where
       flag_at : (y : ℕ) → y ≡ n → get_or flags y false ≡ false
       flag_at y e = sym (before.unread y (omega (arith, e))) ∙ subst (λ (k : ℕ). get_or touched k false ≡ false) (sym e) flag
+
+-- the rows before row n are the same in both pictures, so they needn't be copied
+pub none_copied : (size : Size) (picture first : List (Option ℕ)) (flags : List Bool) (n : ℕ)
+    → ((x y : ℕ) → x < size.w → y < size.h → y < n → pixel_at size picture None x y ≡ pixel_at size first None x y) → AreCopied size picture first flags n flags first
+none_copied size picture first flags n same = record {
+  done = λ x y left above less. sym (same x y left above less);
+  rest = λ x y left above le. refl;
+  unread = λ y le. refl;
+}

@@ -6,11 +6,12 @@ ghost use Rattle.rop3_core.specs.Palette.{client_colors};
 ghost use Rattle.draw_ops.specs.Formulas.{glyph_area, glyph_cell, solid};
 ghost use Rattle.client_picture.specs.Parts.{in_part, IsCanvas, IsInside, IsRepainted};
 ghost use Rattle.client_picture.specs.Bits.{is_ink, ink_color, AreSmall, IsPenNear};
-ghost use Rattle.client_picture.specs.Touched.{AddsRows, AddsColumns};
+ghost use Rattle.client_picture.specs.Touched.{AddsRows, Widens};
 
 use crate::corner::{Corner, place};
+use crate::frame::Frame;
 use crate::part::{Part, part_at};
-use crate::touched::{Columns, touch_at};
+use crate::touched::touch_at;
 use draw_ops::Glyph;
 use px_core::{Rect, Size};
 
@@ -104,10 +105,10 @@ pub(crate) fn draw_glyph(
     }
 }
 
-/// Remembers that the rows and columns of a glyph's cell may have been painted, with the pen at (x, y).
+/// Remembers that the pixels of a glyph's cell may have been painted, with the pen at (x, y).
 pub(crate) fn touch_glyph(
     touched: &mut [bool],
-    columns: &mut Columns,
+    frame: &mut Frame,
     size: Size,
     bounds: Option<Rect>,
     glyph: &Glyph,
@@ -117,13 +118,13 @@ pub(crate) fn touch_glyph(
     requires flags { length touched.old ≡ size.h }
     requires pen { IsPenNear x y }
     ensures rows { AddsRows size (both (in_clip bounds) (in_rect (glyph_cell glyph.now x y))) touched.old touched.new }
-    ensures columns { AddsColumns size (both (in_clip bounds) (in_rect (glyph_cell glyph.now x y))) columns.old columns.new }
+    ensures frame { Widens size (both (in_clip bounds) (in_rect (glyph_cell glyph.now x y))) frame.old frame.new }
 {
     let left = x + i64::from(glyph.x());
     let top = y + i64::from(glyph.y());
     touch_at(
         touched,
-        columns,
+        frame,
         size,
         left,
         top,

@@ -10,11 +10,12 @@ ghost use Rattle.client_picture.specs.Bits.{IsPenNear};
 ghost use Rattle.client_picture.specs.Pictures.{first_pictures, painted_within, drawn_within, marked_now, brush_operand, source_operand, HasSource};
 
 use crate::OutOfMemory;
+use crate::frame::Frame;
 use crate::glyphs::{draw_glyph, touch_glyph};
 use crate::part::part_of;
 use crate::rects::{copy_rect, cut_rect, fill_rect, mix_rect, restore_rect, write_rect};
 use crate::source::Source;
-use crate::touched::{Columns, copy_touched, touch_found, touch_rect};
+use crate::touched::{copy_touched, touch_found, touch_rect};
 use draw_ops::{Brush, Glyph};
 use px_core::{Rect, Size};
 use std::alloc::Global;
@@ -23,8 +24,13 @@ use std::marker::Model;
 /// The longest side of a picture: a side has two bytes in the protocol.
 const LONGEST: u32 = 65_535;
 
-/// No column.
-const NO_COLUMNS: Columns = Columns { from: 0, end: 0 };
+/// A frame without a pixel.
+const EMPTY: Frame = Frame {
+    left: 0,
+    top: 0,
+    right: 0,
+    bottom: 0,
+};
 
 /// A client's picture, each pixel a colour or unknown, and the picture that it had at its last mark.
 ///
@@ -38,8 +44,8 @@ pub struct ClientPicture {
     marked: Vec<Option<u32>>,
     /// Which rows may have been painted since the last mark.
     touched: Vec<bool>,
-    /// The columns that may have been painted since.
-    columns: Columns,
+    /// A frame that has all pixels that may have been painted since.
+    frame: Frame,
     /// One row for the source of a copy.
     row: Vec<Option<u32>>,
 }
@@ -53,7 +59,7 @@ impl Model for ClientPicture {
 
     ghost view = { λ s. record { size = s.size; picture = s.picture.items; marked = s.marked.items } };
 
-    ghost invariant = { λ s. AreKept s.size s.touched.items s.columns s.picture.items s.marked.items × (length s.row.items ≡ s.size.w) };
+    ghost invariant = { λ s. AreKept s.size s.touched.items s.frame s.picture.items s.marked.items × (length s.row.items ≡ s.size.w) };
 }
 
 impl ClientPicture {
@@ -75,7 +81,7 @@ impl ClientPicture {
             picture,
             marked,
             touched,
-            columns: NO_COLUMNS,
+            frame: EMPTY,
             row,
         })
     }
@@ -89,7 +95,7 @@ impl ClientPicture {
         let pixels = self.picture.as_mut_slice();
         fill_rect(pixels, self.size, rect, bounds, color, part);
         let touched = self.touched.as_mut_slice();
-        touch_found(touched, &mut self.columns, self.size, rect, bounds, part);
+        touch_found(touched, &mut self.frame, self.size, rect, bounds, part);
     }
 
     /// A raster operation on a rectangle, with a brush as its pattern and an image as its source; one that is missing counts as 0.
@@ -107,7 +113,7 @@ impl ClientPicture {
         let pixels = self.picture.as_mut_slice();
         mix_rect(pixels, self.size, rect, bounds, rop, brush, source);
         let touched = self.touched.as_mut_slice();
-        touch_rect(touched, &mut self.columns, self.size, rect, bounds);
+        touch_rect(touched, &mut self.frame, self.size, rect, bounds);
     }
 
     /// A raster operation on a rectangle, with the picture itself, from (sx, sy) on, as its source. It may overlap the rectangle.
@@ -126,7 +132,7 @@ impl ClientPicture {
             self.row.as_mut_slice(),
         );
         let touched = self.touched.as_mut_slice();
-        touch_rect(touched, &mut self.columns, self.size, rect, bounds);
+        touch_rect(touched, &mut self.frame, self.size, rect, bounds);
     }
 
     /// Writes an image into a rectangle, from its upper left pixel on. The rectangle may be narrower and lower than the image.
@@ -146,7 +152,7 @@ impl ClientPicture {
         let pixels = self.picture.as_mut_slice();
         write_rect(pixels, self.size, rect, bounds, source);
         let touched = self.touched.as_mut_slice();
-        touch_rect(touched, &mut self.columns, self.size, rect, bounds);
+        touch_rect(touched, &mut self.frame, self.size, rect, bounds);
     }
 
     /// Writes a run of glyphs in one colour, from a pen at (x, y). The run is pairs of a glyph's number and a delta, which moves the pen to
@@ -198,7 +204,7 @@ impl ClientPicture {
         let pixels = self.picture.as_mut_slice();
         draw_glyph(pixels, self.size, bounds, glyph, x, y, color);
         let touched = self.touched.as_mut_slice();
-        touch_glyph(touched, &mut self.columns, self.size, bounds, glyph, x, y);
+        touch_glyph(touched, &mut self.frame, self.size, bounds, glyph, x, y);
     }
 
     /// The pixels of a rectangle inside the picture, to be saved.
@@ -224,22 +230,22 @@ impl ClientPicture {
     {
         restore_rect(self.picture.as_mut_slice(), self.size, rect, bounds, pixels);
         let touched = self.touched.as_mut_slice();
-        touch_rect(touched, &mut self.columns, self.size, rect, bounds);
+        touch_rect(touched, &mut self.frame, self.size, rect, bounds);
     }
 
-    /// A mark: the picture at the last mark is the present one from now on. Only rows and columns that were
-    /// painted since the mark before are copied.
+    /// A mark: the picture at the last mark is the present one from now on. Only rows that were painted since the mark before are copied, and
+    /// only the rows between the first and the last of them are gone over.
     pub fn mark(&mut self)
         ensures { self.new ≡ marked_now self.old }
     {
         copy_touched(
             self.touched.as_mut_slice(),
-            self.columns,
+            self.frame,
             self.size,
             self.picture.as_slice(),
             self.marked.as_mut_slice(),
         );
-        self.columns = NO_COLUMNS;
+        self.frame = EMPTY;
     }
 
     /// The colour of pixel (x, y), which lies on the picture; `None` where it is unknown.

@@ -1,41 +1,35 @@
-//! The rows that were painted since the last mark.
+//! The rows, and the frame, that were painted since the last mark.
 ghost use Rattle.std.specs.Prelude.{◌≡◌, ℕ, ◌+◌, ◌-◌, ◌≤◌, ◌<◌, ◌≤ℤ◌, ◌&&◌, pos, negsuc, Some, None, false, length, IfSome};
 ghost use Rattle.px_core.specs.Picture.{both, pixel_at};
 ghost use Rattle.px_core.specs.Rectangle.{boxed, in_rect, in_clip};
-ghost use Rattle.client_picture.specs.Touched.{in_columns, AreTouched, AreSameBeside, AddsRows, AddsPart, AddsColumns};
-ghost use Rattle.client_picture.specs.Parts.{in_part, in_optional_part, part_at, IsCanvas, IsInside, IsRepainted};
+ghost use Rattle.client_picture.specs.Touched.{AreTouched, AreSameBeside, AddsRows, AddsPart, Widens};
+ghost use Rattle.client_picture.specs.Parts.{in_frame, in_part, in_optional_part, part_at, IsCanvas, IsInside, IsRepainted, LiesOn};
 
+use crate::frame::Frame;
 use crate::part::{Part, earlier, later, part_at, part_of};
 use px_core::{Rect, Size};
 
-/// Some columns that follow each other: the first one, and the first one behind them. There are none where it isn't behind the first one.
-#[derive(Clone, Copy)]
-pub(crate) struct Columns {
-    pub(crate) from: usize,
-    pub(crate) end: usize,
-}
-
-/// Remembers that the rows and columns of a rectangle may have been painted, within bounds.
+/// Remembers that the pixels of a rectangle may have been painted, within bounds: their rows, and a frame that has them all.
 pub(crate) fn touch_rect(
     touched: &mut [bool],
-    columns: &mut Columns,
+    frame: &mut Frame,
     size: Size,
     rect: Rect,
     bounds: Option<Rect>,
 )
     requires { length touched.old ≡ size.h }
     ensures rows { AddsRows size (both (in_clip bounds) (in_rect rect)) touched.old touched.new }
-    ensures columns { AddsColumns size (both (in_clip bounds) (in_rect rect)) columns.old columns.new }
+    ensures frame { Widens size (both (in_clip bounds) (in_rect rect)) frame.old frame.new }
 {
     let part = part_of(size, rect, bounds);
     touch_part(touched, part);
-    *columns = widened(*columns, part);
+    *frame = widened(*frame, part);
 }
 
 /// The same where the part that lies on the picture and within the bounds is known.
 pub(crate) fn touch_found(
     touched: &mut [bool],
-    columns: &mut Columns,
+    frame: &mut Frame,
     size: Size,
     rect: Rect,
     bounds: Option<Rect>,
@@ -45,16 +39,16 @@ pub(crate) fn touch_found(
     requires inside { IfSome part (λ part. IsInside size part) }
     requires seen { (x y : ℕ) → x < size.w → y < size.h → in_optional_part part x y ≡ (in_clip bounds (pos x) (pos y) && in_rect rect (pos x) (pos y)) }
     ensures rows { AddsRows size (both (in_clip bounds) (in_rect rect)) touched.old touched.new }
-    ensures columns { AddsColumns size (both (in_clip bounds) (in_rect rect)) columns.old columns.new }
+    ensures frame { Widens size (both (in_clip bounds) (in_rect rect)) frame.old frame.new }
 {
     touch_part(touched, part);
-    *columns = widened(*columns, part);
+    *frame = widened(*frame, part);
 }
 
 /// The same for a rectangle by its upper left pixel and its sides.
 pub(crate) fn touch_at(
     touched: &mut [bool],
-    columns: &mut Columns,
+    frame: &mut Frame,
     size: Size,
     x: i64,
     y: i64,
@@ -68,39 +62,47 @@ pub(crate) fn touch_at(
     requires top { negsuc 8589934591 ≤ℤ y }
     requires bottom { y ≤ℤ pos 8589934592 }
     ensures rows { AddsRows size (both (in_clip bounds) (in_rect (boxed x y w h))) touched.old touched.new }
-    ensures columns { AddsColumns size (both (in_clip bounds) (in_rect (boxed x y w h))) columns.old columns.new }
+    ensures frame { Widens size (both (in_clip bounds) (in_rect (boxed x y w h))) frame.old frame.new }
 {
     let part = part_at(size, x, y, w, h, bounds);
     touch_part(touched, part);
-    *columns = widened(*columns, part);
+    *frame = widened(*frame, part);
 }
 
-/// The columns from the first to the last of some columns and of a part, where there is one.
-fn widened(columns: Columns, part: Option<Part>) -> Columns
-    requires { IfSome part (λ part. part.x + part.w ≤ 4294967295) }
-    ensures within { (w : ℕ) → columns.end ≤ w → IfSome part (λ part. part.x + part.w ≤ w) → result.end ≤ w }
-    ensures columns { (x y : ℕ) → in_columns result x ≡ false → (in_columns columns x ≡ false) × (in_optional_part part x y ≡ false) }
+/// A frame that has the pixels of a frame and of a part, where there is one.
+fn widened(frame: Frame, part: Option<Part>) -> Frame
+    requires { IfSome part (λ part. (part.x + part.w ≤ 4294967295) × (part.y + part.h ≤ 4294967295)) }
+    ensures within { (size : Size) → LiesOn size frame → IfSome part (IsInside size) → LiesOn size result }
+    ensures pixels { (x y : ℕ) → in_frame result x y ≡ false → (in_frame frame x y ≡ false) × (in_optional_part part x y ≡ false) }
 {
     match part {
-        None => columns,
-        Some(part) => joined(columns, part),
+        None => frame,
+        Some(part) => joined(frame, part),
     }
 }
 
-/// The columns from the first to the last of some columns and of a part.
-fn joined(columns: Columns, part: Part) -> Columns
-    requires { part.x + part.w ≤ 4294967295 }
-    ensures within { (w : ℕ) → columns.end ≤ w → part.x + part.w ≤ w → result.end ≤ w }
-    ensures columns { (x y : ℕ) → in_columns result x ≡ false → (in_columns columns x ≡ false) × (in_part part x y ≡ false) }
+/// A frame that has the pixels of a frame and of a part.
+fn joined(frame: Frame, part: Part) -> Frame
+    requires columns { part.x + part.w ≤ 4294967295 }
+    requires rows { part.y + part.h ≤ 4294967295 }
+    ensures within { (size : Size) → LiesOn size frame → IsInside size part → LiesOn size result }
+    ensures pixels { (x y : ℕ) → in_frame result x y ≡ false → (in_frame frame x y ≡ false) × (in_part part x y ≡ false) }
 {
-    let end = part.x + part.w;
-    if columns.from < columns.end {
-        Columns {
-            from: earlier(columns.from, part.x),
-            end: later(columns.end, end),
-        }
-    } else {
-        Columns { from: part.x, end }
+    let right = part.x + part.w;
+    let bottom = part.y + part.h;
+    if frame.right <= frame.left || frame.bottom <= frame.top {
+        return Frame {
+            left: part.x,
+            top: part.y,
+            right,
+            bottom,
+        };
+    }
+    Frame {
+        left: earlier(frame.left, part.x),
+        top: earlier(frame.top, part.y),
+        right: later(frame.right, right),
+        bottom: later(frame.bottom, bottom),
     }
 }
 
@@ -137,10 +139,10 @@ fn touch_each(touched: &mut [bool], part: Part)
     }
 }
 
-/// Copies the pixels that may have been painted since the last mark, by rows and columns, and forgets the rows.
+/// Copies the pixels that may have been painted since the last mark: those in a frame, of the rows that were touched; and forgets the rows.
 pub(crate) fn copy_touched(
     touched: &mut [bool],
-    columns: Columns,
+    frame: Frame,
     size: Size,
     picture: &[Option<u32>],
     marked: &mut [Option<u32>],
@@ -148,15 +150,15 @@ pub(crate) fn copy_touched(
     requires canvas { IsCanvas size picture.now }
     requires marked { IsCanvas size marked.old }
     requires touched { AreTouched size touched.old picture.now marked.old }
-    requires within { columns.end ≤ size.w }
-    requires beside { AreSameBeside size columns picture.now marked.old }
+    requires within { LiesOn size frame }
+    requires beside { AreSameBeside size frame picture.now marked.old }
     ensures copied { marked.new ≡ picture.now }
     ensures touched { AreTouched size touched.new picture.now marked.new }
 {
-    let from = earlier(columns.from, columns.end);
-    for y in 0..touched.len() {
+    let from = earlier(frame.left, frame.right);
+    for y in earlier(frame.top, frame.bottom)..frame.bottom {
         if touched[y] {
-            copy_row(size, y, from, columns.end, picture, marked);
+            copy_row(size, y, from, frame.right, picture, marked);
             touched[y] = false;
         }
     }

@@ -1,31 +1,35 @@
 -- The next line was found, and what it asks for was done.
 use Rattle.std.proofs.Common.{◌≡◌, ℕ, ◌+◌, ◌<◌, ◌≤◌, List, [], ◌∷◌, ◌++◌, length, refl, ap, sym, ◌∙◌, subst, Some, None, Bool, true, false, append_assoc, append-nil, position}
-use Rattle.std.specs.Prelude.{Option, Result, Ok, Err, ◌==◌}
-use Rattle.std.specs.Io.KnownBytes.{Appends, Keeps, IsAtEnd}
-use Rattle.std.proofs.KnownBytes.{Appends-nil, Appends-trans}
+use Rattle.std.specs.Prelude.{Option, Ok, Err, ◌==◌}
+use Rattle.std.specs.Io.KnownBytes.{Appends, Keeps, IsAtEnd, append_known}
+use Rattle.std.proofs.KnownBytes.{Appends-trans}
 use Rattle.line_text.specs.Lines.{Line, line_bytes, lines_of, is_past_limits, script_limit}
 use Rattle.edge_io.specs.Reading.{LineReading}
 use Rattle.edge_io.specs.Finding.{Finds, FindsLine, FindCause}
 use Rattle.edge_io.specs.declared.reader.Found.{Found}
 use Rattle.edge_io.specs.declared.reader.Found.TheVariants as found
 use Rattle.frame_rules.specs.Encoder.{Encoder}
-use Rattle.script_rules.specs.Script.{ScriptReading, LineOutcome, line_outcome, script_from}
+use Rattle.script_rules.specs.Script.{ScriptReading, LineOutcome, line_outcome}
 use Rattle.script_rules.specs.Script.LineOutcome.{Breaks, Invites, Asks}
 use Rattle.script_rules.specs.Capture.{broken_line}
 use Rattle.script_rules.specs.CaptureText.{Run}
-use Rattle.headline.specs.Fronts.{IsFront}
 use Rattle.script_host.specs.Hosts.{HostModel}
 use Rattle.script_run.specs.declared.fault.ScriptFault.{ScriptFault}
 use Rattle.script_run.specs.declared.fault.ScriptFault.TheVariants as fault
-use Rattle.script_run.specs.Run.{Tells, EndsWhereTold, refusal_at, ReadsCause}
+use Rattle.script_run.specs.declared.found.Step.{Step}
+use Rattle.script_run.specs.declared.found.Step.TheVariants as step
+use Rattle.script_lines.specs.Lines.{number_of_rule}
+use Rattle.script_run.specs.Run.{Tells, EndsWhereTold, refusal_at, ReadsCause, WritesCause}
 use Rattle.script_run.specs.Outcomes.{outcome_within, found_outcome, outcome_text, reading_by, run_by_outcome, BreaksNone}
-use Rattle.script_run.specs.Steps.{DoesLine, WritesFrontOfLine, DoesFound, IsWriteFault}
-use Rattle.script_run.specs.Reading.{CaptureByLines, Follows, of_lines, text_from, Moment, ahead_of, WroteSomeLines, AllLinesGive, WroteAllLines}
-use Rattle.script_run.specs.Reading.{with_next, WroteDoneLines, StopsInALine, StopsReading}
-use Rattle.script_run.specs.Progress.{NextLineDone}
-use Rattle.script_run.proofs.Senses.{line_follows, line_breaks, front_behind, front_of_front, front_is, whole_is_front}
+use Rattle.script_run.specs.Steps.{DoesLine, DoesFound, HoldsNone, IsWriteFault, answer_of}
+use Rattle.script_run.specs.Reading.{CaptureByLines, Follows, of_lines, Moment, ahead_of, WroteSomeLines, AllLinesGive, WroteAllLines}
+use Rattle.script_run.specs.Reading.{StopsInALine, StopsReading}
+use Rattle.script_run.specs.Progress.{NextLineDone, StopsShort}
+use Rattle.script_run.proofs.Cut.{IsSteady, lines_stop, all_stop}
+use Rattle.script_run.proofs.Held.{appends_behind}
+use Rattle.script_run.proofs.Senses.{line_follows, line_breaks}
 use Rattle.script_run.proofs.Taken.{line_taken, none_taken}
-use Rattle.script_run.proofs.Outcomes.{StartAs, outcome_is, done_is_ended, is_longer, is_inside, found_starts, starts_alone, first_does}
+use Rattle.script_run.proofs.Outcomes.{StartAs, outcome_is, done_is_ended, is_longer, is_inside, found_starts, first_does}
 
 -- ---- what lines give that begin as what was found
 
@@ -90,17 +94,17 @@ past_is_none (Breaks rule) e none = none
 past_is_none (Invites row) e none = cc e
 past_is_none (Asks a) e none = cc e
 
-line_done : (f : Found) (whole : CaptureByLines) (before : List ℕ) (k : ℕ) (r : ScriptReading) (run : Run Encoder) (host : HostModel) (m n : Moment) (mid : Option (List ℕ))
+line_done : (f : Found) (whole : CaptureByLines) (before : List ℕ) (k : ℕ) (r : ScriptReading) (run : Run Encoder) (host : HostModel) (m n : Moment) (told mid : Option (List ℕ))
     → Finds f m.reading n.reading (ahead_of m) (ahead_of n) → Leads whole f m.reading.at n.reading.text before (of_lines k m.reading.at r run)
-    → Appends m.told mid before → DoesLine (found_outcome f r n.reading.text) k r run host mid n.told → NextLineDone (Ok true) whole k host m n
-line_done (found.Line ended) whole before k r run host m n mid finds leads w d =
+    → Appends m.told mid before → DoesLine (found_outcome f r n.reading.text) k r run host mid n.told → NextLineDone (Ok true) whole k host told m n
+line_done (found.Line ended) whole before k r run host m n told mid finds leads w d =
     let is = some_is (outcome_within r n.reading.text ended) d.outcome d.is in
     let done = one_done whole before k r run d.outcome ended m n mid (done_is_ended r n.reading.text ended d.outcome is d.breaks_none) finds leads is d.breaks_none w
     d.written in
     (done.0, done.1, record { r = reading_by r d.outcome; run = run_by_outcome r.head run d.outcome; stands = d.stands; wrote = done.2 })
-line_done found.PastLimits whole before k r run host m n mid finds leads w d = absurd (past_is_none d.outcome d.is d.breaks_none)
-line_done found.End whole before k r run host m n mid finds leads w d = absurd (cc d.is)
-line_done found.Failed whole before k r run host m n mid finds leads w d = absurd (cc d.is)
+line_done found.PastLimits whole before k r run host m n told mid finds leads w d = absurd (past_is_none d.outcome d.is d.breaks_none)
+line_done found.End whole before k r run host m n told mid finds leads w d = absurd (cc d.is)
+line_done found.Failed whole before k r run host m n told mid finds leads w d = absurd (cc d.is)
 
 -- ---- no line is left
 
@@ -118,13 +122,13 @@ ends_told (Some bytes) (Some left) keeps end = keeps ∙ end
 
 end_done : (f : Found) (whole : CaptureByLines) (before : List ℕ) (k : ℕ) (r : ScriptReading) (run : Run Encoder) (m n : Moment) (mid : Option (List ℕ))
     → Finds f m.reading n.reading (ahead_of m) (ahead_of n) → Leads whole f m.reading.at n.reading.text before (of_lines k m.reading.at r run)
-    → Appends m.told mid before → f ≡ found.End → n.told ≡ mid → EndsWhereTold (ahead_of m) (ahead_of n) × WroteAllLines whole None m n
-end_done f whole before k r run m n mid finds leads w is same =
+    → Appends m.told mid before → f ≡ found.End → Appends mid n.told [] → EndsWhereTold (ahead_of m) (ahead_of n) × WroteAllLines whole None m n
+end_done f whole before k r run m n mid finds leads w is nothing =
     let ends = subst (λ x. Finds x m.reading n.reading (ahead_of m) (ahead_of n)) is finds in (
       ends_told (ahead_of m) (ahead_of n) ends.0.keeps ends.1,
       record {
         text = before;
-        written = subst (λ t. Appends m.told t before) (sym same) w;
+        written = subst (Appends m.told n.told) (append-nil before) (Appends-trans m.told mid n.told before [] w nothing);
         gives = end_gives (ahead_of m) f whole before n.reading.text k m.reading.at r run is leads ends.1;
       },
     )
@@ -164,95 +168,62 @@ not_failed found.PastLimits r text o is e = cc e
 not_failed found.End r text o is e = cc e
 not_failed found.Failed r text o is e = cc is
 
-line_refused : (f : Found) (whole : CaptureByLines) (before : List ℕ) (k line rule : ℕ) (r : ScriptReading) (run : Run Encoder) (m n : Moment) (mid : Option (List ℕ))
+line_refused : (f : Found) (whole : CaptureByLines) (before : List ℕ) (k rule : ℕ) (r : ScriptReading) (run : Run Encoder) (m n : Moment) (mid : Option (List ℕ))
     → Finds f m.reading n.reading (ahead_of m) (ahead_of n) → Leads whole f m.reading.at n.reading.text before (of_lines k m.reading.at r run)
-    → Appends m.told mid before → line ≡ k → found_outcome f r n.reading.text ≡ Some (Breaks rule) → Appends mid n.told (broken_line k rule)
-    → WroteAllLines whole (refusal_at line rule) m n
-line_refused f whole before k line rule r run m n mid finds leads w same is v = record {
+    → Appends m.told mid before → found_outcome f r n.reading.text ≡ Some (Breaks rule) → Appends mid n.told (broken_line k rule)
+    → WroteAllLines whole (refusal_at k rule) m n
+line_refused f whole before k rule r run m n mid finds leads w is v = record {
   text = before ++ broken_line k rule;
   written = Appends-trans m.told mid n.told before (broken_line k rule) w v;
-  gives = subst (λ l. AllLinesGive (ahead_of m) whole (before ++ broken_line k rule) (refusal_at l rule)) (sym same)
-      (breaks_told (ahead_of m) f whole before n.reading.text k rule m.reading r run leads (within_is f m n finds) is
-      (found_starts f m.reading n.reading (ahead_of m) (ahead_of n) finds (not_failed f r n.reading.text (Breaks rule) is)));
+  gives = breaks_told (ahead_of m) f whole before n.reading.text k rule m.reading r run leads (within_is f m n finds) is
+      (found_starts f m.reading n.reading (ahead_of m) (ahead_of n) finds (not_failed f r n.reading.text (Breaks rule) is));
 }
-
--- ---- a line that wasn't written whole
-
--- what a line writes is a front of what its script writes with it
-alone_front : (line : Line) (k at : ℕ) (r : ScriptReading) (run : Run Encoder) (o : LineOutcome) → line_outcome at r line ≡ o
-    → IsFront (outcome_text k r.head run o) (text_from run (script_from k at r (line ∷ [])))
-alone_front line k at r run (Breaks rule) is = front_is (broken_line k rule) (broken_line k rule) _ (sym (line_breaks line [] k at rule r run is).0)
-    (whole_is_front (broken_line k rule))
-alone_front line k at r run (Invites row) is = of_follows line k at r run (Invites row) is tt
-  where
-    of_follows : (line : Line) (k at : ℕ) (r : ScriptReading) (run : Run Encoder) (o : LineOutcome) → line_outcome at r line ≡ o → BreaksNone o
-        → IsFront (outcome_text k r.head run o) (text_from run (script_from k at r (line ∷ [])))
-    of_follows line k at r run o is none = record { rest = _; joined = (line_follows line k at (at + length (line_bytes line)) r run o is none refl).writes [] }
-alone_front line k at r run (Asks a) is = record { rest = _; joined = (line_follows line k at (at + length (line_bytes line)) r run (Asks a) is tt refl).writes [] }
-
-front_of_line : (lines : List Line) (f : Found) (whole : CaptureByLines) (before text front : List ℕ) (k : ℕ) (old : LineReading) (r : ScriptReading) (run : Run Encoder)
-    (o : LineOutcome) → Leads whole f old.at text before (of_lines k old.at r run) → IsWithin f old.at text → found_outcome f r text ≡ Some o
-    → StartAs f old.at text lines → IsFront front (outcome_text k r.head run o) → IsFront (before ++ front) (with_next whole [] lines)
-front_of_line [] (found.Line ended) whole before text front k old r run o leads within is s g = absurd s
-front_of_line [] found.PastLimits whole before text front k old r run o leads within is s g = absurd s
-front_of_line [] found.End whole before text front k old r run o leads within is s g = absurd (cc is)
-front_of_line [] found.Failed whole before text front k old r run o leads within is s g = absurd s
-front_of_line (line ∷ lines) f whole before text front k old r run o leads within is s g =
-    let rest = text_from run (script_from k old.at r (line ∷ [])) in
-    front_is (before ++ front) (before ++ rest) (whole.so_far (line ∷ [])) (sym (leads.so_far line [] (starts_alone f old.at text line lines s)))
-    (front_behind before front rest
-    (front_of_front front (outcome_text k r.head run o) rest g (alone_front line k old.at r run o (first_does f old text r line lines o within s is))))
-
--- nothing was done of the lines ahead, and a front of what the first one writes was written
-pub stopped_at : (ahead : Option (List ℕ)) (f : Found) (whole : CaptureByLines) (front text : List ℕ) (at : ℕ) (told telling : Option (List ℕ)) → whole.so_far [] ≡ []
-    → Tells ahead (λ bytes. StartAs f at text (lines_of bytes)) → ((lines : List Line) → StartAs f at text lines → IsFront front (with_next whole [] lines))
-    → Appends told telling front → Tells ahead (λ bytes. WroteDoneLines whole (lines_of bytes) told telling)
-stopped_at None f whole front text at told telling none s g w = tt
-stopped_at (Some bytes) f whole front text at told telling none s g w = record {
-  done = [];
-  rest = lines_of bytes;
-  front = front;
-  are_first = refl;
-  written = subst (λ t. Appends told telling (t ++ front)) (sym none) w;
-  is_front = subst (λ t. IsFront (t ++ front) (with_next whole [] (lines_of bytes))) (sym none) (g (lines_of bytes) s);
-}
-
-front_stops : (f : Found) (whole : CaptureByLines) (before : List ℕ) (k : ℕ) (r : ScriptReading) (run : Run Encoder) (m n : Moment) (mid : Option (List ℕ))
-    → Finds f m.reading n.reading (ahead_of m) (ahead_of n) → Leads whole f m.reading.at n.reading.text before (of_lines k m.reading.at r run)
-    → Appends m.told mid before → WritesFrontOfLine (found_outcome f r n.reading.text) k r run mid n.told → StopsInALine whole m n
-front_stops f whole before k r run m n mid finds leads w d =
-    let front = d.front.front in
-    stopped_at (ahead_of m) f whole (before ++ front) n.reading.text m.reading.at m.told n.told leads.none_yet
-    (found_starts f m.reading n.reading (ahead_of m) (ahead_of n) finds (not_failed f r n.reading.text d.outcome d.is))
-    (λ lines s. front_of_line lines f whole before n.reading.text front k m.reading r run d.outcome leads (within_is f m n finds) d.is s
-    (record { rest = d.front.rest; joined = d.front.whole }))
-    (Appends-trans m.told mid n.told before front w d.front.written)
 
 -- ---- a read that failed
 
 pub read_stops : (f : Found) (whole : CaptureByLines) (m n : Moment) → Finds f m.reading n.reading (ahead_of m) (ahead_of n) → whole.so_far [] ≡ [] → f ≡ found.Failed
-    → n.told ≡ m.told → (f ≡ found.Failed → position (λ b. b == 10) n.reading.held ≡ None) → StopsReading whole m n
-read_stops f whole m n finds none is same part =
+    → Appends m.told n.told [] → (f ≡ found.Failed → position (λ b. b == 10) n.reading.held ≡ None) → StopsReading whole m n
+read_stops f whole m n finds none is nothing part =
     let kept = subst (λ x. Finds x m.reading n.reading (ahead_of m) (ahead_of n)) is finds in
     record {
       lines = [];
       takes = none_taken (ahead_of m) (ahead_of n) kept.keeps;
-      written = subst (Appends m.told n.told) (sym none) (subst (λ t. Appends m.told t []) (sym same) (Appends-nil m.told));
+      written = subst (Appends m.told n.told) (sym none) nothing;
       part = part is;
     }
 
--- what was done where the k-th line was found
-pub next_done : (result : Result Bool ScriptFault) (f : Found) (whole : CaptureByLines) (before : List ℕ) (k : ℕ) (r : ScriptReading) (run : Run Encoder) (host : HostModel)
-    (m n : Moment) (mid : Option (List ℕ)) → Finds f m.reading n.reading (ahead_of m) (ahead_of n) → (f ≡ found.Failed → ⊥)
+-- ---- what was done where the k-th line was found
+
+pub step_done : (step : Step) (f : Found) (whole : CaptureByLines) (before : List ℕ) (k : ℕ) (r : ScriptReading) (run : Run Encoder) (host : HostModel)
+    (m n : Moment) (told mid : Option (List ℕ)) → Finds f m.reading n.reading (ahead_of m) (ahead_of n)
     → Leads whole f m.reading.at n.reading.text before (of_lines k m.reading.at r run) → Appends m.told mid before
-    → DoesFound result f k r run host n.reading.text mid n.told → NextLineDone result whole k host m n
-next_done (Ok true) f whole before k r run host m n mid finds read leads w d = line_done f whole before k r run host m n mid finds leads w d
-next_done (Ok false) f whole before k r run host m n mid finds read leads w d = end_done f whole before k r run m n mid finds leads w d.0 d.1
-next_done (Err (fault.Line line rule)) f whole before k r run host m n mid finds read leads w d =
-    (d.0, line_refused f whole before k line rule r run m n mid finds leads w d.0 d.1 d.2)
-next_done (Err fault.ReadFault) f whole before k r run host m n mid finds read leads w d = absurd (read d.0)
-next_done (Err fault.WriteFault) f whole before k r run host m n mid finds read leads w d = front_stops f whole before k r run m n mid finds leads w d
-next_done (Err fault.OutOfMemory) f whole before k r run host m n mid finds read leads w d = front_stops f whole before k r run m n mid finds leads w d
+    → DoesFound step f k r run host n.reading.text mid n.told → NextLineDone (answer_of k step) whole k host told m n
+step_done step.Done f whole before k r run host m n told mid finds leads w d = line_done f whole before k r run host m n told mid finds leads w d
+step_done step.NoLine f whole before k r run host m n told mid finds leads w d = end_done f whole before k r run m n mid finds leads w d.0 d.1
+step_done (step.Refused rule) f whole before k r run host m n told mid finds leads w d =
+    (refl, line_refused f whole before k (number_of_rule rule) r run m n mid finds leads w d.0 d.1)
+
+-- a run that stopped behind it stopped in a line
+pub step_stops : (step : Step) (whole : CaptureByLines) (k : ℕ) (host : HostModel) (told : Option (List ℕ)) (m n : Moment) → IsSteady whole
+    → NextLineDone (answer_of k step) whole k host told m n → StopsInALine whole m n
+step_stops step.Done whole k host told m n s d = lines_stop whole (of_lines (k + 1) n.reading.at d.2.r d.2.run) m n s refl d.2.wrote
+step_stops step.NoLine whole k host told m n s d = all_stop whole None m n s d.1
+step_stops (step.Refused rule) whole k host told m n s d = all_stop whole (refusal_at k (number_of_rule rule)) m n s d.1
+
+-- the text of a line was appended to one that stands in memory, and then the two were written
+pub step_told : (step : Step) (f : Found) (k : ℕ) (r : ScriptReading) (run : Run Encoder) (host : HostModel) (text begun line : List ℕ) (told telling : Option (List ℕ))
+    → DoesFound step f k r run host text (Some begun) (Some line) → Appends told telling line
+    → DoesFound step f k r run host text (append_known told begun) telling
+step_told step.Done f k r run host text begun line told telling d w = record {
+  outcome = d.outcome;
+  is = d.is;
+  breaks_none = d.breaks_none;
+  stands = d.stands;
+  written = appends_behind told telling begun (outcome_text k r.head run d.outcome) line d.written w;
+}
+step_told step.NoLine f k r run host text begun line told telling d w = (d.0, appends_behind told telling begun [] line d.1 w)
+step_told (step.Refused rule) f k r run host text begun line told telling d w =
+    (d.0, appends_behind told telling begun (broken_line k (number_of_rule rule)) line d.1 w)
 
 -- ---- faults of the source
 
@@ -263,18 +234,58 @@ cause_is_same found.End reads read other cause = cause
 cause_is_same found.Failed reads read other cause = absurd (other refl)
 
 -- what was found was read
-pub found_reads : (result : Result Bool ScriptFault) (f : Found) (reads read : ℕ) → FindCause f reads read → (f ≡ found.Failed → ⊥)
-    → (result ≡ Err fault.ReadFault → f ≡ found.Failed) → ReadsCause result reads read
-found_reads (Ok x) f reads read cause other only = cause_is_same f reads read other cause
-found_reads (Err (fault.Line line rule)) f reads read cause other only = cause_is_same f reads read other cause
-found_reads (Err fault.ReadFault) f reads read cause other only = absurd (other (only refl))
-found_reads (Err fault.WriteFault) f reads read cause other only = cause_is_same f reads read other cause
-found_reads (Err fault.OutOfMemory) f reads read cause other only = cause_is_same f reads read other cause
+pub found_reads : (step : Step) (k : ℕ) (f : Found) (reads read : ℕ) → FindCause f reads read → (f ≡ found.Failed → ⊥) → ReadsCause (answer_of k step) reads read
+found_reads step.Done k f reads read cause other = cause_is_same f reads read other cause
+found_reads step.NoLine k f reads read cause other = cause_is_same f reads read other cause
+found_reads (step.Refused rule) k f reads read cause other = cause_is_same f reads read other cause
 
--- a write failed behind it
-pub written_reads : (answer : ScriptFault) (f : Found) (reads read : ℕ) → (f ≡ found.Failed → ⊥) → IsWriteFault answer → FindCause f reads read
-    → ReadsCause {T = Bool} (Err answer) reads read
-written_reads (fault.Line line rule) f reads read other w cause = absurd w
-written_reads fault.ReadFault f reads read other w cause = absurd w
-written_reads fault.WriteFault f reads read other w cause = cause_is_same f reads read other cause
-written_reads fault.OutOfMemory f reads read other w cause = cause_is_same f reads read other cause
+-- a write failed behind it, or before it was read
+pub fault_reads : (answer : ScriptFault) (reads read : ℕ) → IsWriteFault answer → read ≡ reads → ReadsCause {T = Bool} (Err answer) reads read
+fault_reads (fault.Line line rule) reads read w same = absurd w
+fault_reads fault.ReadFault reads read w same = absurd w
+fault_reads fault.WriteFault reads read w same = same
+fault_reads fault.OutOfMemory reads read w same = same
+
+pub found_is_same : (f : Found) (reads read : ℕ) → (f ≡ found.Failed → ⊥) → FindCause f reads read → read ≡ reads
+found_is_same f reads read other cause = cause_is_same f reads read other cause
+
+-- its answer is of no fault of a write
+pub step_writes : (step : Step) (k before now : ℕ) → now ≡ before → WritesCause (answer_of k step) before now
+step_writes step.Done k before now same = same
+step_writes step.NoLine k before now same = same
+step_writes (step.Refused rule) k before now same = same
+
+pub step_holds : (step : Step) (k : ℕ) (held : List ℕ) → HoldsNone (answer_of k step) held
+step_holds step.Done k held = tt
+step_holds step.NoLine k held = tt
+step_holds (step.Refused rule) k held = tt
+
+pub empty_holds : (answer : ScriptFault) (held : List ℕ) → held ≡ [] → HoldsNone {T = Bool} (Err answer) held
+empty_holds (fault.Line line rule) held none = tt
+empty_holds fault.ReadFault held none = none
+empty_holds fault.WriteFault held none = none
+empty_holds fault.OutOfMemory held none = tt
+
+-- ---- a stop in the k-th line
+
+-- a front was written of what a run would have come to that stopped so
+pub stops_at : (answer : ScriptFault) (whole : CaptureByLines) (k : ℕ) (host : HostModel) (told : Option (List ℕ)) (m n : Moment) → IsWriteFault answer
+    → StopsShort whole told m n → NextLineDone (Err answer) whole k host told m n
+stops_at (fault.Line line rule) whole k host told m n w d = absurd w
+stops_at fault.ReadFault whole k host told m n w d = absurd w
+stops_at fault.WriteFault whole k host told m n w d = d
+stops_at fault.OutOfMemory whole k host told m n w d = d
+
+-- the cause of a fault, of whatever it is the answer
+pub fault_writes : (answer : ScriptFault) (before now : ℕ) → WritesCause {T = Unit {0}} (Err answer) before now → WritesCause {T = Bool} (Err answer) before now
+fault_writes (fault.Line line rule) before now cause = cause
+fault_writes fault.ReadFault before now cause = cause
+fault_writes fault.WriteFault before now cause = cause
+fault_writes fault.OutOfMemory before now cause = cause
+
+pub writes_after : (answer : ScriptFault) (first mid now : ℕ) → mid ≡ first → WritesCause {T = Bool} (Err answer) mid now → WritesCause {T = Bool} (Err answer) first now
+writes_after answer first mid now same cause = subst (λ n. WritesCause {T = Bool} (Err answer) n now) same cause
+
+-- a read that failed
+pub read_cause : (f : Found) (reads read : ℕ) → f ≡ found.Failed → FindCause f reads read → ReadsCause {T = Bool} (Err fault.ReadFault) reads read
+read_cause f reads read is cause = subst (λ x. FindCause x reads read) is cause

@@ -1,28 +1,22 @@
 -- The second line was found: an invite begins a script of several viewers, and before any other the one viewer joins.
-use Rattle.std.proofs.Common.{◌≡◌, ℕ, List, [], ◌∷◌, refl, ap, ◌∙◌, Bool, true, false}
-use Rattle.std.specs.Prelude.{Option, Result, Err, ◌&&◌, not, is_some}
-use Rattle.std.specs.Io.KnownBytes.{Appends}
+use Rattle.std.proofs.Common.{◌≡◌, ℕ, List, [], ◌∷◌, refl, ap, sym, ◌∙◌, subst, Bool, true, false}
+use Rattle.std.specs.Prelude.{◌&&◌, not, is_some}
 use Rattle.px_core.specs.declared.surface.Size.{Size}
 use Rattle.line_text.specs.Lines.{Line, is_past_limits}
 use Rattle.line_text.specs.Words.{words_of}
-use Rattle.edge_io.specs.Finding.{Finds}
 use Rattle.edge_io.specs.declared.reader.Found.{Found}
 use Rattle.edge_io.specs.declared.reader.Found.TheVariants as found
-use Rattle.edge_io.specs.Sink.{WritesFront}
-use Rattle.script_rules.specs.Script.{begins_with_invite, invite_form, opened_reading}
-use Rattle.headline.specs.Fronts.{IsFront}
+use Rattle.frame_rules.specs.Encoder.{Encoder}
+use Rattle.script_rules.specs.Script.{ScriptReading, begins_with_invite, invite_form, opened_reading}
+use Rattle.script_rules.specs.CaptureText.{Run}
 use Rattle.script_host.specs.Hosts.{HostModel}
-use Rattle.script_run.specs.declared.fault.ScriptFault.{ScriptFault}
-use Rattle.script_run.specs.declared.fault.ScriptFault.TheVariants as fault
 use Rattle.script_run.specs.Outcomes.{is_invite_found}
-use Rattle.script_run.specs.Solo.{first_run, solo_reading, solo_run, joined}
-use Rattle.script_run.specs.Steps.{DoesFound, IsWriteFault}
-use Rattle.script_run.specs.Reading.{of_lines, of_rest, Moment, ahead_of, with_next}
-use Rattle.script_run.specs.Progress.{NextLineDone}
-use Rattle.script_run.proofs.Senses.{invited_writes, solo_writes, front_of_front}
-use Rattle.script_run.proofs.Outcomes.{StartAs, found_starts, starts_alone}
-use Rattle.script_run.proofs.NextLine.{Leads, within_is, next_done, stopped_at}
-use Rattle.std.proofs.KnownBytes.{Appends-nil}
+use Rattle.script_run.specs.Solo.{BeginsRun, first_run, solo_reading, solo_run, joined}
+use Rattle.script_run.specs.Standing.{Stands}
+use Rattle.script_run.specs.Reading.{of_lines, of_rest}
+use Rattle.script_run.proofs.Senses.{invited_writes, solo_writes}
+use Rattle.script_run.proofs.Outcomes.{StartAs}
+use Rattle.script_run.proofs.NextLine.{Leads}
 
 and_true : (b c : Bool) → b ≡ true → c ≡ true → (b && c) ≡ true
 and_true b c e f = ap (λ x. x && c) e ∙ f
@@ -74,36 +68,25 @@ leads_solo f size at text none = record {
   none_yet = refl;
 }
 
--- what was done where the second line was found, and is an invite
-pub invited_done : (result : Result Bool ScriptFault) (f : Found) (size : Size) (host : HostModel) (m n : Moment)
-    → Finds f m.reading n.reading (ahead_of m) (ahead_of n) → (f ≡ found.Failed → ⊥) → is_invite_found f n.reading.text ≡ true
-    → DoesFound result f 2 (opened_reading size []) (first_run size) host n.reading.text m.told n.told
-    → NextLineDone result (of_rest size m.reading.at) 2 host m n
-invited_done result f size host m n finds read invite d = next_done result f (of_rest size m.reading.at) [] 2 (opened_reading size []) (first_run size) host m n m.told
-    finds read (leads_invited f size m.reading.at n.reading.text (within_is f m n finds) invite) (Appends-nil m.told) d
+-- what was written before the second line leads to what its line and those behind it give
+pub record SecondBegins (f : Found) (size : Size) (at : ℕ) (text begun : List ℕ) (host : HostModel) : Type 0 where
+  pub r : ScriptReading
+  pub run : Run Encoder
+  pub stands : Stands host r run
+  pub leads : Leads (of_rest size at) f at text begun (of_lines 2 at r run)
 
--- what was done where it was found, and is no invite
-pub solo_done : (result : Result Bool ScriptFault) (f : Found) (size : Size) (host : HostModel) (m n : Moment) (mid : Option (List ℕ))
-    → Finds f m.reading n.reading (ahead_of m) (ahead_of n) → (f ≡ found.Failed → ⊥) → is_invite_found f n.reading.text ≡ false → Appends m.told mid (joined size)
-    → DoesFound result f 2 (solo_reading size) (solo_run size) host n.reading.text mid n.told → NextLineDone result (of_rest size m.reading.at) 2 host m n
-solo_done result f size host m n mid finds read none joins d = next_done result f (of_rest size m.reading.at) (joined size) 2 (solo_reading size) (solo_run size) host m n
-    mid finds read (leads_solo f size m.reading.at n.reading.text none) joins d
-
-joined_front : (f : Found) (size : Size) (at : ℕ) (text front : List ℕ) (lines : List Line) → is_invite_found f text ≡ false → IsFront front (joined size)
-    → StartAs f at text lines → IsFront front (with_next (of_rest size at) [] lines)
-joined_front f size at text front [] none g s = front_of_front front (joined size) _ g (record { rest = _; joined = (leads_solo f size at text none).writes [] s })
-joined_front f size at text front (line ∷ lines) none g s = front_of_front front (joined size) _ g
-    (record { rest = _; joined = (leads_solo f size at text none).so_far line [] (starts_alone f at text line lines s) })
-
--- the line that says that the viewer joined wasn't written whole
-pub not_joined : (answer : ScriptFault) (f : Found) (size : Size) (host : HostModel) (m n : Moment)
-    → Finds f m.reading n.reading (ahead_of m) (ahead_of n) → (f ≡ found.Failed → ⊥) → is_invite_found f n.reading.text ≡ false
-    → WritesFront m.told n.told (joined size) → IsWriteFault answer → NextLineDone (Err answer) (of_rest size m.reading.at) 2 host m n
-not_joined (fault.Line line rule) f size host m n finds read none front w = absurd w
-not_joined fault.ReadFault f size host m n finds read none front w = absurd w
-not_joined fault.WriteFault f size host m n finds read none front w = stopped_at (ahead_of m) f (of_rest size m.reading.at) front.front n.reading.text m.reading.at
-    m.told n.told refl (found_starts f m.reading n.reading (ahead_of m) (ahead_of n) finds read)
-    (λ lines s. joined_front f size m.reading.at n.reading.text front.front lines none (record { rest = front.rest; joined = front.whole }) s) front.written
-not_joined fault.OutOfMemory f size host m n finds read none front w = stopped_at (ahead_of m) f (of_rest size m.reading.at) front.front n.reading.text m.reading.at
-    m.told n.told refl (found_starts f m.reading n.reading (ahead_of m) (ahead_of n) finds read)
-    (λ lines s. joined_front f size m.reading.at n.reading.text front.front lines none (record { rest = front.rest; joined = front.whole }) s) front.written
+pub second_leads : (invite : Bool) (f : Found) (size : Size) (at : ℕ) (text begun : List ℕ) (host : HostModel)
+    → ((ended : Bool) → f ≡ found.Line ended → is_past_limits at (record { text = text; ended = ended }) ≡ false)
+    → is_invite_found f text ≡ invite → BeginsRun invite size host begun → SecondBegins f size at text begun host
+second_leads true f size at text begun host within is b = record {
+  r = opened_reading size [];
+  run = first_run size;
+  stands = b.0;
+  leads = subst (λ t. Leads (of_rest size at) f at text t (of_lines 2 at (opened_reading size []) (first_run size))) (sym b.1) (leads_invited f size at text within is);
+}
+second_leads false f size at text begun host within is b = record {
+  r = solo_reading size;
+  run = solo_run size;
+  stands = b.0;
+  leads = subst (λ t. Leads (of_rest size at) f at text t (of_lines 2 at (solo_reading size) (solo_run size))) (sym b.1) (leads_solo f size at text is);
+}

@@ -247,7 +247,7 @@ solo_writes size at lines is = (
   ap (λ s. s.refusal) (by_invite size at lines false is),
 )
 
-rest_front : (lines more : List Line) (size : Size) (at : ℕ) → IsFront (so_far_after size at lines) (text_after size at (lines ++ more))
+pub rest_front : (lines more : List Line) (size : Size) (at : ℕ) → IsFront (so_far_after size at lines) (text_after size at (lines ++ more))
 rest_front [] more size at = nothing_is_front (text_after size at more)
 rest_front (line ∷ lines) more size at = by (begins_with_invite at (line ∷ lines)) refl
   where

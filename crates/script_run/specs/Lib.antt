@@ -1,4 +1,5 @@
 pub mod Done
+pub mod Held
 pub mod Run
 pub mod Outcomes
 pub mod Solo

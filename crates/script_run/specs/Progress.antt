@@ -1,5 +1,6 @@
 -- How far a script's lines were done.
-use Rattle.std.specs.Prelude.{◌≡◌, ℕ, ◌+◌, ◌<◌, ◌≤◌, Bool, true, false}
+use Rattle.std.specs.Prelude.{◌≡◌, ℕ, List, ◌+◌, ◌<◌, ◌≤◌, Bool, true, false}
+use Rattle.std.specs.declared.option.Option.{Option}
 use Rattle.std.specs.declared.option.Option.TheVariants.{None}
 use Rattle.std.specs.declared.result.Result.{Result}
 use Rattle.std.specs.declared.result.Result.TheVariants.{Ok, Err}
@@ -11,8 +12,9 @@ use Rattle.script_host.specs.Hosts.{HostModel}
 use Rattle.script_run.specs.declared.fault.ScriptFault.{ScriptFault}
 use Rattle.script_run.specs.declared.fault.ScriptFault.TheVariants as fault
 use Rattle.script_run.specs.Run.{EndsWhereTold, refusal_at}
+use Rattle.script_run.specs.Held.{IsFrontOf}
 use Rattle.script_run.specs.Standing.{Stands}
-use Rattle.script_run.specs.Reading.{CaptureByLines, Moment, ahead_of, of_lines, WroteSomeLines, WroteAllLines, StopsReading, StopsInALine}
+use Rattle.script_run.specs.Reading.{CaptureByLines, Moment, moment, ahead_of, of_lines, WroteSomeLines, WroteAllLines, StopsReading, StopsInALine}
 
 -- lines were done up to the k-th, behind which the host stands for a run
 pub record DidLinesTo (whole : CaptureByLines) (k : ℕ) (host : HostModel) (before now : Moment) : Type 0 where
@@ -21,15 +23,22 @@ pub record DidLinesTo (whole : CaptureByLines) (k : ℕ) (host : HostModel) (bef
   pub stands : Stands host r run
   pub wrote : WroteSomeLines whole (of_lines (k + 1) now.reading.at r run) before now
 
--- what was done of the next line, the k-th, where the lines ahead give this: its step; nothing, since no line is left; or it was refused
-abbrev pub NextLineDone : Result Bool ScriptFault → CaptureByLines → ℕ → HostModel → (before now : Moment) → Type 0
-NextLineDone (Ok true) whole k host before now =
+-- a run that stopped in a line would have come to this text, and of it a front was written
+pub record StopsShort (whole : CaptureByLines) (told : Option (List ℕ)) (before now : Moment) : Type 0 where
+  pub text : Option (List ℕ)
+  pub stops : StopsInALine whole before (moment now.reading now.left text)
+  pub front : IsFrontOf told now.told text
+
+-- what was done of the next line, the k-th, where the lines ahead give this: its step; nothing, since no line is left; or it was refused.
+-- At another fault a front stands in the sink, of which this was told before
+abbrev pub NextLineDone : Result Bool ScriptFault → CaptureByLines → ℕ → HostModel → Option (List ℕ) → (before now : Moment) → Type 0
+NextLineDone (Ok true) whole k host told before now =
     (before.reading.at < now.reading.at) × (now.reading.at ≤ script_limit) × DidLinesTo whole k host before now
-NextLineDone (Ok false) whole k host before now = EndsWhereTold (ahead_of before) (ahead_of now) × WroteAllLines whole None before now
-NextLineDone (Err (fault.Line line rule)) whole k host before now = (line ≡ k) × WroteAllLines whole (refusal_at line rule) before now
-NextLineDone (Err fault.ReadFault) whole k host before now = StopsReading whole before now
-NextLineDone (Err fault.WriteFault) whole k host before now = StopsInALine whole before now
-NextLineDone (Err fault.OutOfMemory) whole k host before now = StopsInALine whole before now
+NextLineDone (Ok false) whole k host told before now = EndsWhereTold (ahead_of before) (ahead_of now) × WroteAllLines whole None before now
+NextLineDone (Err (fault.Line line rule)) whole k host told before now = (line ≡ k) × WroteAllLines whole (refusal_at line rule) before now
+NextLineDone (Err fault.ReadFault) whole k host told before now = StopsReading whole before now
+NextLineDone (Err fault.WriteFault) whole k host told before now = StopsShort whole told before now
+NextLineDone (Err fault.OutOfMemory) whole k host told before now = StopsShort whole told before now
 
 -- how far lines were done, where the lines ahead at first gave this: a line may follow, or none does
 abbrev pub LinesDoneSoFar : Bool → CaptureByLines → ℕ → HostModel → (before now : Moment) → Type 0

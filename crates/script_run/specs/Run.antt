@@ -68,7 +68,7 @@ pub record WritesHandedLines (script : List ℕ) (left before now : Option (List
 
 -- a run that was done up to the script's end, or up to the first line that breaks a rule, wrote the capture; it ends with Ok only where
 -- no byte is left. After a failed read what the whole lines write stands there that were handed out, and after a failed write, or want
--- of memory, what the lines done write and a front of what the next line, or the script's end, writes
+-- of memory, what the first lines write and a front of what the next line, or the script's end, writes
 abbrev pub RunsScript : Result (Unit {0}) ScriptFault → (left rest told telling : Option (List ℕ)) → Type 0
 RunsScript (Ok x) left rest told telling = Tells left (λ script. WritesTheCapture script None told telling) × EndsWhereTold left rest
 RunsScript (Err (fault.Line k rule)) left rest told telling = Tells left (λ script. WritesTheCapture script (refusal_at k rule) told telling)

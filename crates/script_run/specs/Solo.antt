@@ -1,10 +1,12 @@
 -- The one viewer of a script whose second line is no invite.
-use Rattle.std.specs.Prelude.{ℕ, List}
+use Rattle.std.specs.Prelude.{◌≡◌, ℕ, List, [], Bool, true, false}
 use Rattle.px_core.specs.declared.surface.Size.{Size}
 use Rattle.session_rules.specs.Journal.{Head}
 use Rattle.frame_rules.specs.Encoder.{Encoder}
 use Rattle.script_rules.specs.Script.{ScriptReading, opened_reading, after_step, solo_rows, solo_join}
 use Rattle.script_rules.specs.CaptureText.{Run, run_at_first, run_after, line_in_run, encoder_frames}
+use Rattle.script_host.specs.Hosts.{HostModel}
+use Rattle.script_run.specs.Standing.{Stands}
 
 -- a run before its first step
 abbrev pub first_run : Size → Run Encoder
@@ -23,3 +25,8 @@ solo_run size = run_after encoder_frames (solo_head size) (first_run size) solo_
 
 abbrev pub joined : Size → List ℕ
 joined size = line_in_run encoder_frames (solo_head size) (first_run size) solo_join
+
+-- what was written before the second line: nothing where it is an invite, else that the one viewer joined; and the host stands behind it
+abbrev pub BeginsRun : Bool → Size → HostModel → List ℕ → Type 0
+BeginsRun true size host text = Stands host (opened_reading size []) (first_run size) × (text ≡ [])
+BeginsRun false size host text = Stands host (solo_reading size) (solo_run size) × (text ≡ joined size)

@@ -1,5 +1,5 @@
 -- What was done where a line of a script was found.
-use Rattle.std.specs.Prelude.{◌≡◌, ℕ, List, ◌++◌, Bool, true, false, ⊤}
+use Rattle.std.specs.Prelude.{◌≡◌, ℕ, List, [], ◌++◌, Bool, true, false, ⊤}
 use Rattle.std.specs.Io.KnownBytes.{Appends}
 use Rattle.std.specs.declared.option.Option.{Option}
 use Rattle.std.specs.declared.option.Option.TheVariants.{Some, None}
@@ -18,6 +18,8 @@ use Rattle.script_lines.specs.declared.rule.LineRule.{LineRule}
 use Rattle.script_host.specs.Hosts.{HostModel}
 use Rattle.script_run.specs.declared.fault.ScriptFault.{ScriptFault}
 use Rattle.script_run.specs.declared.fault.ScriptFault.TheVariants as fault
+use Rattle.script_run.specs.declared.found.Step.{Step}
+use Rattle.script_run.specs.declared.found.Step.TheVariants as step
 use Rattle.script_run.specs.Run.{WritesCause}
 use Rattle.script_run.specs.Outcomes.{found_outcome, outcome_text, reading_by, run_by_outcome, BreaksNone}
 use Rattle.script_run.specs.Standing.{Stands}
@@ -40,22 +42,18 @@ pub record DoesLine (says : Option LineOutcome) (k : ℕ) (r : ScriptReading) (r
   pub stands : Stands host (reading_by r outcome) (run_by_outcome r.head run outcome)
   pub written : Appends old new (outcome_text k r.head run outcome)
 
--- a line was found, and a front of what it writes was written
-pub record WritesFrontOfLine (says : Option LineOutcome) (k : ℕ) (r : ScriptReading) (run : Run Encoder) (old new : Option (List ℕ)) : Type 0 where
-  pub outcome : LineOutcome
-  pub is : says ≡ Some outcome
-  pub front : WritesFront old new (outcome_text k r.head run outcome)
+-- what was done where a line was found, as the k-th: it was done; nothing was, since there is none; or its refusal was written
+abbrev pub DoesFound : Step → Found → ℕ → ScriptReading → Run Encoder → HostModel → List ℕ → (old new : Option (List ℕ)) → Type 0
+DoesFound step.Done f k r run host text old new = DoesLine (found_outcome f r text) k r run host old new
+DoesFound step.NoLine f k r run host text old new = (f ≡ found.End) × Appends old new []
+DoesFound (step.Refused rule) f k r run host text old new =
+    (found_outcome f r text ≡ Some (Breaks (number_of_rule rule))) × Appends old new (broken_line k (number_of_rule rule))
 
--- what was done where a line was found, as the k-th: it was done; nothing was, since there is none; or its refusal was written; where
--- writing fails, or memory is wanted, a front of the line's text was
-abbrev pub DoesFound : Result Bool ScriptFault → Found → ℕ → ScriptReading → Run Encoder → HostModel → List ℕ → (old new : Option (List ℕ)) → Type 0
-DoesFound (Ok true) f k r run host text old new = DoesLine (found_outcome f r text) k r run host old new
-DoesFound (Ok false) f k r run host text old new = (f ≡ found.End) × (new ≡ old)
-DoesFound (Err (fault.Line line rule)) f k r run host text old new =
-    (line ≡ k) × (found_outcome f r text ≡ Some (Breaks rule)) × Appends old new (broken_line k rule)
-DoesFound (Err fault.ReadFault) f k r run host text old new = (f ≡ found.Failed) × (new ≡ old)
-DoesFound (Err fault.WriteFault) f k r run host text old new = WritesFrontOfLine (found_outcome f r text) k r run old new
-DoesFound (Err fault.OutOfMemory) f k r run host text old new = WritesFrontOfLine (found_outcome f r text) k r run old new
+-- what is answered of it: whether lines may follow, or the line that is refused
+abbrev pub answer_of : ℕ → Step → Result Bool ScriptFault
+answer_of k step.Done = Ok true
+answer_of k step.NoLine = Ok false
+answer_of k (step.Refused rule) = Err (fault.Line k (number_of_rule rule))
 
 -- the causes of a fault
 abbrev pub FaultCause : ScriptFault → ℕ → ℕ → Type 0
@@ -74,3 +72,11 @@ Refuses (fault.Line line broken) k rule old new = (line ≡ k) × (broken ≡ ru
 Refuses fault.ReadFault k rule old new = ⊥
 Refuses fault.WriteFault k rule old new = WritesFront old new (broken_line k rule)
 Refuses fault.OutOfMemory k rule old new = WritesFront old new (broken_line k rule)
+
+-- at a fault of the outside nothing is held back
+abbrev pub HoldsNone : {T : Type 0} → Result T ScriptFault → List ℕ → Type 0
+HoldsNone (Ok x) held = ⊤
+HoldsNone (Err (fault.Line line rule)) held = ⊤
+HoldsNone (Err fault.ReadFault) held = held ≡ []
+HoldsNone (Err fault.WriteFault) held = held ≡ []
+HoldsNone (Err fault.OutOfMemory) held = ⊤

@@ -1,5 +1,6 @@
-ghost use Rattle.std.specs.Prelude.{◌≡◌, ◌<◌, [], Err, length, OnOk, OnErr, IfErr};
+ghost use Rattle.std.specs.Prelude.{◌≡◌, ◌<◌, [], length, IfOk, IfErr, OnOk, OnErr};
 ghost use Rattle.std.specs.Io.KnownBytes.{Appends};
+ghost use Rattle.std.specs.declared.option.Option.TheVariants.{Some};
 ghost use Rattle.edge_io.specs.Sink.{WritesFront};
 ghost use Rattle.frame_rules.specs.Encoder.{Encoder};
 ghost use Rattle.script_rules.specs.Script.{ScriptReading};
@@ -7,11 +8,11 @@ ghost use Rattle.script_rules.specs.Capture.{broken_line};
 ghost use Rattle.script_rules.specs.CaptureText.{Run};
 ghost use Rattle.script_lines.specs.Lines.{number_of_rule};
 ghost use Rattle.script_host.specs.Runs.{IsInCourse};
-ghost use Rattle.script_run.specs.declared.fault.ScriptFault.TheVariants.{ReadFault};
 ghost use Rattle.script_run.specs.Run.{WritesCause};
 ghost use Rattle.script_run.specs.Standing.{Stands};
-ghost use Rattle.script_run.specs.Steps.{DoesFound, FaultCause, IsWriteFault, Refuses};
+ghost use Rattle.script_run.specs.Steps.{DoesFound, FaultCause, IsWriteFault, Refuses, answer_of};
 
+use crate::OutOfMemory;
 use crate::fault::ScriptFault;
 use crate::line::do_line;
 use edge_io::{Found, Sink, Wrote};
@@ -19,36 +20,56 @@ use script_host::ScriptHost;
 use script_lines::{LineRule, write_broken};
 use std::alloc::Global;
 
-/// Does what was found asks for, as line `k`, and writes its line of the capture; says whether there was a line.
-///
-/// At a `Line` its refusal was written. A `WriteFault`, or want of memory, leaves a front of the line in the output.
-pub(crate) fn do_found<K: Sink>(
+/// What was done where a line was found.
+#[derive(Clone, Copy, Debug, PartialEq, Eq)]
+pub(crate) enum Step {
+    /// The line was done.
+    Done,
+    /// Nothing, since no line is left.
+    NoLine,
+    /// The line breaks this rule.
+    Refused(LineRule),
+}
+
+/// Does what was found asks for, as line `k`, and appends its line of the capture, or the refusal. After want of memory nothing is said of the text.
+pub(crate) fn do_found(
     alloc: Global,
-    output: &mut K,
+    out: &mut Vec<u8>,
     host: &mut ScriptHost,
     k: u32,
     found: Found,
     text: &[u8],
-) -> Result<bool, ScriptFault>
-    requires { IsInCourse host.old }
-    ensures done { (r : ScriptReading) (run : Run Encoder) → Stands host.old r run
-        → DoesFound result found k r run host.new text.now (K.told output.old) (K.told output.new) }
-    ensures cause { WritesCause result (K.faults output.old) (K.faults output.new) }
-    ensures read { result ≡ Err ReadFault → found ≡ Found.Failed }
+) -> Result<Step, OutOfMemory>
+    requires course { IsInCourse host.old }
+    requires read { found ≡ Found.Failed → ⊥ }
+    ensures { IfOk result (λ step. (r : ScriptReading) (run : Run Encoder) → Stands host.old r run
+        → DoesFound step found k r run host.new text.now (Some out.old.items) (Some out.new.items)) }
 {
-    let mut line = Vec::new(alloc);
     let broken = match found {
-        Found::Line { ended } => do_line(alloc, &mut line, host, text, ended)?,
+        Found::Line { ended } => do_line(alloc, out, host, text, ended)?,
         Found::PastLimits => Some(LineRule::Text),
-        Found::End => return Ok(false),
-        Found::Failed => return Err(ScriptFault::ReadFault),
+        Found::End | Found::Failed => return Ok(Step::NoLine),
     };
     match broken {
-        Some(rule) => Err(refuse(alloc, output, k, rule)),
-        None => {
-            put(output, &line)?;
-            Ok(true)
+        Some(rule) => {
+            write_broken(alloc, out, k, rule)?;
+            Ok(Step::Refused(rule))
         }
+        None => Ok(Step::Done),
+    }
+}
+
+/// What a script's run answers of a step that was done as line `k`, or whether it goes on.
+pub(crate) fn answer(k: u32, step: Step) -> Result<bool, ScriptFault>
+    ensures { result ≡ answer_of k step }
+{
+    match step {
+        Step::Done => Ok(true),
+        Step::NoLine => Ok(false),
+        Step::Refused(rule) => Err(ScriptFault::Line {
+            k,
+            rule: rule.number(),
+        }),
     }
 }
 

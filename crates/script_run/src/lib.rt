@@ -1,4 +1,4 @@
-//! Scripts, run line by line: each line of the capture is written when its step is done.
+//! Scripts, run line by line: the lines of the capture are held back, and written before more of the script is read.
 #![tactic(auto)]
 
 mod fault;
@@ -6,6 +6,8 @@ mod found;
 mod line;
 mod lines;
 mod opening;
+mod page;
+mod reader;
 mod script;
 
 pub use fault::ScriptFault;

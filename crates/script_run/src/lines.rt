@@ -1,24 +1,29 @@
-ghost use Rattle.std.specs.Prelude.{◌≡◌, ◌++◌, [], IfErr, IsTrue, OnErr, OnOk};
-ghost use Rattle.std.specs.Io.KnownBytes.{Appends};
+ghost use Rattle.std.specs.Prelude.{◌≡◌, ◌==◌, ◌++◌, [], None, IfOk, IfErr, IsTrue, MatchResult, OnErr, OnOk, position};
+ghost use Rattle.std.specs.Io.KnownBytes.{append_known};
+ghost use Rattle.edge_io.specs.Finding.{Finds, FindCause};
+ghost use Rattle.edge_io.specs.Reading.{ahead};
 ghost use Rattle.edge_io.specs.Sink.{WritesFront};
 ghost use Rattle.px_core.specs.Rectangle.{is_session_size};
 ghost use Rattle.frame_rules.specs.Encoder.{Encoder};
 ghost use Rattle.script_rules.specs.Script.{ScriptReading, opened_reading};
 ghost use Rattle.script_rules.specs.CaptureText.{Run};
 ghost use Rattle.script_host.specs.Runs.{IsInCourse};
+ghost use Rattle.script_run.specs.Held.{Grows, Holds};
 ghost use Rattle.script_run.specs.Outcomes.{is_invite_found};
 ghost use Rattle.script_run.specs.Run.{ReadsCause, WritesCause};
 ghost use Rattle.script_run.specs.Standing.{Stands};
-ghost use Rattle.script_run.specs.Steps.{IsWriteFault};
-ghost use Rattle.script_run.specs.Solo.{first_run, solo_reading, solo_run, joined};
+ghost use Rattle.script_run.specs.Steps.{HoldsNone, IsWriteFault};
+ghost use Rattle.script_run.specs.Solo.{BeginsRun, first_run, solo_reading, solo_run, joined};
 ghost use Rattle.script_run.specs.Reading.{moment, of_lines, of_rest};
 ghost use Rattle.script_run.specs.Progress.{NextLineDone, AllLinesDone};
 
 use crate::OutOfMemory;
 use crate::fault::ScriptFault;
-use crate::found::{do_found, put};
+use crate::found::{answer, do_found};
 use crate::line::{invite, join};
-use edge_io::{Found, LineReader, Sink, Source};
+use crate::page::{Page, flush, hold};
+use crate::reader::LineReader;
+use edge_io::{Found, Sink, Source};
 use px_core::Size;
 use script_host::ScriptHost;
 use script_lines::is_invite;
@@ -48,12 +53,36 @@ pub(crate) fn do_lines<S: Source, K: Sink>(
     ensures read { ReadsCause result (S.faults input.old) (S.faults input.new) }
     ensures write { WritesCause result (K.faults output.old) (K.faults output.new) }
 {
+    let mut page = Page::new(alloc)?;
+    let done = hold_lines(alloc, reader, input, output, &mut page, size);
+    flush(output, &mut page)?;
+    done
+}
+
+/// Does the lines after the first, each as it is read, and may hold back what they write.
+fn hold_lines<S: Source, K: Sink>(
+    alloc: Global,
+    reader: &mut LineReader,
+    input: &mut S,
+    output: &mut K,
+    page: &mut Page,
+    size: Size,
+) -> Result<(), ScriptFault>
+    requires size { IsTrue (is_session_size size.w size.h) }
+    requires empty { page.old ≡ [] }
+    ensures done { AllLinesDone result (of_rest size reader.old.at) (moment reader.old (S.left input.old) (K.told output.old))
+        (moment reader.new (S.left input.new) (append_known (K.told output.new) page.new)) }
+    ensures grows { Grows (K.told output.old) (K.told output.new) }
+    ensures empty { HoldsNone result page.new }
+    ensures read { ReadsCause result (S.faults input.old) (S.faults input.new) }
+    ensures write { WritesCause result (K.faults output.old) (K.faults output.new) }
+{
     let mut host = ScriptHost::new(alloc, size);
     let mut k = SECOND;
-    let mut goes_on = do_second(alloc, reader, input, output, &mut host)?;
+    let mut goes_on = do_second(alloc, reader, input, output, page, &mut host)?;
     while goes_on {
         k += 1;
-        goes_on = do_next(alloc, reader, input, output, &mut host, k)?;
+        goes_on = do_next(alloc, reader, input, output, page, &mut host, k)?;
     }
     Ok(())
 }
@@ -64,22 +93,26 @@ fn do_second<S: Source, K: Sink>(
     reader: &mut LineReader,
     input: &mut S,
     output: &mut K,
+    page: &mut Page,
     host: &mut ScriptHost,
 ) -> Result<bool, ScriptFault>
     requires { Stands host.old (opened_reading host.old.session.head.size []) (first_run host.old.session.head.size) }
-    ensures done { NextLineDone result (of_rest host.old.session.head.size reader.old.at) 2 host.new
-        (moment reader.old (S.left input.old) (K.told output.old)) (moment reader.new (S.left input.new) (K.told output.new)) }
+    ensures done { NextLineDone result (of_rest host.old.session.head.size reader.old.at) 2 host.new (K.told output.old)
+        (moment reader.old (S.left input.old) (append_known (K.told output.old) page.old))
+        (moment reader.new (S.left input.new) (append_known (K.told output.new) page.new)) }
+    ensures grows { Grows (K.told output.old) (K.told output.new) }
+    ensures empty { HoldsNone result page.new }
     ensures read { ReadsCause result (S.faults input.old) (S.faults input.new) }
     ensures write { WritesCause result (K.faults output.old) (K.faults output.new) }
 {
-    let found = reader.next_line(input);
+    let found = find_line(reader, input, output, page)?;
     if let Found::Failed = found {
         return Err(ScriptFault::ReadFault);
     }
-    if !is_invite_found(found, reader.text()) {
-        join_solo(alloc, output, host)?;
-    }
-    do_found(alloc, output, host, SECOND, found, reader.text())
+    let mut out = begin(alloc, host, found, reader.text())?;
+    let step = do_found(alloc, &mut out, host, SECOND, found, reader.text())?;
+    hold(output, page, &out)?;
+    answer(SECOND, step)
 }
 
 /// Does line `k`, where there is one; says whether there was.
@@ -88,20 +121,54 @@ fn do_next<S: Source, K: Sink>(
     reader: &mut LineReader,
     input: &mut S,
     output: &mut K,
+    page: &mut Page,
     host: &mut ScriptHost,
     k: u32,
 ) -> Result<bool, ScriptFault>
     requires { IsInCourse host.old }
-    ensures done { (r : ScriptReading) (run : Run Encoder) → Stands host.old r run → NextLineDone result (of_lines k reader.old.at r run) k host.new
-        (moment reader.old (S.left input.old) (K.told output.old)) (moment reader.new (S.left input.new) (K.told output.new)) }
+    ensures done { (r : ScriptReading) (run : Run Encoder) → Stands host.old r run
+        → NextLineDone result (of_lines k reader.old.at r run) k host.new (K.told output.old)
+        (moment reader.old (S.left input.old) (append_known (K.told output.old) page.old))
+        (moment reader.new (S.left input.new) (append_known (K.told output.new) page.new)) }
+    ensures grows { Grows (K.told output.old) (K.told output.new) }
+    ensures empty { HoldsNone result page.new }
     ensures read { ReadsCause result (S.faults input.old) (S.faults input.new) }
     ensures write { WritesCause result (K.faults output.old) (K.faults output.new) }
 {
-    let found = reader.next_line(input);
+    let found = find_line(reader, input, output, page)?;
     if let Found::Failed = found {
         return Err(ScriptFault::ReadFault);
     }
-    do_found(alloc, output, host, k, found, reader.text())
+    let mut out = Vec::new(alloc);
+    let step = do_found(alloc, &mut out, host, k, found, reader.text())?;
+    hold(output, page, &out)?;
+    answer(k, step)
+}
+
+/// Finds the next line. Where none is held whole, the input is read, and before that what was held back is written.
+fn find_line<S: Source, K: Sink>(
+    reader: &mut LineReader,
+    input: &mut S,
+    output: &mut K,
+    page: &mut Page,
+) -> Result<Found, ScriptFault>
+    ensures found { IfOk result (λ found. Finds found reader.old reader.new (ahead reader.old (S.left input.old)) (ahead reader.new (S.left input.new))) }
+    ensures part { IfOk result (λ found. found ≡ Found.Failed → position (λ b. b == 10) reader.new.held ≡ None) }
+    ensures empty { IfOk result (λ found. found ≡ Found.Failed → page.new ≡ []) }
+    ensures held { OnOk result (Holds (K.told output.old) (K.told output.new) page.old page.new []) }
+    ensures front { OnErr result (WritesFront (K.told output.old) (K.told output.new) page.old) }
+    ensures unheld { OnErr result (page.new ≡ []) }
+    ensures fault { IfErr result IsWriteFault }
+    ensures read { MatchResult result (λ found. FindCause found (S.faults input.old) (S.faults input.new)) (λ fault. S.faults input.new ≡ S.faults input.old) }
+    ensures cause { WritesCause result (K.faults output.old) (K.faults output.new) }
+{
+    match reader.held_line() {
+        Some(found) => Ok(found),
+        None => {
+            flush(output, page)?;
+            Ok(reader.read_line(input))
+        }
+    }
 }
 
 /// Whether what was found is an invite by its form.
@@ -114,22 +181,21 @@ fn is_invite_found(found: Found, text: &[u8]) -> bool
     }
 }
 
-/// Adds the row of the one viewer, and lets it join. An `Err` leaves a front of the line that says so.
-fn join_solo<K: Sink>(
+/// What a script without invites writes before its second line, of which this was found: that its one viewer joins. Nothing where it has invites.
+fn begin(
     alloc: Global,
-    output: &mut K,
     host: &mut ScriptHost,
-) -> Result<(), ScriptFault>
+    found: Found,
+    text: &[u8],
+) -> Result<Vec<u8>, OutOfMemory>
     requires { Stands host.old (opened_reading host.old.session.head.size []) (first_run host.old.session.head.size) }
-    ensures stands { OnOk result (Stands host.new (solo_reading host.old.session.head.size) (solo_run host.old.session.head.size)) }
-    ensures written { OnOk result (Appends (K.told output.old) (K.told output.new) (joined host.old.session.head.size)) }
-    ensures front { OnErr result (WritesFront (K.told output.old) (K.told output.new) (joined host.old.session.head.size)) }
-    ensures fault { IfErr result IsWriteFault }
-    ensures cause { WritesCause result (K.faults output.old) (K.faults output.new) }
+    ensures { IfOk result (λ out. BeginsRun (is_invite_found found text.now) host.old.session.head.size host.new out.items) }
 {
-    let mut line = Vec::new(alloc);
-    join_alone(alloc, &mut line, host)?;
-    put(output, &line)
+    let mut out = Vec::new(alloc);
+    if !is_invite_found(found, text) {
+        join_alone(alloc, &mut out, host)?;
+    }
+    Ok(out)
 }
 
 /// Adds the row of the one viewer, and lets it join; appends the line that says so.

@@ -1,71 +1,59 @@
-use Rattle.std.proofs.Common.{◌∙◌, ap, sym, subst, true, rules}
+use Rattle.std.proofs.Common.{refl, sym, subst}
 use Rattle.std.proofs.lemmas.Result.{err_from_is_err_and}
-use Rattle.std.specs.Prelude.{Ok, Err}
+use Rattle.std.specs.Prelude.{Err}
+use Rattle.std.proofs.KnownBytes.{Appends-nil}
+use Rattle.script_run.specs.Run.{ReadsCause, WritesCause}
 use Rattle.script_run.specs.Reading.{moment, of_rest}
-use Rattle.script_run.specs.Progress.{NextLineDone, LinesDoneSoFar, AllLinesDone}
-use Rattle.script_run.proofs.Progressed.{done_further, done_at_first, ended_at_last, ends_at_first, shorter}
+use Rattle.script_run.specs.Progress.{AllLinesDone}
+use Rattle.edge_io.specs.Reading.{ahead}
+use Rattle.script_run.proofs.Cut.{steady_rest, nothing_stops}
+use Rattle.script_run.proofs.Held.{flushed, front_told}
+use Rattle.script_run.proofs.HeldLines.{holding}
+use Rattle.script_run.proofs.Progressed.{all_flushed, front_flushed, flushed_reads, flushed_writes}
 use Rattle.script_run.proofs.lines.do_lines.Goals as goal
 
-pub loop-goes_on-init : goal.loop-goes_on-init
-loop-goes_on-init g c =
+pub returns : goal.returns
+returns g c =
+    let told1 = g.K.Sink.told c.hold_lines-done.new.output in
+    let told2 = g.K.Sink.told c.flush.new.output in
     let m = moment c.args.reader.now (g.S.Source.left c.args.input.now) (g.K.Sink.told c.args.output.now) in
-    let n = moment c.do_second.new.reader (g.S.Source.left c.do_second.new.input) (g.K.Sink.told c.do_second.new.output) in
+    let n = holding c.hold_lines-done.new.reader (g.S.Source.left c.hold_lines-done.new.input) told1 c.hold_lines-done.new.page in
     record {
-      done = done_at_first c.in_ok-goes_on.goes_on (of_rest c.args.size c.args.reader.now.at) c.do_second.new.host m n
-          (subst (λ s. NextLineDone (Ok c.in_ok-goes_on.goes_on) (of_rest s c.args.reader.now.at) 2 c.do_second.new.host m n) (ap (λ h. h.size) c.new-host.ensures.head)
-          c.in_ok-goes_on.ensures.done);
-      read = c.in_ok-goes_on.ensures.read;
-      write = c.in_ok-goes_on.ensures.write;
+      done = all_flushed c.hold_lines-done.result (of_rest c.args.size c.args.reader.now.at) m n told2
+          (flushed told1 told2 c.hold_lines-done.new.page c.in_ok-flush.ensures.written) c.hold_lines-done.ensures.done;
+      read = c.hold_lines-done.ensures.read;
+      write = subst (λ n. WritesCause c.hold_lines-done.result (g.K.Sink.faults c.args.output.now) n) (sym c.in_ok-flush.ensures.cause) c.hold_lines-done.ensures.write;
     }
 
-pub returns-in_err-goes_on-clause-done : goal.returns-in_err-goes_on-clause-done
-returns-in_err-goes_on-clause-done g c =
+pub returns-in_err-flush : goal.returns-in_err-flush
+returns-in_err-flush g c =
+    let p = err_from_is_err_and c.from_residual-in_err-flush.result c.from_residual-in_err-flush.ensures.1 in
+    let told1 = g.K.Sink.told c.hold_lines-done.new.output in
+    let told2 = g.K.Sink.told c.flush.new.output in
+    let page = c.hold_lines-done.new.page in
+    let result = c.hold_lines-done.result in
+    let answer = c.in_err-flush.field-0.0 in
+    let whole = of_rest c.args.size c.args.reader.now.at in
+    let m = moment c.args.reader.now (g.S.Source.left c.args.input.now) (g.K.Sink.told c.args.output.now) in
+    let n = holding c.hold_lines-done.new.reader (g.S.Source.left c.hold_lines-done.new.input) told1 page in
+    rw p.1 (record {
+      done = subst (λ e. AllLinesDone (Err e) whole m (moment c.hold_lines-done.new.reader (g.S.Source.left c.hold_lines-done.new.input) told2)) (sym p.2)
+          (front_flushed result answer whole m n told1 told2 page (steady_rest c.args.size c.args.reader.now.at) c.in_err-flush.ensures.fault
+          c.hold_lines-done.ensures.empty c.in_err-flush.ensures.some c.hold_lines-done.ensures.done c.hold_lines-done.ensures.grows
+          (front_told told1 told2 page c.in_err-flush.ensures.front));
+      read = subst (λ e. ReadsCause {T = Unit {0}} (Err e) (g.S.Source.faults c.args.input.now) (g.S.Source.faults c.hold_lines-done.new.input)) (sym p.2)
+          (flushed_reads result answer (g.S.Source.faults c.args.input.now) (g.S.Source.faults c.hold_lines-done.new.input) page c.in_err-flush.ensures.fault
+          c.hold_lines-done.ensures.empty c.in_err-flush.ensures.some c.hold_lines-done.ensures.read);
+      write = subst (λ e. WritesCause {T = Unit {0}} (Err e) (g.K.Sink.faults c.args.output.now) (g.K.Sink.faults c.flush.new.output)) (sym p.2)
+          (flushed_writes result answer (g.K.Sink.faults c.args.output.now) (g.K.Sink.faults c.hold_lines-done.new.output) (g.K.Sink.faults c.flush.new.output) page
+          c.hold_lines-done.ensures.empty c.in_err-flush.ensures.some c.hold_lines-done.ensures.write c.in_err-flush.ensures.cause);
+    })
+
+pub returns-in_err-page-clause-done : goal.returns-in_err-page-clause-done
+returns-in_err-page-clause-done g c =
     let p = err_from_is_err_and c.from_residual.result c.from_residual.ensures.1 in
-    let m = moment c.args.reader.now (g.S.Source.left c.args.input.now) (g.K.Sink.told c.args.output.now) in
-    let n = moment c.do_second.new.reader (g.S.Source.left c.do_second.new.input) (g.K.Sink.told c.do_second.new.output) in
-    rw p.1 (subst (λ e. AllLinesDone (Err e) (of_rest c.args.size c.args.reader.now.at) m n) (sym p.2)
-    (ends_at_first c.in_err-goes_on.field-0.0 (of_rest c.args.size c.args.reader.now.at) 2 c.do_second.new.host m n
-    (subst (λ s. NextLineDone (Err c.in_err-goes_on.field-0.0) (of_rest s c.args.reader.now.at) 2 c.do_second.new.host m n) (ap (λ h. h.size) c.new-host.ensures.head)
-    c.in_err-goes_on.ensures.done)))
-
-pub returns-in_err-goes_on-2-clause-done : goal.returns-in_err-goes_on-2-clause-done
-returns-in_err-goes_on-2-clause-done g c =
-    let p = err_from_is_err_and c.from_residual-in_err-goes_on-2.result c.from_residual-in_err-goes_on-2.ensures.1 in
+    let left = g.S.Source.left c.args.input.now in
+    let told = g.K.Sink.told c.args.output.now in
     let whole = of_rest c.args.size c.args.reader.now.at in
-    let m = moment c.args.reader.now (g.S.Source.left c.args.input.now) (g.K.Sink.told c.args.output.now) in
-    let mid = moment c.loop-goes_on.reader (g.S.Source.left c.loop-goes_on.input) (g.K.Sink.told c.loop-goes_on.output) in
-    let n = moment c.do_next.new.reader (g.S.Source.left c.do_next.new.input) (g.K.Sink.told c.do_next.new.output) in
-    let done : LinesDoneSoFar true whole c.loop-goes_on.k c.loop-goes_on.host m mid =
-    subst (λ b. LinesDoneSoFar b whole c.loop-goes_on.k c.loop-goes_on.host m mid) c.loop-goes_on-test.true c.loop-goes_on.invariant.done in
-    rw p.1 (subst (λ e. AllLinesDone (Err e) whole m n) (sym p.2)
-    (ended_at_last c.in_err-goes_on-2.field-0.0 whole c.loop-goes_on.k c.loop-goes_on.host c.do_next.new.host m mid n done
-    (c.in_err-goes_on-2.ensures.done done.2.r done.2.run done.2.stands)))
-
-pub loop-goes_on-smaller : goal.loop-goes_on-smaller
-loop-goes_on-smaller g c =
-    let whole = of_rest c.args.size c.args.reader.now.at in
-    let m = moment c.args.reader.now (g.S.Source.left c.args.input.now) (g.K.Sink.told c.args.output.now) in
-    let mid = moment c.loop-goes_on.reader (g.S.Source.left c.loop-goes_on.input) (g.K.Sink.told c.loop-goes_on.output) in
-    let n = moment c.do_next.new.reader (g.S.Source.left c.do_next.new.input) (g.K.Sink.told c.do_next.new.output) in
-    let done : LinesDoneSoFar true whole c.loop-goes_on.k c.loop-goes_on.host m mid =
-    subst (λ b. LinesDoneSoFar b whole c.loop-goes_on.k c.loop-goes_on.host m mid) c.loop-goes_on-test.true c.loop-goes_on.invariant.done in
-    shorter c.loop-goes_on.goes_on c.in_ok-goes_on-2.goes_on _ _ c.do_next.new.host mid n c.loop-goes_on-test.true
-    (c.in_ok-goes_on-2.ensures.done done.2.r done.2.run done.2.stands)
-
-pub loop-goes_on-preserved : goal.loop-goes_on-preserved
-loop-goes_on-preserved g c =
-    let whole = of_rest c.args.size c.args.reader.now.at in
-    let m = moment c.args.reader.now (g.S.Source.left c.args.input.now) (g.K.Sink.told c.args.output.now) in
-    let mid = moment c.loop-goes_on.reader (g.S.Source.left c.loop-goes_on.input) (g.K.Sink.told c.loop-goes_on.output) in
-    let n = moment c.do_next.new.reader (g.S.Source.left c.do_next.new.input) (g.K.Sink.told c.do_next.new.output) in
-    let done : LinesDoneSoFar true whole c.loop-goes_on.k c.loop-goes_on.host m mid =
-    subst (λ b. LinesDoneSoFar b whole c.loop-goes_on.k c.loop-goes_on.host m mid) c.loop-goes_on-test.true c.loop-goes_on.invariant.done in
-    record {
-      done = done_further c.in_ok-goes_on-2.goes_on whole c.loop-goes_on.k c.loop-goes_on.host c.do_next.new.host m mid n done
-          (c.in_ok-goes_on-2.ensures.done done.2.r done.2.run done.2.stands);
-      read = c.in_ok-goes_on-2.ensures.read ∙ c.loop-goes_on.invariant.read;
-      write = c.in_ok-goes_on-2.ensures.write ∙ c.loop-goes_on.invariant.write;
-    }
-
-pub returns-clause-done : goal.returns-clause-done
-returns-clause-done g c = search rules
+    let m = moment c.args.reader.now left told in
+    rw p.1 (subst (λ e. AllLinesDone (Err e) whole m m) (sym p.2) (nothing_stops (ahead c.args.reader.now left) told told whole refl (Appends-nil told)))

@@ -1,73 +1,149 @@
-use Rattle.std.proofs.Common.{◌≡◌, [], sym, ◌∙◌, subst, Bool}
+use Rattle.std.proofs.Common.{[], ◌++◌, ◌∙◌, refl, sym, subst, Bool, Some}
 use Rattle.std.proofs.lemmas.Result.{err_from_is_err_and}
 use Rattle.std.specs.Prelude.{Err}
-use Rattle.std.specs.Io.KnownBytes.{Appends}
-use Rattle.script_rules.specs.Script.{opened_reading}
-use Rattle.script_run.specs.Outcomes.{is_invite_found}
-use Rattle.script_run.specs.Solo.{first_run, solo_reading, solo_run, joined}
-use Rattle.script_run.specs.Standing.{Stands}
-use Rattle.script_run.specs.Steps.{DoesFound}
+use Rattle.edge_io.specs.Sink.{WritesFront}
+use Rattle.script_run.specs.declared.fault.ScriptFault.TheVariants as fault
+use Rattle.script_run.specs.Held.{Holds}
 use Rattle.script_run.specs.Run.{ReadsCause, WritesCause}
-use Rattle.script_run.specs.Reading.{moment, of_rest}
+use Rattle.script_run.specs.Steps.{DoesFound, HoldsNone}
+use Rattle.script_run.specs.Reading.{of_rest}
 use Rattle.script_run.specs.Progress.{NextLineDone}
-use Rattle.script_run.proofs.NextLine.{found_reads, written_reads}
-use Rattle.script_run.proofs.Progressed.{written_writes}
-use Rattle.script_run.proofs.SecondLine.{invited_done, solo_done, not_joined}
+use Rattle.script_run.proofs.Cut.{steady_rest}
+use Rattle.script_run.proofs.Held.{held_grows, front_grows, grows_on}
+use Rattle.script_run.proofs.NextLine.{found_reads, fault_reads, found_is_same, step_writes, step_holds, empty_holds, fault_writes, writes_after, within_is}
+use Rattle.script_run.proofs.HeldLines.{holding, line_held, line_cut, line_wanting, line_unfound}
+use Rattle.script_run.specs.Outcomes.{is_invite_found}
+use Rattle.script_run.specs.Solo.{BeginsRun}
+use Rattle.script_run.proofs.SecondLine.{SecondBegins, second_leads}
 use Rattle.script_run.proofs.lines.do_second.Goals as goal
-use Rattle.script_run.proofs.lines.do_second.Goals.{then-not-is_invite_found+in_ok-join_solo, else-not-is_invite_found}
 
 pub returns : goal.returns
 returns g c =
+    let told0 = g.K.Sink.told c.args.output.now in
+    let told1 = g.K.Sink.told c.find_line.new.output in
+    let told2 = g.K.Sink.told c.hold.new.output in
+    let f = c.in_ok-found.found in
+    let now = c.find_line.new.reader in
+    let line = c.do_found.new.out.items in
+    let m = holding c.args.reader.now (g.S.Source.left c.args.input.now) told0 c.args.page.now in
+    let n = holding now (g.S.Source.left c.find_line.new.input) told2 c.hold.new.page in
+    let held : Holds told1 told2 c.find_line.new.page c.hold.new.page line = subst (Holds told1 told2 c.find_line.new.page c.hold.new.page) c.deref.ensures.value c.in_ok-hold.ensures.held in
     let size = c.args.host.now.session.head.size in
-    let f = c.next_line-found.result in
-    let text = c.next_line-found.new.self.text in
-    let told = g.K.Sink.told c.args.output.now in
-    let telling = g.K.Sink.told c.do_found.new.output in
-    let m = moment c.args.reader.now (g.S.Source.left c.args.input.now) told in
-    let n = moment c.next_line-found.new.self (g.S.Source.left c.next_line-found.new.input) telling in
-    let invite : c.is_invite_found.result ≡ is_invite_found f text = subst (λ t. c.is_invite_found.result ≡ is_invite_found f t) c.text.ensures c.is_invite_found.ensures in
+    let begun = c.in_ok-out.out.items in
+    let b : SecondBegins f size c.args.reader.now.at now.text begun c.begin.new.host =
+    second_leads (is_invite_found f now.text) f size c.args.reader.now.at now.text begun c.begin.new.host (within_is f m n c.in_ok-found.ensures.found) refl
+    (subst (λ t. BeginsRun (is_invite_found f t) size c.begin.new.host begun) c.text.ensures c.in_ok-out.ensures) in
     record {
-      done = elim c.if-not-is_invite_found.branch [
-        | then-not-is_invite_found+in_ok-join_solo w ↦
-            solo_done c.do_found.result f size c.do_found.new.host m n (g.K.Sink.told c.if-not-is_invite_found.output) c.next_line-found.ensures.found
-            c.in_default.not-Failed (sym invite ∙ w.if-not-is_invite_found.true)
-            (subst (λ o. Appends told (g.K.Sink.told o) (joined size)) (sym w.output-is) w.in_ok-join_solo.ensures.written)
-            (subst (λ t. DoesFound c.do_found.result f 2 (solo_reading size) (solo_run size) c.do_found.new.host t (g.K.Sink.told c.if-not-is_invite_found.output) telling)
-            c.text-2.ensures (c.do_found.ensures.done (solo_reading size) (solo_run size)
-            (subst (λ h. Stands h (solo_reading size) (solo_run size)) (sym w.host-is) w.in_ok-join_solo.ensures.stands)))
-        | else-not-is_invite_found w ↦
-            invited_done c.do_found.result f size c.do_found.new.host m n c.next_line-found.ensures.found
-            c.in_default.not-Failed (sym invite ∙ w.if-not-is_invite_found.false)
-            (subst (λ o. DoesFound c.do_found.result f 2 (opened_reading size []) (first_run size) c.do_found.new.host text (g.K.Sink.told o) telling) w.output-is
-            (subst (λ t. DoesFound c.do_found.result f 2 (opened_reading size []) (first_run size) c.do_found.new.host t (g.K.Sink.told c.if-not-is_invite_found.output) telling)
-            c.text-2.ensures (c.do_found.ensures.done (opened_reading size []) (first_run size)
-            (subst (λ h. Stands h (opened_reading size []) (first_run size)) (sym w.host-is) c.requires))))
-      ];
-      read = found_reads c.do_found.result f (g.S.Source.faults c.args.input.now) (g.S.Source.faults c.next_line-found.new.input)
-          c.next_line-found.ensures.cause c.in_default.not-Failed c.do_found.ensures.read;
-      write = elim c.if-not-is_invite_found.branch [
-        | then-not-is_invite_found+in_ok-join_solo w ↦ subst (λ k. WritesCause c.do_found.result k (g.K.Sink.faults c.do_found.new.output))
-            (subst (λ o. g.K.Sink.faults o ≡ g.K.Sink.faults c.args.output.now) (sym w.output-is) w.in_ok-join_solo.ensures.cause) c.do_found.ensures.cause
-        | else-not-is_invite_found w ↦ subst (λ o. WritesCause c.do_found.result (g.K.Sink.faults o) (g.K.Sink.faults c.do_found.new.output)) w.output-is c.do_found.ensures.cause
-      ];
+      done = subst (λ a. NextLineDone a (of_rest c.args.host.now.session.head.size c.args.reader.now.at) 2 c.do_found.new.host told0 m n) (sym c.answer.ensures)
+          (line_held c.in_ok-step.step f (of_rest c.args.host.now.session.head.size c.args.reader.now.at) begun 2 b.r b.run c.do_found.new.host c.args.reader.now now (g.S.Source.left c.args.input.now)
+          (g.S.Source.left c.find_line.new.input) told0 told1 told2 c.args.page.now c.find_line.new.page c.hold.new.page line c.in_ok-found.ensures.found
+          b.leads c.in_ok-found.ensures.held held (subst (λ t. DoesFound c.in_ok-step.step f 2 b.r b.run c.do_found.new.host t (Some begun) (Some line)) c.text-2.ensures
+          (c.in_ok-step.ensures b.r b.run b.stands)));
+      grows = grows_on told0 told1 told2 (held_grows told0 told1 c.args.page.now c.find_line.new.page [] c.in_ok-found.ensures.held)
+          (held_grows told1 told2 c.find_line.new.page c.hold.new.page line held);
+      empty = subst (λ a. HoldsNone a c.hold.new.page) (sym c.answer.ensures) (step_holds c.in_ok-step.step 2 c.hold.new.page);
+      read = subst (λ a. ReadsCause a (g.S.Source.faults c.args.input.now) (g.S.Source.faults c.find_line.new.input)) (sym c.answer.ensures)
+          (found_reads c.in_ok-step.step 2 f (g.S.Source.faults c.args.input.now) (g.S.Source.faults c.find_line.new.input) c.in_ok-found.ensures.read
+          c.in_default.not-Failed);
+      write = subst (λ a. WritesCause a (g.K.Sink.faults c.args.output.now) (g.K.Sink.faults c.hold.new.output)) (sym c.answer.ensures)
+          (step_writes c.in_ok-step.step 2 (g.K.Sink.faults c.args.output.now) (g.K.Sink.faults c.hold.new.output)
+          (c.in_ok-hold.ensures.cause ∙ c.in_ok-found.ensures.cause));
     }
 
-pub returns-in_err-join_solo : goal.returns-in_err-join_solo
-returns-in_err-join_solo g c =
-    let size = c.args.host.now.session.head.size in
-    let f = c.next_line-found.result in
-    let text = c.next_line-found.new.self.text in
-    let m = moment c.args.reader.now (g.S.Source.left c.args.input.now) (g.K.Sink.told c.args.output.now) in
-    let n = moment c.next_line-found.new.self (g.S.Source.left c.next_line-found.new.input) (g.K.Sink.told c.join_solo.new.output) in
-    let invite : c.is_invite_found.result ≡ is_invite_found f text = subst (λ t. c.is_invite_found.result ≡ is_invite_found f t) c.text.ensures c.is_invite_found.ensures in
+pub returns-in_err-found-clause-done : goal.returns-in_err-found-clause-done
+returns-in_err-found-clause-done g c =
     let p = err_from_is_err_and c.from_residual.result c.from_residual.ensures.1 in
+    let told0 = g.K.Sink.told c.args.output.now in
+    let told1 = g.K.Sink.told c.find_line.new.output in
+    let now = c.find_line.new.reader in
+    let m = holding c.args.reader.now (g.S.Source.left c.args.input.now) told0 c.args.page.now in
+    let n = holding now (g.S.Source.left c.find_line.new.input) told1 c.find_line.new.page in
+    rw p.1 (subst (λ e. NextLineDone (Err e) (of_rest c.args.host.now.session.head.size c.args.reader.now.at) 2 c.args.host.now told0 m n) (sym p.2)
+    (line_unfound c.in_err-found.field-0.0 (of_rest c.args.host.now.session.head.size c.args.reader.now.at) 2 c.args.host.now c.args.reader.now now (g.S.Source.left c.args.input.now) (g.S.Source.left c.find_line.new.input)
+    told0 told1 c.args.page.now c.find_line.new.page c.in_err-found.ensures.fault refl c.in_err-found.ensures.front c.in_err-found.ensures.unheld))
+
+pub returns-in_err-out : goal.returns-in_err-out
+returns-in_err-out g c =
+    let p = err_from_is_err_and c.from_residual-in_err-out.result c.from_residual-in_err-out.ensures.1 in
+    let told0 = g.K.Sink.told c.args.output.now in
+    let told1 = g.K.Sink.told c.find_line.new.output in
+    let now = c.find_line.new.reader in
+    let m = holding c.args.reader.now (g.S.Source.left c.args.input.now) told0 c.args.page.now in
+    let n = holding now (g.S.Source.left c.find_line.new.input) told1 c.find_line.new.page in
     rw p.1 (record {
-      done = subst (λ e. NextLineDone (Err e) (of_rest size c.args.reader.now.at) 2 c.join_solo.new.host m n) (sym p.2)
-          (not_joined c.in_err-join_solo.field-0.0 f size c.join_solo.new.host m n c.next_line-found.ensures.found c.in_default.not-Failed
-          (sym invite ∙ c.if-not-is_invite_found.true) c.in_err-join_solo.ensures.front c.in_err-join_solo.ensures.fault);
-      read = subst (λ e. ReadsCause {T = Bool} (Err e) (g.S.Source.faults c.args.input.now) (g.S.Source.faults c.next_line-found.new.input)) (sym p.2)
-          (written_reads c.in_err-join_solo.field-0.0 f (g.S.Source.faults c.args.input.now) (g.S.Source.faults c.next_line-found.new.input)
-          c.in_default.not-Failed c.in_err-join_solo.ensures.fault c.next_line-found.ensures.cause);
-      write = subst (λ e. WritesCause {T = Bool} (Err e) (g.K.Sink.faults c.args.output.now) (g.K.Sink.faults c.join_solo.new.output)) (sym p.2)
-          (written_writes c.in_err-join_solo.field-0.0 _ _ c.in_err-join_solo.ensures.cause);
+      done = subst (λ e. NextLineDone (Err e) (of_rest c.args.host.now.session.head.size c.args.reader.now.at) 2 c.begin.new.host told0 m n) (sym p.2)
+          (line_wanting fault.OutOfMemory (of_rest c.args.host.now.session.head.size c.args.reader.now.at) 2 c.begin.new.host c.args.reader.now now (g.S.Source.left c.args.input.now) (g.S.Source.left c.find_line.new.input)
+          told0 told1 c.args.page.now c.find_line.new.page tt refl c.in_ok-found.ensures.held);
+      grows = held_grows told0 told1 c.args.page.now c.find_line.new.page [] c.in_ok-found.ensures.held;
+      empty = subst (λ e. HoldsNone {T = Bool} (Err e) c.find_line.new.page) (sym p.2) tt;
+      read = subst (λ e. ReadsCause {T = Bool} (Err e) (g.S.Source.faults c.args.input.now) (g.S.Source.faults c.find_line.new.input)) (sym p.2)
+          (found_is_same c.in_ok-found.found (g.S.Source.faults c.args.input.now) (g.S.Source.faults c.find_line.new.input) c.in_default.not-Failed c.in_ok-found.ensures.read);
+      write = subst (λ e. WritesCause {T = Bool} (Err e) (g.K.Sink.faults c.args.output.now) (g.K.Sink.faults c.find_line.new.output)) (sym p.2) c.in_ok-found.ensures.cause;
+    })
+
+pub do_found-requires : goal.do_found-requires
+do_found-requires g c =
+    let size = c.args.host.now.session.head.size in
+    let f = c.in_ok-found.found in
+    let now = c.find_line.new.reader in
+    let begun = c.in_ok-out.out.items in
+    let m = holding c.args.reader.now (g.S.Source.left c.args.input.now) (g.K.Sink.told c.args.output.now) c.args.page.now in
+    let n = holding now (g.S.Source.left c.find_line.new.input) (g.K.Sink.told c.find_line.new.output) c.find_line.new.page in
+    let b : SecondBegins f size c.args.reader.now.at now.text begun c.begin.new.host =
+    second_leads (is_invite_found f now.text) f size c.args.reader.now.at now.text begun c.begin.new.host (within_is f m n c.in_ok-found.ensures.found) refl
+    (subst (λ t. BeginsRun (is_invite_found f t) size c.begin.new.host begun) c.text.ensures c.in_ok-out.ensures) in
+    record { course = record { run = b.run; is_run = b.stands.is_run }; read = c.in_default.not-Failed }
+
+pub returns-in_err-step : goal.returns-in_err-step
+returns-in_err-step g c =
+    let p = err_from_is_err_and c.from_residual-in_err-step.result c.from_residual-in_err-step.ensures.1 in
+    let told0 = g.K.Sink.told c.args.output.now in
+    let told1 = g.K.Sink.told c.find_line.new.output in
+    let now = c.find_line.new.reader in
+    let m = holding c.args.reader.now (g.S.Source.left c.args.input.now) told0 c.args.page.now in
+    let n = holding now (g.S.Source.left c.find_line.new.input) told1 c.find_line.new.page in
+    rw p.1 (record {
+      done = subst (λ e. NextLineDone (Err e) (of_rest c.args.host.now.session.head.size c.args.reader.now.at) 2 c.do_found.new.host told0 m n) (sym p.2)
+          (line_wanting fault.OutOfMemory (of_rest c.args.host.now.session.head.size c.args.reader.now.at) 2 c.do_found.new.host c.args.reader.now now (g.S.Source.left c.args.input.now) (g.S.Source.left c.find_line.new.input)
+          told0 told1 c.args.page.now c.find_line.new.page tt refl c.in_ok-found.ensures.held);
+      grows = held_grows told0 told1 c.args.page.now c.find_line.new.page [] c.in_ok-found.ensures.held;
+      empty = subst (λ e. HoldsNone {T = Bool} (Err e) c.find_line.new.page) (sym p.2) tt;
+      read = subst (λ e. ReadsCause {T = Bool} (Err e) (g.S.Source.faults c.args.input.now) (g.S.Source.faults c.find_line.new.input)) (sym p.2)
+          (found_is_same c.in_ok-found.found (g.S.Source.faults c.args.input.now) (g.S.Source.faults c.find_line.new.input) c.in_default.not-Failed c.in_ok-found.ensures.read);
+      write = subst (λ e. WritesCause {T = Bool} (Err e) (g.K.Sink.faults c.args.output.now) (g.K.Sink.faults c.find_line.new.output)) (sym p.2) c.in_ok-found.ensures.cause;
+    })
+
+pub returns-in_err-hold : goal.returns-in_err-hold
+returns-in_err-hold g c =
+    let p = err_from_is_err_and c.from_residual-in_err-hold.result c.from_residual-in_err-hold.ensures.1 in
+    let told0 = g.K.Sink.told c.args.output.now in
+    let told1 = g.K.Sink.told c.find_line.new.output in
+    let told2 = g.K.Sink.told c.hold.new.output in
+    let f = c.in_ok-found.found in
+    let now = c.find_line.new.reader in
+    let line = c.do_found.new.out.items in
+    let answer = c.in_err-hold.field-0.0 in
+    let m = holding c.args.reader.now (g.S.Source.left c.args.input.now) told0 c.args.page.now in
+    let n = holding now (g.S.Source.left c.find_line.new.input) told2 c.hold.new.page in
+    let front : WritesFront told1 told2 (c.find_line.new.page ++ line) = subst (λ l. WritesFront told1 told2 (c.find_line.new.page ++ l)) c.deref.ensures.value c.in_err-hold.ensures.front in
+    let size = c.args.host.now.session.head.size in
+    let begun = c.in_ok-out.out.items in
+    let b : SecondBegins f size c.args.reader.now.at now.text begun c.begin.new.host =
+    second_leads (is_invite_found f now.text) f size c.args.reader.now.at now.text begun c.begin.new.host (within_is f m n c.in_ok-found.ensures.found) refl
+    (subst (λ t. BeginsRun (is_invite_found f t) size c.begin.new.host begun) c.text.ensures c.in_ok-out.ensures) in
+    rw p.1 (record {
+      done = subst (λ e. NextLineDone (Err e) (of_rest c.args.host.now.session.head.size c.args.reader.now.at) 2 c.do_found.new.host told0 m n) (sym p.2)
+          (line_cut answer c.in_ok-step.step f (of_rest c.args.host.now.session.head.size c.args.reader.now.at) begun 2 b.r b.run c.do_found.new.host c.args.reader.now now (g.S.Source.left c.args.input.now)
+          (g.S.Source.left c.find_line.new.input) told0 told1 told2 c.args.page.now c.find_line.new.page c.hold.new.page line c.in_err-hold.ensures.fault
+          (steady_rest size c.args.reader.now.at) c.in_ok-found.ensures.found b.leads c.in_ok-found.ensures.held front c.in_err-hold.ensures.empty (subst (λ t. DoesFound c.in_ok-step.step f 2 b.r b.run c.do_found.new.host t (Some begun) (Some line)) c.text-2.ensures
+          (c.in_ok-step.ensures b.r b.run b.stands)));
+      grows = grows_on told0 told1 told2 (held_grows told0 told1 c.args.page.now c.find_line.new.page [] c.in_ok-found.ensures.held)
+          (front_grows told1 told2 (c.find_line.new.page ++ line) front);
+      empty = subst (λ e. HoldsNone {T = Bool} (Err e) c.hold.new.page) (sym p.2) (empty_holds answer c.hold.new.page c.in_err-hold.ensures.empty);
+      read = subst (λ e. ReadsCause {T = Bool} (Err e) (g.S.Source.faults c.args.input.now) (g.S.Source.faults c.find_line.new.input)) (sym p.2)
+          (fault_reads answer (g.S.Source.faults c.args.input.now) (g.S.Source.faults c.find_line.new.input) c.in_err-hold.ensures.fault
+          (found_is_same f (g.S.Source.faults c.args.input.now) (g.S.Source.faults c.find_line.new.input) c.in_default.not-Failed c.in_ok-found.ensures.read));
+      write = subst (λ e. WritesCause {T = Bool} (Err e) (g.K.Sink.faults c.args.output.now) (g.K.Sink.faults c.hold.new.output)) (sym p.2)
+          (writes_after answer (g.K.Sink.faults c.args.output.now) (g.K.Sink.faults c.find_line.new.output) (g.K.Sink.faults c.hold.new.output) c.in_ok-found.ensures.cause
+          (fault_writes answer (g.K.Sink.faults c.find_line.new.output) (g.K.Sink.faults c.hold.new.output) c.in_err-hold.ensures.cause));
     })

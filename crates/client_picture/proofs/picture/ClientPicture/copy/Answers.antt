@@ -14,10 +14,10 @@ use Rattle.client_picture.proofs.picture.ClientPicture.copy.Goals as goal
 
 pub invariant_of-self : goal.invariant_of-self
 invariant_of-self c = let i = c.self.inside in (
-  kept_after i.size i.touched i.columns i.picture i.marked.items c.self.invariant.0 (in_clip c.args.bounds) c.args.rect everywhere
+  kept_after i.size i.touched i.frame i.picture i.marked.items c.self.invariant.0 (in_clip c.args.bounds) c.args.rect everywhere
       (rastered client_colors c.args.rop no_operand (shifted (rows_of i.size.w i.size.h c.as_mut_slice.result.now) None c.args.rect (to_z w32 (of_z w32 c.args.sx)) (to_z w32 (of_z w32 c.args.sy))))
-      _ c.touch_rect.new.touched c.touch_rect.new.columns _ c.copy_rect.new.pixels (c.touch_rect.auto.touched ∙ c.as_mut_slice-touched.ensures.len) (c.copy_rect.auto.pixels ∙ c.as_mut_slice.ensures.len)
-      c.as_mut_slice-touched.ensures.value c.as_mut_slice.ensures.value c.touch_rect.ensures.rows c.touch_rect.ensures.columns c.copy_rect.ensures,
+      _ c.touch_rect.new.touched c.touch_rect.new.frame _ c.copy_rect.new.pixels (c.touch_rect.auto.touched ∙ c.as_mut_slice-touched.ensures.len) (c.copy_rect.auto.pixels ∙ c.as_mut_slice.ensures.len)
+      c.as_mut_slice-touched.ensures.value c.as_mut_slice.ensures.value c.touch_rect.ensures.rows c.touch_rect.ensures.frame c.copy_rect.ensures,
   ap (λ (ps : List (Option ℕ)). length ps) (with_items_is i.row c.copy_rect.new.row (c.copy_rect.auto.row ∙ c.as_mut_slice-2.ensures.len)) ∙ c.copy_rect.auto.row ∙ ap (λ (ps : List (Option ℕ)). length ps) c.as_mut_slice-2.ensures.value ∙ c.self.invariant.1,
 )
 

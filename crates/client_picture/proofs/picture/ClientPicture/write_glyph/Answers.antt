@@ -12,9 +12,9 @@ use Rattle.client_picture.proofs.picture.ClientPicture.write_glyph.Goals as goal
 
 pub invariant_of-self : goal.invariant_of-self
 invariant_of-self c = let i = c.self.inside in let g = c.args.glyph.now in let cell = glyph_cell g (to_z w64 (of_z w64 c.args.x)) (to_z w64 (of_z w64 c.args.y)) in (
-  kept_after i.size i.touched i.columns i.picture i.marked.items c.self.invariant.0 (in_clip c.args.bounds) cell (λ u v. is_bit_set cell.w g.bits (nat_of (u -ℤ cell.x)) (nat_of (v -ℤ cell.y))) (solid client_colors c.args.color)
-      _ c.touch_glyph.new.touched c.touch_glyph.new.columns _ c.draw_glyph.new.pixels (c.touch_glyph.auto.touched ∙ c.as_mut_slice-touched.ensures.len) (c.draw_glyph.auto.pixels ∙ c.as_mut_slice-pixels.ensures.len)
-      c.as_mut_slice-touched.ensures.value c.as_mut_slice-pixels.ensures.value c.touch_glyph.ensures.rows c.touch_glyph.ensures.columns c.draw_glyph.ensures,
+  kept_after i.size i.touched i.frame i.picture i.marked.items c.self.invariant.0 (in_clip c.args.bounds) cell (λ u v. is_bit_set cell.w g.bits (nat_of (u -ℤ cell.x)) (nat_of (v -ℤ cell.y))) (solid client_colors c.args.color)
+      _ c.touch_glyph.new.touched c.touch_glyph.new.frame _ c.draw_glyph.new.pixels (c.touch_glyph.auto.touched ∙ c.as_mut_slice-touched.ensures.len) (c.draw_glyph.auto.pixels ∙ c.as_mut_slice-pixels.ensures.len)
+      c.as_mut_slice-touched.ensures.value c.as_mut_slice-pixels.ensures.value c.touch_glyph.ensures.rows c.touch_glyph.ensures.frame c.draw_glyph.ensures,
   c.self.invariant.1,
 )
 

@@ -1,0 +1,23 @@
+use Rattle.std.proofs.Common.{◌≡◌, [], ◌∙◌, ap, sym, subst}
+use Rattle.script_rules.specs.Script.{opened_reading}
+use Rattle.script_run.specs.Outcomes.{is_invite_found}
+use Rattle.script_run.specs.Solo.{first_run, solo_reading, solo_run}
+use Rattle.script_run.specs.Standing.{Stands}
+use Rattle.script_run.proofs.SoloJoins.{begins_solo, begins_invited}
+use Rattle.script_run.proofs.lines.begin.Goals as goal
+use Rattle.script_run.proofs.lines.begin.Goals.{then-not-is_invite_found+in_ok-join_alone, else-not-is_invite_found}
+
+pub returns : goal.returns
+returns c =
+    let size = c.args.host.now.session.head.size in
+    let is = is_invite_found c.args.found c.args.text.now in
+    let invite : c.is_invite_found.result ≡ is = c.is_invite_found.ensures in
+    elim c.if-not-is_invite_found.branch [
+      | then-not-is_invite_found+in_ok-join_alone w ↦ begins_solo is size c.if-not-is_invite_found.host c.new-out.result.items c.if-not-is_invite_found.out.items
+          (sym invite ∙ w.if-not-is_invite_found.true) c.new-out.ensures.items
+          (subst (λ h. Stands h (solo_reading size) (solo_run size)) (sym w.host-is) w.in_ok-join_alone.ensures.stands)
+          (ap (λ o. o.items) w.out-is ∙ w.in_ok-join_alone.ensures.line)
+      | else-not-is_invite_found w ↦ begins_invited is size c.if-not-is_invite_found.host c.if-not-is_invite_found.out.items
+          (sym invite ∙ w.if-not-is_invite_found.false) (ap (λ o. o.items) w.out-is ∙ c.new-out.ensures.items)
+          (subst (λ h. Stands h (opened_reading size []) (first_run size)) (sym w.host-is) c.requires)
+    ]
