@@ -3,6 +3,7 @@
 the same with all growths from that one on refused. Each run must end, and by want of memory: with status 6, or in the mode serve with the
 link's code 6; and what it has written must be a front of what it writes where nothing is refused. Where one growth alone is refused the run may
 also do all as if it weren't: room that a list is made with is asked for again when the list first grows, and a thread is done without.
+Where two links come one after the other, and one growth alone is refused, one of them ends so at most, and the other is served as ever.
 
 python3 bench/refused_memory.py RDP_HOST REFUSE FOLDER
 
@@ -28,7 +29,7 @@ NO_MEMORY = 6
 PATIENCE = 20
 MOST = 5000
 
-# What was seen of a run: its status, what it wrote, what its client was sent, and whether a growth was refused.
+# What was seen of a run: its status, what it wrote, what each of its clients was sent, and whether a growth was refused.
 Run = collections.namedtuple('Run', 'status said sent refused')
 
 
@@ -42,11 +43,11 @@ class Refusing:
         env = {**os.environ, 'LD_PRELOAD': self.library, 'REFUSE': str(n), 'REFUSE_ALL': '1' if all_on else '0', 'REFUSED': self.mark}
         return subprocess.Popen([self.host, *words], env=env, stdin=subprocess.PIPE, stdout=subprocess.PIPE, stderr=subprocess.DEVNULL)
 
-    def run(self, words, given, n, all_on, client):
-        """A run over an input, beside a client of that port where there is one."""
+    def run(self, words, given, n, all_on, clients):
+        """A run over an input, beside so many clients of its port, one after the other."""
         program = self.start(words, n, all_on)
         try:
-            sent = client(program, int(words[1])) if client else b''
+            sent = [sample_client(program, int(words[1])) for _ in range(clients)]
             said, _ = program.communicate(given, timeout=PATIENCE)
         finally:
             program.kill()
@@ -73,27 +74,33 @@ def sample_client(program, port):
     return sent
 
 
-def is_link_for_want(said):
-    """Whether the lines are that of one link which ended by want of memory."""
-    words = said.split()
-    return len(words) == 4 and words[2] == str(NO_MEMORY).encode() and words[3] == b'0'
+def links_for_want(run, whole, all_on):
+    """Whether a run has the line of each link, and those that didn't end by want of memory are as in the whole run, all but one of them where
+    one growth alone was refused. Who didn't join has no number, so the next one has that."""
+    lines = [line.split() for line in run.said.splitlines()]
+    if len(lines) != len(run.sent) or any(len(line) != 4 for line in lines): return False
+    codes = [line[2] for line in lines]
+    wanting = codes.count(str(NO_MEMORY).encode())
+    if wanting < 1 or (wanting > 1 and not all_on): return False
+    return all(line[2:] == [b'0', b'0'] and sent == wanted
+               for line, sent, wanted in zip(lines, run.sent, whole.sent) if line[2] != str(NO_MEMORY).encode())
 
 
 def end_of(run, whole, all_on, what):
     """How a run with a refused growth ended, which wrote a front."""
-    if not whole.sent.startswith(run.sent): raise ValueError(f'{what}: no front was sent')
-    if run.status == 0 and is_link_for_want(run.said): return 'link'
+    if not all(wanted.startswith(sent) for sent, wanted in zip(run.sent, whole.sent)): raise ValueError(f'{what}: no front was sent')
+    if run.status == 0 and links_for_want(run, whole, all_on): return 'link'
     if not whole.said.startswith(run.said): raise ValueError(f'{what}: no front was written')
     if run.status == NO_MEMORY: return 'status'
     if all_on or run[:3] != whole[:3]: raise ValueError(f'{what}: status {run.status}, {run.said[-80:]}')
     return 'whole'
 
 
-def each_growth(refusing, title, words, given=b'', client=None):
+def each_growth(refusing, title, words, given=b'', clients=0):
     """A row: how many growths a run has, and how the runs with one of them refused ended."""
     def run(n, all_on):
         args = [str(free_port()) if it == 'PORT' else it for it in words]
-        return refusing.run(args, given, n, all_on, client)
+        return refusing.run(args, given, n, all_on, clients)
 
     whole = run(0, False)
     if whole.status: raise ValueError(f'{title}: status {whole.status}')
@@ -108,7 +115,7 @@ def each_growth(refusing, title, words, given=b'', client=None):
         if seen[:3] != whole[:3]: raise ValueError(f'{title}: two runs differ')
         counts.append(ends)
     for ends, how in zip(counts, ('alone', 'with all later ones')):
-        print(f'| {title} | {how} | {sum(ends.values())} | {ends["status"]} | {ends["link"] if client else ""} | {ends["whole"]} |', flush=True)
+        print(f'| {title} | {how} | {sum(ends.values())} | {ends["status"]} | {ends["link"] if clients else ""} | {ends["whole"]} |', flush=True)
 
 
 def script(name):
@@ -120,7 +127,8 @@ def main():
     for title, name in (('script, one take', 'one_take'), ('script, caches', 'caches_of_their_own'), ('script, saves', 'save_and_restore')):
         each_growth(refusing, title, ['script'], script(name))
     each_growth(refusing, 'answer, the sample client', ['answer', '64', '48', 'ann'], b''.join(packets('ann')))
-    each_growth(refusing, 'serve, a link of the sample client', ['serve', 'PORT', '64', '48', '1', 'ann'], client=sample_client)
+    each_growth(refusing, 'serve, a link of the sample client', ['serve', 'PORT', '64', '48', '1', 'ann'], clients=1)
+    each_growth(refusing, 'serve, two such links', ['serve', 'PORT', '64', '48', '2', 'ann'], clients=2)
 
 
 if __name__ == '__main__': main()

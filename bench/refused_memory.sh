@@ -1,5 +1,5 @@
 #!/bin/sh
-# Refuses the program `rdp_host` one growth of its memory after the other, on scripts, on the sample client and on a link of the mode serve, and
+# Refuses the program `rdp_host` one growth of its memory after the other, on scripts, on the sample client and on links of the mode serve, and
 # looks how each run ends: bench/refused_memory.py says what is wanted. The program is the proved one; a small library that is loaded before
 # the C library stands in for its allocator, and answers a growth that is to be refused as one for which the system has no memory. (`rt try
 # --fail-alloc N` does it for one N, to a program that it builds anew and doesn't prove.)

@@ -5,4 +5,5 @@ pub mod Answering
 pub mod Serving
 pub mod Links
 pub mod Hosting
+pub mod Recording
 pub mod Top

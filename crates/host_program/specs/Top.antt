@@ -13,6 +13,7 @@ use Rattle.host_program.specs.Answering.{client_of}
 use Rattle.host_program.specs.declared.loading.Load.{Load}
 use Rattle.host_program.specs.Loading.{load_of}
 use Rattle.host_program.specs.Serving.{HostingOf, hosting_of}
+use Rattle.host_program.specs.Recording.{is_record, stop_of}
 use Rattle.host_program.specs.Statuses.{script_status}
 use Rattle.host_program.specs.Outside.{Outside}
 use Rattle.script_run.specs.Run.{RunsScript, ReadsCause, WritesCause}
@@ -56,9 +57,27 @@ hosting_of_request (Some request) = hosting_of request
 abbrev pub hosting_asked : List (List ℕ) → Option HostingOf
 hosting_asked words = hosting_of_request (request_of words)
 
+-- whether a request asks for the recording of a script
+abbrev pub is_record_request : Option RequestOf → Bool
+is_record_request None = false
+is_record_request (Some request) = is_record request
+
+-- the words ask for the mode record
+abbrev pub asks_for_record : List (List ℕ) → Bool
+asks_for_record words = is_record_request (request_of words)
+
+-- after how many entries a request asks for a record's picture
+abbrev pub stop_of_request : Option RequestOf → Option ℕ
+stop_of_request None = None
+stop_of_request (Some request) = stop_of request
+
+-- after how many entries the words ask for a record's picture, by the mode replay
+abbrev pub stop_asked : List (List ℕ) → Option ℕ
+stop_asked words = stop_of_request (request_of words)
+
 -- the words ask for a mode that reads the input
 abbrev pub asks_for_reading : List (List ℕ) → Bool
-asks_for_reading words = asks_for_script words || is_some (client_asked words)
+asks_for_reading words = (asks_for_script words || is_some (client_asked words)) || (asks_for_record words || is_some (stop_asked words))
 
 -- the words ask for a mode
 abbrev pub asks_for_mode : List (List ℕ) → Bool

@@ -7,10 +7,11 @@ ghost use Rattle.host_program.specs.declared.loading.Load.{Load};
 ghost use Rattle.host_program.specs.Answering.{RunsService};
 ghost use Rattle.gate_run.specs.Gates.{gate_state};
 ghost use Rattle.host_program.specs.Loading.{RunsDemo};
+ghost use Rattle.host_program.specs.Recording.{RunsRecord, RunsReplay};
 ghost use Rattle.host_program.specs.Serving.{HostingOf};
 ghost use Rattle.host_program.specs.Hosting.{RunsServe};
 ghost use Rattle.host_program.specs.Outside.{outside};
-ghost use Rattle.host_program.specs.Top.{asks_for_script, asks_for_mode, client_asked, load_asked, hosting_asked, RunsMode, WritesUsage};
+ghost use Rattle.host_program.specs.Top.{asks_for_script, asks_for_record, stop_asked, asks_for_mode, client_asked, load_asked, hosting_asked, RunsMode, WritesUsage};
 
 use crate::host::{OUT_OF_MEMORY, top};
 use edge_io::{Gate, Sink, Source};
@@ -65,6 +66,12 @@ impl Ending {
             (outside (S.left input.new) (K.told output.new) (S.faults input.new) (K.faults output.new))) }
         ensures demo { IfSome words (λ ws. (load : Load) → load_asked (map string_bytes ws.items) ≡ Some load
             → RunsDemo result load (K.told output.old) (K.told output.new) (K.faults output.old) (K.faults output.new)) }
+        ensures record { IfSome words (λ ws. IsTrue (asks_for_record (map string_bytes ws.items)) → RunsRecord result
+            (outside (S.left input.old) (K.told output.old) (S.faults input.old) (K.faults output.old))
+            (outside (S.left input.new) (K.told output.new) (S.faults input.new) (K.faults output.new))) }
+        ensures replay { IfSome words (λ ws. (stop : ℕ) → stop_asked (map string_bytes ws.items) ≡ Some stop → RunsReplay result stop
+            (outside (S.left input.old) (K.told output.old) (S.faults input.old) (K.faults output.old))
+            (outside (S.left input.new) (K.told output.new) (S.faults input.new) (K.faults output.new))) }
         ensures serve { IfSome words (λ ws. (hosting : HostingOf) → hosting_asked (map string_bytes ws.items) ≡ Some hosting → RunsServe result hosting
             (gate_state G.Gate G.Link.Link gate.old) (gate_state G.Gate G.Link.Link gate.new)
             (K.told output.old) (K.told output.new) (K.faults output.old) (K.faults output.new)) }

@@ -1,24 +1,28 @@
-ghost use Rattle.std.specs.Prelude.{◌≡◌, [], false, Some, None, map, string_bytes, IsTrue, IfSome};
+ghost use Rattle.std.specs.Prelude.{◌≡◌, ℕ, [], false, Some, None, map, string_bytes, IsTrue, IfSome};
 ghost use Rattle.gate_run.specs.Gates.{gate_state};
 ghost use Rattle.host_program.specs.declared.answering.Client.{Client};
 ghost use Rattle.host_program.specs.Outside.{outside};
 ghost use Rattle.host_program.specs.declared.loading.Load.{Load};
 ghost use Rattle.host_program.specs.Answering.{client_of, IsServable, RunsService};
 ghost use Rattle.host_program.specs.Loading.{load_of, RunsDemo};
+ghost use Rattle.host_program.specs.Recording.{is_record, stop_of, RunsRecord, RunsReplay};
 ghost use Rattle.host_program.specs.Serving.{HostingOf, hosting_of};
 ghost use Rattle.host_program.specs.Hosting.{RunsServe};
 ghost use Rattle.host_program.specs.Statuses.{script_status};
-ghost use Rattle.host_program.specs.Top.{asks_for_script, asks_for_reading, asks_for_mode, client_asked, load_asked, hosting_asked, is_script_request, RunsMode, WritesUsage};
+ghost use Rattle.host_program.specs.Top.{asks_for_script, asks_for_record, stop_asked, asks_for_reading, asks_for_mode, client_asked, load_asked, hosting_asked, is_script_request, RunsMode, WritesUsage};
 
 use crate::answering::{answer_status, client_of};
 use crate::hosting::host_links;
 use crate::loading::load_of;
+use crate::recording::{is_record, replay_status, stop_of};
 use crate::serving::hosting_of;
 use answer_run::run_answer;
 use command_words::{OutOfMemory, Request};
 use demo_run::run_demo;
 use edge_io::{Gate, Sink, Source};
 use line_text::is_same_word;
+use record_run::record_script;
+use replay_run::replay_record;
 use script_run::{ScriptFault, put, run_script};
 use std::alloc::Global;
 use std::sync::Wait;
@@ -36,8 +40,8 @@ pub(crate) const DONE: u8 = 0;
 /// The exit status where the words ask for no mode.
 const BAD_WORDS: u8 = 2;
 
-/// The exit status where a line of a script breaks a rule.
-const BAD_LINE: u8 = 3;
+/// The exit status where a line of a script breaks a rule, or where a record has no such picture.
+pub(crate) const BAD_LINE: u8 = 3;
 
 /// The exit status where the input couldn't be read.
 pub(crate) const READ_FAULT: u8 = 4;
@@ -57,7 +61,8 @@ pub(crate) const GATE_FAULT: u8 = 7;
 /// its capture to the output. `answer W H OWNER` serves one client, whose bytes come from the input, and whose answer goes to the output.
 /// `demo SEED STEPS` runs the demonstration load and writes the line that counts its run. `serve PORT W H LINKS OWNER GUEST ..` serves
 /// at most LINKS links of the gate, opened at PORT, each in a thread of its own, over one session; when all of them have ended it writes
-/// the line of each. Other words write the usage line. Only the first two modes touch the input, and only the last touches the gate.
+/// the line of each. `record` reads a script and writes its journal as a record, and `replay N` reads a record and writes the picture after N
+/// of its entries. Other words write the usage line. Only `script`, `answer`, `record` and `replay` touch the input, and only `serve` the gate.
 pub fn top<R: Threads + Wait + Sync, S: Source, K: Sink, G: Gate>(
     rt: &R,
     alloc: Global,
@@ -83,6 +88,15 @@ pub fn top<R: Threads + Wait + Sync, S: Source, K: Sink, G: Gate>(
     // The line of the demonstration load's counts, of which the marks are those that its viewers' clients read.
     ensures demo { (load : Load) → load_asked (map string_bytes words.now) ≡ Some load
         → RunsDemo result load (K.told output.old) (K.told output.new) (K.faults output.old) (K.faults output.new) }
+    // The record's own clause: the size, the rows and the journal of the script's steps, up to the first line that breaks a rule; nothing
+    // where that is the first line, and a front of it after a fault.
+    ensures record { IsTrue (asks_for_record (map string_bytes words.now)) → RunsRecord result
+        (outside (S.left input.old) (K.told output.old) (S.faults input.old) (K.faults output.old))
+        (outside (S.left input.new) (K.told output.new) (S.faults input.new) (K.faults output.new)) }
+    // The picture after so many entries of the record that the input is, or the line that says why there is none.
+    ensures replay { (stop : ℕ) → stop_asked (map string_bytes words.now) ≡ Some stop → RunsReplay result stop
+        (outside (S.left input.old) (K.told output.old) (S.faults input.old) (K.faults output.old))
+        (outside (S.left input.new) (K.told output.new) (S.faults input.new) (K.faults output.new)) }
     // The gate's own clause: for one legal journal, that of the session which all links share, each link was served as its report says,
     // and the lines of the reports are written in the order of the links.
     ensures serve { (hosting : HostingOf) → hosting_asked (map string_bytes words.now) ≡ Some hosting → RunsServe result hosting
@@ -120,9 +134,15 @@ fn run_other<R: Threads + Wait + Sync, S: Source, K: Sink, G: Gate>(
     ensures serve { IfSome (hosting_of request.now) (λ hosting. RunsServe result hosting
         (gate_state G.Gate G.Link.Link gate.old) (gate_state G.Gate G.Link.Link gate.new)
         (K.told output.old) (K.told output.new) (K.faults output.old) (K.faults output.new)) }
-    ensures usage { client_of request.now ≡ None → load_of request.now ≡ None → hosting_of request.now ≡ None
-        → WritesUsage result (K.told output.old) (K.told output.new) (K.faults output.old) (K.faults output.new) }
-    ensures input { client_of request.now ≡ None → input.new ≡ input.old }
+    ensures record { IsTrue (is_record request.now) → RunsRecord result
+        (outside (S.left input.old) (K.told output.old) (S.faults input.old) (K.faults output.old))
+        (outside (S.left input.new) (K.told output.new) (S.faults input.new) (K.faults output.new)) }
+    ensures replay { IfSome (stop_of request.now) (λ stop. RunsReplay result stop
+        (outside (S.left input.old) (K.told output.old) (S.faults input.old) (K.faults output.old))
+        (outside (S.left input.new) (K.told output.new) (S.faults input.new) (K.faults output.new))) }
+    ensures usage { client_of request.now ≡ None → load_of request.now ≡ None → is_record request.now ≡ false → stop_of request.now ≡ None
+        → hosting_of request.now ≡ None → WritesUsage result (K.told output.old) (K.told output.new) (K.faults output.old) (K.faults output.new) }
+    ensures input { client_of request.now ≡ None → is_record request.now ≡ false → stop_of request.now ≡ None → input.new ≡ input.old }
     ensures gate { hosting_of request.now ≡ None → gate.new ≡ gate.old }
 {
     if let Some(client) = client_of(request) {
@@ -131,6 +151,40 @@ fn run_other<R: Threads + Wait + Sync, S: Source, K: Sink, G: Gate>(
     }
     match load_of(request) {
         Some(load) => status(run_demo(alloc, load.seed, load.steps, output)),
+        None => run_recording(rt, alloc, request, input, output, gate),
+    }
+}
+
+/// Records a script, or replays a record, where a request asks for one of these, or serves the links that it asks for.
+fn run_recording<R: Threads + Wait + Sync, S: Source, K: Sink, G: Gate>(
+    rt: &R,
+    alloc: Global,
+    request: &Request<'_>,
+    input: &mut S,
+    output: &mut K,
+    gate: &mut G,
+) -> u8
+    requires unused { G.given gate.old ≡ [] }
+    requires open { G.ended gate.old ≡ false }
+    ensures record { IsTrue (is_record request.now) → RunsRecord result
+        (outside (S.left input.old) (K.told output.old) (S.faults input.old) (K.faults output.old))
+        (outside (S.left input.new) (K.told output.new) (S.faults input.new) (K.faults output.new)) }
+    ensures replay { IfSome (stop_of request.now) (λ stop. RunsReplay result stop
+        (outside (S.left input.old) (K.told output.old) (S.faults input.old) (K.faults output.old))
+        (outside (S.left input.new) (K.told output.new) (S.faults input.new) (K.faults output.new))) }
+    ensures serve { IfSome (hosting_of request.now) (λ hosting. RunsServe result hosting
+        (gate_state G.Gate G.Link.Link gate.old) (gate_state G.Gate G.Link.Link gate.new)
+        (K.told output.old) (K.told output.new) (K.faults output.old) (K.faults output.new)) }
+    ensures usage { is_record request.now ≡ false → stop_of request.now ≡ None → hosting_of request.now ≡ None
+        → WritesUsage result (K.told output.old) (K.told output.new) (K.faults output.old) (K.faults output.new) }
+    ensures input { is_record request.now ≡ false → stop_of request.now ≡ None → input.new ≡ input.old }
+    ensures gate { hosting_of request.now ≡ None → gate.new ≡ gate.old }
+{
+    if is_record(request) {
+        return status(record_script(alloc, input, output));
+    }
+    match stop_of(request) {
+        Some(stop) => replay_status(replay_record(rt, alloc, stop, input, output)),
         None => run_serve(rt, alloc, request, output, gate),
     }
 }

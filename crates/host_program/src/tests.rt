@@ -116,6 +116,33 @@ fn worked_scripts_give_their_captures_and_statuses(rt: HostRuntime) -> Result<()
 /// A script of one frame.
 const ONE_FRAME: &[u8] = b"size 64 48\ntake\n";
 
+/// The record of that script: the head with the one row, and the join.
+const ONE_JOIN: &[u8] = b"RDPJ1\n\x40\x00\x30\x00\x01\x00\x04host\x06\x00\x01\x01\x00\x00\x00\x00";
+
+#[test]
+fn a_script_is_recorded(rt: HostRuntime) -> Result<(), Fail> {
+    let alloc = rt.alloc();
+    let words = words(alloc, "record")?;
+    must_end(&rt, &run(&rt, alloc, &words, ONE_FRAME)?, 0, ONE_JOIN);
+    must_end(&rt, &run(&rt, alloc, &words, b"size 63 48\n")?, 3, b"");
+    Ok(())
+}
+
+/// How many bytes the pixels of a picture of 64 by 48 are.
+const PIXELS: usize = 9_216;
+
+#[test]
+fn a_record_is_replayed(rt: HostRuntime) -> Result<(), Fail> {
+    let alloc = rt.alloc();
+    let black = vec![in alloc; 0; PIXELS]?;
+    let picture = joined(alloc, &[b"P6\n# entries 1\n64 48\n255\n", &black])?;
+    let words = words_of(alloc, &["replay", "1"])?;
+    must_end(&rt, &run(&rt, alloc, &words, ONE_JOIN)?, 0, &picture);
+    let words = words_of(alloc, &["replay", "2"])?;
+    must_end(&rt, &run(&rt, alloc, &words, ONE_JOIN)?, 3, b"only 1\n");
+    Ok(())
+}
+
 #[test]
 fn a_first_read_or_write_that_fails_gives_its_status(rt: HostRuntime) -> Result<(), Fail> {
     let alloc = rt.alloc();
@@ -161,11 +188,13 @@ const USAGE: &[u8] = b"usage: rdp_host MODE ARGS\n";
 #[test]
 fn other_words_give_the_usage_line(rt: HostRuntime) -> Result<(), Fail> {
     let alloc = rt.alloc();
-    // no mode, none of this name, a number with a leading zero, a picture's width that isn't a multiple of four, and one
-    // guest twice
-    let lists: [&[&str]; 5] = [
+    // no mode, none of this name, an argument too many, one too few, a number with a leading zero, a picture's width that isn't a multiple of
+    // four, and one guest twice
+    let lists: [&[&str]; 7] = [
         &[],
         &["scripts"],
+        &["record", "1"],
+        &["replay"],
         &["demo", "01", "5"],
         &["answer", "62", "48", "ann"],
         &["serve", "3389", "64", "48", "1", "ann", "bob", "bob+"],

@@ -1,1 +1,13 @@
-mod Pieces
+pub mod Pieces
+pub mod Readers
+pub mod Played
+pub mod Legal
+pub mod LegalFronts
+pub mod HeadRight
+pub mod Stands
+pub mod Kept
+pub mod Fronts
+pub mod Counting
+pub mod Feeding
+pub mod Replayed
+mod ReplayRows

@@ -2,4 +2,6 @@
 #![tactic(auto)]
 
 #[cfg(test)]
+mod replayed;
+#[cfg(test)]
 mod written;

@@ -20,7 +20,7 @@ const RECT: Rect = Rect {
 };
 
 /// Writes the head of a session of one owner, and its Join.
-fn put_join(out: &mut Vec<u8>) -> Result<(), OutOfMemory> {
+pub fn put_join(out: &mut Vec<u8>) -> Result<(), OutOfMemory> {
     let owner = Invite {
         name: Name::new(b"host"),
         role: Role::Owner,
@@ -36,7 +36,7 @@ fn put_join(out: &mut Vec<u8>) -> Result<(), OutOfMemory> {
 }
 
 /// Writes a Fill in red.
-fn put_fill(out: &mut Vec<u8>) -> Result<(), OutOfMemory> {
+pub fn put_fill(out: &mut Vec<u8>) -> Result<(), OutOfMemory> {
     let shape = Shape::Fill {
         rect: RECT,
         color: 0xFF0000,

@@ -17,7 +17,7 @@ pub enum Ending {
     Truncated,
     /// The client isn't let in.
     NotInvited,
-    /// The capture, or what the viewer was sent in it, isn't accepted.
+    /// The capture, or what the viewer was sent in it, isn't accepted, or the record has no such picture.
     NotShown,
     /// A read failed.
     ReadFault,
@@ -61,5 +61,14 @@ pub fn show_ending(answer: Result<bool, ShowFault>) -> Ending {
         Err(ShowFault::ReadFault) => Ending::ReadFault,
         Err(ShowFault::WriteFault) => Ending::WriteFault,
         Err(ShowFault::OutOfMemory) => Ending::OutOfMemory,
+    }
+}
+
+/// How the replay of a record ended.
+pub fn replay_ending(answer: Result<bool, ScriptFault>) -> Ending {
+    match answer {
+        Ok(true) => Ending::Done,
+        Ok(false) => Ending::NotShown,
+        Err(fault) => script_ending(Err(fault)),
     }
 }

@@ -1,12 +1,14 @@
 //! What a row runs.
 
-use crate::ending::{Ending, answer_ending, script_ending, show_ending};
+use crate::ending::{Ending, answer_ending, replay_ending, script_ending, show_ending};
 use answer_run::run_answer;
 use capture_show::show_capture;
 use demo_run::run_demo;
 use edge_io::{PlanSink, PlanSource};
 use info_lic::Name;
 use px_core::{Size, is_session_size};
+use record_run::record_script;
+use replay_run::replay_record;
 use script_lines::is_name;
 use script_run::run_script;
 use std::alloc::Global;
@@ -23,6 +25,10 @@ pub enum Job<'a> {
     Look { viewer: u16 },
     /// The demonstration load.
     Demo { seed: u64, steps: u32 },
+    /// The recording of a script.
+    Record,
+    /// The replay of a record, with the picture after so many entries.
+    Replay { stop: u64 },
 }
 
 /// Does a job.
@@ -38,6 +44,8 @@ pub fn run<R: Wait>(
         Job::Stream { size, owner } => serve(alloc, size, owner.as_bytes(), input, output),
         Job::Look { viewer } => show_ending(show_capture(rt, alloc, viewer, input, output)),
         Job::Demo { seed, steps } => script_ending(run_demo(alloc, seed, steps, output)),
+        Job::Record => script_ending(record_script(alloc, input, output)),
+        Job::Replay { stop } => replay_ending(replay_record(rt, alloc, stop, input, output)),
     }
 }
 

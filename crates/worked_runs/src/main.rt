@@ -1,5 +1,6 @@
 //! Runs worked examples and prints a line for each: scripts with their captures, clients' streams with their answers, and with the lines
-//! of the links by which they come, captures with what they show, loads with their counts, and command lines with what they ask for.
+//! of the links by which they come, captures with what they show, scripts with their records and these with what they show, loads with their
+//! counts, and command lines with what they ask for.
 //!
 //! The words that the program is run with name manifests. A line of a manifest is a kind of row and its words; the row's files lie beside
 //! it. Each row is run whole, byte by byte, cut in two at one place after the other, and with one read or one write failing after the other.
@@ -14,6 +15,7 @@ mod handshake;
 mod job;
 mod joins;
 mod looks;
+mod records;
 mod row;
 mod scripts;
 mod serves;

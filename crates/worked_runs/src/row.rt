@@ -4,7 +4,7 @@ ghost use Rattle.std.specs.Prelude.{◌≤◌, IfOk};
 
 use crate::streams::Known;
 use crate::verdict::Trouble;
-use crate::{demos, faults, handshake, joins, looks, scripts, serves, streams, words};
+use crate::{demos, faults, handshake, joins, looks, records, scripts, serves, streams, words};
 use line_text::read_number;
 use std::rt::Files;
 use std::sync::Wait;
@@ -30,6 +30,9 @@ pub fn run<R: Files + AllocGlobal + Threads + Wait + Sync>(
         "serve" => serves::run_row(rt, words),
         "look" => looks::run_row(rt, words),
         "fronts" => looks::run_fronts(rt, words),
+        "record" => records::run_record(rt, words),
+        "replay" => records::run_replay(rt, words),
+        "again" => records::run_again(rt, words),
         "demo" => demos::run_row(rt, words),
         "fault-texts" => faults::run_row(rt.alloc(), words),
         "request" => words::run_request(rt.alloc(), words),
@@ -42,7 +45,7 @@ pub fn run<R: Files + AllocGlobal + Threads + Wait + Sync>(
 /// How many words of a row of this kind are its title.
 fn title_words(kind: &str) -> usize {
     match kind {
-        "look" | "demo" | "serve" => 3,
+        "look" | "demo" | "serve" | "replay" => 3,
         "request" | "viewer" => usize::MAX,
         _ => 2,
     }

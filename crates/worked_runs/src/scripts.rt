@@ -26,7 +26,7 @@ pub fn run_row<R: Files + AllocGlobal + Wait>(rt: &R, words: &[&str]) -> Result<
 }
 
 /// How a script ends that has this capture: by the refusal of a line where the capture's last line tells it.
-fn ending_of(capture: &[u8]) -> Ending {
+pub fn ending_of(capture: &[u8]) -> Ending {
     match broken_line(capture) {
         Some((k, rule)) => Ending::Line { k, rule },
         None => Ending::Done,

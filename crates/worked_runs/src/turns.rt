@@ -28,6 +28,9 @@ const MOST_READS: u32 = 100;
 /// How many writes are made to fail at most, one after the other: more than any row has, but for the largest pictures.
 const MOST_WRITES: u32 = 70;
 
+/// How a script's line begins that adds a row.
+const INVITE: &[u8] = b"invite ";
+
 /// A job, its input, and how its run is to end.
 #[derive(Clone, Copy, Drop)]
 pub struct Task<'a> {
@@ -88,7 +91,11 @@ fn step_of(task: &Task<'_>) -> usize
 {
     match task.job {
         Job::Stream { .. } => task.input.len() / STREAM_CUTS + 1,
-        Job::Script | Job::Look { .. } | Job::Demo { .. } => task.input.len() / MOST_CUTS + 1,
+        Job::Script | Job::Look { .. } | Job::Demo { .. } | Job::Record | Job::Replay { .. } => task
+            .input
+            .len()
+            / MOST_CUTS
+            + 1,
     }
 }
 
@@ -133,16 +140,21 @@ fn try_reads<R: Wait>(rt: &R, alloc: Global, task: &Task<'_>, told: &[u8]) -> Re
 }
 
 /// Does a task with one write failing after the other, of which there must be one where something is written.
+///
+/// Each write adds something, so with each later one that fails there stands more, and the most where none does.
 fn try_writes<R: Wait>(rt: &R, alloc: Global, task: &Task<'_>, told: &[u8]) -> Result<(), Trouble> {
+    let mut least = 0_usize;
     for call in 1..=MOST_WRITES {
         let way = Way::Write(call);
         let pieces = Vec::new(alloc);
         let found = run_of(rt, alloc, &task.job, task.input, pieces, way)?;
+        must_have_least(way, least, &found.told)?;
         if found.ending != Ending::WriteFault {
             must_be_same(way, task, told, &found)?;
             return must_have_failed(way, call, told);
         }
-        must_be_cut_at_write(&task.job, call, told, &found.told)?;
+        must_be_cut_at_write(way, &task.job, told, &found.told)?;
+        least = found.told.len().saturating_add(1);
     }
     Ok(())
 }
@@ -180,7 +192,7 @@ fn run_of<R: Wait>(
 }
 
 /// What the front of an input that was handed out gives, where the next read fails: the lines of a script that are whole, the bytes of a
-/// client's stream, and nothing of a capture.
+/// client's stream, and nothing of a capture or a record.
 fn given_by<R: Wait>(
     rt: &R,
     alloc: Global,
@@ -189,8 +201,9 @@ fn given_by<R: Wait>(
 ) -> Result<Vec<u8>, AllocError> {
     let whole = match job {
         Job::Script => lines_done(handed),
+        Job::Record => steps_done(handed),
         Job::Stream { .. } => handed,
-        Job::Look { .. } | Job::Demo { .. } => &[],
+        Job::Look { .. } | Job::Demo { .. } | Job::Replay { .. } => &[],
     };
     if whole.is_empty() {
         return Ok(Vec::new(alloc));
@@ -217,6 +230,26 @@ fn whole_lines(text: &[u8]) -> &[u8] {
 fn lines_done(script: &[u8]) -> &[u8] {
     let lines = whole_lines(script);
     if line_count(lines) < 2 { &[] } else { lines }
+}
+
+/// The lines of a script that are done where it is recorded, and so much of it was read: none where rows may follow, since the head isn't
+/// written then.
+fn steps_done(script: &[u8]) -> &[u8] {
+    let lines = lines_done(script);
+    match lines.iter().rposition(|byte| *byte == b'\n') {
+        Some(end) => {
+            let start = match lines[..end].iter().rposition(|byte| *byte == b'\n') {
+                Some(before) => before + 1,
+                None => 0,
+            };
+            if lines[start..].starts_with(INVITE) {
+                &[]
+            } else {
+                lines
+            }
+        }
+        None => &[],
+    }
 }
 
 /// How many line ends a text has.
@@ -252,23 +285,21 @@ pub fn must_be_front(way: Way, told: &[u8], found: &[u8]) -> Result<(), Trouble>
     }
 }
 
-/// What was written where the write of a number failed must be a front of the whole, and of a script's capture just the lines before that
-/// many.
-fn must_be_cut_at_write(
-    job: &Job<'_>,
-    call: u32,
-    told: &[u8],
-    found: &[u8],
-) -> Result<(), Trouble> {
-    let way = Way::Write(call);
+/// What was written must have so many bytes at least.
+fn must_have_least(way: Way, least: usize, found: &[u8]) -> Result<(), Trouble> {
+    if least <= found.len() {
+        Ok(())
+    } else {
+        otherwise(way, Found::Byte(found.len()))
+    }
+}
+
+/// What was written where a write failed must be a front of the whole, and of a script's capture whole lines.
+fn must_be_cut_at_write(way: Way, job: &Job<'_>, told: &[u8], found: &[u8]) -> Result<(), Trouble> {
     must_be_front(way, told, found)?;
-    let lines = line_count(found);
     match job {
         Job::Script if whole_lines(found).len() != found.len() => {
             otherwise(way, Found::Byte(found.len()))
-        }
-        Job::Script if lines.saturating_add(1) != call as usize => {
-            otherwise(way, Found::Number(lines as u64))
         }
         _ => Ok(()),
     }

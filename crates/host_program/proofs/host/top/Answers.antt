@@ -1,10 +1,14 @@
 use Rattle.std.proofs.Common.{rules, refl, [], map, string_bytes}
 use Rattle.script_run.proofs.Whole.{nothing_written}
+use Rattle.record_run.proofs.Whole.{nothing_written as nothing_recorded}
 use Rattle.std.proofs.KnownBytes.{Appends-nil}
 use Rattle.demo_run.specs.Counts.{demo_line}
+use Rattle.replay_run.specs.Shown.{shown, text_of}
+use Rattle.script_run.proofs.Continued.{tells_of_all}
+use Rattle.edge_io.specs.Sink.{WritesFront}
 use Rattle.host_program.specs.Top.{usage}
 use Rattle.host_program.specs.Hosting.RunsServe.{Wants}
-use Rattle.host_program.proofs.Modes.{no_mode}
+use Rattle.host_program.proofs.Modes.{script_or_record, script_or_stop, no_mode, no_reading}
 use Rattle.std.specs.declared.result.Result.TheVariants.{Err}
 use Rattle.script_run.specs.declared.fault.ScriptFault.TheVariants.{OutOfMemory}
 use Rattle.answer_run.proofs.Served.{nothing_done}
@@ -24,11 +28,37 @@ returns-in-Err-clause-answer g c = λ client asks. record { answer = Err fault.O
 pub returns-in-Err-clause-demo : goal.returns-in-Err-clause-demo
 returns-in-Err-clause-demo g c = λ load asks. record { answer = Err OutOfMemory; status_is = refl; written = search rules; front = record { front = []; rest = demo_line load.seed load.steps; whole = refl; written = Appends-nil _ }; fault = search rules; write_cause = refl }
 
+pub returns-in-Err-clause-record : goal.returns-in-Err-clause-record
+returns-in-Err-clause-record g c = λ asks. record { answer = Err OutOfMemory; status_is = refl; record_is = nothing_recorded _ _; read_cause = refl; write_cause = refl }
+
+pub returns-in-Err-clause-replay : goal.returns-in-Err-clause-replay
+returns-in-Err-clause-replay g c = λ stop asks. record {
+  answer = Err OutOfMemory;
+  status_is = refl;
+  replay = tells_of_all _ (λ bytes. WritesFront (g.K.Sink.told c.args.output.now) (g.K.Sink.told c.args.output.now) (text_of stop (shown stop bytes)))
+      (λ bytes. record { front = []; rest = text_of stop (shown stop bytes); whole = refl; written = Appends-nil _ });
+  read_cause = refl;
+  write_cause = refl;
+}
+
 pub returns-in-Err-clause-serve : goal.returns-in-Err-clause-serve
 returns-in-Err-clause-serve g c = λ hosting asks. Wants (record { status_is = refl; gate = refl; told_is = refl; writes_are = refl })
 
--- the words ask for no mode, so the request asks for neither of the others
+-- a request for a script asks for no record
+pub returns-in-Ok-Some-clause-record : goal.returns-in-Ok-Some-clause-record
+returns-in-Ok-Some-clause-record g c = λ asks. absurd (script_or_record (map string_bytes c.args.words.now) c.in-Ok-Some.request (search rules) (search rules) asks)
+
+pub returns-in-Ok-Some-clause-replay : goal.returns-in-Ok-Some-clause-replay
+returns-in-Ok-Some-clause-replay g c = λ stop asks. absurd (script_or_stop (map string_bytes c.args.words.now) c.in-Ok-Some.request stop (search rules) (search rules) asks)
+
+-- the words ask for no mode, so the request asks for none of the others
 pub returns-in-Ok-Some-2-clause-usage : goal.returns-in-Ok-Some-2-clause-usage
 returns-in-Ok-Some-2-clause-usage g c = λ asks.
     let none = no_mode (map string_bytes c.args.words.now) c.in-Ok-Some.request (search rules) (search rules) asks in
-    c.run_other.ensures.usage none.0 none.1 none.2
+    c.run_other.ensures.usage none.0 none.1 none.2 none.3 none.4
+
+-- they ask for no mode that reads, so the request asks for none of these
+pub returns-in-Ok-Some-2-clause-input : goal.returns-in-Ok-Some-2-clause-input
+returns-in-Ok-Some-2-clause-input g c = λ asks.
+    let none = no_reading (map string_bytes c.args.words.now) c.in-Ok-Some.request (search rules) (search rules) asks in
+    c.run_other.ensures.input none.0 none.1 none.2

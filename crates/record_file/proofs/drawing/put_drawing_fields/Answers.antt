@@ -1,6 +1,6 @@
 use Rattle.std.proofs.lemmas.Result.{err_from_is_err_and}
 use Rattle.wire_num.proofs.Fronts.{front_before}
-use Rattle.order_fields.proofs.Sent.{both_sent, both_cut}
+use Rattle.wire_num.proofs.Sent.{both_sent, both_cut}
 use Rattle.record_rules.specs.Fields.{fields_bytes}
 use Rattle.record_rules.specs.Tables.{clip_fields, shape_fields}
 use Rattle.record_rules.proofs.EntriesBack.{fields_bytes-append}

@@ -2,7 +2,7 @@ use Rattle.std.proofs.Common.{drop, suc}
 use Rattle.std.specs.Prelude.{flat_map}
 use Rattle.std.proofs.lemmas.Result.{err_from_is_err_and}
 use Rattle.byteorder.specs.Endian.{big_bytes}
-use Rattle.order_fields.proofs.Sent.{sent_part}
+use Rattle.wire_num.proofs.Sent.{sent_part}
 use Rattle.record_file.proofs.Pieces.{item_first}
 use Rattle.record_file.proofs.put.put_colors.Goals as goal
 

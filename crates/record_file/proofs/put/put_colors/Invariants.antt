@@ -1,7 +1,7 @@
 use Rattle.std.proofs.Common.{drop}
 use Rattle.std.specs.Prelude.{flat_map}
 use Rattle.byteorder.specs.Endian.{big_bytes}
-use Rattle.order_fields.proofs.Sent.{HasSent}
+use Rattle.wire_num.proofs.Sent.{HasSent}
 use Rattle.record_file.proofs.put.put_colors.Given as goal
 
 abbrev pub invariant-loop-color : goal.invariant-loop-color

@@ -3,7 +3,7 @@ use Rattle.std.specs.Prelude.{flat_map}
 use Rattle.std.proofs.lemmas.Result.{err_from_is_err_and}
 use Rattle.record_rules.specs.declared.field.Field.TheVariants.{Byte}
 use Rattle.record_rules.specs.Fields.{field_bytes}
-use Rattle.order_fields.proofs.Sent.{sent_part}
+use Rattle.wire_num.proofs.Sent.{sent_part}
 use Rattle.record_file.proofs.Pieces.{item_first, in_place_at}
 use Rattle.record_file.proofs.put.put_fields.Goals as goal
 

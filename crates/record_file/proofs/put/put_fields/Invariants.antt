@@ -1,7 +1,7 @@
 use Rattle.std.proofs.Common.{drop}
 use Rattle.std.specs.Prelude.{flat_map}
 use Rattle.record_rules.specs.Fields.{field_bytes}
-use Rattle.order_fields.proofs.Sent.{HasSent}
+use Rattle.wire_num.proofs.Sent.{HasSent}
 use Rattle.record_file.proofs.put.put_fields.Given as goal
 
 abbrev pub invariant-loop-field : goal.invariant-loop-field

@@ -1,7 +1,7 @@
 use Rattle.std.proofs.Common.{drop, suc, ◌∷◌, []}
 use Rattle.std.specs.Prelude.{flat_map}
 use Rattle.std.proofs.lemmas.Result.{err_from_is_err_and}
-use Rattle.order_fields.proofs.Sent.{sent_part}
+use Rattle.wire_num.proofs.Sent.{sent_part}
 use Rattle.record_file.proofs.Pieces.{item_first}
 use Rattle.record_file.proofs.put.put_pairs.Goals as goal
 

@@ -1,7 +1,7 @@
 use Rattle.std.proofs.Common.{drop}
 use Rattle.std.specs.Prelude.{flat_map}
 use Rattle.std.proofs.Common.{◌∷◌, []}
-use Rattle.order_fields.proofs.Sent.{HasSent}
+use Rattle.wire_num.proofs.Sent.{HasSent}
 use Rattle.record_file.proofs.put.put_pairs.Given as goal
 
 abbrev pub invariant-loop-pair : goal.invariant-loop-pair

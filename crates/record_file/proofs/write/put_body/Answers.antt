@@ -1,6 +1,6 @@
 use Rattle.std.proofs.lemmas.Result.{err_from_is_err_and}
 use Rattle.wire_num.proofs.Fronts.{front_before}
-use Rattle.order_fields.proofs.Sent.{both_cut}
+use Rattle.wire_num.proofs.Sent.{both_cut}
 use Rattle.record_rules.specs.Fields.{fields_bytes}
 use Rattle.record_rules.specs.Tables.{entry_fields, entry_rest}
 use Rattle.record_file.proofs.write.put_body.Goals as goal

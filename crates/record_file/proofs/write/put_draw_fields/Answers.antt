@@ -3,7 +3,7 @@ use Rattle.std.proofs.Common.{◌++◌, ◌∷◌, []}
 use Rattle.std.proofs.lemmas.Bool.{and_parts}
 use Rattle.draw_ops.specs.Ranges.{is_u32}
 use Rattle.wire_num.proofs.Fronts.{front_before}
-use Rattle.order_fields.proofs.Sent.{both_cut}
+use Rattle.wire_num.proofs.Sent.{both_cut}
 use Rattle.record_rules.specs.declared.field.Field.TheVariants.{Byte, Long}
 use Rattle.record_rules.specs.Fields.{fields_bytes, are_in_place}
 use Rattle.record_rules.specs.Tables.{clip_fields, shape_fields}

@@ -1,6 +1,6 @@
 use Rattle.std.proofs.lemmas.Result.{err_from_is_err_and}
 use Rattle.std.proofs.Common.{drop, suc}
-use Rattle.order_fields.proofs.Sent.{sent_part}
+use Rattle.wire_num.proofs.Sent.{sent_part}
 use Rattle.session_core.specs.Heads.{rows_of}
 use Rattle.record_rules.specs.Tables.{rows_bytes}
 use Rattle.record_file.proofs.Pieces.{row_first, named_at}

@@ -1,6 +1,6 @@
 use Rattle.std.proofs.Common.{drop}
 use Rattle.std.specs.Prelude.{flat_map}
-use Rattle.order_fields.proofs.Sent.{HasSent}
+use Rattle.wire_num.proofs.Sent.{HasSent}
 use Rattle.record_rules.specs.Tables.{row_bytes}
 use Rattle.session_core.specs.Heads.{rows_of}
 use Rattle.record_file.proofs.write.put_rows.Given as goal

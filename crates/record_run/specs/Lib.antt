@@ -1,0 +1,6 @@
+pub mod Recording
+pub mod Recorders
+pub mod Steps
+pub mod Reading
+pub mod Progress
+pub mod Run
