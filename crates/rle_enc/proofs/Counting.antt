@@ -1,6 +1,7 @@
 -- Counting from the front, one place at a time.
 use Rattle.std.proofs.Common.{◌≡◌, ℕ, zero, suc, ◌+◌, ◌-◌, ◌<◌, ◌≤◌, ◌≢◌, Bool, true, false, cond, List, [], ◌∷◌, ◌++◌, length, take, drop, replicate, get_or, refl, ap, sym, ◌∙◌, arith, append_assoc, append-nil}
 use Rattle.std.specs.Prelude.{IsFalse, ◌==◌, zip, flat_map, nat_le, ◌&&◌, Option, Some, None}
+use Rattle.std.specs.List.{common_prefix_len, prefix_len}
 use Rattle.std.proofs.lemmas.Bool.Decides.{nat_tests}
 use Rattle.std.proofs.lemmas.List.{drop_more, drop_all, take_more, take_all, length-replicate}
 use Rattle.run_lengths.specs.Packer.{Spot, background_count, color_count, chosen_run}
@@ -59,6 +60,34 @@ pub black_count_leading : (xs : List ℕ) → background_count (zip xs (replicat
 black_count_leading [] = refl
 black_count_leading (x ∷ xs) = ap (λ n. cond (x == 0) (suc n) 0) (black_count_leading xs)
 
+-- ---- the counts of the lanes
+
+passes : (b : Bool) (n : ℕ) → 1 ≤ cond b (suc n) 0 → b ≡ true
+passes true n h = refl
+passes false n h = absurd (omega (arith, h))
+
+first_colored : (c : ℕ) (xs : List ℕ) → 1 ≤ leading c xs → get_or xs 0 0 ≡ c
+first_colored c [] h = absurd (omega (arith, h))
+first_colored c (x ∷ xs) h = let e : (x == c) ≡ true = passes (x == c) (leading c xs) h in grind (arith, nat_tests, e)
+
+one_more : (b : Bool) (m n : ℕ) → m ≡ n → cond b (1 + m) 0 ≡ cond b (suc n) 0
+one_more true m n e = omega (arith, e)
+one_more false m n e = refl
+
+run_leading : (c : ℕ) (xs : List ℕ) → prefix_len (λ x. x == c) xs ≡ leading c xs
+run_leading c [] = refl
+run_leading c (x ∷ xs) = one_more (x == c) (prefix_len (λ y. y == c) xs) (leading c xs) (run_leading c xs)
+
+-- a run of the first item is one of each colour that leads
+pub own_run : (c n : ℕ) (xs : List ℕ) → 1 ≤ n → leading c xs ≡ n + leading c (drop n xs) → prefix_len (λ x. x == get_or xs 0 0) xs ≡ leading c xs
+own_run c n xs some e = ap (λ d. prefix_len (λ x. x == d) xs) (first_colored c xs (omega (arith, some, e))) ∙ run_leading c xs
+
+-- a common front of pixels and as many above them
+pub back_run_is : (xs ys : List ℕ) → common_prefix_len (λ x y. x == y) xs (take (length xs) ys) ≡ background_count (zip xs ys)
+back_run_is [] ys = refl
+back_run_is (x ∷ xs) [] = refl
+back_run_is (x ∷ xs) (y ∷ ys) = one_more (x == y) (common_prefix_len (λ a b. a == b) xs (take (length xs) ys)) (background_count (zip xs ys)) (back_run_is xs ys)
+
 flat_map_last : (f : ℕ → List ℕ) (zs : List ℕ) (y : ℕ) → flat_map f zs ++ f y ≡ flat_map f (zs ++ y ∷ [])
 flat_map_last f [] y = sym (append-nil (f y))
 flat_map_last f (z ∷ zs) y = append_assoc (f z) (flat_map f zs) (f y) ∙ ap (λ us. f z ++ us) (flat_map_last f zs y)
@@ -104,6 +133,27 @@ differ a b e f = let same : (a == b) ≡ true = same_test a b f in cc
 pub leading_some : (ps : List ℕ) → 0 < length ps → 1 ≤ leading (get_or ps 0 0) ps
 leading_some [] h = absurd (omega (arith, h))
 leading_some (p ∷ ps) h = let e : leading p (p ∷ ps) ≡ suc (leading p ps) = ap (λ t. cond t (suc (leading p ps)) 0) (same_test p p refl) in omega (arith, e)
+
+pub next_has_color : (ps : List ℕ) → 2 ≤ length ps → get_or ps 1 0 ≡ get_or ps 0 0 → 2 ≤ leading (get_or ps 0 0) ps
+next_has_color [] h e = absurd (omega (arith, h))
+next_has_color (p ∷ []) h e = absurd (omega (arith, h))
+next_has_color (p ∷ q ∷ ps) h e =
+    let second : leading p (q ∷ ps) ≡ suc (leading p ps) = ap (λ t. cond t (suc (leading p ps)) 0) (same_test q p e) in
+    let first : leading p (p ∷ q ∷ ps) ≡ suc (leading p (q ∷ ps)) = ap (λ t. cond t (suc (leading p (q ∷ ps))) 0) (same_test p p refl) in
+    omega (arith, first, second)
+
+-- the first pixel is background
+over_other : (x y : ℕ) (n : ℕ) → x ≡ y → 1 ≤ cond (x == y) (suc n) 0
+over_other x y n e = let f : cond (x == y) (suc n) 0 ≡ suc n = ap (λ t. cond t (suc n) 0) (same_test x y e) in omega (arith, f)
+
+pub over_row : (ps ys : List ℕ) → 0 < length ps → length ps ≤ length ys → get_or ps 0 0 ≡ get_or ys 0 0 → 1 ≤ background_count (zip ps ys)
+over_row [] ys h le e = absurd (omega (arith, h))
+over_row (p ∷ ps) [] h le e = absurd (omega (arith, le))
+over_row (p ∷ ps) (y ∷ ys) h le e = over_other p y (background_count (zip ps ys)) e
+
+pub over_black : (ps : List ℕ) → 0 < length ps → get_or ps 0 0 ≡ 0 → 1 ≤ background_count (zip ps (replicate (length ps) 0))
+over_black [] h e = absurd (omega (arith, h))
+over_black (p ∷ ps) h e = over_other p 0 (background_count (zip ps (replicate (length ps) 0))) e
 
 pub pixels_of_spots : (row : Option (List ℕ)) (ps : List ℕ) → HasItems (length ps) row → pixels (spots_in row ps) ≡ ps
 pixels_of_spots None ps h = pixels-zip ps (replicate (length ps) 0) ∙ take_all (length (replicate {A = ℕ} (length ps) 0)) ps (let e : length (replicate {A = ℕ} (length ps) 0) ≡ length ps = length-replicate (length ps) 0 in omega (arith, e))

@@ -1,12 +1,11 @@
 -- Pixels that stand for themselves and aren't written yet, before the runs that follow them.
 use Rattle.std.proofs.Common.{◌≡◌, ℕ, zero, suc, ◌+◌, ◌-◌, ◌<◌, ◌≤◌, List, [], ◌∷◌, ◌++◌, length, take, drop, replicate, get_or, refl, ap, sym, subst, ◌∙◌, arith, append_assoc, append-nil}
 use Rattle.std.specs.Prelude.{zip, flat_map, Option, Some, None, Result, Ok, Err, OnOk}
-use Rattle.std.proofs.Math.Seq.{take-add}
-use Rattle.std.proofs.lemmas.List.{drop_all, take_more, length-drop, drop-replicate, get_or-drop, take_all, drop-drop}
+use Rattle.std.proofs.lemmas.List.{drop_all, take_more, length-drop, drop-replicate, get_or-drop, drop-drop}
 use Rattle.run_lengths.specs.RunLength.{Run, run_size}
 use Rattle.run_lengths.specs.RunLength.Run.{Background, Foreground, Mask, Color, Image, Dithered}
 use Rattle.run_lengths.specs.Packer.{Spot, background_count, color_count, chosen_run, first_run, runs_past, onto_runs, joined_images, packed_runs, run_bytes}
-use Rattle.rle_enc.specs.Stretch.{StandAlone, after_literals, leading, literal_bytes, spots_in, HasItems, dropped}
+use Rattle.rle_enc.specs.Stretch.{StandAlone, StartsRun, after_literals, leading, literal_bytes, spots_in, HasItems, dropped}
 use Rattle.rle_enc.proofs.Runs.{pixels, pixels-drop, length-pixels, drop_first, chosen}
 use Rattle.rle_enc.proofs.Counting.{piece_literal, pixels_of_spots}
 
@@ -85,16 +84,14 @@ front_at row ps at x r lt h e f =
     front_of (drop at spots) x r (omega (arith, long, lt)) first g ∙ ap (λ ss. onto_runs r (joined_images (runs_past 0 ss))) (drop-drop (run_size r) at spots)
 
 -- a background run after pixels that stand for themselves
-pub background_step : (row : Option (List ℕ)) (ps : List ℕ) (at literals k x n : ℕ) (p p1 q whole : List ℕ) → at < length ps → HasItems (length ps) row → x ≡ get_or ps at 0 → Background n ≡ chosen_run (background_count (spots_in (dropped at row) (drop at ps))) (color_count x (spots_in (dropped at row) (drop at ps))) x → k ≡ literals →
-    p1 ≡ p ++ literal_bytes (take k (drop (at - literals) ps)) → q ≡ p1 ++ run_bytes (Background n) →
-    p ++ flat_map run_bytes (after_literals (take literals (drop (at - literals) ps)) (joined_images (runs_past 0 (drop at (spots_in row ps))))) ≡ whole →
+pub background_step : (row : Option (List ℕ)) (ps : List ℕ) (at x n : ℕ) (lits p p1 q whole : List ℕ) → at < length ps → HasItems (length ps) row → x ≡ get_or ps at 0 → Background n ≡ chosen_run (background_count (spots_in (dropped at row) (drop at ps))) (color_count x (spots_in (dropped at row) (drop at ps))) x →
+    p1 ≡ p ++ literal_bytes lits → q ≡ p1 ++ run_bytes (Background n) →
+    p ++ flat_map run_bytes (after_literals lits (joined_images (runs_past 0 (drop at (spots_in row ps))))) ≡ whole →
     q ++ flat_map run_bytes (joined_images (runs_past 0 (drop (at + n) (spots_in row ps)))) ≡ whole
-background_step row ps at literals k x n p p1 q whole lt h e f same g i w =
+background_step row ps at x n lits p p1 q whole lt h e f g i w =
     let rest : List Run = joined_images (runs_past 0 (drop (at + n) (spots_in row ps))) in
-    let lits : List ℕ = take literals (drop (at - literals) ps) in
     let front : joined_images (runs_past 0 (drop at (spots_in row ps))) ≡ Background n ∷ rest = front_at row ps at x (Background n) lt h e f in
-    let first : p1 ≡ p ++ literal_bytes lits = g ∙ ap (λ m. p ++ literal_bytes (take m (drop (at - literals) ps))) same in
-    ap (λ us. us ++ flat_map run_bytes rest) (i ∙ ap (λ us. us ++ run_bytes (Background n)) first)
+    ap (λ us. us ++ flat_map run_bytes rest) (i ∙ ap (λ us. us ++ run_bytes (Background n)) g)
     ∙ append_assoc (p ++ literal_bytes lits) (run_bytes (Background n)) (flat_map run_bytes rest)
     ∙ append_assoc p (literal_bytes lits) (run_bytes (Background n) ++ flat_map run_bytes rest)
     ∙ ap (λ us. p ++ us) (sym (literals_then lits n rest))
@@ -102,16 +99,14 @@ background_step row ps at literals k x n p p1 q whole lt h e f same g i w =
     ∙ w
 
 -- a colour run after pixels that stand for themselves
-pub color_step : (row : Option (List ℕ)) (ps : List ℕ) (at literals k x n : ℕ) (p p1 q whole : List ℕ) → at < length ps → HasItems (length ps) row → x ≡ get_or ps at 0 → Color n x ≡ chosen_run (background_count (spots_in (dropped at row) (drop at ps))) (color_count x (spots_in (dropped at row) (drop at ps))) x → k ≡ literals →
-    p1 ≡ p ++ literal_bytes (take k (drop (at - literals) ps)) → q ≡ p1 ++ run_bytes (Color n x) →
-    p ++ flat_map run_bytes (after_literals (take literals (drop (at - literals) ps)) (joined_images (runs_past 0 (drop at (spots_in row ps))))) ≡ whole →
+pub color_step : (row : Option (List ℕ)) (ps : List ℕ) (at x n : ℕ) (lits p p1 q whole : List ℕ) → at < length ps → HasItems (length ps) row → x ≡ get_or ps at 0 → Color n x ≡ chosen_run (background_count (spots_in (dropped at row) (drop at ps))) (color_count x (spots_in (dropped at row) (drop at ps))) x →
+    p1 ≡ p ++ literal_bytes lits → q ≡ p1 ++ run_bytes (Color n x) →
+    p ++ flat_map run_bytes (after_literals lits (joined_images (runs_past 0 (drop at (spots_in row ps))))) ≡ whole →
     q ++ flat_map run_bytes (joined_images (runs_past 0 (drop (at + n) (spots_in row ps)))) ≡ whole
-color_step row ps at literals k x n p p1 q whole lt h e f same g i w =
+color_step row ps at x n lits p p1 q whole lt h e f g i w =
     let rest : List Run = joined_images (runs_past 0 (drop (at + n) (spots_in row ps))) in
-    let lits : List ℕ = take literals (drop (at - literals) ps) in
     let front : joined_images (runs_past 0 (drop at (spots_in row ps))) ≡ Color n x ∷ rest = front_at row ps at x (Color n x) lt h e f in
-    let first : p1 ≡ p ++ literal_bytes lits = g ∙ ap (λ m. p ++ literal_bytes (take m (drop (at - literals) ps))) same in
-    ap (λ us. us ++ flat_map run_bytes rest) (i ∙ ap (λ us. us ++ run_bytes (Color n x)) first)
+    ap (λ us. us ++ flat_map run_bytes rest) (i ∙ ap (λ us. us ++ run_bytes (Color n x)) g)
     ∙ append_assoc (p ++ literal_bytes lits) (run_bytes (Color n x)) (flat_map run_bytes rest)
     ∙ append_assoc p (literal_bytes lits) (run_bytes (Color n x) ++ flat_map run_bytes rest)
     ∙ ap (λ us. p ++ us) (sym (literals_then_color lits n x rest))
@@ -138,10 +133,6 @@ has_dropped : (row : Option (List ℕ)) (k n : ℕ) → HasItems k row → HasIt
 has_dropped None k n h = tt
 has_dropped (Some row) k n h = omega (arith, length-drop n row, h)
 
-dropped_none : (row : Option (List ℕ)) → dropped 0 row ≡ row
-dropped_none None = refl
-dropped_none (Some row) = refl
-
 -- the same by the counts of the slices from there on
 pub alone_more : (row rows : Option (List ℕ)) (ps qs : List ℕ) (n : ℕ) → n < length ps → HasItems (length ps) row → rows ≡ dropped n row → qs ≡ drop n ps → background_count (spots_in rows qs) < 1 → leading (get_or qs 0 0) qs < 2 → StandAlone n ps (spots_in row ps) → StandAlone (n + 1) ps (spots_in row ps)
 alone_more row rows ps qs n lt h e d none own alone =
@@ -152,42 +143,56 @@ alone_more row rows ps qs n lt h e d none own alone =
     let here : Image (get_or qs 0 0 ∷ []) ≡ chosen_run (background_count (spots_in rows qs)) (color_count (get_or qs 0 0) (spots_in rows qs)) (get_or qs 0 0) = piece_literal rows qs (background_count (spots_in rows qs)) (leading (get_or qs 0 0) qs) (get_or qs 0 0) has refl refl none own in
     alone_step row ps n (get_or ps n 0) lt h refl (piece_at row rows ps qs n (λ x. Image (x ∷ [])) e d here) alone
 
-pub one_alone : (row : Option (List ℕ)) (ps : List ℕ) → 0 < length ps → HasItems (length ps) row → background_count (spots_in row ps) < 1 → leading (get_or ps 0 0) ps < 2 → StandAlone 1 ps (spots_in row ps)
-one_alone row ps some h none own = alone_more row row ps ps 0 some h (sym (dropped_none row)) refl none own refl
+-- the slices from a place on have the spots from there on
+spots_there : (row rows : Option (List ℕ)) (ps qs : List ℕ) (at : ℕ) → rows ≡ dropped at row → qs ≡ drop at ps → spots_in rows qs ≡ drop at (spots_in row ps)
+spots_there row rows ps qs at e d = ap (λ r. spots_in r qs) e ∙ ap (spots_in (dropped at row)) d ∙ sym (drop-spots at row ps)
 
--- pixels more that stand for themselves, before they are written
-pub literals_step : (row rows : Option (List ℕ)) (ps qs : List ℕ) (at literals n : ℕ) (p whole : List ℕ) → literals ≤ at → rows ≡ dropped at row → qs ≡ drop at ps → StandAlone n qs (spots_in rows qs) →
-    p ++ flat_map run_bytes (after_literals (take literals (drop (at - literals) ps)) (packed_runs (drop at (spots_in row ps)))) ≡ whole →
-    p ++ flat_map run_bytes (after_literals (take (literals + n) (drop ((at + n) - (literals + n)) ps)) (packed_runs (drop (at + n) (spots_in row ps)))) ≡ whole
-literals_step row rows ps qs at literals n p whole le e d alone w =
-    let from : List ℕ = drop (at - literals) ps in
-    let rest : List Run = packed_runs (drop (at + n) (spots_in row ps)) in
-    let here : spots_in rows qs ≡ drop at (spots_in row ps) = ap (λ r. spots_in r qs) e ∙ ap (spots_in (dropped at row)) d ∙ sym (drop-spots at row ps) in
-    let front : packed_runs (drop at (spots_in row ps)) ≡ after_literals (take n (drop at ps)) rest =
+-- where a run starts
+starts_as : (ps qs : List ℕ) (spots others : List Spot) → ps ≡ qs → spots ≡ others → StartsRun ps spots → StartsRun qs others
+starts_as ps qs spots others e f starts = subst (λ ss. StartsRun qs ss) f (subst (λ us. StartsRun us spots) e starts)
+
+pub starts_at : (row rows : Option (List ℕ)) (ps qs : List ℕ) (n : ℕ) → rows ≡ dropped n row → qs ≡ drop n ps → StartsRun qs (spots_in rows qs) → StartsRun (drop n ps) (drop n (spots_in row ps))
+starts_at row rows ps qs n e d starts = starts_as qs (drop n ps) (spots_in rows qs) (drop n (spots_in row ps)) d (spots_there row rows ps qs n e d) starts
+
+pub starts_behind : (row rows others : Option (List ℕ)) (ps qs us : List ℕ) (at n : ℕ) → rows ≡ dropped at row → qs ≡ drop at ps → others ≡ dropped (at + n) row → us ≡ drop (at + n) ps → StartsRun (drop n qs) (drop n (spots_in rows qs)) → StartsRun us (spots_in others us)
+starts_behind row rows others ps qs us at n e d f g starts =
+    starts_as (drop n qs) us (drop n (spots_in rows qs)) (spots_in others us)
+    (ap (drop n) d ∙ drop-drop n at ps ∙ sym g)
+    (ap (drop n) (spots_there row rows ps qs at e d) ∙ drop-drop n at (spots_in row ps) ∙ sym (spots_there row others ps us (at + n) f g))
+    starts
+
+-- pixels that stand for themselves, once they are written
+pub literals_step : (row rows : Option (List ℕ)) (ps qs : List ℕ) (at n k : ℕ) (p q whole : List ℕ) → rows ≡ dropped at row → qs ≡ drop at ps → k ≡ n → q ≡ p ++ literal_bytes (take k (drop at ps)) → StandAlone n qs (spots_in rows qs) →
+    p ++ flat_map run_bytes (packed_runs (drop at (spots_in row ps))) ≡ whole →
+    (q ≡ p ++ literal_bytes (take n (drop at ps))) × (p ++ flat_map run_bytes (after_literals (take n (drop at ps)) (packed_runs (drop (at + n) (spots_in row ps)))) ≡ whole)
+literals_step row rows ps qs at n k p q whole e d same g alone w =
+    let here : spots_in rows qs ≡ drop at (spots_in row ps) = spots_there row rows ps qs at e d in
+    let front : packed_runs (drop at (spots_in row ps)) ≡ after_literals (take n (drop at ps)) (packed_runs (drop (at + n) (spots_in row ps))) =
     ap packed_runs (sym here) ∙ alone ∙ ap (λ ss. after_literals (take n qs) (packed_runs (drop n ss))) here
     ∙ ap (λ us. after_literals (take n us) (packed_runs (drop n (drop at (spots_in row ps))))) d
     ∙ ap (λ ss. after_literals (take n (drop at ps)) (packed_runs ss)) (drop-drop n at (spots_in row ps)) in
-    let start : (at + n) - (literals + n) ≡ at - literals = omega arith in
-    let end : (at - literals) + literals ≡ at = omega (arith, le) in
-    let both : take (literals + n) from ≡ take literals from ++ take n (drop at ps) = take-add literals n from ∙ ap (λ us. take literals from ++ take n us) (drop-drop literals (at - literals) ps ∙ ap (λ m. drop m ps) end) in
-    ap (λ m. p ++ flat_map run_bytes (after_literals (take (literals + n) (drop m ps)) rest)) start
-    ∙ ap (λ us. p ++ flat_map run_bytes (after_literals us rest)) both
-    ∙ ap (λ rs. p ++ flat_map run_bytes rs) (sym (more_literals (take literals from) (take n (drop at ps)) rest))
-    ∙ ap (λ rs. p ++ flat_map run_bytes (after_literals (take literals from) rs)) (sym front)
+    (g ∙ ap (λ m. p ++ literal_bytes (take m (drop at ps))) same, ap (λ rs. p ++ flat_map run_bytes rs) (sym front) ∙ w)
+
+-- no spot is left behind the last pixel
+none_behind : (row : Option (List ℕ)) (ps : List ℕ) (at : ℕ) → length ps ≤ at → HasItems (length ps) row → drop at (spots_in row ps) ≡ []
+none_behind row ps at end h =
+    let long : length (spots_in row ps) ≡ length ps = sym (length-pixels (spots_in row ps)) ∙ ap length (pixels_of_spots row ps h) in
+    drop_all at (spots_in row ps) (omega (arith, long, end))
+
+-- pixels that stand for themselves end a stretch
+pub literals_end : (row : Option (List ℕ)) (ps : List ℕ) (at : ℕ) (lits p q whole : List ℕ) → length ps ≤ at → HasItems (length ps) row → q ≡ p ++ literal_bytes lits →
+    p ++ flat_map run_bytes (after_literals lits (packed_runs (drop at (spots_in row ps)))) ≡ whole →
+    q ++ flat_map run_bytes (packed_runs (drop at (spots_in row ps))) ≡ whole
+literals_end row ps at lits p q whole end h e w =
+    let none : drop at (spots_in row ps) ≡ [] = none_behind row ps at end h in
+    ap (λ ss. q ++ flat_map run_bytes (packed_runs ss)) none ∙ append-nil q ∙ e
+    ∙ ap (λ us. p ++ us) (sym (literals_last lits))
+    ∙ ap (λ ss. p ++ flat_map run_bytes (after_literals lits (packed_runs ss))) (sym none)
     ∙ w
 
 -- the end of a stretch
-pub stretch_end : (row : Option (List ℕ)) (ps : List ℕ) (at literals : ℕ) (p q whole : List ℕ) → at ≡ length ps → literals ≤ at → HasItems (length ps) row → q ≡ p ++ literal_bytes (drop (at - literals) ps) →
-    p ++ flat_map run_bytes (after_literals (take literals (drop (at - literals) ps)) (joined_images (runs_past 0 (drop at (spots_in row ps))))) ≡ whole → q ≡ whole
-stretch_end row ps at literals p q whole end le h e w =
-    let spots : List Spot = spots_in row ps in
-    let long : length spots ≡ length ps = sym (length-pixels spots) ∙ ap length (pixels_of_spots row ps h) in
-    let none : drop at spots ≡ [] = drop_all at spots (omega (arith, long, end)) in
-    let all : take literals (drop (at - literals) ps) ≡ drop (at - literals) ps = take_all literals (drop (at - literals) ps) (omega (arith, length-drop (at - literals) ps, end, le)) in
-    e ∙ ap (λ us. p ++ us) (sym (literals_last (drop (at - literals) ps)))
-    ∙ ap (λ us. p ++ flat_map run_bytes (after_literals us [])) (sym all)
-    ∙ ap (λ ss. p ++ flat_map run_bytes (after_literals (take literals (drop (at - literals) ps)) (joined_images (runs_past 0 ss)))) (sym none)
-    ∙ w
+pub stretch_end : (row : Option (List ℕ)) (ps : List ℕ) (at : ℕ) (p whole : List ℕ) → length ps ≤ at → HasItems (length ps) row → p ++ flat_map run_bytes (packed_runs (drop at (spots_in row ps))) ≡ whole → p ≡ whole
+stretch_end row ps at p whole end h w = sym (append-nil p) ∙ ap (λ ss. p ++ flat_map run_bytes (packed_runs ss)) (sym (none_behind row ps at end h)) ∙ w
 
 -- what an Ok says may be said otherwise
 pub on_ok_as : {T E : Type 0} (P Q : Type 0) (r : Result T E) → OnOk r P → (P → Q) → OnOk r Q

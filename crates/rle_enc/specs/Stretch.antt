@@ -1,10 +1,10 @@
 -- A stretch of pixels and the row before it, as the packer's code has them.
-use Rattle.std.specs.Prelude.{◌≡◌, ℕ, suc, ◌<◌, ◌≤◌, ◌==◌, List, [], ◌∷◌, length, take, drop, replicate, slice_index, zip, Option, Some, None, if◌then◌else◌}
+use Rattle.std.specs.Prelude.{◌≡◌, ℕ, suc, ◌≤◌, ◌==◌, List, [], ◌∷◌, length, take, drop, replicate, slice_index, zip, Option, Some, None, if◌then◌else◌}
 use denote.Ref.{Bor}
 use Rattle.run_lengths.specs.RunLength as runs
 use Rattle.run_lengths.specs.Packer.{Spot, background_count, chosen_run, color_count, onto_runs, packed_runs, run_bytes}
 use Rattle.rle_enc.specs.declared.counts.Piece.{Piece}
-use Rattle.rle_enc.specs.declared.counts.Piece.TheVariants.{Background, Color, Literals}
+use Rattle.rle_enc.specs.declared.counts.Piece.TheVariants.{Background, Color}
 
 -- how many items at the front are this number
 abbrev pub leading : ℕ → List ℕ → ℕ
@@ -48,6 +48,10 @@ after_literals (c ∷ cs) rs = onto_runs (runs.Run.Image (c ∷ cs)) rs
 abbrev pub StandAlone : ℕ → List ℕ → List Spot → Type 0
 StandAlone n pixels spots = packed_runs spots ≡ after_literals (take n pixels) (packed_runs (drop n spots))
 
+-- a run starts a stretch: its first pixel is background, or the next one has its colour
+abbrev pub StartsRun : List ℕ → List Spot → Type 0
+StartsRun pixels spots = background_count spots ≡ 0 → 2 ≤ leading (slice_index pixels 0) pixels
+
 -- the run that is chosen where a colour stands before the spots
 abbrev pub run_there : ℕ → List Spot → runs.Run
 run_there color spots = chosen_run (background_count spots) (color_count color spots) color
@@ -56,7 +60,6 @@ run_there color spots = chosen_run (background_count spots) (color_count color s
 abbrev pub IsFirst : Piece → List ℕ → List Spot → Type 0
 IsFirst (Background n) pixels spots = runs.Run.Background n ≡ run_there (slice_index pixels 0) spots
 IsFirst (Color n) pixels spots = runs.Run.Color n (slice_index pixels 0) ≡ run_there (slice_index pixels 0) spots
-IsFirst (Literals n) pixels spots = (0 < n) × StandAlone n pixels spots
 
 -- the bytes of pixels that stand for themselves
 abbrev pub literal_bytes : List ℕ → List ℕ
@@ -67,4 +70,3 @@ literal_bytes (c ∷ cs) = run_bytes (runs.Run.Image (c ∷ cs))
 abbrev pub piece_size : Piece → ℕ
 piece_size (Background n) = n
 piece_size (Color n) = n
-piece_size (Literals n) = n

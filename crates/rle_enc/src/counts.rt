@@ -1,21 +1,24 @@
 //! How many pixels at a place are background, and how many have one colour; what is packed as one there (profile).
-ghost use Rattle.std.specs.Prelude.{◌≡◌, ◌<◌, ◌≤◌, IsFalse, IsTrue, length, slice_index, zip};
+ghost use Rattle.std.specs.Prelude.{◌≡◌, ◌<◌, ◌≤◌, IsFalse, IsTrue, drop, length, slice_index, zip};
 ghost use Rattle.run_lengths.specs.Packer.{background_count};
-ghost use Rattle.rle_enc.specs.Stretch.{HasRow, IsFirst, StandAlone, StandsIn, dropped, leading, piece_size, row_of, spots_of};
+ghost use Rattle.rle_enc.specs.Stretch.{HasRow, IsFirst, StandAlone, StandsIn, StartsRun, dropped, leading, piece_size, row_of, spots_of};
 
-/// What is packed as one.
+use lane_rop::{back_run, same_run};
+
+/// A run that is packed as one.
 #[derive(Clone, Copy)]
 pub enum Piece {
     /// So many pixels as one row earlier.
     Background(usize),
     /// So many pixels of one colour.
     Color(usize),
-    /// So many pixels themselves.
-    Literals(usize),
 }
 
 /// The colour of background in the first row.
 const BLACK: u32 = 0;
+
+/// How many pixels are looked at one by one before the lanes are called; most runs are shorter.
+const NEAR: usize = 4;
 
 /// How many pixels from the front on have a colour.
 pub fn count_color(pixels: &[u32], color: u32) -> usize
@@ -23,26 +26,32 @@ pub fn count_color(pixels: &[u32], color: u32) -> usize
     ensures within { result ≤ length pixels.now }
 {
     let mut n = 0;
-    while n < pixels.len() && pixels[n] == color {
+    while n < pixels.len().min(NEAR) && pixels[n] == color {
         n += 1;
     }
-    n
+    if n < NEAR { n } else { same_run(pixels, 0) }
 }
 
 /// How many pixels from the front on are those one row earlier.
 pub fn count_same(pixels: &[u32], aboves: &[u32]) -> usize
+    requires { length pixels.now ≤ length aboves.now }
     ensures is { result ≡ background_count (zip pixels.now aboves.now) }
     ensures within { result ≤ length pixels.now }
 {
     let mut n = 0;
-    while n < pixels.len() && n < aboves.len() && pixels[n] == aboves[n] {
+    while n < pixels.len().min(NEAR) && pixels[n] == aboves[n] {
         n += 1;
     }
-    n
+    if n < NEAR {
+        n
+    } else {
+        back_run(pixels, &aboves[..pixels.len()], 0)
+    }
 }
 
 /// How many pixels from the front on are background.
 fn count_background(pixels: &[u32], aboves: Option<&[u32]>) -> usize
+    requires { HasRow aboves pixels.now }
     ensures is { result ≡ background_count (spots_of aboves.entry pixels.now) }
     ensures within { result ≤ length pixels.now }
 {
@@ -58,6 +67,7 @@ fn is_alone(pixels: &[u32], aboves: Option<&[u32]>) -> bool
     requires row { HasRow aboves pixels.now }
     ensures no_background { IsTrue result → background_count (spots_of aboves.entry pixels.now) ≡ 0 }
     ensures own_color { IsTrue result → leading (slice_index pixels.now 0) pixels.now ≡ 1 }
+    ensures run { IsFalse result → StartsRun pixels.now (spots_of aboves.entry pixels.now) }
 {
     let above = match aboves {
         Some(row) => row[0],
@@ -67,10 +77,11 @@ fn is_alone(pixels: &[u32], aboves: Option<&[u32]>) -> bool
 }
 
 /// How many pixels from the front on are neither background nor of the next one's colour.
-fn count_alone(pixels: &[u32], aboves: Option<&[u32]>) -> usize
+pub fn count_alone(pixels: &[u32], aboves: Option<&[u32]>) -> usize
     requires row { HasRow aboves pixels.now }
     ensures is { StandAlone result pixels.now (spots_of aboves.entry pixels.now) }
     ensures within { result ≤ length pixels.now }
+    ensures stops { result < length pixels.now → StartsRun (drop result pixels.now) (drop result (spots_of aboves.entry pixels.now)) }
 {
     let mut n = 0;
     while n < pixels.len() && is_alone(&pixels[n..], rows_from(aboves, n)) {
@@ -88,29 +99,26 @@ fn has_color_at(pixels: &[u32], at: usize) -> bool
     at < pixels.len() && pixels[at] == pixels[0]
 }
 
-/// What is packed first of a stretch, by the pixels one row earlier, or over black.
+/// The run that a stretch starts with, by the pixels one row earlier, or over black.
 pub fn first_piece(pixels: &[u32], aboves: Option<&[u32]>) -> Piece
     requires some { 0 < length pixels.now }
     requires row { HasRow aboves pixels.now }
+    requires run { StartsRun pixels.now (spots_of aboves pixels.now) }
     ensures is { IsFirst result pixels.now (spots_of aboves.entry pixels.now) }
     ensures within { piece_size result ≤ length pixels.now }
 {
-    let alone = count_alone(pixels, aboves);
-    if alone > 0 {
-        return Piece::Literals(alone);
-    }
     let background = count_background(pixels, aboves);
+    if background == 0 {
+        return Piece::Color(count_color(pixels, pixels[0]));
+    }
     if !has_color_at(pixels, background) {
         return Piece::Background(background);
     }
     let color = count_color(pixels, pixels[0]);
-    // A pixel has its own colour, so this many background pixels are at least one.
     if background >= color {
         Piece::Background(background)
-    } else if color >= 2 {
-        Piece::Color(color)
     } else {
-        Piece::Literals(1)
+        Piece::Color(color)
     }
 }
 

@@ -3,7 +3,7 @@ ghost use Rattle.std.specs.Prelude.{◌≡◌, ◌<◌, ◌≤◌, ◌++◌, OnO
 ghost use Rattle.run_lengths.specs.Packer.{packed_runs, run_bytes};
 ghost use Rattle.rle_enc.specs.Stretch.{HasRow, spots_of};
 
-use crate::counts::{Piece, first_piece, rows_from};
+use crate::counts::{Piece, count_alone, first_piece, rows_from};
 use crate::orders::{write_background, write_color, write_literals};
 use std::alloc::AllocError;
 
@@ -18,26 +18,22 @@ pub fn pack_stretch(
     ensures { OnOk result (out.new.items ≡ out.old.items ++ flat_map run_bytes (packed_runs (spots_of aboves.entry pixels.now))) }
 {
     let mut at = 0;
-    let mut literals = 0;
     while at < pixels.len() {
-        match first_piece(&pixels[at..], rows_from(aboves, at)) {
-            Piece::Background(n) => {
-                write_literals(out, &pixels[at - literals..at])?;
-                write_background(out, n)?;
-                literals = 0;
-                at += n;
-            }
-            Piece::Color(n) => {
-                write_literals(out, &pixels[at - literals..at])?;
-                write_color(out, n, pixels[at])?;
-                literals = 0;
-                at += n;
-            }
-            Piece::Literals(n) => {
-                literals += n;
-                at += n;
+        let literals = count_alone(&pixels[at..], rows_from(aboves, at));
+        write_literals(out, &pixels[at..at + literals])?;
+        at += literals;
+        if at < pixels.len() {
+            match first_piece(&pixels[at..], rows_from(aboves, at)) {
+                Piece::Background(n) => {
+                    write_background(out, n)?;
+                    at += n;
+                }
+                Piece::Color(n) => {
+                    write_color(out, n, pixels[at])?;
+                    at += n;
+                }
             }
         }
     }
-    write_literals(out, &pixels[at - literals..])
+    Ok(())
 }

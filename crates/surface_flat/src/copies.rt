@@ -10,8 +10,8 @@ ghost use Rattle.surface_parts.specs.Operands.{IsBlank};
 ghost use Rattle.surface_parts.specs.Parts.{in_part, part_at, IsCanvas, IsInside, IsRepainted};
 ghost use Rattle.surface_parts.specs.Textures.{copied_color, IsSourceInside};
 
+use lane_rop::rop_lanes;
 use px_core::{Rect, Size};
-use rop3_core::rop_row;
 use surface_parts::{Part, PictureCopy, ready_pattern, source_place, visible};
 
 /// The raster operation of a code on a rectangle, with the picture itself, from (sx, sy) on, as its source.
@@ -158,5 +158,5 @@ fn copy_row(
     let from = width * (copy.y + (y - part.y)) + copy.x;
     source.copy_from_slice(&pixels[from..from + part.w]);
     let at = width * y + part.x;
-    rop_row(copy.rop, pattern, source, &mut pixels[at..at + part.w]);
+    rop_lanes(copy.rop, pattern, source, &mut pixels[at..at + part.w]);
 }

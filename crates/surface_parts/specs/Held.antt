@@ -2,7 +2,7 @@
 use Rattle.std.specs.Prelude.{◌≡◌, ℕ, ◌*◌, ◌≤◌, List, [], ◌∷◌, length, Option, None, IfSome, IsTrue}
 use Rattle.px_core.specs.declared.rectangle.Rect.{Rect}
 use Rattle.px_core.specs.declared.surface.Size.{Size}
-use Rattle.px_core.specs.Rectangle.{boxed, is_inside, IsPlaced}
+use Rattle.px_core.specs.Rectangle.{boxed, cut_out, is_inside, IsPlaced}
 use Rattle.draw_ops.specs.declared.shape.Drawing.{Drawing}
 use Rattle.draw_ops.specs.declared.shape.Shape.{Shape}
 use Rattle.draw_ops.specs.declared.shape.Shape.TheVariants.{Fill, Dst, Pat, Copy, Blit, Blit3, Text, Line, Save, Restore, LoadImage, LoadBrush, LoadGlyph}
@@ -44,6 +44,14 @@ HasBlockRoom (Image slot image) = Unit {0}
 HasBlockRoom (Brush slot brush) = Unit {0}
 HasBlockRoom (Glyph font code glyph) = Unit {0}
 HasBlockRoom (Block slot rect block) = (block.w ≡ rect.w) × (block.h ≡ rect.h) × (length block.pixels ≡ rect.w * rect.h)
+
+-- a block is what its rectangle has on a picture
+abbrev pub HasSaved : Size → List ℕ → Room → Type 0
+HasSaved size picture Nothing = Unit {0}
+HasSaved size picture (Image slot image) = Unit {0}
+HasSaved size picture (Brush slot brush) = Unit {0}
+HasSaved size picture (Glyph font code glyph) = Unit {0}
+HasSaved size picture (Block slot rect block) = block ≡ record { w = rect.w; h = rect.h; pixels = cut_out size picture 0 rect }
 
 -- a saved rectangle lies inside the picture
 abbrev pub IsSavedInside : Size → Room → Type 0

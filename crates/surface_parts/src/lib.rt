@@ -31,7 +31,7 @@ pub use loaded_image::LoadedImage;
 pub use mix::{Mix, mix_part, ready_pattern, ready_source, set_pattern, set_source};
 pub use part::{Part, part_of, visible};
 pub use picture_copy::PictureCopy;
-pub use rects::{Blend, fill_rect, mix_rect, paste_block, restore_block};
+pub use rects::{Blend, fill_rect, mix_rect, paste_block, restore_block, source_texture};
 pub use room::Room;
 pub use rows::{cut_pixels, cut_rect, fill_part, paste_part};
 pub use slots::Slots;

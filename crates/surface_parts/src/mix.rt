@@ -8,8 +8,8 @@ ghost use Rattle.surface_parts.specs.Textures.{source_color, mixed_color, Covers
 use crate::part::Part;
 use crate::texture::Texture;
 use draw_ops::Brush;
+use lane_rop::rop_lanes;
 use px_core::Size;
-use rop3_core::rop_row;
 
 /// The columns, and the rows, of a brush.
 const BRUSH_SIDE: usize = 8;
@@ -45,7 +45,7 @@ pub fn mix_part(
         set_pattern(pattern, mix.brush, part.x, y);
         set_source(source, mix.texture, part, y);
         let at = width * y + part.x;
-        rop_row(mix.rop, pattern, source, &mut pixels[at..at + part.w]);
+        rop_lanes(mix.rop, pattern, source, &mut pixels[at..at + part.w]);
     }
 }
 

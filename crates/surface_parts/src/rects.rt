@@ -87,8 +87,8 @@ pub fn mix_rect(
     }
 }
 
-/// The texture of an image that may be missing.
-fn source_texture(
+/// The texture of an image that may be missing, for the part of a rectangle that begins with the image's pixel at (sx, sy).
+pub fn source_texture(
     image: Option<&Image>,
     rect: Rect,
     sx: i32,

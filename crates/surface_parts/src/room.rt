@@ -1,11 +1,13 @@
 //! The memory that a drawing takes.
 ghost use Rattle.std.specs.Prelude.{◌≡◌, ◌≤◌, IfOk};
-ghost use Rattle.surface_parts.specs.Held.{IsRoomFor, IsSmallSave};
+ghost use Rattle.draw_ops.specs.Slots.{SurfaceState};
+ghost use Rattle.surface_parts.specs.Held.{state_filled, HasBlockRoom, HasSaved, IsRoomFor, IsSavedInside, IsSmallSave};
+ghost use Rattle.surface_parts.specs.Parts.{IsCanvas};
 
 use crate::OutOfMemory;
 use crate::block::Block;
 use draw_ops::{Glyph, Image, Shape, SharedBrush};
-use px_core::Rect;
+use px_core::{Rect, Size};
 use std::alloc::Global;
 
 /// What a drawing puts into a slot, with its memory. The pixels of a block are still to be copied.
@@ -58,6 +60,23 @@ impl Room {
             | Shape::Text { .. }
             | Shape::Line { .. }
             | Shape::Restore { .. } => Ok(Room::Nothing),
+        }
+    }
+
+    /// The room with the pixels that its drawing saves, copied from the picture.
+    pub fn saved(self, pixels: &[u32], size: Size) -> Room
+        requires canvas { IsCanvas size pixels.now }
+        requires block { HasBlockRoom self }
+        requires inside { IsSavedInside size self }
+        ensures saved { HasSaved size pixels.now result }
+        ensures same { (st : SurfaceState) → state_filled size st result ≡ state_filled size st self }
+    {
+        match self {
+            Room::Block { slot, rect, block } => {
+                let block = block.filled(pixels, size, rect);
+                Room::Block { slot, rect, block }
+            }
+            room => room,
         }
     }
 }

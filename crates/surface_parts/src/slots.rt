@@ -1,8 +1,9 @@
 //! The slots of a surface.
-ghost use Rattle.std.specs.Prelude.{◌≡◌, ◌+◌, ◌-◌, ◌^◌, ◌<◌, IfOk, option_copied};
+ghost use Rattle.std.specs.Prelude.{◌≡◌, ℕ, ◌+◌, ◌-◌, ◌^◌, ◌<◌, List, IfOk, option_copied};
+ghost use Rattle.px_core.specs.declared.surface.Size.{Size};
 ghost use Rattle.draw_ops.specs.Drawing.{content_of};
 ghost use Rattle.draw_ops.specs.Slots.{empty_slots, lookup, glyph_slot, filled_slot};
-ghost use Rattle.surface_parts.specs.Held.{state_of, held_in, state_filled, HasBlockRoom, IsSavedInside};
+ghost use Rattle.surface_parts.specs.Held.{state_of, held_in, state_filled, HasBlockRoom, HasSaved, IsSavedInside};
 ghost use Rattle.surface_parts.specs.Parts.{IsCanvas};
 
 use crate::OutOfMemory;
@@ -76,6 +77,14 @@ impl Slots {
         requires inside { IsSavedInside size room }
         ensures { self.new ≡ held_in (state_filled size (state_of pixels.now self.old count) room) }
     {
+        self.put(count, room.saved(pixels, size))
+    }
+
+    /// Puts what a drawing loads or saves into its slot.
+    pub fn put(&mut self, count: u64, room: Room)
+        requires number { count < 2 ^ 64 - 1 }
+        ensures { (size : Size) (picture : List ℕ) → HasSaved size picture room → self.new ≡ held_in (state_filled size (state_of picture self.old count) room) }
+    {
         let number = count + 1;
         match room {
             Room::Nothing => {}
@@ -91,8 +100,7 @@ impl Slots {
                 let glyph = LoadedGlyph::new(number, glyph);
                 set_slot(&mut self.glyphs, slot_of_glyph(font, code), glyph)
             }
-            Room::Block { slot, rect, block } => {
-                let block = block.filled(pixels, size, rect);
+            Room::Block { slot, block, .. } => {
                 set_slot(&mut self.blocks, usize::from(slot), block)
             }
         }

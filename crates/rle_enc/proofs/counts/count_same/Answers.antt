@@ -1,6 +1,11 @@
-use Rattle.std.proofs.Common.{sym, arith}
-use Rattle.rle_enc.proofs.Counting.{same_ends_above}
+use Rattle.std.proofs.Common.{◌∙◌, length, take, arith}
+use Rattle.std.specs.Prelude.{◌==◌}
+use Rattle.std.proofs.lemmas.List.Sums.{common_prefix_len-le}
+use Rattle.rle_enc.proofs.Counting.{back_run_is}
 use Rattle.rle_enc.proofs.counts.count_same.Goals as goal
 
-pub returns-else-n-aboves-clause-is : goal.returns-else-n-aboves-clause-is
-returns-else-n-aboves-clause-is c = sym (same_ends_above c.loop-n.n c.args.pixels.now c.args.aboves.now (omega (arith, c.if-n-aboves.false)) c.loop-n.invariant.1)
+pub returns-else-n-lt-NEAR-clause-is : goal.returns-else-n-lt-NEAR-clause-is
+returns-else-n-lt-NEAR-clause-is c = c.back_run.ensures ∙ back_run_is c.args.pixels.now c.args.aboves.now
+
+pub returns-else-n-lt-NEAR-clause-within : goal.returns-else-n-lt-NEAR-clause-within
+returns-else-n-lt-NEAR-clause-within c = omega (arith, c.back_run.ensures, (common_prefix_len-le (λ x y. x == y) c.args.pixels.now (take (length c.args.pixels.now) c.args.aboves.now)).0)

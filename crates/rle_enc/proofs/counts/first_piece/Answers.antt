@@ -1,8 +1,13 @@
 use Rattle.std.proofs.Common.{◌≤◌, ℕ, List, get_or, refl, arith}
 use Rattle.rle_enc.specs.Stretch.{leading, row_of}
 use Rattle.rle_enc.proofs.Counting.{leading_some, piece_background, piece_color}
-use Rattle.rle_enc.proofs.Pending.{one_alone}
 use Rattle.rle_enc.proofs.counts.first_piece.Goals as goal
+
+pub returns-then-background-eq0-clause-is : goal.returns-then-background-eq0-clause-is
+returns-then-background-eq0-clause-is c =
+    let ps : List ℕ = c.args.pixels.now in
+    let two : 2 ≤ leading (get_or ps 0 0) ps = c.requires.run (omega (arith, c.count_background-background.ensures.is, c.if-background-eq0.true)) in
+    piece_color (row_of c.args.aboves) ps c.count_background-background.result c.count_color.result (get_or ps 0 0) c.requires.row c.count_background-background.ensures.is c.count_color.ensures.is (omega (arith, c.count_color.ensures.is, c.if-background-eq0.true, two)) (omega (arith, c.count_color.ensures.is, two))
 
 pub returns-then-not-has_color_at-clause-is : goal.returns-then-not-has_color_at-clause-is
 returns-then-not-has_color_at-clause-is c =
@@ -16,10 +21,6 @@ returns-then-background-color-clause-is c =
     let some : 1 ≤ leading (get_or c.args.pixels.now 0 0) c.args.pixels.now = leading_some c.args.pixels.now c.requires.some in
     piece_background (row_of c.args.aboves) c.args.pixels.now c.count_background-background.result c.count_color-color.result (get_or c.args.pixels.now 0 0) c.requires.row c.count_background-background.ensures.is c.count_color-color.ensures.is (omega (arith, some, c.if-background-color.true, c.count_color-color.ensures.is)) (omega (arith, c.if-background-color.true))
 
-pub returns-then-color-ge2-clause-is : goal.returns-then-color-ge2-clause-is
-returns-then-color-ge2-clause-is c =
-    piece_color (row_of c.args.aboves) c.args.pixels.now c.count_background-background.result c.count_color-color.result (get_or c.args.pixels.now 0 0) c.requires.row c.count_background-background.ensures.is c.count_color-color.ensures.is (omega (arith, c.if-background-color.false)) (omega (arith, c.if-color-ge2.true))
-
-pub returns-else-color-ge2-clause-is : goal.returns-else-color-ge2-clause-is
-returns-else-color-ge2-clause-is c =
-    (omega arith, one_alone (row_of c.args.aboves) c.args.pixels.now c.requires.some c.requires.row (omega (arith, c.if-background-color.false, c.if-color-ge2.false, c.count_background-background.ensures.is)) (omega (arith, c.if-color-ge2.false, c.count_color-color.ensures.is)))
+pub returns-else-background-color-clause-is : goal.returns-else-background-color-clause-is
+returns-else-background-color-clause-is c =
+    piece_color (row_of c.args.aboves) c.args.pixels.now c.count_background-background.result c.count_color-color.result (get_or c.args.pixels.now 0 0) c.requires.row c.count_background-background.ensures.is c.count_color-color.ensures.is (omega (arith, c.if-background-color.false)) (omega (arith, c.if-background-color.false))

@@ -17,9 +17,9 @@ returns c = let p = c.args.part in let copy = c.args.copy in let size = c.args.s
     let from = size.w * (copy.y + (y - p.y)) + copy.x in
     let ef : (from + p.w) - from ≡ p.w = omega arith in
     let wide = length_mid n ((n + p.w) - n) p.w old (stretch_fits size p.x y p.w old c.requires.canvas.sized high c.requires.inside.columns) em in
-    row_stretch size p.x p.w (copied_color size old p copy) old c.rop_row.new.d y n ((n + p.w) - n) c.requires.canvas.sized high c.requires.inside.columns refl em
-    (c.rop_row.auto.d ∙ wide)
-    (λ i below. let column : i ≡ (p.x + i) - p.x = omega arith in c.rop_row.ensures i (omega (arith, below, wide))
+    row_stretch size p.x p.w (copied_color size old p copy) old c.rop_lanes.new.d y n ((n + p.w) - n) c.requires.canvas.sized high c.requires.inside.columns refl em
+    (c.rop_lanes.auto.d ∙ wide)
+    (λ i below. let column : i ≡ (p.x + i) - p.x = omega arith in c.rop_lanes.ensures i (omega (arith, below, wide))
     ∙ same_mix copy.rop _ _ _ _ _ _ (c.requires.blank i (omega (arith, below, c.requires.pattern)))
     (ap (λ xs. get_or xs i 0) c.copy_from_slice.ensures.after ∙ stretch_pixel size from ((from + p.w) - from) copy.x (copy.y + (y - p.y)) i old refl (omega (arith, below, ef))
     ∙ ap (λ k. pixel_at size old 0 (copy.x + k) (copy.y + (y - p.y))) column)

@@ -12,9 +12,9 @@ loop-y-preserved c = let p = c.args.part in let mix = c.args.mix in let size = c
     let m = (n + p.w) - n in
     let em : (n + p.w) - n ≡ p.w = omega arith in
     let wide = length_mid n ((n + p.w) - n) p.w cur (stretch_fits size p.x y p.w cur whole high c.requires.inside.columns) em in (
-      next_row_down size p.x p.y p.w (mixed_color size old p mix) old cur c.rop_row.new.d y n ((n + p.w) - n) c.loop-y.invariant.0 whole c.loop-y.auto.y high c.requires.inside.columns refl em
-          (c.rop_row.auto.d ∙ wide)
-          (λ i below. c.rop_row.ensures i (omega (arith, below, wide))
+      next_row_down size p.x p.y p.w (mixed_color size old p mix) old cur c.rop_lanes.new.d y n ((n + p.w) - n) c.loop-y.invariant.0 whole c.loop-y.auto.y high c.requires.inside.columns refl em
+          (c.rop_lanes.auto.d ∙ wide)
+          (λ i below. c.rop_lanes.ensures i (omega (arith, below, wide))
           ∙ same_mix mix.rop _ _ _ _ _ _ (c.set_pattern.ensures.colors i (omega (arith, below, c.requires.pattern, c.loop-y.auto.pattern))) (c.set_source.ensures.colors i below)
           (stretch_pixel size n ((n + p.w) - n) p.x y i cur refl (omega (arith, below, em))
           ∙ untouched size p.x p.y p.w (y - p.y) (mixed_color size old p mix) old cur (p.x + i) y c.loop-y.invariant.0 (omega (arith, below, c.requires.inside.columns)) high (grind (arith, nat_tests, c.loop-y.auto.y)))),
