@@ -1,0 +1,13 @@
+pub mod Tiled
+pub mod Owning
+pub mod Writings
+pub mod Readings
+pub mod RowByRow
+pub mod Lending
+pub mod PutBack
+pub mod Copied
+pub mod Steps
+pub mod Penned
+pub mod Touching
+pub mod Later
+pub mod Drawn

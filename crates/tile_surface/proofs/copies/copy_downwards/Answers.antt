@@ -1,0 +1,19 @@
+use Rattle.std.proofs.Common.{◌+◌, ◌-◌, refl, arith}
+use Rattle.std.proofs.lemmas.Bool.Decides.{nat_tests}
+use Rattle.surface_parts.specs.Textures.{copied_color}
+use Rattle.surface_parts.proofs.Repaint.{same_mix, untouched, row_below_more}
+use Rattle.tile_surface.specs.Cells.{picture_of}
+use Rattle.tile_surface.proofs.Owning.{keeps_twice}
+use Rattle.tile_surface.proofs.copies.copy_downwards.Goals as goal
+
+pub loop-k-preserved : goal.loop-k-preserved
+loop-k-preserved c = let p = c.args.part in let copy = c.args.copy in let size = c.args.size in let k = c.loop-k.k in
+    let old = picture_of size c.args.cells.now in let cur = picture_of size c.loop-k.cells in
+    let f = copied_color size old p copy in
+    let done = c.loop-k.invariant.painted in record {
+      painted = row_below_more size p.x p.w f (copied_color size cur p copy) old cur (picture_of size c.copy_row.new.cells) p.y k (p.y + k) refl done c.copy_row.ensures.painted
+          (λ u more less. same_mix copy.rop 0 0 _ _ _ _ refl
+          (untouched size p.x p.y p.w k f old cur (copy.x + (u - p.x)) (copy.y + ((p.y + k) - p.y)) done (omega (arith, more, less, c.requires.from.columns)) (omega (arith, c.requires.from.rows)) (grind (arith, nat_tests, c.requires.not_above)))
+          (untouched size p.x p.y p.w k f old cur u (p.y + k) done (omega (arith, less, c.requires.inside.columns)) (omega (arith, c.requires.inside.rows)) (grind (arith, nat_tests))));
+      kept = keeps_twice size c.args.cells.now c.loop-k.cells c.copy_row.new.cells c.loop-k.invariant.kept c.copy_row.ensures.kept;
+    }

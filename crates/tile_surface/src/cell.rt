@@ -1,0 +1,115 @@
+//! Where a tile is.
+ghost use Rattle.std.specs.Prelude.{◌≡◌, ℕ, ◌+◌, ◌-◌, ◌≤◌, ◌<◌, IfOk, OnOk, length, get_or};
+ghost use Rattle.std.specs.Arc.{arc_value};
+ghost use Rattle.px_core.specs.Picture.{pixel_at};
+ghost use Rattle.surface_parts.specs.Parts.{in_part, part_at, IsRepainted};
+ghost use Rattle.tile_surface.specs.Cells.{cell_pixels, tile_sides};
+ghost use Rattle.tile_surface.specs.Ownership.{IsOwn};
+
+use crate::tile::Tile;
+use std::alloc::Global;
+use std::sync::Arc;
+use wire_num::OutOfMemory;
+
+/// A tile that only the surface has, or one behind an `Arc`, which takes may share. A blank one is black and takes no memory.
+#[derive(Drop)]
+pub(crate) enum Cell {
+    Blank,
+    Own(Tile),
+    Shared(Arc<Tile>),
+}
+
+impl Cell {
+    /// The cell with its tile in a box of the surface's own where memory was left, and whether it is.
+    ///
+    /// A tile whose other handles are gone is taken back without a copy.
+    pub(crate) fn owned(self, alloc: Global) -> (Cell, Result<(), OutOfMemory>)
+        ensures same { cell_pixels result.0 ≡ cell_pixels self }
+        ensures own { OnOk result.1 (IsOwn result.0) }
+        ensures stays { IsOwn self → IsOwn result.0 }
+    {
+        match self {
+            Cell::Own(tile) => (Cell::Own(tile), Ok(())),
+            Cell::Blank => match Tile::black(alloc) {
+                Ok(tile) => (Cell::Own(tile), Ok(())),
+                Err(fault) => (Cell::Blank, Err(fault)),
+            },
+            Cell::Shared(shared) => match Arc::try_unwrap(shared) {
+                Ok(tile) => (Cell::Own(tile), Ok(())),
+                Err(shared) => match shared.copy(alloc) {
+                    Ok(tile) => (Cell::Own(tile), Ok(())),
+                    Err(fault) => (Cell::Shared(shared), Err(fault)),
+                },
+            },
+        }
+    }
+
+    /// The cell with its tile behind an `Arc` where memory was left, and a further handle.
+    pub(crate) fn lent(self, alloc: Global) -> (Cell, Result<Arc<Tile>, OutOfMemory>)
+        ensures same { cell_pixels result.0 ≡ cell_pixels self }
+        ensures lent { IfOk result.1 (λ tile. arc_value tile ≡ cell_pixels self) }
+        ensures sized { IfOk result.1 (λ tile. length (arc_value tile) ≡ 4096) }
+    {
+        match self {
+            Cell::Shared(shared) => lend_shared(shared),
+            Cell::Own(tile) => lend_own(tile, alloc),
+            Cell::Blank => match Tile::black(alloc) {
+                Ok(tile) => lend_own(tile, alloc),
+                Err(fault) => (Cell::Blank, Err(fault)),
+            },
+        }
+    }
+
+    /// Copies the pixels of row y of the tile from column x on, as many as `out` has room for.
+    pub(crate) fn read(&self, x: usize, y: usize, out: &mut [u32])
+        requires columns { x + length out.old ≤ 64 }
+        requires row { y < 64 }
+        ensures { (k : ℕ) → k < length out.old → get_or out.new k 0 ≡ pixel_at tile_sides (cell_pixels self.now) 0 (x + k) y }
+    {
+        match self {
+            Cell::Blank => out.fill(0),
+            Cell::Own(tile) => tile.read(x, y, out),
+            Cell::Shared(tile) => tile.read(x, y, out),
+        }
+    }
+
+    /// Gives the pixels of row y of a tile that is the surface's own, from column x on, the colours of `row`.
+    pub(crate) fn write(&mut self, x: usize, y: usize, row: &[u32])
+        requires own { IsOwn self.old }
+        requires columns { x + length row.now ≤ 64 }
+        requires row { y < 64 }
+        ensures own { IsOwn self.new }
+        ensures painted { IsRepainted tile_sides (in_part (part_at x y (length row.now) 1)) (λ u v. get_or row.now (u - x) 0) (cell_pixels self.old) (cell_pixels self.new) }
+    {
+        if let Cell::Own(tile) = self {
+            tile.write(x, y, row);
+        }
+    }
+}
+
+/// A tile behind an `Arc` where memory was left, and a further handle.
+fn lend_own(tile: Tile, alloc: Global) -> (Cell, Result<Arc<Tile>, OutOfMemory>)
+    ensures same { cell_pixels result.0 ≡ tile }
+    ensures lent { IfOk result.1 (λ lent. arc_value lent ≡ tile) }
+    ensures sized { IfOk result.1 (λ lent. length (arc_value lent) ≡ 4096) }
+{
+    match Arc::new(alloc, tile) {
+        Ok(shared) => lend_shared(shared),
+        Err(failed) => (Cell::Own(failed.value), Err(OutOfMemory)),
+    }
+}
+
+/// A shared tile, and a further handle where its count isn't full.
+fn lend_shared(shared: Arc<Tile>) -> (Cell, Result<Arc<Tile>, OutOfMemory>)
+    ensures same { cell_pixels result.0 ≡ arc_value shared }
+    ensures lent { IfOk result.1 (λ tile. arc_value tile ≡ arc_value shared) }
+    ensures sized { IfOk result.1 (λ tile. length (arc_value tile) ≡ 4096) }
+{
+    match Arc::try_clone(&shared) {
+        Ok(tile) => {
+            tile.recall_sized();
+            (Cell::Shared(shared), Ok(tile))
+        }
+        Err(_) => (Cell::Shared(shared), Err(OutOfMemory)),
+    }
+}

@@ -1,0 +1,189 @@
+//! Copies within the picture, row by row, on tiles that are the surface's own.
+ghost use Rattle.std.specs.Prelude.{◌≡◌, ℕ, ◌+◌, ◌<◌, ◌≤◌, None, length, IsTrue};
+ghost use Rattle.px_core.specs.Picture.{both, rows_of};
+ghost use Rattle.px_core.specs.Rectangle.{in_clip, in_rect, boxed, is_inside, IsPlaced};
+ghost use Rattle.rop3_core.specs.Palette.{session_colors};
+ghost use Rattle.draw_ops.specs.Fits.{clip_rule};
+ghost use Rattle.draw_ops.specs.Formulas.{absent, picture_after, shifted};
+ghost use Rattle.draw_ops.specs.Drawing.{mixing};
+ghost use Rattle.surface_parts.specs.Operands.{IsBlank};
+ghost use Rattle.surface_parts.specs.Parts.{in_part, part_at, IsInside, IsRepainted};
+ghost use Rattle.surface_parts.specs.Textures.{copied_color, IsSourceInside};
+ghost use Rattle.tile_surface.specs.Cells.{picture_of, IsTiled};
+ghost use Rattle.tile_surface.specs.Ownership.{KeepsRest, OwnsArea, OwnsPart};
+
+use crate::cell::Cell;
+use crate::rows::{read_row, write_row};
+use lane_rop::rop_lanes;
+use px_core::{Rect, Size};
+use surface_parts::{Part, PictureCopy, ready_pattern, source_place, visible};
+
+/// The raster operation of a code on a rectangle, with the picture itself, from (sx, sy) on, as its source. The three rows are for the
+/// operands of one row and for its pixels.
+pub(crate) fn copy_rect(
+    cells: &mut [Cell],
+    size: Size,
+    rect: Rect,
+    clip: Option<Rect>,
+    rop: u8,
+    sx: i32,
+    sy: i32,
+    pattern: &mut [u32],
+    source: &mut [u32],
+    row: &mut [u32],
+)
+    requires tiled { IsTiled size cells.old }
+    requires rect { IsPlaced rect }
+    requires clip { clip_rule size clip ≡ None }
+    requires inside { IsTrue (is_inside size (boxed sx sy rect.w rect.h)) }
+    requires own { OwnsArea size cells.old (both (in_clip clip) (in_rect rect)) }
+    requires pattern { 2048 ≤ length pattern.old }
+    requires source { 2048 ≤ length source.old }
+    requires row { 2048 ≤ length row.old }
+    ensures painted { picture_of size cells.new ≡ picture_after size (in_clip clip) (mixing rect rop (absent session_colors) (shifted (rows_of size.w size.h (picture_of size cells.old)) 0 rect sx sy)) (picture_of size cells.old) }
+    ensures kept { KeepsRest size cells.old cells.new }
+{
+    match visible(size, rect, clip) {
+        None => {}
+        Some(part) => {
+            let copy = PictureCopy {
+                rop,
+                x: source_place(part.x, rect.x, sx),
+                y: source_place(part.y, rect.y, sy),
+            };
+            copy_part(
+                cells,
+                size,
+                part,
+                copy,
+                &mut pattern[..part.w],
+                &mut source[..part.w],
+                &mut row[..part.w],
+            )
+        }
+    }
+}
+
+/// Makes each pixel of a part what a raster operation makes of it. Three rows of the part's width are for the operands of one row and for its
+/// pixels.
+///
+/// Where the source lies above the part, the lowest row goes first, so that no row is read after it was painted.
+fn copy_part(
+    cells: &mut [Cell],
+    size: Size,
+    part: Part,
+    copy: PictureCopy,
+    pattern: &mut [u32],
+    source: &mut [u32],
+    row: &mut [u32],
+)
+    requires tiled { IsTiled size cells.old }
+    requires inside { IsInside size part }
+    requires from { IsSourceInside size part copy }
+    requires own { OwnsPart cells.old part }
+    requires pattern { length pattern.old ≡ part.w }
+    requires source { length source.old ≡ part.w }
+    requires row { length row.old ≡ part.w }
+    ensures painted { IsRepainted size (in_part part) (copied_color size (picture_of size cells.old) part copy) (picture_of size cells.old) (picture_of size cells.new) }
+    ensures kept { KeepsRest size cells.old cells.new }
+{
+    ready_pattern(pattern, None);
+    if copy.y < part.y {
+        copy_upwards(cells, size, part, copy, pattern, source, row)
+    } else {
+        copy_downwards(cells, size, part, copy, pattern, source, row)
+    }
+}
+
+/// Copies the rows of a part from the highest one on.
+fn copy_downwards(
+    cells: &mut [Cell],
+    size: Size,
+    part: Part,
+    copy: PictureCopy,
+    pattern: &[u32],
+    source: &mut [u32],
+    row: &mut [u32],
+)
+    requires tiled { IsTiled size cells.old }
+    requires inside { IsInside size part }
+    requires from { IsSourceInside size part copy }
+    requires not_above { part.y ≤ copy.y }
+    requires own { OwnsPart cells.old part }
+    requires pattern { length pattern.now ≡ part.w }
+    requires blank { IsBlank pattern.now }
+    requires source { length source.old ≡ part.w }
+    requires row { length row.old ≡ part.w }
+    ensures painted { IsRepainted size (in_part part) (copied_color size (picture_of size cells.old) part copy) (picture_of size cells.old) (picture_of size cells.new) }
+    ensures kept { KeepsRest size cells.old cells.new }
+{
+    for k in 0..part.h {
+        copy_row(cells, size, part, copy, part.y + k, pattern, source, row);
+    }
+}
+
+/// Copies the rows of a part from the lowest one on.
+fn copy_upwards(
+    cells: &mut [Cell],
+    size: Size,
+    part: Part,
+    copy: PictureCopy,
+    pattern: &[u32],
+    source: &mut [u32],
+    row: &mut [u32],
+)
+    requires tiled { IsTiled size cells.old }
+    requires inside { IsInside size part }
+    requires from { IsSourceInside size part copy }
+    requires above { copy.y ≤ part.y }
+    requires own { OwnsPart cells.old part }
+    requires pattern { length pattern.now ≡ part.w }
+    requires blank { IsBlank pattern.now }
+    requires source { length source.old ≡ part.w }
+    requires row { length row.old ≡ part.w }
+    ensures painted { IsRepainted size (in_part part) (copied_color size (picture_of size cells.old) part copy) (picture_of size cells.old) (picture_of size cells.new) }
+    ensures kept { KeepsRest size cells.old cells.new }
+{
+    for k in 0..part.h {
+        copy_row(
+            cells,
+            size,
+            part,
+            copy,
+            part.y + (part.h - 1 - k),
+            pattern,
+            source,
+            row,
+        );
+    }
+}
+
+/// Copies row y of a part: its source is read whole before any of it is written.
+fn copy_row(
+    cells: &mut [Cell],
+    size: Size,
+    part: Part,
+    copy: PictureCopy,
+    y: usize,
+    pattern: &[u32],
+    source: &mut [u32],
+    row: &mut [u32],
+)
+    requires tiled { IsTiled size cells.old }
+    requires inside { IsInside size part }
+    requires from { IsSourceInside size part copy }
+    requires above { part.y ≤ y }
+    requires below { y < part.y + part.h }
+    requires own { OwnsPart cells.old part }
+    requires pattern { length pattern.now ≡ part.w }
+    requires blank { IsBlank pattern.now }
+    requires source { length source.old ≡ part.w }
+    requires row { length row.old ≡ part.w }
+    ensures painted { IsRepainted size (in_part (part_at part.x y part.w 1)) (copied_color size (picture_of size cells.old) part copy) (picture_of size cells.old) (picture_of size cells.new) }
+    ensures kept { KeepsRest size cells.old cells.new }
+{
+    read_row(cells, size, copy.x, copy.y + (y - part.y), source);
+    read_row(cells, size, part.x, y, row);
+    rop_lanes(copy.rop, pattern, source, row);
+    write_row(cells, size, part.x, y, row);
+}

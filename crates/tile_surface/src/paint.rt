@@ -1,0 +1,232 @@
+//! What a drawing paints, on tiles that are made the surface's own before.
+ghost use Rattle.std.specs.Prelude.{◌≡◌, ℕ, ◌≤◌, None, IfSome, OnOk, length, map, option_copied};
+ghost use Rattle.px_core.specs.Rectangle.{boxed, in_clip};
+ghost use Rattle.draw_ops.specs.Drawing.{painting_of};
+ghost use Rattle.draw_ops.specs.Fits.{clip_rule, glyph_rule};
+ghost use Rattle.draw_ops.specs.Formulas.{picture_after};
+ghost use Rattle.surface_parts.specs.Held.{state_of, IsPaintable};
+ghost use Rattle.surface_parts.specs.Surfaces.{AllInSlots};
+ghost use Rattle.surface_parts.specs.Textures.{IsRestorable};
+ghost use Rattle.tile_surface.specs.Cells.{cell_pixels, picture_of, IsTiled};
+ghost use Rattle.tile_surface.specs.Ownership.{KeepsRest, StaysOwn};
+ghost use Rattle.tile_surface.specs.Touched.{OwnsRect, OwnsShape};
+
+use crate::cell::Cell;
+use crate::copies::copy_rect;
+use crate::lines::{draw_line, own_line};
+use crate::own::own_rect;
+use crate::rects::{fill_rect, mix_rect, restore_block};
+use crate::texts::{own_run, write_run};
+use draw_ops::Shape;
+use px_core::{Rect, Size};
+use std::alloc::Global;
+use surface_parts::{Blend, Block, Ends, Script, Slots};
+use wire_num::OutOfMemory;
+
+/// Makes each tile that a shape paints on, within a clip, the surface's own. The colours of all tiles stay, also after an `Err`.
+pub(crate) fn own_shape(
+    cells: &mut [Cell],
+    alloc: Global,
+    size: Size,
+    slots: &Slots,
+    clip: Option<Rect>,
+    shape: &Shape,
+) -> Result<(), OutOfMemory>
+    requires tiled { IsTiled size cells.old }
+    requires paintable { IsPaintable size slots.now clip shape.now }
+    requires glyphs { AllInSlots (λ glyph. glyph_rule glyph.content ≡ None) slots.now.glyphs }
+    ensures same { map cell_pixels cells.new ≡ map cell_pixels cells.old }
+    ensures stays { StaysOwn cells.old cells.new }
+    ensures own { OnOk result (OwnsShape size slots.now cells.new clip shape.now) }
+{
+    match shape {
+        Shape::Fill { rect, .. } => own_rect(cells, alloc, size, *rect, clip),
+        Shape::Dst { rect, .. } => own_rect(cells, alloc, size, *rect, clip),
+        Shape::Pat { rect, .. } => own_rect(cells, alloc, size, *rect, clip),
+        Shape::Copy { rect, .. } => own_rect(cells, alloc, size, *rect, clip),
+        Shape::Blit { rect, .. } => own_rect(cells, alloc, size, *rect, clip),
+        Shape::Blit3 { rect, .. } => own_rect(cells, alloc, size, *rect, clip),
+        Shape::Text {
+            x,
+            y,
+            color,
+            font,
+            run,
+        } => {
+            let script = Script {
+                font: *font,
+                color: *color,
+                x: *x,
+                y: *y,
+            };
+            own_run(cells, alloc, size, clip, slots, script, run.pairs())
+        }
+        Shape::Line { x0, y0, x1, y1, .. } => {
+            let ends = Ends {
+                x0: *x0,
+                y0: *y0,
+                x1: *x1,
+                y1: *y1,
+            };
+            own_line(cells, alloc, size, clip, ends)
+        }
+        Shape::Restore { slot, x, y } => {
+            own_block(cells, alloc, size, clip, slots.block(*slot), *x, *y)
+        }
+        Shape::Save { .. } => Ok(()),
+        Shape::LoadImage { .. } => Ok(()),
+        Shape::LoadBrush { .. } => Ok(()),
+        Shape::LoadGlyph { .. } => Ok(()),
+    }
+}
+
+/// Makes each tile of a block that may be missing, with its upper left pixel at (x, y), the surface's own. The colours of all tiles stay, also
+/// after an `Err`.
+fn own_block(
+    cells: &mut [Cell],
+    alloc: Global,
+    size: Size,
+    clip: Option<Rect>,
+    block: Option<&Block>,
+    x: i32,
+    y: i32,
+) -> Result<(), OutOfMemory>
+    requires tiled { IsTiled size cells.old }
+    requires clip { clip_rule size clip ≡ None }
+    requires block { IfSome (option_copied block) (IsRestorable size x y) }
+    ensures same { map cell_pixels cells.new ≡ map cell_pixels cells.old }
+    ensures stays { StaysOwn cells.old cells.new }
+    ensures own { OnOk result (IfSome (option_copied block.entry) (λ b. OwnsRect size cells.new clip (boxed x y b.w b.h))) }
+{
+    match block {
+        None => Ok(()),
+        Some(block) => {
+            let rect = Rect {
+                x,
+                y,
+                w: block.w,
+                h: block.h,
+            };
+            own_rect(cells, alloc, size, rect, clip)
+        }
+    }
+}
+
+/// Paints a shape within a clip on tiles that are the surface's own. The three rows are for the operands of one row and for its pixels.
+pub(crate) fn paint(
+    cells: &mut [Cell],
+    size: Size,
+    slots: &Slots,
+    clip: Option<Rect>,
+    shape: &Shape,
+    pattern: &mut [u32],
+    source: &mut [u32],
+    row: &mut [u32],
+)
+    requires tiled { IsTiled size cells.old }
+    requires paintable { IsPaintable size slots.now clip shape.now }
+    requires glyphs { AllInSlots (λ glyph. glyph_rule glyph.content ≡ None) slots.now.glyphs }
+    requires own { OwnsShape size slots.now cells.old clip shape.now }
+    requires pattern { 2048 ≤ length pattern.old }
+    requires source { 2048 ≤ length source.old }
+    requires row { 2048 ≤ length row.old }
+    ensures painted { (count : ℕ) → picture_of size cells.new ≡ picture_after size (in_clip clip) (painting_of size (state_of (picture_of size cells.old) slots.now count) shape.now) (picture_of size cells.old) }
+    ensures kept { KeepsRest size cells.old cells.new }
+{
+    match shape {
+        Shape::Fill { rect, color } => fill_rect(cells, size, *rect, clip, *color, row),
+        Shape::Dst { rect, rop } => {
+            let blend = Blend {
+                rop: *rop,
+                brush: None,
+                image: None,
+                sx: 0,
+                sy: 0,
+            };
+            mix_rect(cells, size, *rect, clip, blend, pattern, source, row)
+        }
+        Shape::Pat { rect, rop, brush } => {
+            let blend = Blend {
+                rop: *rop,
+                brush: slots.bare_brush(*brush),
+                image: None,
+                sx: 0,
+                sy: 0,
+            };
+            mix_rect(cells, size, *rect, clip, blend, pattern, source, row)
+        }
+        Shape::Copy { rect, rop, sx, sy } => copy_rect(
+            cells, size, *rect, clip, *rop, *sx, *sy, pattern, source, row,
+        ),
+        Shape::Blit {
+            rect,
+            rop,
+            image,
+            sx,
+            sy,
+        } => {
+            let blend = Blend {
+                rop: *rop,
+                brush: None,
+                image: slots.bare_image(*image),
+                sx: *sx,
+                sy: *sy,
+            };
+            mix_rect(cells, size, *rect, clip, blend, pattern, source, row)
+        }
+        Shape::Blit3 {
+            rect,
+            rop,
+            image,
+            sx,
+            sy,
+            brush,
+        } => {
+            let blend = Blend {
+                rop: *rop,
+                brush: slots.bare_brush(*brush),
+                image: slots.bare_image(*image),
+                sx: *sx,
+                sy: *sy,
+            };
+            mix_rect(cells, size, *rect, clip, blend, pattern, source, row)
+        }
+        Shape::Text {
+            x,
+            y,
+            color,
+            font,
+            run,
+        } => {
+            let script = Script {
+                font: *font,
+                color: *color,
+                x: *x,
+                y: *y,
+            };
+            write_run(cells, size, clip, slots, script, run.pairs(), row)
+        }
+        Shape::Line {
+            x0,
+            y0,
+            x1,
+            y1,
+            color,
+        } => {
+            let ends = Ends {
+                x0: *x0,
+                y0: *y0,
+                x1: *x1,
+                y1: *y1,
+            };
+            draw_line(cells, size, clip, ends, *color)
+        }
+        Shape::Restore { slot, x, y } => {
+            restore_block(cells, size, clip, slots.block(*slot), *x, *y)
+        }
+        Shape::Save { .. } => {}
+        Shape::LoadImage { .. } => {}
+        Shape::LoadBrush { .. } => {}
+        Shape::LoadGlyph { .. } => {}
+    }
+}

@@ -1,0 +1,230 @@
+//! Texts, one glyph after another, within a clip.
+ghost use Rattle.std.specs.Prelude.{◌≡◌, ℕ, ◌≤◌, None, Some, OnOk, length, map};
+ghost use Rattle.px_core.specs.Picture.{both, painted};
+ghost use Rattle.px_core.specs.Rectangle.{in_clip};
+ghost use Rattle.rop3_core.specs.Palette.{session_colors};
+ghost use Rattle.draw_ops.specs.Drawing.{writing};
+ghost use Rattle.draw_ops.specs.Fits.{clip_rule, glyph_rule};
+ghost use Rattle.draw_ops.specs.Formulas.{glyph_area, picture_after, solid};
+ghost use Rattle.surface_parts.specs.Bits.{ink_color, HasBits, IsPenNear};
+ghost use Rattle.surface_parts.specs.Parts.{in_part, IsInside, IsRepainted};
+ghost use Rattle.surface_parts.specs.Pens.{IsPenAtStart};
+ghost use Rattle.surface_parts.specs.Surfaces.{AllInSlots};
+ghost use Rattle.surface_parts.specs.Texts.{glyphs_held};
+ghost use Rattle.tile_surface.specs.Cells.{cell_pixels, picture_of, IsTiled};
+ghost use Rattle.tile_surface.specs.Needed.{OwnsGlyph, OwnsRun};
+ghost use Rattle.tile_surface.specs.Ownership.{KeepsRest, OwnsPart, StaysOwn};
+
+use crate::cell::Cell;
+use crate::own::own_rect;
+use crate::rows::{read_row, write_row};
+use draw_ops::Glyph;
+use px_core::{Rect, Size};
+use std::alloc::Global;
+use surface_parts::{Bits, Part, Script, Slots, cell_of, draw_bit_row, source_place, visible};
+use wire_num::OutOfMemory;
+
+/// The bits of a byte.
+const BYTE_BITS: usize = 8;
+
+/// What a number of bits lacks at most to whole bytes.
+const PADDING: usize = 7;
+
+/// Makes each tile with a pixel of a run's cells, within a clip, the surface's own. The colours of all tiles stay, also after an `Err`.
+pub(crate) fn own_run(
+    cells: &mut [Cell],
+    alloc: Global,
+    size: Size,
+    clip: Option<Rect>,
+    slots: &Slots,
+    script: Script,
+    run: &[(u8, u8)],
+) -> Result<(), OutOfMemory>
+    requires tiled { IsTiled size cells.old }
+    requires clip { clip_rule size clip ≡ None }
+    requires glyphs { AllInSlots (λ glyph. glyph_rule glyph.content ≡ None) slots.now.glyphs }
+    requires pen { IsPenAtStart script.x script.y }
+    requires short { length run.now ≤ 64 }
+    ensures same { map cell_pixels cells.new ≡ map cell_pixels cells.old }
+    ensures stays { StaysOwn cells.old cells.new }
+    ensures own { OnOk result (OwnsRun size cells.new (in_clip clip) (glyphs_held slots.now script.font) script.x script.y run.now) }
+{
+    let mut moved = 0;
+    for pair in run {
+        moved += u32::from(pair.1);
+        let pen = Script {
+            x: script.x + moved as i32,
+            ..script
+        };
+        own_code(cells, alloc, size, clip, slots, pen, pair.0)?;
+    }
+    Ok(())
+}
+
+/// Draws a run of glyphs; each one's delta moves the pen to the right before it. `row` is for one row of a glyph.
+pub(crate) fn write_run(
+    cells: &mut [Cell],
+    size: Size,
+    clip: Option<Rect>,
+    slots: &Slots,
+    script: Script,
+    run: &[(u8, u8)],
+    row: &mut [u32],
+)
+    requires tiled { IsTiled size cells.old }
+    requires clip { clip_rule size clip ≡ None }
+    requires glyphs { AllInSlots (λ glyph. glyph_rule glyph.content ≡ None) slots.now.glyphs }
+    requires pen { IsPenAtStart script.x script.y }
+    requires short { length run.now ≤ 64 }
+    requires own { OwnsRun size cells.old (in_clip clip) (glyphs_held slots.now script.font) script.x script.y run.now }
+    requires row { 2048 ≤ length row.old }
+    ensures painted { picture_of size cells.new ≡ picture_after size (in_clip clip) (writing (glyphs_held slots.now script.font) script.x script.y script.color run.now) (picture_of size cells.old) }
+    ensures kept { KeepsRest size cells.old cells.new }
+{
+    let mut moved = 0;
+    for pair in run {
+        moved += u32::from(pair.1);
+        let pen = Script {
+            x: script.x + moved as i32,
+            ..script
+        };
+        draw_code(cells, size, clip, slots, pen, pair.0, row);
+    }
+}
+
+/// Makes the tiles of the glyph of a code where the pen stands the surface's own; there are none where the font has no glyph.
+fn own_code(
+    cells: &mut [Cell],
+    alloc: Global,
+    size: Size,
+    clip: Option<Rect>,
+    slots: &Slots,
+    pen: Script,
+    code: u8,
+) -> Result<(), OutOfMemory>
+    requires tiled { IsTiled size cells.old }
+    requires clip { clip_rule size clip ≡ None }
+    requires glyphs { AllInSlots (λ glyph. glyph_rule glyph.content ≡ None) slots.now.glyphs }
+    requires pen { IsPenNear pen.x pen.y }
+    ensures same { map cell_pixels cells.new ≡ map cell_pixels cells.old }
+    ensures stays { StaysOwn cells.old cells.new }
+    ensures own { OnOk result (OwnsGlyph size cells.new (in_clip clip) (glyphs_held slots.now pen.font code) pen.x pen.y) }
+{
+    match slots.glyph(pen.font, code) {
+        None => Ok(()),
+        Some(glyph) => own_glyph(cells, alloc, size, clip, glyph.content(), pen.x, pen.y),
+    }
+}
+
+/// Draws the glyph of a code where the pen stands; there is nothing to draw where the font has none.
+fn draw_code(
+    cells: &mut [Cell],
+    size: Size,
+    clip: Option<Rect>,
+    slots: &Slots,
+    pen: Script,
+    code: u8,
+    row: &mut [u32],
+)
+    requires tiled { IsTiled size cells.old }
+    requires clip { clip_rule size clip ≡ None }
+    requires glyphs { AllInSlots (λ glyph. glyph_rule glyph.content ≡ None) slots.now.glyphs }
+    requires pen { IsPenNear pen.x pen.y }
+    requires own { OwnsGlyph size cells.old (in_clip clip) (glyphs_held slots.now pen.font code) pen.x pen.y }
+    requires row { 2048 ≤ length row.old }
+    ensures painted { picture_of size cells.new ≡ painted size (both (in_clip clip) (glyph_area (glyphs_held slots.now pen.font code) pen.x pen.y)) (solid session_colors pen.color) (picture_of size cells.old) }
+    ensures kept { KeepsRest size cells.old cells.new }
+{
+    match slots.glyph(pen.font, code) {
+        None => {}
+        Some(glyph) => draw_glyph(
+            cells,
+            size,
+            clip,
+            glyph.content(),
+            pen.x,
+            pen.y,
+            pen.color,
+            row,
+        ),
+    }
+}
+
+/// Makes the tiles of a glyph's cell, with the pen at (x, y), the surface's own. The colours of all tiles stay, also after an `Err`.
+fn own_glyph(
+    cells: &mut [Cell],
+    alloc: Global,
+    size: Size,
+    clip: Option<Rect>,
+    glyph: &Glyph,
+    x: i32,
+    y: i32,
+) -> Result<(), OutOfMemory>
+    requires tiled { IsTiled size cells.old }
+    requires clip { clip_rule size clip ≡ None }
+    requires rule { glyph_rule glyph.now ≡ None }
+    requires pen { IsPenNear x y }
+    ensures same { map cell_pixels cells.new ≡ map cell_pixels cells.old }
+    ensures stays { StaysOwn cells.old cells.new }
+    ensures own { OnOk result (OwnsGlyph size cells.new (in_clip clip) (Some glyph.now) x y) }
+{
+    own_rect(cells, alloc, size, cell_of(glyph, x, y), clip)
+}
+
+/// Gives the pixels of a glyph's one bits one colour, with the pen at (x, y). `row` is for one row of it.
+fn draw_glyph(
+    cells: &mut [Cell],
+    size: Size,
+    clip: Option<Rect>,
+    glyph: &Glyph,
+    x: i32,
+    y: i32,
+    color: u32,
+    row: &mut [u32],
+)
+    requires tiled { IsTiled size cells.old }
+    requires clip { clip_rule size clip ≡ None }
+    requires rule { glyph_rule glyph.now ≡ None }
+    requires pen { IsPenNear x y }
+    requires own { OwnsGlyph size cells.old (in_clip clip) (Some glyph.now) x y }
+    requires row { 2048 ≤ length row.old }
+    ensures painted { picture_of size cells.new ≡ painted size (both (in_clip clip) (glyph_area (Some glyph.now) x y)) (solid session_colors color) (picture_of size cells.old) }
+    ensures kept { KeepsRest size cells.old cells.new }
+{
+    let cell = cell_of(glyph, x, y);
+    match visible(size, cell, clip) {
+        None => {}
+        Some(part) => {
+            let bits = Bits {
+                bytes: glyph.bits(),
+                row_bytes: (usize::from(glyph.cx()) + PADDING) / BYTE_BITS,
+                column: source_place(part.x, cell.x, 0),
+                row: source_place(part.y, cell.y, 0),
+            };
+            draw_bits(cells, size, part, bits, color, &mut row[..part.w])
+        }
+    }
+}
+
+/// Gives the pixels of a part one colour whose bit is one. `row` is of the part's width, for one row of it.
+fn draw_bits(cells: &mut [Cell], size: Size, part: Part, bits: Bits, color: u32, row: &mut [u32])
+    requires tiled { IsTiled size cells.old }
+    requires inside { IsInside size part }
+    requires bits { HasBits part bits }
+    requires own { OwnsPart cells.old part }
+    requires row { length row.old ≡ part.w }
+    ensures painted { IsRepainted size (in_part part) (ink_color size (picture_of size cells.old) part bits.entry color) (picture_of size cells.old) (picture_of size cells.new) }
+    ensures kept { KeepsRest size cells.old cells.new }
+{
+    for y in part.y..part.y + part.h {
+        let from = bits.row_bytes * (bits.row + (y - part.y));
+        read_row(cells, size, part.x, y, row);
+        draw_bit_row(
+            row,
+            &bits.bytes[from..from + bits.row_bytes],
+            bits.column,
+            color,
+        );
+        write_row(cells, size, part.x, y, row);
+    }
+}
