@@ -4,4 +4,5 @@ pub mod Fills
 pub mod RunsUsed
 pub mod Stores
 pub mod TypesFit
+pub mod Unpacked
 pub mod Zeros

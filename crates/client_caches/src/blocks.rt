@@ -4,6 +4,7 @@ ghost use Rattle.std.specs.Prelude.{◌≡◌, ◌≤◌, ◌<◌, ◌∷◌, []
 ghost use Rattle.order_means.specs.ClientState.{positions, are_apart, apart_from, block_at};
 ghost use Rattle.client_caches.specs.Blocks.{is_that, capped};
 
+use client_pixel::Pixel;
 use std::alloc::Global;
 use std::marker::Model;
 use wire_num::OutOfMemory;
@@ -17,7 +18,7 @@ pub struct KeptBlock {
     position: u32,
     w: u32,
     h: u32,
-    pixels: Vec<Option<u32>>,
+    pixels: Vec<Pixel>,
 }
 
 impl Model for KeptBlock {
@@ -33,7 +34,7 @@ impl Model for KeptBlock {
 
 impl KeptBlock {
     /// A block of its position, its sides, and its pixels, which fill it.
-    pub fn new(position: u32, w: u32, h: u32, pixels: Vec<Option<u32>>) -> KeptBlock
+    pub fn new(position: u32, w: u32, h: u32, pixels: Vec<Pixel>) -> KeptBlock
         requires { length pixels.items ≡ w * h }
         ensures { result ≡ record { position = position; w = w; h = h; pixels = pixels.items } }
     {
@@ -46,7 +47,7 @@ impl KeptBlock {
     }
 
     /// The pixels, row by row from the top.
-    pub fn pixels(&self) -> &[Option<u32>]
+    pub fn pixels(&self) -> &[Pixel]
         ensures value { result.now ≡ self.now.pixels }
         ensures filled { length self.now.pixels ≡ self.now.w * self.now.h }
     {

@@ -11,6 +11,7 @@ use crate::values::{
     byte, closed_rect_at, coordinate, is_cached_brush, is_cached_run, number, rect_at, short,
     side_of,
 };
+use client_pixel::Color;
 use order_fields::Fields;
 use px_core::{Rect, has_pixel};
 
@@ -56,7 +57,7 @@ pub fn drawing_of(fields: &Fields) -> Option<Named>
 }
 
 /// The rectangle and the colour of an OpaqueRect order, which most orders are; `None` where its rectangle has no pixel, and for any other order.
-pub fn fill_of(fields: &Fields) -> Option<(Rect, u32)>
+pub fn fill_of(fields: &Fields) -> Option<(Rect, Color)>
     ensures { result ≡ fill_in (drawing_of fields.now) }
 {
     if fields.kind() != OPAQUE_RECT {
@@ -114,14 +115,12 @@ fn opaque_of(values: &[i64]) -> Option<Named>
     requires { FitKinds opaque_rect.kinds values.now }
     ensures { (run : List ℕ) → optional_drawing run result ≡ drawing_of_values OpaqueRect values.now run }
 {
-    match fill_values(values) {
-        None => None,
-        Some((rect, color)) => Some(Named::Opaque { rect, color }),
-    }
+    let (rect, color) = fill_values(values)?;
+    Some(Named::Opaque { rect, color })
 }
 
 /// The rectangle and the colour of an OpaqueRect order's values, where the rectangle has a pixel.
-fn fill_values(values: &[i64]) -> Option<(Rect, u32)>
+fn fill_values(values: &[i64]) -> Option<(Rect, Color)>
     requires { FitKinds opaque_rect.kinds values.now }
     ensures { (run : List ℕ) → optional_fill result ≡ drawing_of_values OpaqueRect values.now run }
 {
@@ -137,14 +136,8 @@ fn fill_values(values: &[i64]) -> Option<(Rect, u32)>
     if !has_pixel(rect) {
         return None;
     }
-    Some((rect, color_of(*red as u8, *green as u8, *blue as u8)))
-}
-
-/// The colour of these parts.
-fn color_of(red: u8, green: u8, blue: u8) -> u32
-    ensures { result ≡ 65536 * red + (256 * green + blue) }
-{
-    65_536 * u32::from(red) + (256 * u32::from(green) + u32::from(blue))
+    let color = Color::new(*red as u8, *green as u8, *blue as u8);
+    Some((rect, color))
 }
 
 fn save_of(values: &[i64]) -> Option<Named>
@@ -211,6 +204,6 @@ fn glyphs_of(values: &[i64]) -> Option<Named>
         cache: byte(values, 0),
         x: coordinate(values, 19),
         y: coordinate(values, 20),
-        color: number(values, 4),
+        color: Color::low(number(values, 4)),
     })
 }

@@ -1,3 +1,4 @@
+use client_pixel::Color;
 use px_core::Rect;
 
 /// A drawing as a client sees it: rectangles, codes of raster operations, sources, and entries of caches. A run of glyphs is the counted bytes of its order.
@@ -24,7 +25,7 @@ pub enum Named {
     /// OpaqueRect.
     Opaque {
         rect: Rect,
-        color: u32,
+        color: Color,
     },
     /// SaveBitmap that saves.
     Save {
@@ -60,6 +61,6 @@ pub enum Named {
         cache: u8,
         x: i32,
         y: i32,
-        color: u32,
+        color: Color,
     },
 }

@@ -1,6 +1,7 @@
 //! Pixels as they go over the wire: rows from the bottom up, three bytes a pixel or packed.
 
-ghost use Rattle.std.specs.Prelude.{◌≡◌, ◌≤◌, ◌*◌, ℕ, false, true, length, IfOk};
+ghost use Rattle.std.specs.Prelude.{◌≡◌, ◌≤◌, ◌*◌, ℕ, false, true, length, IfOk, IsTrue};
+ghost use Rattle.px_core.specs.Colors.{are_colors};
 ghost use Rattle.order_means.specs.ClientState.{wire_pixels};
 ghost use Rattle.client_caches.specs.Answers.{Gives};
 ghost use Rattle.client_caches.specs.Caches.{upright_pixels};
@@ -18,6 +19,7 @@ fn raw_pixels(alloc: Global, count: usize, bytes: &[u8]) -> Result<Vec<u32>, Obe
     requires { count ≤ 4096 }
     ensures value { (w h : ℕ) → count ≡ w * h → Gives (λ pixels. pixels.items) result (wire_pixels false w h bytes.now) }
     ensures number { IfOk result (λ pixels. length pixels.items ≡ count) }
+    ensures colors { IfOk result (λ pixels. IsTrue (are_colors pixels.items)) }
 {
     if bytes.len() != PIXEL_SIZE * count {
         return Err(ObeyFault::Broken);
@@ -32,6 +34,7 @@ fn packed_pixels(alloc: Global, w: usize, h: usize, bytes: &[u8]) -> Result<Vec<
     requires height { (1 ≤ h) × (h ≤ 64) }
     ensures value { Gives (λ pixels. pixels.items) result (wire_pixels true w h bytes.now) }
     ensures number { IfOk result (λ pixels. length pixels.items ≡ w * h) }
+    ensures colors { IfOk result (λ pixels. IsTrue (are_colors pixels.items)) }
 {
     match unpack(alloc, bytes, w, h) {
         Ok(pixels) => Ok(pixels),
@@ -52,6 +55,7 @@ pub fn upright_pixels(
     requires height { (1 ≤ h) × (h ≤ 64) }
     ensures value { Gives (λ pixels. pixels.items) result (upright_pixels packed w h bytes.now) }
     ensures number { IfOk result (λ pixels. length pixels.items ≡ w * h) }
+    ensures colors { IfOk result (λ pixels. IsTrue (are_colors pixels.items)) }
 {
     let pixels = if packed {
         packed_pixels(alloc, w, h, bytes)?

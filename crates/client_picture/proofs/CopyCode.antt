@@ -1,10 +1,11 @@
 -- The code that copies its source.
 use Rattle.std.proofs.Common.{◌≡◌, ◌<◌, ◌+◌, ◌*◌, ◌/◌, ◌%◌, ◌^◌, ℕ, zero, suc, refl, ap, sym, ◌∙◌, arith, Some, None}
-use Rattle.std.specs.Prelude.{Option}
+use Rattle.std.specs.Prelude.{Option, IfSome}
 use Rattle.std.proofs.Math.Arith.{mod-mul}
 use Rattle.std.proofs.lemmas.Nat.{pow_pos}
 use Rattle.rop3_core.specs.Rop3.{raster_bit, raster_bits, ternary_raster}
 use Rattle.rop3_core.specs.Palette.{maybe_raster}
+use Rattle.rop3_core.proofs.RasterBits.{ternary_raster_below}
 use Rattle.client_picture.specs.Sources.{copied}
 
 bit_copied : (p s d : ℕ) → p < 2 → s < 2 → d < 2 → raster_bit 204 p s d ≡ s
@@ -49,3 +50,15 @@ copied_is (Some p) (Some s) (Some d) = ap (λ n. Some n) (sym (ternary_copied p 
 
 pub mixed_copied : (code : ℕ) (p s d : Option ℕ) → code ≡ 204 → copied s ≡ maybe_raster code p s d
 mixed_copied code p s d is = copied_is p s d ∙ ap (λ (n : ℕ). maybe_raster n p s d) (sym is)
+
+-- ---- colours have no bits from 24 on
+
+pub low_is : (color : ℕ) → color < 2 ^ 24 → color % 2 ^ 24 ≡ color
+low_is color h = omega (arith, h)
+
+pub raster_low : (code p s d : ℕ) → ternary_raster code p s d % 2 ^ 24 ≡ ternary_raster code p s d
+raster_low code p s d = low_is (ternary_raster code p s d) (ternary_raster_below code p s d)
+
+pub copied_same : (pixel : Option ℕ) → IfSome pixel (λ color. color < 2 ^ 24) → pixel ≡ copied pixel
+copied_same None h = refl
+copied_same (Some color) h = ap (λ n. Some n) (sym (low_is color h))

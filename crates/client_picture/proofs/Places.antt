@@ -1,5 +1,5 @@
 -- Rows that are written place by place.
-use Rattle.std.proofs.Common.{◌≡◌, ℕ, ◌+◌, ◌≤◌, ◌<◌, List, length, get_or, ap, sym, ◌∙◌, arith, inl, inr}
+use Rattle.std.proofs.Common.{◌≡◌, ℕ, zero, suc, ◌+◌, ◌≤◌, ◌<◌, List, [], ◌∷◌, length, get_or, ap, sym, ◌∙◌, arith, inl, inr}
 use Rattle.std.specs.Prelude.{Option, None, slice_set}
 use Rattle.std.proofs.lemmas.Bool.{cases_lt}
 use Rattle.std.proofs.lemmas.List.{get_or-set_other}
@@ -14,3 +14,9 @@ module _ (row : List (Option ℕ)) (k : ℕ) (v : Option ℕ) (want : ℕ → Op
 
   pub set_later : ((j : ℕ) → k ≤ j → get_or row j None ≡ want j) → (j : ℕ) → k + 1 ≤ j → get_or (slice_set row k v) j None ≡ want j
   set_later after j le = get_or-set_other row k j v None (λ e. absurd (omega (arith, le, e))) ∙ after j (omega (arith, le))
+
+-- the pixel that was read at a place of a row
+pub read_pixel : (row : List (Option ℕ)) (k : ℕ) (pixel : Option ℕ) → k < length row → pixel ≡ get_or row k pixel → pixel ≡ get_or row k None
+read_pixel [] k pixel below is = absurd (omega (arith, below))
+read_pixel (p ∷ row) zero pixel below is = is
+read_pixel (p ∷ row) (suc k) pixel below is = read_pixel row k pixel (omega (arith, below)) is

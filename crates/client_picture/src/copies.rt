@@ -7,6 +7,7 @@ ghost use Rattle.client_picture.specs.Sources.{copied, copied_color, IsSourceIns
 use crate::corner::Corner;
 use crate::part::Part;
 use crate::pixel::{SOURCE_COPY, copied, mixed};
+use client_pixel::Pixel;
 use px_core::Size;
 
 /// Makes each pixel of a part what the operation of a code makes of it, with the picture itself as its source, from a corner on. The row is for the
@@ -14,12 +15,12 @@ use px_core::Size;
 ///
 /// Where the source lies above the part, the lowest row goes first, so that no row is read after it was painted.
 pub(crate) fn copy_part(
-    pixels: &mut [Option<u32>],
+    pixels: &mut [Pixel],
     size: Size,
     part: Part,
     rop: u8,
     from: Corner,
-    source: &mut [Option<u32>],
+    source: &mut [Pixel],
 )
     requires canvas { IsCanvas size pixels.old }
     requires inside { IsInside size part }
@@ -36,12 +37,12 @@ pub(crate) fn copy_part(
 
 /// Copies the rows of a part from the highest one on.
 fn copy_downwards(
-    pixels: &mut [Option<u32>],
+    pixels: &mut [Pixel],
     size: Size,
     part: Part,
     rop: u8,
     from: Corner,
-    source: &mut [Option<u32>],
+    source: &mut [Pixel],
 )
     requires canvas { IsCanvas size pixels.old }
     requires inside { IsInside size part }
@@ -57,12 +58,12 @@ fn copy_downwards(
 
 /// Copies the rows of a part from the lowest one on.
 fn copy_upwards(
-    pixels: &mut [Option<u32>],
+    pixels: &mut [Pixel],
     size: Size,
     part: Part,
     rop: u8,
     from: Corner,
-    source: &mut [Option<u32>],
+    source: &mut [Pixel],
 )
     requires canvas { IsCanvas size pixels.old }
     requires inside { IsInside size part }
@@ -86,13 +87,13 @@ fn copy_upwards(
 
 /// Copies row y of a part.
 fn copy_row(
-    pixels: &mut [Option<u32>],
+    pixels: &mut [Pixel],
     size: Size,
     part: Part,
     rop: u8,
     from: Corner,
     y: usize,
-    source: &mut [Option<u32>],
+    source: &mut [Pixel],
 )
     requires canvas { IsCanvas size pixels.old }
     requires inside { IsInside size part }
@@ -110,7 +111,7 @@ fn copy_row(
 }
 
 /// Makes each pixel of a row what the operation of a code makes of it and of the source at its place.
-fn mix_source(row: &mut [Option<u32>], source: &[Option<u32>], rop: u8)
+fn mix_source(row: &mut [Pixel], source: &[Pixel], rop: u8)
     requires { length source.now ≡ length row.old }
     ensures { (k : ℕ) → k < length row.old → get_or row.new k None ≡ maybe_raster rop (Some 0) (get_or source.now k None) (get_or row.old k None) }
 {
@@ -122,7 +123,7 @@ fn mix_source(row: &mut [Option<u32>], source: &[Option<u32>], rop: u8)
 }
 
 /// Copies the source over a row.
-fn copy_pixels(row: &mut [Option<u32>], source: &[Option<u32>])
+fn copy_pixels(row: &mut [Pixel], source: &[Pixel])
     requires { length source.now ≡ length row.old }
     ensures { (k : ℕ) → k < length row.old → get_or row.new k None ≡ copied (get_or source.now k None) }
 {
@@ -132,7 +133,7 @@ fn copy_pixels(row: &mut [Option<u32>], source: &[Option<u32>])
 }
 
 /// Mixes the source into a row, pixel by pixel.
-fn mix_pixels(row: &mut [Option<u32>], source: &[Option<u32>], rop: u8)
+fn mix_pixels(row: &mut [Pixel], source: &[Pixel], rop: u8)
     requires { length source.now ≡ length row.old }
     ensures { (k : ℕ) → k < length row.old → get_or row.new k None ≡ maybe_raster rop (Some 0) (get_or source.now k None) (get_or row.old k None) }
 {

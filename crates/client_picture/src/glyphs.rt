@@ -12,6 +12,7 @@ use crate::corner::{Corner, place};
 use crate::frame::Frame;
 use crate::part::{Part, part_at};
 use crate::touched::touch_at;
+use client_pixel::{Color, Pixel};
 use draw_ops::Glyph;
 use px_core::{Rect, Size};
 
@@ -30,7 +31,7 @@ pub(crate) struct Bits<'a> {
 }
 
 /// Gives the pixels of a part one colour whose bit is one.
-pub(crate) fn draw_bits(pixels: &mut [Option<u32>], size: Size, part: Part, bits: Bits, color: u32)
+pub(crate) fn draw_bits(pixels: &mut [Pixel], size: Size, part: Part, bits: Bits, color: Color)
     requires canvas { IsCanvas size pixels.old }
     requires inside { IsInside size part }
     requires small { AreSmall part bits }
@@ -45,15 +46,16 @@ pub(crate) fn draw_bits(pixels: &mut [Option<u32>], size: Size, part: Part, bits
 }
 
 /// Gives the pixels of a row one colour whose bit in this row of the glyph is one.
-fn draw_bit_row(row: &mut [Option<u32>], bits: Bits, at: usize, color: u32)
+fn draw_bit_row(row: &mut [Pixel], bits: Bits, at: usize, color: Color)
     requires columns { bits.from.x + length row.old ≤ 65535 }
     requires rows { at ≤ 65535 }
     requires narrow { bits.row_bytes ≤ 8192 }
     ensures { (k : ℕ) → k < length row.old → get_or row.new k None ≡ (if is_ink bits.entry.bytes.now bits.entry.row_bytes (bits.entry.from.x + k) at then Some color else get_or row.old k None) }
 {
+    let pixel = Pixel::known(color);
     for k in 0..row.len() {
         if has_ink(bits, bits.from.x + k, at) {
-            row[k] = Some(color);
+            row[k] = pixel;
         }
     }
 }
@@ -74,13 +76,13 @@ fn has_ink(bits: Bits, column: usize, row: usize) -> bool
 
 /// Gives the pixels of a glyph's one bits one colour, with the pen at (x, y).
 pub(crate) fn draw_glyph(
-    pixels: &mut [Option<u32>],
+    pixels: &mut [Pixel],
     size: Size,
     bounds: Option<Rect>,
     glyph: &Glyph,
     x: i64,
     y: i64,
-    color: u32,
+    color: Color,
 )
     requires canvas { IsCanvas size pixels.old }
     requires pen { IsPenNear x y }

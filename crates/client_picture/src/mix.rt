@@ -7,7 +7,8 @@ ghost use Rattle.client_picture.specs.Sources.{copied, source_color, texture_col
 
 use crate::corner::Corner;
 use crate::part::Part;
-use crate::pixel::{SOURCE_COPY, copied, over_source};
+use crate::pixel::{SOURCE_COPY, copied_color, over_source};
+use client_pixel::Pixel;
 use draw_ops::Brush;
 use px_core::Size;
 
@@ -31,7 +32,7 @@ pub(crate) struct Mix<'a> {
 }
 
 /// Makes each pixel of a part what a raster operation makes of it.
-pub(crate) fn mix_part(pixels: &mut [Option<u32>], size: Size, part: Part, mix: Mix)
+pub(crate) fn mix_part(pixels: &mut [Pixel], size: Size, part: Part, mix: Mix)
     requires canvas { IsCanvas size pixels.old }
     requires inside { IsInside size part }
     requires texture { IfSome mix.texture (CoversPart part) }
@@ -45,7 +46,7 @@ pub(crate) fn mix_part(pixels: &mut [Option<u32>], size: Size, part: Part, mix: 
 }
 
 /// Makes each pixel of row y of a part what a raster operation makes of it.
-fn mix_row(row: &mut [Option<u32>], part: Part, y: usize, mix: Mix)
+fn mix_row(row: &mut [Pixel], part: Part, y: usize, mix: Mix)
     requires wide { length row.old ≡ part.w }
     requires columns { part.x + part.w ≤ 65535 }
     requires above { part.y ≤ y }
@@ -60,7 +61,7 @@ fn mix_row(row: &mut [Option<u32>], part: Part, y: usize, mix: Mix)
 }
 
 /// Copies an image over row y of a part.
-fn copy_row(row: &mut [Option<u32>], part: Part, y: usize, texture: Texture)
+fn copy_row(row: &mut [Pixel], part: Part, y: usize, texture: Texture)
     requires wide { length row.old ≡ part.w }
     requires above { part.y ≤ y }
     requires below { y < part.y + part.h }
@@ -72,17 +73,17 @@ fn copy_row(row: &mut [Option<u32>], part: Part, y: usize, texture: Texture)
 }
 
 /// Copies colours over a row.
-fn copy_colors(row: &mut [Option<u32>], colors: &[u32])
+fn copy_colors(row: &mut [Pixel], colors: &[u32])
     requires { length colors.now ≡ length row.old }
     ensures { (k : ℕ) → k < length row.old → get_or row.new k None ≡ copied (Some (get_or colors.now k 0)) }
 {
     for k in 0..row.len() {
-        row[k] = copied(Some(colors[k]));
+        row[k] = copied_color(colors[k]);
     }
 }
 
 /// Mixes row y of a part, pixel by pixel.
-fn mix_pixels(row: &mut [Option<u32>], part: Part, y: usize, mix: Mix)
+fn mix_pixels(row: &mut [Pixel], part: Part, y: usize, mix: Mix)
     requires wide { length row.old ≡ part.w }
     requires columns { part.x + part.w ≤ 65535 }
     requires above { part.y ≤ y }

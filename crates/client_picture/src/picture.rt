@@ -1,5 +1,6 @@
 //! A client's present picture and that of its last mark.
 ghost use Rattle.std.specs.Prelude.{◌≡◌, ◌<◌, ◌≤◌, ◌*◌, ℕ, List, Some, None, pos, IfOk, IfSome, IsTrue, length, replicate, option_copied};
+ghost use Rattle.px_core.specs.Colors.{are_colors};
 ghost use Rattle.px_core.specs.Picture.{pixel_at, rows_of};
 ghost use Rattle.px_core.specs.Rectangle.{is_inside, cut_out};
 ghost use Rattle.rop3_core.specs.Palette.{client_colors};
@@ -16,6 +17,7 @@ use crate::part::part_of;
 use crate::rects::{copy_rect, cut_rect, fill_rect, mix_rect, restore_rect, write_rect};
 use crate::source::Source;
 use crate::touched::{copy_touched, touch_found, touch_rect};
+use client_pixel::{Color, Pixel};
 use draw_ops::{Brush, Glyph};
 use px_core::{Rect, Size};
 use std::alloc::Global;
@@ -40,14 +42,14 @@ const EMPTY: Frame = Frame {
 pub struct ClientPicture {
     alloc: Global,
     size: Size,
-    picture: Vec<Option<u32>>,
-    marked: Vec<Option<u32>>,
+    picture: Vec<Pixel>,
+    marked: Vec<Pixel>,
     /// Which rows may have been painted since the last mark.
     touched: Vec<bool>,
     /// A frame that has all pixels that may have been painted since.
     frame: Frame,
     /// One row for the source of a copy.
-    row: Vec<Option<u32>>,
+    row: Vec<Pixel>,
 }
 
 impl Model for ClientPicture {
@@ -88,7 +90,7 @@ impl ClientPicture {
 
     /// Gives a rectangle one colour.
     #[inline(always)]
-    pub fn fill(&mut self, rect: Rect, bounds: Option<Rect>, color: u32)
+    pub fn fill(&mut self, rect: Rect, bounds: Option<Rect>, color: Color)
         ensures { self.new ≡ painted_within bounds (over_rect rect (solid client_colors color)) self.old }
     {
         let part = part_of(self.size, rect, bounds);
@@ -138,6 +140,7 @@ impl ClientPicture {
     /// Writes an image into a rectangle, from its upper left pixel on. The rectangle may be narrower and lower than the image.
     pub fn write(&mut self, rect: Rect, bounds: Option<Rect>, w: u16, h: u16, pixels: &[u32])
         requires whole { length pixels.now ≡ w * h }
+        requires colors { IsTrue (are_colors pixels.now) }
         requires wide { rect.w ≤ w }
         requires high { rect.h ≤ h }
         ensures { self.new ≡ painted_within bounds (over_rect rect (replaced (imaged client_colors (rows_of w h pixels.now) rect (pos 0) (pos 0)))) self.old }
@@ -163,7 +166,7 @@ impl ClientPicture {
         glyphs: &[Option<Glyph>],
         x: i32,
         y: i32,
-        color: u32,
+        color: Color,
         run: &[u8],
     )
         requires short { length run.now ≤ 65535 }
@@ -185,7 +188,7 @@ impl ClientPicture {
         number: u8,
         x: i64,
         y: i64,
-        color: u32,
+        color: Color,
     )
         requires { IsPenNear x y }
         ensures { self.new ≡ drawn_within bounds (glyph_area (lookup number glyphs.now) x y) color self.old }
@@ -197,7 +200,7 @@ impl ClientPicture {
     }
 
     /// Writes a glyph with the pen at (x, y).
-    fn write_glyph(&mut self, bounds: Option<Rect>, glyph: &Glyph, x: i64, y: i64, color: u32)
+    fn write_glyph(&mut self, bounds: Option<Rect>, glyph: &Glyph, x: i64, y: i64, color: Color)
         requires { IsPenNear x y }
         ensures { self.new ≡ drawn_within bounds (glyph_area (Some glyph.now) x y) color self.old }
     {
@@ -208,7 +211,7 @@ impl ClientPicture {
     }
 
     /// The pixels of a rectangle inside the picture, to be saved.
-    pub fn save(&self, rect: Rect) -> Result<Vec<Option<u32>>, OutOfMemory>
+    pub fn save(&self, rect: Rect) -> Result<Vec<Pixel>, OutOfMemory>
         requires { IsTrue (is_inside self.now.size rect) }
         ensures { IfOk result (λ pixels. pixels.items ≡ cut_out self.now.size self.now.picture None rect) }
     {
@@ -223,7 +226,7 @@ impl ClientPicture {
     }
 
     /// Puts saved pixels back into a rectangle of their sides.
-    pub fn restore(&mut self, rect: Rect, bounds: Option<Rect>, pixels: &[Option<u32>])
+    pub fn restore(&mut self, rect: Rect, bounds: Option<Rect>, pixels: &[Pixel])
         requires inside { IsTrue (is_inside self.old.size rect) }
         requires whole { length pixels.now ≡ rect.w * rect.h }
         ensures { self.new ≡ painted_within bounds (over_rect rect (replaced (shifted (rows_of rect.w rect.h pixels.now) None rect (pos 0) (pos 0)))) self.old }
@@ -254,7 +257,7 @@ impl ClientPicture {
         requires row { y < self.now.size.h }
         ensures { result ≡ pixel_at self.now.size self.now.picture None x y }
     {
-        self.picture[self.size.w as usize * y as usize + x as usize]
+        self.picture[self.size.w as usize * y as usize + x as usize].color()
     }
 
     /// The colour that pixel (x, y) had at the last mark; `None` where it was unknown or there was no mark.
@@ -263,7 +266,7 @@ impl ClientPicture {
         requires row { y < self.now.size.h }
         ensures { result ≡ pixel_at self.now.size self.now.marked None x y }
     {
-        self.marked[self.size.w as usize * y as usize + x as usize]
+        self.marked[self.size.w as usize * y as usize + x as usize].color()
     }
 
     /// The sides in pixels.
@@ -275,10 +278,10 @@ impl ClientPicture {
 }
 
 /// So many unknown pixels.
-fn unknown_pixels(alloc: Global, count: usize) -> Result<Vec<Option<u32>>, OutOfMemory>
+fn unknown_pixels(alloc: Global, count: usize) -> Result<Vec<Pixel>, OutOfMemory>
     ensures { IfOk result (λ pixels. pixels.items ≡ replicate count None) }
 {
-    let pixels = vec![in alloc; None; count]?;
+    let pixels = vec![in alloc; Pixel::unknown(); count]?;
     Ok(pixels)
 }
 

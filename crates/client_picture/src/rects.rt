@@ -1,5 +1,6 @@
 //! What becomes of rectangles of a picture, within bounds.
-ghost use Rattle.std.specs.Prelude.{◌≡◌, ℕ, ◌*◌, ◌<◌, ◌≤◌, ◌&&◌, Some, None, pos, IfSome, IsTrue, length, option_copied};
+ghost use Rattle.std.specs.Prelude.{◌≡◌, ℕ, ◌*◌, ◌^◌, ◌<◌, ◌≤◌, ◌&&◌, Some, None, pos, IfSome, IsTrue, length, option_copied};
+ghost use Rattle.px_core.specs.Colors.{are_colors};
 ghost use Rattle.px_core.specs.Picture.{rows_of};
 ghost use Rattle.px_core.specs.Rectangle.{is_inside, in_clip, in_rect, cut_out};
 ghost use Rattle.rop3_core.specs.Palette.{client_colors};
@@ -13,18 +14,20 @@ use crate::copies::copy_part;
 use crate::corner::{corner_of, first_corner};
 use crate::mix::{Mix, Texture, mix_part};
 use crate::part::{Part, part_of};
-use crate::rows::{fill_part, paste_part, write_part};
+use crate::pixel::SOURCE_COPY;
+use crate::rows::{fill_part, paste_part};
 use crate::source::Source;
+use client_pixel::{Color, Pixel};
 use draw_ops::Brush;
 use px_core::{Rect, Size};
 
 /// Gives a rectangle one colour, of which this part lies on the picture and within the bounds.
 pub(crate) fn fill_rect(
-    pixels: &mut [Option<u32>],
+    pixels: &mut [Pixel],
     size: Size,
     rect: Rect,
     bounds: Option<Rect>,
-    color: u32,
+    color: Color,
     part: Option<Part>,
 )
     requires canvas { IsCanvas size pixels.old }
@@ -40,7 +43,7 @@ pub(crate) fn fill_rect(
 
 /// The raster operation of a code on a rectangle, with a brush as its pattern and an image as its source.
 pub(crate) fn mix_rect(
-    pixels: &mut [Option<u32>],
+    pixels: &mut [Pixel],
     size: Size,
     rect: Rect,
     bounds: Option<Rect>,
@@ -85,6 +88,7 @@ fn texture_of(source: Source<'_>, rect: Rect, part: Part) -> Texture<'_>
     requires within { IsWithinRect rect part }
     requires small { IsOnSmall part }
     ensures covers { CoversPart part result }
+    ensures bound { IsTrue (are_colors source.entry.pixels.now) → (x y : ℕ) → texture_color part result x y < 2 ^ 24 }
     ensures colors { (x y : ℕ) → IsTrue (in_part part x y) → texture_color part result x y ≡ shifted (source_rows source.entry) 0 rect source.entry.sx source.entry.sy (pos x) (pos y) }
 {
     Texture {
@@ -96,7 +100,7 @@ fn texture_of(source: Source<'_>, rect: Rect, part: Part) -> Texture<'_>
 
 /// Writes an image into a rectangle.
 pub(crate) fn write_rect(
-    pixels: &mut [Option<u32>],
+    pixels: &mut [Pixel],
     size: Size,
     rect: Rect,
     bounds: Option<Rect>,
@@ -104,24 +108,32 @@ pub(crate) fn write_rect(
 )
     requires canvas { IsCanvas size pixels.old }
     requires source { HasSource rect source }
+    requires colors { IsTrue (are_colors source.pixels.now) }
     ensures { pixels.new ≡ picture_after size (in_clip bounds) (over_rect rect (replaced (imaged client_colors (source_rows source.entry) rect source.entry.sx source.entry.sy))) pixels.old }
 {
     match part_of(size, rect, bounds) {
         None => {}
-        Some(part) => write_part(pixels, size, part, texture_of(source, rect, part)),
+        Some(part) => {
+            let mix = Mix {
+                rop: SOURCE_COPY,
+                brush: None,
+                texture: Some(texture_of(source, rect, part)),
+            };
+            mix_part(pixels, size, part, mix)
+        }
     }
 }
 
 /// The raster operation of a code on a rectangle, with the picture itself, from (sx, sy) on, as its source. The row is for the source of one row.
 pub(crate) fn copy_rect(
-    pixels: &mut [Option<u32>],
+    pixels: &mut [Pixel],
     size: Size,
     rect: Rect,
     bounds: Option<Rect>,
     rop: u8,
     sx: i32,
     sy: i32,
-    row: &mut [Option<u32>],
+    row: &mut [Pixel],
 )
     requires canvas { IsCanvas size pixels.old }
     requires inside { IsTrue (is_inside size (source_rect rect sx sy)) }
@@ -139,11 +151,11 @@ pub(crate) fn copy_rect(
 
 /// Puts saved pixels back into a rectangle of their sides.
 pub(crate) fn restore_rect(
-    pixels: &mut [Option<u32>],
+    pixels: &mut [Pixel],
     size: Size,
     rect: Rect,
     bounds: Option<Rect>,
-    saved: &[Option<u32>],
+    saved: &[Pixel],
 )
     requires canvas { IsCanvas size pixels.old }
     requires inside { IsTrue (is_inside size rect) }
@@ -160,7 +172,7 @@ pub(crate) fn restore_rect(
 }
 
 /// Copies the pixels of a rectangle that lies on the picture, row by row from the top.
-pub(crate) fn cut_rect(pixels: &[Option<u32>], size: Size, rect: Rect, out: &mut [Option<u32>])
+pub(crate) fn cut_rect(pixels: &[Pixel], size: Size, rect: Rect, out: &mut [Pixel])
     requires canvas { IsCanvas size pixels.now }
     requires inside { IsTrue (is_inside size rect) }
     requires room { length out.old ≡ rect.w * rect.h }

@@ -1,15 +1,15 @@
 //! Stretches of rows, filled and copied.
 ghost use Rattle.std.specs.Prelude.{◌≡◌, ◌+◌, ◌*◌, ◌<◌, ◌≤◌, ℕ, Some, None, length, get_or};
 ghost use Rattle.client_picture.specs.Parts.{in_part, part_at, IsCanvas, IsInside, IsRepainted};
-ghost use Rattle.client_picture.specs.Sources.{pixel_from, texture_color, Covers, CoversPart};
+ghost use Rattle.client_picture.specs.Sources.{pixel_from, Covers};
 
 use crate::corner::Corner;
-use crate::mix::Texture;
 use crate::part::Part;
+use client_pixel::{Color, Pixel};
 use px_core::Size;
 
 /// Gives every pixel of a part one colour. A part of one row, as a line or a point has, needs no loop.
-pub(crate) fn fill_part(pixels: &mut [Option<u32>], size: Size, part: Part, color: u32)
+pub(crate) fn fill_part(pixels: &mut [Pixel], size: Size, part: Part, color: Color)
     requires canvas { IsCanvas size pixels.old }
     requires inside { IsInside size part }
     ensures { IsRepainted size (in_part part) (λ x y. Some color) pixels.old pixels.new }
@@ -22,7 +22,7 @@ pub(crate) fn fill_part(pixels: &mut [Option<u32>], size: Size, part: Part, colo
 }
 
 /// Gives so many pixels of a row one colour, from a column on.
-fn fill_line(pixels: &mut [Option<u32>], size: Size, x: usize, y: usize, w: usize, color: u32)
+fn fill_line(pixels: &mut [Pixel], size: Size, x: usize, y: usize, w: usize, color: Color)
     requires canvas { IsCanvas size pixels.old }
     requires row { y < size.h }
     requires columns { x + w ≤ size.w }
@@ -33,7 +33,7 @@ fn fill_line(pixels: &mut [Option<u32>], size: Size, x: usize, y: usize, w: usiz
 }
 
 /// Gives every pixel of a part one colour, row by row.
-fn fill_rows(pixels: &mut [Option<u32>], size: Size, part: Part, color: u32)
+fn fill_rows(pixels: &mut [Pixel], size: Size, part: Part, color: Color)
     requires canvas { IsCanvas size pixels.old }
     requires inside { IsInside size part }
     ensures { IsRepainted size (in_part part) (λ x y. Some color) pixels.old pixels.new }
@@ -46,48 +46,18 @@ fn fill_rows(pixels: &mut [Option<u32>], size: Size, part: Part, color: u32)
 }
 
 /// Gives every pixel of a row one colour.
-fn fill_row(row: &mut [Option<u32>], color: u32)
+fn fill_row(row: &mut [Pixel], color: Color)
     ensures { (k : ℕ) → k < length row.old → get_or row.new k None ≡ Some color }
 {
-    for k in 0..row.len() {
-        row[k] = Some(color);
-    }
-}
-
-/// Gives every pixel of a part the colour that an image has for it.
-pub(crate) fn write_part(pixels: &mut [Option<u32>], size: Size, part: Part, texture: Texture)
-    requires canvas { IsCanvas size pixels.old }
-    requires inside { IsInside size part }
-    requires texture { CoversPart part texture }
-    ensures { IsRepainted size (in_part part) (λ x y. Some (texture_color part texture.entry x y)) pixels.old pixels.new }
-{
-    let width = size.w as usize;
-    for y in part.y..part.y + part.h {
-        let at = width * y + part.x;
-        let from = texture.w * (texture.from.y + (y - part.y)) + texture.from.x;
-        write_row(
-            &mut pixels[at..at + part.w],
-            &texture.pixels[from..from + part.w],
-        );
-    }
-}
-
-/// Gives every pixel of a row its colour.
-fn write_row(row: &mut [Option<u32>], colors: &[u32])
-    requires { length colors.now ≡ length row.old }
-    ensures { (k : ℕ) → k < length row.old → get_or row.new k None ≡ Some (get_or colors.now k 0) }
-{
-    for k in 0..row.len() {
-        row[k] = Some(colors[k]);
-    }
+    row.fill(Pixel::known(color));
 }
 
 /// Gives every pixel of a part what a source of so many columns has for it, known or not.
 pub(crate) fn paste_part(
-    pixels: &mut [Option<u32>],
+    pixels: &mut [Pixel],
     size: Size,
     part: Part,
-    source: &[Option<u32>],
+    source: &[Pixel],
     w: usize,
     from: Corner,
 )

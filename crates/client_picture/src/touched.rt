@@ -7,6 +7,7 @@ ghost use Rattle.client_picture.specs.Parts.{in_frame, in_part, in_optional_part
 
 use crate::frame::Frame;
 use crate::part::{Part, earlier, later, part_at, part_of};
+use client_pixel::Pixel;
 use px_core::{Rect, Size};
 
 /// Remembers that the pixels of a rectangle may have been painted, within bounds: their rows, and a frame that has them all.
@@ -144,8 +145,8 @@ pub(crate) fn copy_touched(
     touched: &mut [bool],
     frame: Frame,
     size: Size,
-    picture: &[Option<u32>],
-    marked: &mut [Option<u32>],
+    picture: &[Pixel],
+    marked: &mut [Pixel],
 )
     requires canvas { IsCanvas size picture.now }
     requires marked { IsCanvas size marked.old }
@@ -165,14 +166,7 @@ pub(crate) fn copy_touched(
 }
 
 /// Copies some columns of row y.
-fn copy_row(
-    size: Size,
-    y: usize,
-    from: usize,
-    end: usize,
-    picture: &[Option<u32>],
-    marked: &mut [Option<u32>],
-)
+fn copy_row(size: Size, y: usize, from: usize, end: usize, picture: &[Pixel], marked: &mut [Pixel])
     requires canvas { IsCanvas size picture.now }
     requires marked { IsCanvas size marked.old }
     requires row { y < size.h }

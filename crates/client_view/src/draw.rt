@@ -14,6 +14,7 @@ use crate::saved::{restore, save};
 use caps_sets::Confirmed;
 use client_caches::{ClientBlocks, ClientCaches, KeptImage, Named, ObeyFault, check_run};
 use client_picture::{ClientPicture, Source};
+use client_pixel::Color;
 use px_core::{Rect, is_inside};
 
 /// How many glyph caches there are.
@@ -76,7 +77,12 @@ pub(crate) fn draw(
 }
 
 /// OpaqueRect.
-pub(crate) fn draw_fill(pictures: &mut ClientPicture, bounds: Option<Rect>, rect: Rect, color: u32)
+pub(crate) fn draw_fill(
+    pictures: &mut ClientPicture,
+    bounds: Option<Rect>,
+    rect: Rect,
+    color: Color,
+)
     ensures drawn { (confirmed : Confirmed) (caches : CachesOf) (blocks : List Block) (registers : Registers)
         → client_after_clipped confirmed pictures.old.size bounds (client_of registers caches blocks pictures.old) (Opaque rect color) ≡ Ok (client_of registers caches blocks pictures.new) }
     ensures place { SamePlace pictures.old pictures.new }
@@ -200,7 +206,7 @@ fn draw_run(
     cache: u8,
     x: i32,
     y: i32,
-    color: u32,
+    color: Color,
     run: &[u8],
 ) -> Result<(), ObeyFault>
     requires { length run.now ≤ 65535 }

@@ -39,7 +39,8 @@ fn obey_drawing(viewer: &mut Viewer, fields: &Fields, bounds: Option<Rect>) -> R
     ensures kept { OnErr result (SameCounts viewer.old viewer.new) }
 {
     match fill_of(fields) {
-        Some((rect, color)) => {
+        Some(fill) => {
+            let (rect, color) = fill;
             draw_fill(&mut viewer.pictures, bounds, rect, color);
             viewer.orders = one_more(viewer.orders);
             Ok(())

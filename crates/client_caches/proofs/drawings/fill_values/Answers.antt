@@ -19,7 +19,7 @@ returns c = λ run.
     let f6 : IsBelow 256 (value vs 6) = kind_at 6 opaque_rect.kinds vs c.requires (lit< tt) in
     let w = rw (here 2, wide_coordinate (value vs 2) f2) at c.side_of.ensures in
     let h = rw (here 3, wide_coordinate (value vs 3) f3) at c.side_of-2.ensures in
-    let color = rw (here 4, here 5, here 6, wide_byte (value vs 4) f4, wide_byte (value vs 5) f5, wide_byte (value vs 6) f6, byte_size (value vs 4) f4, byte_size (value vs 5) f5, byte_size (value vs 6) f6) at c.color_of.ensures in
+    let color = rw (here 4, here 5, here 6, wide_byte (value vs 4) f4, wide_byte (value vs 5) f5, wide_byte (value vs 6) f6, byte_size (value vs 4) f4, byte_size (value vs 5) f5, byte_size (value vs 6) f6) at c.new-color.ensures in
     let has = rw (w, h) at c.has_pixel.ensures in
     rw (here 0, here 1, wide_coordinate (value vs 0) f0, wide_coordinate (value vs 1) f1, short_coordinate (value vs 0) f0, short_coordinate (value vs 1) f1, w, h, color)
     (shown _ _ _ (sym has ∙ c.if-not-has_pixel.false) refl)

@@ -1,6 +1,8 @@
-use Rattle.std.proofs.Common.{◌≡◌, ℕ, length, get_or, ap, sym, subst, ◌∙◌, arith, rules, w32, to_z, of_z}
+use Rattle.std.proofs.Common.{◌≡◌, ℕ, ◌^◌, ◌<◌, length, refl, get_or, ap, sym, subst, ◌∙◌, arith, rules, w32, to_z, of_z}
 use Rattle.std.proofs.lemmas.Int.{to_z-of_z}
+use Rattle.px_core.specs.Picture.{item}
 use Rattle.px_core.specs.Rectangle.{boxed}
+use Rattle.px_core.proofs.Colors.{color_below, is_color-item}
 use Rattle.px_core.proofs.Pictures.{item-get_or}
 use Rattle.client_picture.specs.Sources.{place_in, IsCorner, Covers}
 use Rattle.client_picture.proofs.Shifts.{is_on, corner_is, covers_is, shifted_is}
@@ -16,6 +18,10 @@ pub returns-clause-covers : goal.returns-clause-covers
 returns-clause-covers c = let s = c.args.source in let r = c.args.rect in
     subst (λ (w : ℕ). Covers c.args.part w (length s.pixels.now) c.corner_of.result) (sym c.from.ensures)
     (covers_is s.w s.h r s.sx s.sy c.args.part c.corner_of.result (corner c) (is_on (record { w = s.w; h = s.h }) (boxed s.sx s.sy r.w r.h) c.requires.source.inside) c.requires.within _ c.requires.source.whole (omega arith) (omega arith))
+
+pub returns-clause-bound : goal.returns-clause-bound
+returns-clause-bound c = λ colors x y. let s = c.args.source in let n = place_in c.from.result c.corner_of.result c.args.part x y in
+    subst (λ (color : ℕ). color < 2 ^ 24) (item-get_or s.pixels.now n 0) (color_below (item s.pixels.now n 0) (is_color-item s.pixels.now n 0 colors refl))
 
 pub returns-clause-colors : goal.returns-clause-colors
 returns-clause-colors c = λ x y is_in. let s = c.args.source in let r = c.args.rect in
