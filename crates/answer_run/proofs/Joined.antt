@@ -16,8 +16,11 @@ use Rattle.session_rules.specs.Entering.{entry_of_step, answer_at}
 use Rattle.session_core.specs.SessionModel.{SessionModel, new_session, reached_by, asked_by, is_suppressed}
 use Rattle.session_core.specs.declared.faults.JoinFault.{JoinFault}
 use Rattle.session_core.specs.declared.faults.JoinFault.TheVariants as fault
+use Rattle.session_core.specs.Faults.{join_answer}
+use Rattle.session_core.specs.Outcomes.{IsAnswered}
 use Rattle.frame_rules.specs.Encoder.{first_encoder}
 use Rattle.viewer_sender.specs.Senders.{SenderModel, StandsFor}
+use Rattle.script_rules.specs.Script.{is_invited}
 use Rattle.script_rules.specs.CaptureText.{run_at_first, run_by, encoder_frames}
 use Rattle.answer_run.specs.Asking.{owners_head, client, asks_to_join}
 use Rattle.answer_run.specs.Seats.{IsRunOf, Joins, IsLetIn}
@@ -44,6 +47,23 @@ let_in_is (Err fault.NotInvited) number v l is = absurd (not_let_in number v l i
 let_in_is (Err fault.RoomFull) number v l is = absurd (not_let_in number v l is)
 let_in_is (Err fault.JoinsSpent) number v l is = absurd (not_let_in number v l is)
 let_in_is (Err fault.OutOfMemory) number v l is = absurd l
+
+-- who isn't let into a new session isn't its owner
+not_owner : (size : Size) (owner : List ℕ) (b : Bool) (joined : Result ℕ JoinFault) (number : Option ℕ) → IsLetIn joined number → number ≡ None
+    → IsAnswered (join_answer joined) (joins_by size owner b).answer → is_some (role_if b) ≡ false
+not_owner size owner false joined number l none a = refl
+not_owner size owner true (Ok v) number l none a = absurd (not_let_in number v none l)
+not_owner size owner true (Err fault.NotInvited) number l none a = absurd (cc a)
+not_owner size owner true (Err fault.RoomFull) number l none a = absurd (cc a)
+not_owner size owner true (Err fault.JoinsSpent) number l none a = absurd (cc a)
+not_owner size owner true (Err fault.OutOfMemory) number l none a = absurd l
+
+pub turned_away : (size : Size) (owner name : List ℕ) (joined : Result ℕ JoinFault) (number : Option ℕ) (old : SessionModel) → old ≡ new_session (owners_head size owner)
+    → IsLetIn joined number → number ≡ None → IsAnswered (join_answer joined) (answer_at old.head (reached_by old) (JoinStep name))
+    → is_invited name (owners_head size owner).rows ≡ false
+turned_away size owner name joined number old e l none a =
+    not_owner size owner (is_same_word name owner) joined number l none
+    (subst (λ o. IsAnswered (join_answer joined) (answer_at o.head (reached_by o) (JoinStep name))) e a)
 
 -- what is known of the session before and after, and of the sender
 pub record JoinFacts (size : Size) (owner name : List ℕ) (c : Confirmed) (v : ℕ) (old new : SessionModel) (s : SenderModel) : Type 0 where

@@ -7,5 +7,8 @@ pub mod Pendings
 pub mod Cuttable
 pub mod Walking
 pub mod TileList
+pub mod TileParts
 pub mod PlannedBy
 pub mod TakeSteps
+pub mod Jumping
+pub mod WalkOver

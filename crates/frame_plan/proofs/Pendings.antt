@@ -1,5 +1,5 @@
 -- The pending drawings of entries, entry by entry, and what of a legal journal's the walk rests on.
-use Rattle.std.proofs.Common.{◌≡◌, ℕ, zero, suc, ◌+◌, ◌≤◌, List, [], ◌∷◌, ◌++◌, length, take, drop, refl, ap, sym, ◌∙◌, append_assoc, length-append, arith}
+use Rattle.std.proofs.Common.{◌≡◌, ℕ, zero, suc, ◌+◌, ◌≤◌, List, [], ◌∷◌, ◌++◌, length, take, drop, refl, ap, sym, ◌∙◌, append_assoc, append-nil, length-append, arith}
 use Rattle.px_core.specs.declared.surface.Size.{Size}
 use Rattle.session_rules.specs.declared.entry.Entry.{Entry}
 use Rattle.session_rules.specs.Journal.{State, opening_state, state_after_entry, state_after, reached_at_first, drawings_of}
@@ -55,3 +55,18 @@ pub pending_count : (size : Size) (j : List Entry) (b c : ℕ) → b ≤ c
     → length (pending_between size j 0 c) ≡ length (pending_between size j 0 b) + length (pending_between size j b c)
 pending_count size j b c k =
     ap length (pending_parts size j 0 b c (omega arith) k) ∙ length-append (pending_between size j 0 b) (pending_between size j b c)
+
+no_length : (ps : List Pending) → length ps ≡ 0 → ps ≡ []
+no_length [] h = refl
+no_length (p ∷ ps) h = absurd (omega (arith, h))
+
+-- nothing is drawn between two numbers before which as many drawings stand
+pub quiet_between : (size : Size) (j : List Entry) (b c : ℕ) → b ≤ c → length (pending_between size j 0 c) ≡ length (pending_between size j 0 b) → pending_between size j b c ≡ []
+quiet_between size j b c k h = let count = pending_count size j b c k in no_length (pending_between size j b c) (omega (arith, count, h))
+
+-- one entry more, and entries behind it that drew nothing
+pub pending_past : (size : Size) (j : List Entry) (a k next : ℕ) (ps : List Pending) → a ≤ k → k + 1 ≤ next → ps ≡ pending_between size j k (k + 1) → pending_between size j (k + 1) next ≡ []
+    → pending_between size j a k ++ ps ≡ pending_between size j a next
+pending_past size j a k next ps h g e quiet =
+    ap (λ qs. pending_between size j a k ++ qs) e ∙ (sym (pending_parts size j a k (k + 1) h (omega arith))
+    ∙ sym (pending_parts size j a (k + 1) next (omega (arith, h)) g ∙ (ap (λ qs. pending_between size j a (k + 1) ++ qs) quiet ∙ append-nil (pending_between size j a (k + 1)))))

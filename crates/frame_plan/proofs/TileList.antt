@@ -1,5 +1,5 @@
 -- The tiles of a set on a picture, tile by tile.
-use Rattle.std.proofs.Common.{◌≡◌, ℕ, zero, suc, ◌+◌, ◌-◌, ◌*◌, ◌/◌, ◌<◌, ◌≤◌, List, [], ◌∷◌, ◌++◌, map, refl, ap, sym, ◌∙◌, arith, append_assoc, append-nil}
+use Rattle.std.proofs.Common.{◌≡◌, ℕ, zero, suc, ◌+◌, ◌-◌, ◌*◌, ◌/◌, ◌<◌, ◌≤◌, List, [], ◌∷◌, ◌++◌, refl, ap, sym, ◌∙◌, arith, append_assoc, append-nil}
 use Rattle.std.specs.Prelude.{Bool, true, false, ◌&&◌, ◌||◌, filter, ℤ, pos, negsuc, ◌+ℤ◌, ◌-ℤ◌, int_le, nat_le, if◌then◌else◌}
 use Rattle.std.specs.Int.{int_min, int_max}
 use Rattle.std.proofs.lemmas.Bool.{and_parts, and_from}
@@ -43,14 +43,14 @@ tile_inside size t h =
 
 -- ---- tiles from a number on
 
-module _ {A : Type 0} (size : Size) (set : Tiles) (f : ℕ → A) where
-  -- what the tiles from a number on give
-  abbrev pub tiles_from : ℕ → ℕ → List A
-  tiles_from n k = map f (filter set (filter (tiles_of size (whole size)) (listed n k (λ t. t))))
+module _ (size : Size) (set : Tiles) where
+  -- those of the tiles from a number on that are on the picture and in the set
+  abbrev pub tiles_from : ℕ → ℕ → List ℕ
+  tiles_from n k = filter set (filter (tiles_of size (whole size)) (listed n k (λ t. t)))
 
   turn : (on wanted : Bool) (k : ℕ) (ts : List ℕ) → tiles_of size (whole size) k ≡ on → set k ≡ wanted
-      → map f (filter set (if tiles_of size (whole size) k then k ∷ filter (tiles_of size (whole size)) ts else filter (tiles_of size (whole size)) ts))
-      ≡ (if on && wanted then f k ∷ map f (filter set (filter (tiles_of size (whole size)) ts)) else map f (filter set (filter (tiles_of size (whole size)) ts)))
+      → filter set (if tiles_of size (whole size) k then k ∷ filter (tiles_of size (whole size)) ts else filter (tiles_of size (whole size)) ts)
+      ≡ (if on && wanted then k ∷ filter set (filter (tiles_of size (whole size)) ts) else filter set (filter (tiles_of size (whole size)) ts))
   turn true true k ts e w = rw (e, w) refl
   turn true false k ts e w = rw (e, w) refl
   turn false wanted k ts e w = rw e refl
@@ -59,18 +59,18 @@ module _ {A : Type 0} (size : Size) (set : Tiles) (f : ℕ → A) where
   next n k h = omega (arith, h)
 
   -- a tile that is taken
-  pub one_taken : (n k : ℕ) (before all : List A) → k < n → has_pixel (tile_on size k) ≡ true → set k ≡ true → before ++ tiles_from (n - k) k ≡ all
-      → (before ++ f k ∷ []) ++ tiles_from (n - (k + 1)) (k + 1) ≡ all
+  pub one_taken : (n k : ℕ) (before all : List ℕ) → k < n → has_pixel (tile_on size k) ≡ true → set k ≡ true → before ++ tiles_from (n - k) k ≡ all
+      → (before ++ k ∷ []) ++ tiles_from (n - (k + 1)) (k + 1) ≡ all
   one_taken n k before all h on wanted e =
-      append_assoc before (f k ∷ []) (tiles_from (n - (k + 1)) (k + 1))
+      append_assoc before (k ∷ []) (tiles_from (n - (k + 1)) (k + 1))
       ∙ ap (λ xs. before ++ xs) (sym (ap (λ m. tiles_from m k) (next n k h) ∙ turn true true k (listed (n - (k + 1)) (k + 1) (λ t. t)) (tile_there size k ∙ on) wanted)) ∙ e
 
   -- one that isn't
-  pub none_taken : (n k : ℕ) (before all : List A) (on wanted : Bool) → k < n → has_pixel (tile_on size k) ≡ on → set k ≡ wanted → (on && wanted) ≡ false
+  pub none_taken : (n k : ℕ) (before all : List ℕ) (on wanted : Bool) → k < n → has_pixel (tile_on size k) ≡ on → set k ≡ wanted → (on && wanted) ≡ false
       → before ++ tiles_from (n - k) k ≡ all → before ++ tiles_from (n - (k + 1)) (k + 1) ≡ all
   none_taken n k before all on wanted h is w neither e =
       ap (λ xs. before ++ xs) (sym (ap (λ m. tiles_from m k) (next n k h) ∙ turn on wanted k (listed (n - (k + 1)) (k + 1) (λ t. t)) (tile_there size k ∙ is) w
-      ∙ ap (λ b. if b then f k ∷ tiles_from (n - (k + 1)) (k + 1) else tiles_from (n - (k + 1)) (k + 1)) neither)) ∙ e
+      ∙ ap (λ b. if b then k ∷ tiles_from (n - (k + 1)) (k + 1) else tiles_from (n - (k + 1)) (k + 1)) neither)) ∙ e
 
   and_false : (b : Bool) → (b && false) ≡ false
   and_false true = refl
@@ -81,7 +81,7 @@ module _ {A : Type 0} (size : Size) (set : Tiles) (f : ℕ → A) where
   none_wanted zero k h = refl
   none_wanted (suc n) k h =
       turn (tiles_of size (whole size) k) false k (listed n (k + 1) (λ t. t)) refl (h k (omega arith) (omega arith))
-      ∙ ap (λ b. if b then f k ∷ tiles_from n (k + 1) else tiles_from n (k + 1)) (and_false (tiles_of size (whole size) k))
+      ∙ ap (λ b. if b then k ∷ tiles_from n (k + 1) else tiles_from n (k + 1)) (and_false (tiles_of size (whole size) k))
       ∙ none_wanted n (k + 1) (λ t a b. h t (omega (arith, a)) (omega (arith, b)))
 
   -- tiles that aren't wanted needn't be looked at
@@ -90,11 +90,11 @@ module _ {A : Type 0} (size : Size) (set : Tiles) (f : ℕ → A) where
   cut_at (suc m) zero k le h = absurd (omega (arith, le))
   cut_at (suc m) (suc n) k le h =
       turn (tiles_of size (whole size) k) (set k) k (listed m (k + 1) (λ t. t)) refl refl
-      ∙ ap (λ ts. if tiles_of size (whole size) k && set k then f k ∷ ts else ts)
+      ∙ ap (λ ts. if tiles_of size (whole size) k && set k then k ∷ ts else ts)
       (cut_at m n (k + 1) (omega (arith, le)) (λ t a b. h t (omega (arith, a)) (omega (arith, b))))
       ∙ sym (turn (tiles_of size (whole size) k) (set k) k (listed n (k + 1) (λ t. t)) refl refl)
 
-  pub none_left : (n k : ℕ) (before all : List A) → n ≤ k → before ++ tiles_from (n - k) k ≡ all → before ≡ all
+  pub none_left : (n k : ℕ) (before all : List ℕ) → n ≤ k → before ++ tiles_from (n - k) k ≡ all → before ≡ all
   none_left n k before all h e =
       let none : n - k ≡ 0 = omega (arith, h) in
       sym (append-nil before) ∙ ap (λ m. before ++ tiles_from m k) (sym none) ∙ e

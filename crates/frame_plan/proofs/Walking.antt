@@ -6,10 +6,10 @@ use Rattle.px_core.specs.Rectangle.{has_pixel}
 use Rattle.caps_sets.specs.declared.confirmed.Confirmed.{Confirmed}
 use Rattle.session_rules.specs.Pending.{Pending}
 use Rattle.frame_rules.specs.Cautious.{area_of, is_cut, cut, cut_if, cut_by}
-use Rattle.frame_rules.specs.Frame.{Walk, Walked, Sent, walked, walked_as, walked_pending, walk_after, sent_from, jumped, jumped_one}
+use Rattle.frame_rules.specs.Frame.{Walk, Walked, Sent, walked, walked_as, walked_pending, walk_after, sent_from}
 use Rattle.frame_plan.specs.declared.walk.Walker.{Walker}
 use Rattle.frame_plan.specs.Orders.{sent_to, orders_at}
-use Rattle.frame_plan.specs.Walks.{walk_of, HasDecided, HasGone, HasGoneOver, HasWalkedAll, HasJumped}
+use Rattle.frame_plan.specs.Walks.{walk_of, HasDecided, HasGone, HasGoneOver, HasWalkedAll}
 use Rattle.frame_plan.specs.Cuts.{AllCuttable, IsCuttable}
 
 -- ---- lists
@@ -111,16 +111,3 @@ module _ (size : Size) (c : Confirmed) where
 
   pub all_gone : (old new : Walker) (ps : List Pending) (orders : List Sent) → HasGoneOver size c old [] ps new orders → HasWalkedAll size c old ps orders new
   all_gone old new ps orders h = record { walk = h.walk; sent = h.sent }
-
--- ---- jumps
-
--- drawings in two parts
-pub jumped_parts : (size : Size) (w : Walk) (ps qs : List Pending) → jumped size w (ps ++ qs) ≡ jumped size (jumped size w ps) qs
-jumped_parts size w [] qs = refl
-jumped_parts size w (p ∷ ps) qs = jumped_parts size (jumped_one size w p) ps qs
-
-pub jump_more : (size : Size) (old w new : Walker) (ps qs all : List Pending) → HasJumped old (jumped size (walk_of old) ps) w
-    → HasJumped w (jumped size (walk_of w) qs) new → ps ++ qs ≡ all → HasJumped old (jumped size (walk_of old) all) new
-jump_more size old w new ps qs all h k e = record {
-  walk = k.walk ∙ (ap (λ (v : Walk). jumped size v qs) h.walk ∙ (sym (jumped_parts size (walk_of old) ps qs) ∙ ap (jumped size (walk_of old)) e));
-}

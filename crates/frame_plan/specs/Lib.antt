@@ -1,4 +1,5 @@
 pub mod Takes
+pub mod TileParts
 pub mod Plans
 pub mod Orders
 pub mod Walks

@@ -7,13 +7,13 @@ ghost use Rattle.session_rules.specs.Pending.{pending_between};
 ghost use Rattle.session_core.specs.SessionModel.{is_here, asked_by};
 ghost use Rattle.frame_plan.specs.Takes.{taken_as};
 ghost use Rattle.frame_plan.specs.Plans.{is_work, frame_at, taken_if, desk_if, asked_if};
-ghost use Rattle.frame_rules.specs.Frame.{jumped};
-ghost use Rattle.frame_plan.specs.Walks.{walk_of, HasWalkedAll, HasJumped};
+ghost use Rattle.frame_plan.specs.Walks.{HasWalkedAll};
 ghost use Rattle.frame_plan.specs.Planning.{planned_as, HasPlanned};
 ghost use Rattle.frame_plan.specs.declared.taken.Taken.TheVariants.{Nothing};
 
 use crate::area::whole;
-use crate::tiles::cut_tiles;
+use crate::quiet::quiet_end;
+use crate::tiles::{lend_tiles, tiles_due};
 use crate::walk::Walker;
 use crate::{Desk, Orders, OutOfMemory, Take, Taken, TakenTile};
 use px_core::{Size, TileSet};
@@ -91,15 +91,18 @@ fn is_asked(size: Size, asked: &TileSet) -> bool
     asked.end() > 0 && asked.meets(whole(size), size)
 }
 
-/// The frame that is due, apart from its numbers.
-fn plan_frame(alloc: Global, session: &Session, desk: &Desk) -> Result<Planned, OutOfMemory>
-    requires present { IsTrue (is_here session.now desk.now.v) }
-    requires seen { desk.now.number ≤ length session.now.journal }
-    ensures { IfOk result (λ planned. planned_as planned ≡ taken_as session.now.head.size (frame_at session.now desk.now)) }
+/// The frame that is due, apart from its numbers. The session is as it was, also after an `Err`.
+fn plan_frame(alloc: Global, session: &mut Session, desk: &Desk) -> Result<Planned, OutOfMemory>
+    requires present { IsTrue (is_here session.old desk.now.v) }
+    requires seen { desk.now.number ≤ length session.old.journal }
+    ensures planned { IfOk result (λ planned. planned_as planned ≡ taken_as session.old.head.size (frame_at session.old desk.now)) }
+    ensures unchanged { session.new ≡ session.old }
 {
     session.recall_legal();
     let (walker, sent) = walked(alloc, session, desk)?;
-    let tiles = cut_tiles(alloc, session.look(), &walker.dirty, session.asked(desk.v))?;
+    let asked = session.asked(desk.v);
+    let due = tiles_due(alloc, session.size(), &walker.dirty, asked)?;
+    let tiles = lend_tiles(alloc, session, due.as_slice())?;
     Ok(Planned {
         first: desk.number == 0,
         sent,
@@ -119,7 +122,7 @@ fn walked(alloc: Global, session: &Session, desk: &Desk) -> Result<(Walker, Orde
     let all = session.drawings_before(session.length());
     let count = all - session.drawings_before(desk.number);
     if count > MOST_ORDERS {
-        jump_over(session, desk.number, &mut walker)?;
+        walker.jump(session, desk.number);
         Ok((walker, Orders::none(alloc)))
     } else {
         let sent = walk_over(alloc, session, desk, count as usize, &mut walker)?;
@@ -127,8 +130,8 @@ fn walked(alloc: Global, session: &Session, desk: &Desk) -> Result<(Walker, Orde
     }
 }
 
-/// Walks over the drawings of all entries from the desk's number on, for so many of which there is to be room at once; answers those that
-/// go as orders.
+/// Walks over the drawings of all entries from the desk's number on, for so many of which there is to be room at once, and steps over
+/// entries that drew nothing; answers those that go as orders.
 fn walk_over(
     alloc: Global,
     session: &Session,
@@ -142,23 +145,11 @@ fn walk_over(
     session.recall_legal();
     let size = session.size();
     let mut orders = Orders::with_room(alloc, count)?;
-    for entry in desk.number..session.length() {
+    let mut entry = quiet_end(session, desk.number);
+    while entry < session.length() {
         let drawings = session.drawings(entry)?;
         walker.walk_all(alloc, size, &desk.confirmed, &drawings, &mut orders)?;
+        entry = quiet_end(session, entry + 1);
     }
     Ok(orders)
-}
-
-/// Jumps over the drawings of all entries from a number on, one entry after the other.
-fn jump_over(session: &Session, before: u64, walker: &mut Walker) -> Result<(), OutOfMemory>
-    requires { before ≤ length session.now.journal }
-    ensures { OnOk result (HasJumped walker.old (jumped session.now.head.size (walk_of walker.old) (pending_between session.now.head.size session.now.journal before (length session.now.journal))) walker.new) }
-{
-    session.recall_legal();
-    let size = session.size();
-    for entry in before..session.length() {
-        let drawings = session.drawings(entry)?;
-        walker.jump_all(size, &drawings);
-    }
-    Ok(())
 }

@@ -8,6 +8,7 @@ mod frame;
 pub mod laws;
 mod needs;
 mod orders;
+mod quiet;
 mod support;
 mod take;
 mod taken;

@@ -1,28 +1,53 @@
-use std::marker::Model;
+//! A tile of a frame, which the session lent to it.
+ghost use Rattle.std.specs.Prelude.{◌≡◌, ◌≤◌, length, IfOk};
+ghost use Rattle.frame_plan.specs.TileParts.{part_of_tile};
 
-/// A tile that goes as a bitmap: its number, and its pixels on the picture, row by row from the top.
+use crate::OutOfMemory;
+use px_core::{Rect, Size};
+use session_core::Tile;
+use std::alloc::Global;
+use std::marker::Model;
+use std::sync::Arc;
+use surface_parts::cut_pixels;
+
+/// The columns, and the rows, of a tile.
+pub(crate) const TILE_SIDE: u32 = 64;
+
+/// A tile that goes as a bitmap: its number, the sides in pixels of its part on the picture, and a handle of the session's own tile.
+///
+/// It keeps the colours that the tile had when it was lent, and they are copied only where a viewer's bytes are made of them.
 #[derive(Drop)]
 pub struct TakenTile {
     number: u32,
-    pixels: Vec<u32>,
+    w: u32,
+    h: u32,
+    tile: Arc<Tile>,
 }
 
 impl Model for TakenTile {
-    ghost use Rattle.std.specs.Prelude.{ℕ, List};
+    ghost use Rattle.std.specs.Prelude.{ℕ, ◌≤◌, List};
+    ghost use Rattle.std.specs.Arc.{arc_value};
+    ghost use Rattle.frame_plan.specs.TileParts.{part_of_tile};
 
     ghost Value = { ℕ × List ℕ };
 
-    ghost view = { λ s. (s.number, s.pixels.items) };
+    ghost view = { λ s. (s.number, part_of_tile (arc_value s.tile) s.w s.h) };
+
+    ghost invariant = { λ s. (s.w ≤ 64) × (s.h ≤ 64) };
 }
 
 impl TakenTile {
-    ghost use Rattle.std.specs.Prelude.{◌≡◌};
+    ghost use Rattle.std.specs.Prelude.{◌≡◌, ◌≤◌, IfOk, IfSome};
+    ghost use Rattle.std.specs.Arc.{arc_value};
+    ghost use Rattle.frame_plan.specs.TileParts.{part_of_tile};
 
-    /// A tile with its pixels.
-    pub(crate) fn new(number: u32, pixels: Vec<u32>) -> TakenTile
-        ensures { result ≡ (number, pixels.items) }
+    /// A tile with the sides of its part on the picture.
+    pub(crate) fn new(number: u32, w: u32, h: u32, tile: Arc<Tile>) -> TakenTile
+        requires wide { w ≤ 64 }
+        requires high { h ≤ 64 }
+        ensures { result ≡ (number, part_of_tile (arc_value tile) w h) }
     {
-        TakenTile { number, pixels }
+        TakenTile { number, w, h, tile }
     }
 
     /// The tile's number.
@@ -32,10 +57,45 @@ impl TakenTile {
         self.number
     }
 
-    /// Its pixels on the picture, row by row from the top.
-    pub fn pixels(&self) -> &[u32]
-        ensures { result.now ≡ self.now.1 }
+    /// Its pixels on the picture, row by row from the top, where they lie so in the tile itself; `None` for a tile that the picture's right edge
+    /// cuts.
+    pub fn pixels_in_place(&self) -> Option<&[u32]>
+        ensures { IfSome result (λ pixels. pixels.now ≡ self.now.1) }
     {
-        &self.pixels
+        if self.w == TILE_SIDE {
+            Some(first_rows(self.tile.pixels(), self.h))
+        } else {
+            None
+        }
     }
+
+    /// Its pixels on the picture, row by row from the top, in a list of their own.
+    pub fn copied_pixels(&self, alloc: Global) -> Result<Vec<u32>, OutOfMemory>
+        ensures { IfOk result (λ pixels. pixels.items ≡ self.now.1) }
+    {
+        copied_part(alloc, self.tile.pixels(), self.w, self.h)
+    }
+}
+
+/// The first h rows of a tile.
+fn first_rows(pixels: &[u32], h: u32) -> &[u32]
+    requires sized { length pixels.now ≡ 4096 }
+    requires high { h ≤ 64 }
+    ensures { result.now ≡ part_of_tile pixels.now 64 h }
+{
+    &pixels[..(TILE_SIDE * h) as usize]
+}
+
+/// The first w pixels of each of the first h rows of a tile.
+fn copied_part(alloc: Global, pixels: &[u32], w: u32, h: u32) -> Result<Vec<u32>, OutOfMemory>
+    requires sized { length pixels.now ≡ 4096 }
+    requires wide { w ≤ 64 }
+    requires high { h ≤ 64 }
+    ensures { IfOk result (λ copied. copied.items ≡ part_of_tile pixels.now w h) }
+{
+    let sides = Size {
+        w: TILE_SIDE,
+        h: TILE_SIDE,
+    };
+    cut_pixels(alloc, pixels, sides, Rect { x: 0, y: 0, w, h })
 }

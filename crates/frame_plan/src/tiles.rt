@@ -1,41 +1,68 @@
-//! The tiles of a frame, with the pixels that the surface has.
-ghost use Rattle.std.specs.Prelude.{◌≡◌, ℕ, false, ◌+◌, ◌*◌, ◌/◌, ◌≤◌, ◌<◌, ◌&&◌, map, IfOk, IsTrue};
+//! The tiles of a frame, which its session lends.
+ghost use Rattle.std.specs.Prelude.{◌≡◌, ℕ, false, ◌+◌, ◌*◌, ◌/◌, ◌≤◌, ◌<◌, ◌&&◌, map, All, IfOk, IsTrue};
 ghost use Rattle.px_core.specs.Rectangle.{is_session_size, has_pixel};
 ghost use Rattle.px_core.specs.Tiles.{either_tiles, tile_on, tiles_in};
 ghost use Rattle.px_core.specs.TileFlags.{tiles};
 ghost use Rattle.frame_plan.specs.Takes.{tile_taken};
+ghost use Rattle.frame_plan.specs.TileParts.{picture_by, IsOnPicture};
 
 use crate::area::{common, whole};
+use crate::tile::TILE_SIDE;
 use crate::{OutOfMemory, TakenTile};
 use px_core::{Rect, Size, TileSet, has_pixel};
+use session_core::Session;
 use std::alloc::Global;
-use surface_flat::Surface;
-
-/// The sides of a tile, in pixels.
-const TILE_SIDE: u32 = 64;
+use touch_marks::tile_rect;
 
 /// The number of tiles in a row.
 const TILES_IN_ROW: u32 = 32;
 
-/// The tiles that are dirty or asked for, by ascending number, with the surface's pixels.
-pub(crate) fn cut_tiles(
+/// The numbers of the tiles that are dirty or asked for, ascending.
+pub(crate) fn tiles_due(
     alloc: Global,
-    surface: &Surface,
+    size: Size,
     dirty: &TileSet,
     asked: &TileSet,
-) -> Result<Vec<TakenTile>, OutOfMemory>
-    requires size { IsTrue (is_session_size surface.now.size.w surface.now.size.h) }
-    ensures { IfOk result (λ all. all.items ≡ map (tile_taken surface.now.size surface.now.state.picture) (tiles_in surface.now.size (either_tiles (tiles dirty.now) (tiles asked.now)))) }
+) -> Result<Vec<u32>, OutOfMemory>
+    requires { IsTrue (is_session_size size.w size.h) }
+    ensures { IfOk result (λ due. due.items ≡ tiles_in size (either_tiles (tiles dirty.now) (tiles asked.now))) }
 {
-    let size = surface.size();
-    let mut all = Vec::new(alloc);
+    let mut due = Vec::new(alloc);
     for tile in 0..tiles_end(size, dirty, asked) {
         if is_taken(size, tile, dirty, asked) {
-            let pixels = surface.pixels_of(tile_on(size, tile))?;
-            all.push(TakenTile::new(tile, pixels))?;
+            due.push(tile)?;
         }
     }
+    Ok(due)
+}
+
+/// Handles of tiles of a session, in this order. The session is as it was, also after an `Err`.
+pub(crate) fn lend_tiles(
+    alloc: Global,
+    session: &mut Session,
+    due: &[u32],
+) -> Result<Vec<TakenTile>, OutOfMemory>
+    requires { All (IsOnPicture session.old.head.size) due.now }
+    ensures lent { IfOk result (λ all. all.items ≡ map (tile_taken session.old.head.size (picture_by session.old)) due.now) }
+    ensures unchanged { session.new ≡ session.old }
+{
+    let mut all = Vec::with_capacity(alloc, due.len())?;
+    for tile in due {
+        all.push(lend_tile(session, *tile)?)?;
+    }
     Ok(all)
+}
+
+/// A handle of a tile of a session. The session is as it was, also after an `Err`.
+fn lend_tile(session: &mut Session, tile: u32) -> Result<TakenTile, OutOfMemory>
+    requires { IsOnPicture session.old.head.size tile }
+    ensures lent { IfOk result (λ lent. lent ≡ tile_taken session.old.head.size (picture_by session.old) tile) }
+    ensures unchanged { session.new ≡ session.old }
+{
+    session.recall_legal();
+    let part = tile_on(session.size(), tile);
+    let lent = session.lend(tile)?;
+    Ok(TakenTile::new(tile, part.w, part.h, lent))
 }
 
 /// Whether a tile goes: where it is dirty or asked for, and a part of it lies on the picture. Few are, so that is looked at first.
@@ -72,11 +99,5 @@ pub fn tile_on(size: Size, tile: u32) -> Rect
     requires tile { tile < 1024 }
     ensures { result ≡ tile_on size tile }
 {
-    let rect = Rect {
-        x: (TILE_SIDE * (tile % TILES_IN_ROW)) as i32,
-        y: (TILE_SIDE * (tile / TILES_IN_ROW)) as i32,
-        w: TILE_SIDE,
-        h: TILE_SIDE,
-    };
-    common(rect, whole(size))
+    common(tile_rect(tile), whole(size))
 }

@@ -1,10 +1,11 @@
 //! The walk over pending drawings: which go as orders, and which tiles become dirty.
-ghost use Rattle.std.specs.Prelude.{◌≡◌, ◌&&◌, ◌||◌, not, IfOk, OnOk, IsTrue};
+ghost use Rattle.std.specs.Prelude.{◌≡◌, ◌≤◌, length, ◌&&◌, ◌||◌, not, IfOk, OnOk, IsTrue};
 ghost use Rattle.px_core.specs.TileFlags.{tiles};
 ghost use Rattle.px_core.specs.Tiles.{share_tile, tiles_of};
 ghost use Rattle.px_core.specs.Rectangle.{is_session_size, boxed, IsPlaced};
+ghost use Rattle.session_rules.specs.Pending.{pending_between};
 ghost use Rattle.frame_rules.specs.Cautious.{is_cut};
-ghost use Rattle.frame_rules.specs.Frame.{walked, walked_pending, sent_if, skipped, saved_if, given_up, restored_from, block_if, first_dirty, jumped, jumped_one};
+ghost use Rattle.frame_rules.specs.Frame.{walked, walked_pending, sent_if, skipped, saved_if, given_up, restored_from, block_if, first_dirty, jumped};
 ghost use Rattle.frame_plan.specs.Cuts.{IsWalkable, IsCuttable, AllCuttable};
 ghost use Rattle.frame_plan.specs.Walks.{walk_of, HasDecided, HasGone, HasGoneOver, HasJumped, IsBegun};
 
@@ -16,8 +17,11 @@ use caps_sets::Confirmed;
 use draw_ops::Shape;
 use px_core::{Rect, Size, TileSet};
 use save_plan::{Blocks, PlaceFault};
-use session_core::{SeenDrawing, SeenDrawings};
+use session_core::{SeenDrawing, SeenDrawings, Session};
 use std::alloc::Global;
+
+/// How many slots of saved blocks drawings may name.
+const SLOTS: u8 = 16;
 
 /// What a walk has come to: the tiles that go as bitmaps, and the blocks that the viewer holds.
 #[derive(Drop)]
@@ -108,26 +112,18 @@ impl Walker {
         Ok(())
     }
 
-    /// Jumps over drawings: none goes as an order, the tiles that any of them touches are dirty, and each slot that a save names is given up.
-    pub fn jump_all(&mut self, size: Size, drawings: &SeenDrawings<'_>)
-        requires size { IsTrue (is_session_size size.w size.h) }
-        requires cuttable { AllCuttable size drawings.now }
-        ensures { HasJumped self.old (jumped size (walk_of self.old) drawings.now) self.new }
+    /// Jumps over the drawings of the entries behind the first `before`: none goes as an order, the tiles that any of them touches are dirty,
+    /// and each slot that a save names is given up. Each tile and each slot is looked at once, however many drawings there are.
+    pub fn jump(&mut self, session: &Session, before: u64)
+        requires { before ≤ length session.now.journal }
+        ensures { HasJumped self.old (jumped session.now.head.size (walk_of self.old) (pending_between session.now.head.size session.now.journal before (length session.now.journal))) self.new }
     {
-        for i in 0..drawings.len() {
-            self.jump_one(size, &drawings.get(i));
-        }
-    }
-
-    /// Jumps over a drawing.
-    fn jump_one(&mut self, size: Size, pending: &SeenDrawing<'_>)
-        requires size { IsTrue (is_session_size size.w size.h) }
-        requires walkable { IsWalkable pending.now }
-        ensures { HasJumped self.old (jumped_one size (walk_of self.old) pending.now) self.new }
-    {
-        self.skip(size, pending);
-        if let Shape::Save { slot, .. } = &pending.drawing().shape {
-            self.held.free(*slot);
+        session.recall_slots();
+        session.add_touched(before, &mut self.dirty);
+        for slot in 0..SLOTS {
+            if session.saved_since(before, slot) {
+                self.held.free(slot);
+            }
         }
     }
 

@@ -1,12 +1,12 @@
 -- What drawings show, one more after the other.
-use Rattle.std.proofs.Common.{◌≡◌, ℕ, zero, suc, ◌+◌, ◌≤◌, ◌<◌, List, [], ◌∷◌, ◌++◌, length, take, drop, refl, ap, sym, subst, ◌∙◌, Some, None, arith}
+use Rattle.std.proofs.Common.{◌≡◌, ℕ, zero, suc, ◌+◌, ◌≤◌, ◌<◌, List, [], ◌∷◌, ◌++◌, length, take, refl, ap, sym, subst, ◌∙◌, Some, arith}
 use Rattle.std.specs.Prelude.{slice_index_or, slice_get}
 use Rattle.px_core.specs.declared.surface.Size.{Size}
 use Rattle.draw_ops.specs.declared.shape.Drawing.{Drawing}
 use Rattle.draw_ops.specs.Slots.{SurfaceState}
 use Rattle.draw_ops.specs.Drawing.{state_after_drawing, state_after_drawings}
 use Rattle.draw_ops.specs.Fits.{FitsState, AllFitState}
-use Rattle.session_rules.specs.Pending.{Pending, pending_of, pending_drawings}
+use Rattle.session_rules.specs.Pending.{pending_of, pending_drawings}
 use Rattle.pending_core.specs.declared.shown.Shown.{Shown}
 use Rattle.pending_core.specs.Showing.{shown_with, all_shown}
 use Rattle.pending_core.proofs.LastFilling.{take_more, length_take}

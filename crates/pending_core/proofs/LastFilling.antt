@@ -1,19 +1,19 @@
 -- What a slot holds after drawings: what the last of them that fills it put there, or what it held before.
-use Rattle.std.proofs.Common.{◌≡◌, ◌≢◌, ℕ, zero, suc, ◌+◌, ◌*◌, ◌≤◌, ◌<◌, List, [], ◌∷◌, ◌++◌, length, take, refl, ap, sym, subst, ◌∙◌, Some, None, arith, eq-eqb}
-use Rattle.std.proofs.lemmas.Bool.{and_parts, eqb-true}
-use Rattle.std.specs.Prelude.{Bool, true, false, ◌&&◌, ◌==◌, slice_get, slice_index_or, Option, option_map, IfSome, if◌then◌else◌}
+use Rattle.std.proofs.Common.{◌≡◌, ◌≢◌, ℕ, zero, suc, ◌+◌, ◌≤◌, ◌<◌, List, [], ◌∷◌, ◌++◌, length, take, refl, ap, sym, ◌∙◌, Some, None, arith, eq-eqb}
+use Rattle.std.proofs.lemmas.Bool.{eqb-true}
+use Rattle.std.specs.Prelude.{Bool, true, false, ◌==◌, slice_get, slice_index_or, Option, option_map, IfSome, if◌then◌else◌}
 use Rattle.px_core.specs.declared.surface.Size.{Size}
 use Rattle.draw_ops.specs.declared.shape.Drawing.{Drawing}
 use Rattle.draw_ops.specs.declared.shape.Shape.{Shape}
 use Rattle.draw_ops.specs.declared.shape.Shape.TheVariants as shape
-use Rattle.draw_ops.specs.Content.{ImageOf, GlyphOf}
-use Rattle.draw_ops.specs.Slots.{SurfaceState, Loaded, lookup, glyph_slot, filled_slot}
+use Rattle.draw_ops.specs.Content.{ImageOf}
+use Rattle.draw_ops.specs.Slots.{SurfaceState, lookup, glyph_slot}
 use Rattle.draw_ops.specs.Drawing.{slots_after, state_after_drawing, state_after_drawings}
 use Rattle.session_rules.proofs.Slots.{lookup-other, lookup-filled, length-filled}
 use Rattle.session_rules.proofs.Sound.{count_drawings}
 use Rattle.pending_core.specs.declared.filled.Slot.{Slot}
 use Rattle.pending_core.specs.declared.filled.Slot.TheVariants.{Image, Brush, Glyph, Block}
-use Rattle.pending_core.specs.Filled.{filled_by, is_slot, fills, or_here, last_filling, image_load, brush_load, glyph_load, sides_saved, sides_of}
+use Rattle.pending_core.specs.Filled.{fills, or_here, last_filling, image_load, brush_load, glyph_load, sides_saved, sides_of}
 
 -- ---- the loop
 

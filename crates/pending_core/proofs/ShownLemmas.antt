@@ -1,5 +1,5 @@
 -- What single drawings show.
-use Rattle.std.proofs.Common.{◌≡◌, ℕ, ◌≤◌, List, [], ◌∷◌, length, refl, ap, sym, subst, ◌∙◌, Some, None, arith}
+use Rattle.std.proofs.Common.{◌≡◌, ℕ, ◌≤◌, List, [], ◌∷◌, refl, ap, sym, subst, ◌∙◌, Some, None}
 use Rattle.std.proofs.lemmas.Bool.{and_parts}
 use Rattle.std.specs.Prelude.{Bool, true, false, ◌&&◌, ◌||◌, not, Option, Result, Ok, Err, IfOk, ℤ}
 use Rattle.std.specs.Ordering.{int_eq}
@@ -10,15 +10,15 @@ use Rattle.draw_ops.specs.declared.shape.Shape.{Shape}
 use Rattle.draw_ops.specs.declared.shape.Shape.TheVariants as shape
 use Rattle.draw_ops.specs.Content.{GlyphOf}
 use Rattle.draw_ops.specs.Slots.{SurfaceState, Loaded}
-use Rattle.draw_ops.specs.Drawing.{glyphs_in}
 use Rattle.draw_ops.specs.Formulas.{joint_of}
-use Rattle.draw_ops.specs.Fits.{first_some, rules_of, slot_tests, broken_rule, slot_misfit, FitsState, is_corner, line_rule, empty_glyph}
-use Rattle.session_rules.specs.Pending.{Pending, pending_of, touched_rect, image_of, brush_of, glyphs_of, run_glyphs}
+use Rattle.draw_ops.specs.Fits.{first_some, rules_of, slot_tests, FitsState, is_corner, line_rule, empty_glyph}
+use Rattle.session_rules.specs.Pending.{pending_of, touched_rect, image_of, brush_of, glyphs_of, run_glyphs}
 use Rattle.session_rules.proofs.OwnSteps.{first_some-each}
 use Rattle.pending_core.specs.declared.shown.Shown.{Shown}
+use Rattle.pending_core.specs.declared.shown.Shown.TheVariants.{Bare}
 use Rattle.pending_core.specs.Cells.{cells_along, IsNear}
-use Rattle.pending_core.specs.Showing.{shown_with, image_held, brush_held, glyphs_held}
-use Rattle.pending_core.proofs.TextShown.{keeps_rules, has_slots, below_limit, near, kept_if, cells_are}
+use Rattle.pending_core.specs.Showing.{rect_shown, image_shown, brush_shown, glyphs_shown, shown_with}
+use Rattle.pending_core.proofs.TextShown.{keeps_rules, has_slots, below_limit, near, cells_are}
 
 pub rules_as : (size : Size) (st : SurfaceState) (d : Drawing) (s : Shape) → FitsState size st d → d.shape ≡ s → first_some (rules_of size d.clip s) ≡ None
 rules_as size st d s h is = subst (λ x. first_some (rules_of size d.clip x) ≡ None) is (keeps_rules size st d h)
@@ -63,21 +63,21 @@ line_ends size clip x0 y0 x1 y1 color h =
     record { left = near x0 first.0; above = near y0 first.1; right = near x1 second.0; below = near y1 second.1 }
 
 -- a drawing that reads no slot
-pub bare_is : (size : Size) (st : SurfaceState) (d : Drawing) (s : Shown) (x : Shape) → d.shape ≡ x → s.held ≡ None → s.rect ≡ touched_rect size st x → image_of st x ≡ None → brush_of st x ≡ None
-    → glyphs_of st x ≡ [] → shown_with d s ≡ pending_of size st d
-bare_is size st d s x is held rect image brush glyphs = λ i. record {
+pub bare_is : (size : Size) (st : SurfaceState) (d : Drawing) (rect : Rect) (x : Shape) → d.shape ≡ x → rect ≡ touched_rect size st x → image_of st x ≡ None → brush_of st x ≡ None → glyphs_of st x ≡ []
+    → shown_with d (Bare rect) ≡ pending_of size st d
+bare_is size st d place x is rect image brush glyphs = λ i. record {
   drawing = d;
   rect = (rect ∙ ap (touched_rect size st) (sym is)) i;
-  image = (ap image_held held ∙ sym image ∙ ap (image_of st) (sym is)) i;
-  brush = (ap brush_held held ∙ sym brush ∙ ap (brush_of st) (sym is)) i;
-  glyphs = (ap glyphs_held held ∙ sym glyphs ∙ ap (glyphs_of st) (sym is)) i;
+  image = (sym image ∙ ap (image_of st) (sym is)) i;
+  brush = (sym brush ∙ ap (brush_of st) (sym is)) i;
+  glyphs = (sym glyphs ∙ ap (glyphs_of st) (sym is)) i;
 }
 
 -- a text
 pub text_is : {E : Type 0} (size : Size) (st : SurfaceState) (d : Drawing) (r : Result Shown E) (x y : ℤ) (color font : ℕ) (run : List (ℕ × ℕ)) (rect : Rect) (glyphs : List (Loaded GlyphOf))
     → d.shape ≡ shape.Text x y color font run → empty_glyph st.glyphs font run ≡ None → rect ≡ joint_of (cells_along (run_glyphs st.glyphs font run) run x y) → glyphs ≡ run_glyphs st.glyphs font run
-    → IfOk r (λ (shown : Shown). shown.rect ≡ rect) → IfOk r (λ (shown : Shown). image_held shown.held ≡ None) → IfOk r (λ (shown : Shown). brush_held shown.held ≡ None)
-    → IfOk r (λ (shown : Shown). glyphs_held shown.held ≡ glyphs) → IfOk r (λ (shown : Shown). shown_with d shown ≡ pending_of size st d)
+    → IfOk r (λ (shown : Shown). rect_shown d.shape shown ≡ rect) → IfOk r (λ (shown : Shown). image_shown shown ≡ None) → IfOk r (λ (shown : Shown). brush_shown shown ≡ None)
+    → IfOk r (λ (shown : Shown). glyphs_shown shown ≡ glyphs) → IfOk r (λ (shown : Shown). shown_with d shown ≡ pending_of size st d)
 text_is size st d (Err e) x y color font run rect glyphs is full corner some a b c g = tt
 text_is size st d (Ok shown) x y color font run rect glyphs is full corner some a b c g = λ i. record {
   drawing = d;

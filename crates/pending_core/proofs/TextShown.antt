@@ -1,22 +1,22 @@
 -- The glyphs of a text that fits: they are all there, plain, and their cells make its rectangle.
-use Rattle.std.proofs.Common.{◌≡◌, ℕ, zero, suc, ◌+◌, ◌*◌, ◌≤◌, ◌<◌, List, [], ◌∷◌, ◌++◌, length, take, refl, ap, sym, subst, ◌∙◌, Some, None, arith}
+use Rattle.std.proofs.Common.{◌≡◌, ℕ, zero, suc, ◌+◌, ◌*◌, ◌≤◌, ◌<◌, List, [], ◌∷◌, ◌++◌, length, take, refl, ap, subst, ◌∙◌, Some, None, arith}
 use Rattle.std.proofs.lemmas.Bool.Decides.{nat_tests}
 use Rattle.std.proofs.lemmas.Bool.{and_parts}
-use Rattle.std.specs.Prelude.{Bool, true, false, ◌&&◌, not, nat_le, Option, option_map, ℤ, pos, negsuc, ◌+ℤ◌, ◌≤ℤ◌, int_le, slice_set, slice_index_or, option_to_list}
+use Rattle.std.specs.Prelude.{Bool, true, false, ◌&&◌, not, nat_le, Option, option_map, ℤ, pos, negsuc, ◌+ℤ◌, ◌≤ℤ◌, int_le, slice_index_or, option_to_list}
 use Rattle.std.proofs.lemmas.Int.{ints}
 use Rattle.px_core.specs.declared.surface.Size.{Size}
 use Rattle.px_core.specs.declared.rectangle.Rect.{Rect}
 use Rattle.draw_ops.specs.declared.shape.Drawing.{Drawing}
 use Rattle.draw_ops.specs.declared.shape.Shape.{Shape}
 use Rattle.draw_ops.specs.declared.shape.Shape.TheVariants as shape
-use Rattle.draw_ops.specs.Content.{ImageOf, GlyphOf}
+use Rattle.draw_ops.specs.Content.{GlyphOf}
 use Rattle.draw_ops.specs.Slots.{SurfaceState, Slots, Loaded, lookup, glyph_slot, filled_slot}
-use Rattle.draw_ops.specs.Drawing.{slots_after, state_after_drawing, state_after_drawings, content_of, glyphs_in, loaded}
-use Rattle.draw_ops.specs.Formulas.{glyph_cell, run_cells, cell_of}
-use Rattle.draw_ops.specs.Fits.{Misfit, first_some, broken_if, rules_of, broken_rule, slot_misfit, slot_tests, empty_if_none, empty_glyph, glyph_rule, run_rule, place_rule, limit_rule, is_corner, starts_at_0, deltas_are_small, FitsState, AllFitState}
-use Rattle.draw_ops.specs.Fits.Misfit.{Rule, Empty}
+use Rattle.draw_ops.specs.Drawing.{slots_after, state_after_drawing, state_after_drawings, glyphs_in, loaded}
+use Rattle.draw_ops.specs.Formulas.{glyph_cell, run_cells}
+use Rattle.draw_ops.specs.Fits.{Misfit, first_some, broken_if, rules_of, broken_rule, slot_misfit, empty_if_none, empty_glyph, glyph_rule, limit_rule, is_corner, starts_at_0, deltas_are_small, FitsState, AllFitState}
+use Rattle.draw_ops.specs.Fits.Misfit.{Rule}
 use Rattle.session_rules.specs.Pending.{run_glyphs, onto_optional}
-use Rattle.session_rules.proofs.OwnSteps.{AllNone, first_some-each}
+use Rattle.session_rules.proofs.OwnSteps.{first_some-each}
 use Rattle.surface_parts.specs.Surfaces.{AllInSlots}
 use Rattle.pending_core.specs.Cells.{cells_along, ArePlain, IsNear, IsPen}
 

@@ -1,36 +1,77 @@
 -- What is kept of pending drawings beside the drawings themselves.
-use Rattle.std.specs.Prelude.{ℕ, List, [], ◌∷◌, Option, Some, None}
-use Rattle.std.specs.Global.{Box}
+use Rattle.std.specs.Prelude.{ℕ, pos, List, [], ◌∷◌, Option, Some, None}
+use Rattle.std.specs.Arc.{arc_value}
 use Rattle.std.specs.Box.{box_value}
+use Rattle.px_core.specs.declared.rectangle.Rect.{Rect}
 use Rattle.draw_ops.specs.declared.shape.Drawing.{Drawing}
+use Rattle.draw_ops.specs.declared.shape.Shape.{Shape}
+use Rattle.draw_ops.specs.declared.shape.Shape.TheVariants as shape
 use Rattle.draw_ops.specs.Content.{ImageOf, GlyphOf}
 use Rattle.draw_ops.specs.Slots.{Loaded}
 use Rattle.session_rules.specs.Pending.{Pending}
-use Rattle.pending_core.specs.declared.shown.Held.{Held}
 use Rattle.pending_core.specs.declared.shown.Shown.{Shown}
+use Rattle.pending_core.specs.declared.shown.Shown.TheVariants.{Bare, Image, Brush, Both, Signs}
 use Rattle.pending_core.specs.declared.shown.ShownList.{ShownList}
-use Rattle.pending_core.specs.declared.shown.ShownList.TheVariants.{One, Many}
+use Rattle.pending_core.specs.declared.shown.ShownList.TheVariants.{Nothing, One, Reaction}
 
-abbrev pub image_held : Option (Box Held) → Option (Loaded ImageOf)
-image_held None = None
-image_held (Some held) = (box_value held).image
+abbrev pub no_rect : Rect
+no_rect = record { x = pos 0; y = pos 0; w = 0; h = 0 }
 
-abbrev pub brush_held : Option (Box Held) → Option (Loaded (List ℕ))
-brush_held None = None
-brush_held (Some held) = (box_value held).brush
+-- the rectangle that a shape names
+abbrev pub named_rect : Shape → Rect
+named_rect (shape.Fill r color) = r
+named_rect (shape.Dst r code) = r
+named_rect (shape.Pat r code brush) = r
+named_rect (shape.Copy r code sx sy) = r
+named_rect (shape.Blit r code image sx sy) = r
+named_rect (shape.Blit3 r code image sx sy brush) = r
+named_rect (shape.Text x y color font run) = no_rect
+named_rect (shape.Line x0 y0 x1 y1 color) = no_rect
+named_rect (shape.Save slot r) = r
+named_rect (shape.Restore slot x y) = no_rect
+named_rect (shape.LoadImage slot image) = no_rect
+named_rect (shape.LoadBrush slot brush) = no_rect
+named_rect (shape.LoadGlyph font code glyph) = no_rect
 
-abbrev pub glyphs_held : Option (Box Held) → List (Loaded GlyphOf)
-glyphs_held None = []
-glyphs_held (Some held) = (box_value held).glyphs.items
+-- the rectangle that a shape touches of which this is kept
+abbrev pub rect_shown : Shape → Shown → Rect
+rect_shown s (Bare rect) = rect
+rect_shown s (Image image) = named_rect s
+rect_shown s (Brush brush) = named_rect s
+rect_shown s (Both both) = named_rect s
+rect_shown s (Signs signs) = (arc_value signs).rect
+
+-- the image, the brush and the glyphs that its slots held
+abbrev pub image_shown : Shown → Option (Loaded ImageOf)
+image_shown (Bare rect) = None
+image_shown (Image image) = Some image
+image_shown (Brush brush) = None
+image_shown (Both both) = Some (arc_value both).image
+image_shown (Signs signs) = None
+
+abbrev pub brush_shown : Shown → Option (Loaded (List ℕ))
+brush_shown (Bare rect) = None
+brush_shown (Image image) = None
+brush_shown (Brush brush) = Some brush
+brush_shown (Both both) = Some (arc_value both).brush
+brush_shown (Signs signs) = None
+
+abbrev pub glyphs_shown : Shown → List (Loaded GlyphOf)
+glyphs_shown (Bare rect) = []
+glyphs_shown (Image image) = []
+glyphs_shown (Brush brush) = []
+glyphs_shown (Both both) = []
+glyphs_shown (Signs signs) = (arc_value signs).glyphs.items
 
 -- a drawing with what is kept of it
 abbrev pub shown_with : Drawing → Shown → Pending
-shown_with d s = record { drawing = d; rect = s.rect; image = image_held s.held; brush = brush_held s.held; glyphs = glyphs_held s.held }
+shown_with d s = record { drawing = d; rect = rect_shown d.shape s; image = image_shown s; brush = brush_shown s; glyphs = glyphs_shown s }
 
 -- what each of an entry's drawings shows
 abbrev pub shown_list : ShownList → List Shown
+shown_list Nothing = []
 shown_list (One shown) = shown ∷ []
-shown_list (Many shown) = shown.items
+shown_list (Reaction found) = (box_value found).shown.items
 
 -- drawings, each with what is kept of it
 abbrev pub all_shown : List Drawing → List Shown → List Pending

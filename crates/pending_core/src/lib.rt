@@ -13,6 +13,6 @@ mod slots;
 pub use draw_ops::OutOfMemory;
 pub use pending::Pending;
 pub use seen::{SeenDrawing, SeenDrawings};
-pub use shown::{Held, Shown, ShownList, shown_all, shown_one};
-pub use surface_flat::Surface;
+pub use shown::{Found, Pair, Shown, ShownList, Signs, reaction_list, shown_all, shown_one};
 pub use surface_parts::{LoadedBrush, LoadedGlyph, LoadedImage};
+pub use tile_surface::Tiles;

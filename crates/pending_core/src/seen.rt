@@ -1,14 +1,13 @@
 //! The drawings of an entry where they lie, each with what its slots held at its place.
 
 ghost use Rattle.std.specs.Prelude.{◌≡◌, ◌<◌, ◌≤◌, [], ◌∷◌, length, Some, IfOk, option_copied, slice_get};
-ghost use Rattle.pending_core.specs.Showing.{all_shown};
+ghost use Rattle.pending_core.specs.Showing.{all_shown, shown_list};
 ghost use Rattle.pending_core.specs.Seeing.{drawings_seen};
 ghost use Rattle.pending_core.specs.Putting.{drawings_made, IsBoardReady};
 
 use crate::OutOfMemory;
 use crate::pending::{Pending, shared};
-use crate::shown::{Held, Shown};
-use board_app::Board;
+use crate::shown::{Shown, ShownList};
 use draw_ops::Drawing;
 use input_pdu::Event;
 use px_core::Rect;
@@ -22,7 +21,7 @@ use surface_parts::{LoadedGlyph, LoadedImage};
 pub struct SeenDrawing<'a> {
     drawing: &'a Drawing,
     rect: Rect,
-    held: &'a Option<Box<Held>>,
+    shown: &'a Shown,
 }
 
 impl<'a> Model for SeenDrawing<'a> {
@@ -31,7 +30,7 @@ impl<'a> Model for SeenDrawing<'a> {
 
     ghost Value = { PendingOf };
 
-    ghost view = { λ s. pending_with s.drawing.now s.rect s.held.now };
+    ghost view = { λ s. pending_with s.drawing.now s.rect s.shown.now };
 }
 
 impl<'a> SeenDrawing<'a> {
@@ -53,20 +52,14 @@ impl<'a> SeenDrawing<'a> {
     pub fn image(&self) -> Option<&LoadedImage>
         ensures { option_copied result ≡ self.now.image }
     {
-        match self.held {
-            Some(held) => held.image.as_ref(),
-            None => None,
-        }
+        self.shown.image()
     }
 
     /// The glyphs of its run, in the run's order.
     pub fn glyphs(&self) -> &[LoadedGlyph]
         ensures { result.now ≡ self.now.glyphs }
     {
-        match self.held {
-            Some(held) => held.glyphs.as_slice(),
-            None => &[],
-        }
+        self.shown.glyphs()
     }
 
     /// The same with another drawing over another rectangle.
@@ -76,7 +69,7 @@ impl<'a> SeenDrawing<'a> {
         SeenDrawing {
             drawing,
             rect,
-            held: self.held,
+            shown: self.shown,
         }
     }
 
@@ -84,7 +77,7 @@ impl<'a> SeenDrawing<'a> {
     pub fn share(&self, alloc: Global) -> Result<Pending, OutOfMemory>
         ensures { IfOk result (λ p. p ≡ self.now) }
     {
-        shared(alloc, self.drawing, self.rect, self.held)
+        shared(alloc, self.drawing, self.rect, self.shown)
     }
 }
 
@@ -136,25 +129,24 @@ impl<'a> SeenDrawings<'a> {
     /// The drawings of the board's reaction to an event, which is made again, with what they show.
     pub fn reaction(
         alloc: Global,
-        board: &Option<Box<Board>>,
+        list: &'a ShownList,
         e: Event,
-        shown: &'a [Shown],
     ) -> Result<SeenDrawings<'a>, OutOfMemory>
-        requires ready { IsBoardReady board.now }
-        requires each { length (drawings_made board.now e) ≤ length shown.now }
-        ensures { IfOk result (λ seen. seen ≡ all_shown (drawings_made board.now e) shown.now) }
+        requires ready { IsBoardReady list.now }
+        requires each { length (drawings_made list.now e) ≤ length (shown_list list.now) }
+        ensures { IfOk result (λ seen. seen ≡ all_shown (drawings_made list.now e) (shown_list list.now)) }
     {
-        match board {
-            Some(board) => {
-                let mut board = **board;
+        match list {
+            ShownList::Reaction(found) => {
+                let mut board = found.board;
                 let made = board.react(alloc, e)?;
                 Ok(SeenDrawings {
                     kept: &[],
                     made: Some(made),
-                    shown,
+                    shown: found.shown.as_slice(),
                 })
             }
-            None => Ok(SeenDrawings::none()),
+            _ => Ok(SeenDrawings::none()),
         }
     }
 
@@ -184,8 +176,8 @@ fn seen_at<'b>(drawings: &'b [Drawing], shown: &'b [Shown], i: usize) -> SeenDra
     let shown = &shown[i];
     SeenDrawing {
         drawing,
-        rect: shown.rect,
-        held: &shown.held,
+        rect: shown.rect(drawing),
+        shown,
     }
 }
 

@@ -5,7 +5,6 @@ ghost use Rattle.std.specs.Prelude.{◌≡◌, IfOk};
 use crate::OutOfMemory;
 use draw_ops::{Drawing, Run, Shape};
 use std::alloc::Global;
-use surface_parts::LoadedGlyph;
 
 /// One more drawing like this.
 pub fn share_drawing(alloc: Global, d: &Drawing) -> Result<Drawing, OutOfMemory>
@@ -119,15 +118,4 @@ fn share_shape(alloc: Global, shape: &Shape) -> Result<Shape, OutOfMemory>
             glyph: glyph.share()?,
         },
     })
-}
-
-/// Further handles of glyphs.
-pub fn share_glyphs(alloc: Global, glyphs: &[LoadedGlyph]) -> Result<Vec<LoadedGlyph>, OutOfMemory>
-    ensures { IfOk result (λ shared. shared.items ≡ glyphs.now) }
-{
-    let mut shared = Vec::new(alloc);
-    for glyph in glyphs {
-        shared.push(glyph.share()?)?;
-    }
-    Ok(shared)
 }

@@ -1,44 +1,143 @@
 //! What of a pending drawing is kept beside the drawing itself.
 
-ghost use Rattle.std.specs.Prelude.{◌≡◌, ◌+◌, ◌<◌, ◌≤◌, ◌^◌, [], ◌∷◌, IfOk, None, length};
+ghost use Rattle.std.specs.Prelude.{◌≡◌, ◌+◌, ◌<◌, ◌≤◌, ◌^◌, [], ◌∷◌, IfOk, None, length, option_copied};
+ghost use Rattle.draw_ops.specs.declared.shape.Shape.{Shape};
 ghost use Rattle.draw_ops.specs.Slots.{lookup};
 ghost use Rattle.draw_ops.specs.Formulas.{line_rect};
 ghost use Rattle.draw_ops.specs.Drawing.{restoring, state_after_drawings};
 ghost use Rattle.draw_ops.specs.Fits.{FitsState, AllFitState};
 ghost use Rattle.session_rules.specs.Pending.{pending_of, pending_drawings};
 ghost use Rattle.pending_core.specs.Cells.{IsNear};
-ghost use Rattle.pending_core.specs.Showing.{shown_with, all_shown, shown_list, image_held, brush_held, glyphs_held};
+ghost use Rattle.pending_core.specs.Putting.{IsFound};
+ghost use Rattle.pending_core.specs.Showing.{named_rect, rect_shown, image_shown, brush_shown, glyphs_shown, shown_with, all_shown, shown_list};
 
 use crate::OutOfMemory;
 use crate::cells::{lesser, run_rect};
 use crate::slots::{block_sides, brush_after, glyphs_after, image_after};
+use board_app::Board;
 use draw_ops::{Drawing, Shape};
 use px_core::Rect;
 use std::alloc::Global;
 use std::slice;
-use surface_flat::Surface;
+use std::sync::Arc;
 use surface_parts::{LoadedBrush, LoadedGlyph, LoadedImage};
+use tile_surface::Tiles;
 
-/// What the slots that a drawing reads held at its place.
+/// The image and the brush that a drawing reads.
 #[derive(Drop)]
-pub struct Held {
-    pub image: Option<LoadedImage>,
-    pub brush: Option<LoadedBrush>,
+pub struct Pair {
+    pub image: LoadedImage,
+    pub brush: LoadedBrush,
+}
+
+/// The rectangle that a text touches, and the glyphs of its run.
+#[derive(Drop)]
+pub struct Signs {
+    pub rect: Rect,
     pub glyphs: Vec<LoadedGlyph>,
 }
 
-/// The rectangle that a drawing touches, and what its slots held, where it reads any.
+/// What is kept of a drawing beside itself: the rectangle that it touches, where that isn't the one that it names, and what its slots
+/// held at its place. A further handle of it copies no more than one image's or brush's.
 #[derive(Drop)]
-pub struct Shown {
-    pub rect: Rect,
-    pub held: Option<Box<Held>>,
+pub enum Shown {
+    /// The rectangle of a drawing whose slots held nothing.
+    Bare(Rect),
+    Image(LoadedImage),
+    Brush(LoadedBrush),
+    Both(Arc<Pair>),
+    Signs(Arc<Signs>),
 }
 
-/// What each of an entry's drawings shows. What one alone shows takes no memory of its own.
+impl Shown {
+    /// The rectangle that the drawing touches.
+    pub fn rect(&self, d: &Drawing) -> Rect
+        ensures { result ≡ rect_shown d.now.shape self.now }
+    {
+        match self {
+            Shown::Bare(rect) => *rect,
+            Shown::Signs(signs) => signs.rect,
+            _ => named_rect(&d.shape),
+        }
+    }
+
+    /// The image that it draws.
+    pub fn image(&self) -> Option<&LoadedImage>
+        ensures { option_copied result ≡ image_shown self.now }
+    {
+        match self {
+            Shown::Image(image) => Some(image),
+            Shown::Both(both) => Some(&both.image),
+            _ => None,
+        }
+    }
+
+    /// The brush that it draws with.
+    pub fn brush(&self) -> Option<&LoadedBrush>
+        ensures { option_copied result ≡ brush_shown self.now }
+    {
+        match self {
+            Shown::Brush(brush) => Some(brush),
+            Shown::Both(both) => Some(&both.brush),
+            _ => None,
+        }
+    }
+
+    /// The glyphs of its run, in the run's order.
+    pub fn glyphs(&self) -> &[LoadedGlyph]
+        ensures { result.now ≡ glyphs_shown self.now }
+    {
+        match self {
+            Shown::Signs(signs) => signs.glyphs.as_slice(),
+            _ => &[],
+        }
+    }
+
+    /// One more handle of it: pixels, bits and lists are shared, not copied.
+    pub fn share(&self) -> Result<Shown, OutOfMemory>
+        ensures image { IfOk result (λ shown. image_shown shown ≡ image_shown self.now) }
+        ensures brush { IfOk result (λ shown. brush_shown shown ≡ brush_shown self.now) }
+        ensures glyphs { IfOk result (λ shown. glyphs_shown shown ≡ glyphs_shown self.now) }
+    {
+        Ok(match self {
+            Shown::Bare(rect) => Shown::Bare(*rect),
+            Shown::Image(image) => Shown::Image(image.share()?),
+            Shown::Brush(brush) => Shown::Brush(brush.share()?),
+            Shown::Both(both) => Shown::Both(Arc::try_clone(both)?),
+            Shown::Signs(signs) => Shown::Signs(Arc::try_clone(signs)?),
+        })
+    }
+}
+
+/// The rectangle that a shape names.
+fn named_rect(shape: &Shape) -> Rect
+    ensures { result ≡ named_rect shape.now }
+{
+    match shape {
+        Shape::Fill { rect, .. }
+        | Shape::Dst { rect, .. }
+        | Shape::Pat { rect, .. }
+        | Shape::Copy { rect, .. }
+        | Shape::Blit { rect, .. }
+        | Shape::Blit3 { rect, .. }
+        | Shape::Save { rect, .. } => *rect,
+        _ => NO_RECT,
+    }
+}
+
+/// The board that an event found, and what each of the drawings of its reaction shows.
+#[derive(Drop)]
+pub struct Found {
+    pub board: Board,
+    pub shown: Vec<Shown>,
+}
+
+/// What each of an entry's drawings shows. What one alone shows takes no memory of its own, and an entry without drawings takes none.
 #[derive(Drop)]
 pub enum ShownList {
+    Nothing,
     One(Shown),
-    Many(Vec<Shown>),
+    Reaction(Box<Found>),
 }
 
 impl ShownList {
@@ -47,23 +146,36 @@ impl ShownList {
         ensures { result.now ≡ shown_list self.now }
     {
         match self {
+            ShownList::Nothing => &[],
             ShownList::One(shown) => slice::from_ref(shown),
-            ShownList::Many(shown) => shown.as_slice(),
+            ShownList::Reaction(found) => found.shown.as_slice(),
         }
     }
 }
 
-/// What each of some drawings shows, which are drawn one after the other on a surface.
-pub fn shown_all(
+/// What is kept of a board's reaction: nothing where it draws nothing, else the board that it found, and what its drawings show.
+pub fn reaction_list(
     alloc: Global,
-    surface: &Surface,
-    ds: &[Drawing],
-) -> Result<Vec<Shown>, OutOfMemory>
+    board: Board,
+    shown: Vec<Shown>,
+) -> Result<ShownList, OutOfMemory>
+    ensures shown { IfOk result (λ list. shown_list list ≡ shown.items) }
+    ensures board { IfOk result (λ list. IsFound board list) }
+{
+    if shown.is_empty() {
+        return Ok(ShownList::Nothing);
+    }
+    let found = Box::new(alloc, Found { board, shown })?;
+    Ok(ShownList::Reaction(found))
+}
+
+/// What each of some drawings shows, which are drawn one after the other on a surface.
+pub fn shown_all(alloc: Global, surface: &Tiles, ds: &[Drawing]) -> Result<Vec<Shown>, OutOfMemory>
     requires fit { AllFitState surface.now.size surface.now.state ds.now }
     requires few { surface.now.state.count + length ds.now < 2 ^ 64 }
     ensures { IfOk result (λ shown. all_shown ds.now shown.items ≡ pending_drawings surface.now.size surface.now.state ds.now) }
 {
-    let mut shown = Vec::new(alloc);
+    let mut shown = Vec::with_capacity(alloc, ds.len())?;
     for i in 0..ds.len() {
         shown.push(shown_at(alloc, surface, &ds[..i], &ds[i])?)?;
     }
@@ -73,7 +185,7 @@ pub fn shown_all(
 /// What a drawing shows behind some others.
 fn shown_at(
     alloc: Global,
-    surface: &Surface,
+    surface: &Tiles,
     before: &[Drawing],
     d: &Drawing,
 ) -> Result<Shown, OutOfMemory>
@@ -86,24 +198,19 @@ fn shown_at(
         Shape::Fill { rect, .. }
         | Shape::Dst { rect, .. }
         | Shape::Copy { rect, .. }
-        | Shape::Save { rect, .. } => Ok(bare(*rect)),
-        Shape::Pat { rect, brush, .. } => {
+        | Shape::Save { rect, .. } => Ok(Shown::Bare(*rect)),
+        Shape::Pat { brush, .. } => {
             let brush = brush_after(surface, before, *brush)?;
-            with_held(alloc, *rect, None, brush, Vec::new(alloc))
+            with_slots(alloc, &d.shape, None, brush)
         }
-        Shape::Blit { rect, image, .. } => {
+        Shape::Blit { image, .. } => {
             let image = image_after(surface, before, *image)?;
-            with_held(alloc, *rect, image, None, Vec::new(alloc))
+            with_slots(alloc, &d.shape, image, None)
         }
-        Shape::Blit3 {
-            rect,
-            image,
-            brush,
-            ..
-        } => {
+        Shape::Blit3 { image, brush, .. } => {
             let image = image_after(surface, before, *image)?;
             let brush = brush_after(surface, before, *brush)?;
-            with_held(alloc, *rect, image, brush, Vec::new(alloc))
+            with_slots(alloc, &d.shape, image, brush)
         }
         Shape::Text {
             x,
@@ -115,11 +222,13 @@ fn shown_at(
             surface.recall_sound();
             let glyphs = glyphs_after(alloc, surface, before, *font, run.pairs())?;
             let rect = run_rect(&glyphs, run.pairs(), *x, *y);
-            with_held(alloc, rect, None, None, glyphs)
+            with_glyphs(alloc, rect, glyphs)
         }
-        Shape::Line { x0, y0, x1, y1, .. } => Ok(bare(line_rect(*x0, *y0, *x1, *y1))),
-        Shape::Restore { slot, x, y } => Ok(bare(restored_rect(surface, before, *slot, *x, *y))),
-        _ => Ok(bare(NO_RECT)),
+        Shape::Line { x0, y0, x1, y1, .. } => Ok(Shown::Bare(line_rect(*x0, *y0, *x1, *y1))),
+        Shape::Restore { slot, x, y } => Ok(Shown::Bare(restored_rect(
+            surface, before, *slot, *x, *y,
+        ))),
+        _ => Ok(Shown::Bare(NO_RECT)),
     }
 }
 
@@ -131,39 +240,38 @@ const NO_RECT: Rect = Rect {
     h: 0,
 };
 
-/// A rectangle alone.
-fn bare(rect: Rect) -> Shown
-    ensures rect { result.rect ≡ rect }
-    ensures held { result.held ≡ None }
-{
-    Shown { rect, held: None }
-}
-
-/// A rectangle with what slots held.
-fn with_held(
+/// What is kept of a shape that reads an image, a brush or both, each of which may be missing.
+fn with_slots(
     alloc: Global,
-    rect: Rect,
+    shape: &Shape,
     image: Option<LoadedImage>,
     brush: Option<LoadedBrush>,
-    glyphs: Vec<LoadedGlyph>,
 ) -> Result<Shown, OutOfMemory>
-    ensures rect { IfOk result (λ shown. shown.rect ≡ rect) }
-    ensures image { IfOk result (λ shown. image_held shown.held ≡ image) }
-    ensures brush { IfOk result (λ shown. brush_held shown.held ≡ brush) }
-    ensures glyphs { IfOk result (λ shown. glyphs_held shown.held ≡ glyphs.items) }
+    ensures rect { IfOk result (λ shown. rect_shown shape.now shown ≡ named_rect shape.now) }
+    ensures image { IfOk result (λ shown. image_shown shown ≡ image) }
+    ensures brush { IfOk result (λ shown. brush_shown shown ≡ brush) }
+    ensures glyphs { IfOk result (λ shown. glyphs_shown shown ≡ []) }
 {
-    let held = Box::new(
-        alloc,
-        Held {
-            image,
-            brush,
-            glyphs,
-        },
-    )?;
-    Ok(Shown {
-        rect,
-        held: Some(held),
-    })
+    match (image, brush) {
+        (Some(image), Some(brush)) => {
+            let both = Arc::new(alloc, Pair { image, brush })?;
+            Ok(Shown::Both(both))
+        }
+        (Some(image), None) => Ok(Shown::Image(image)),
+        (None, Some(brush)) => Ok(Shown::Brush(brush)),
+        (None, None) => Ok(Shown::Bare(named_rect(shape))),
+    }
+}
+
+/// A text's rectangle with its glyphs.
+fn with_glyphs(alloc: Global, rect: Rect, glyphs: Vec<LoadedGlyph>) -> Result<Shown, OutOfMemory>
+    ensures rect { (shape : Shape) → IfOk result (λ shown. rect_shown shape shown ≡ rect) }
+    ensures image { IfOk result (λ shown. image_shown shown ≡ None) }
+    ensures brush { IfOk result (λ shown. brush_shown shown ≡ None) }
+    ensures glyphs { IfOk result (λ shown. glyphs_shown shown ≡ glyphs.items) }
+{
+    let signs = Arc::new(alloc, Signs { rect, glyphs })?;
+    Ok(Shown::Signs(signs))
 }
 
 /// The box of a line's ends, which lie near the surface.
@@ -183,7 +291,7 @@ fn line_rect(x0: i32, y0: i32, x1: i32, y1: i32) -> Rect
 }
 
 /// The rectangle of a block that is restored behind some drawings.
-fn restored_rect(surface: &Surface, before: &[Drawing], slot: u8, x: i32, y: i32) -> Rect
+fn restored_rect(surface: &Tiles, before: &[Drawing], slot: u8, x: i32, y: i32) -> Rect
     requires { slot ≤ 15 }
     ensures { result ≡ (restoring (lookup slot (state_after_drawings surface.now.size surface.now.state before.now).blocks) x y).rect }
 {
@@ -199,7 +307,7 @@ fn restored_rect(surface: &Surface, before: &[Drawing], slot: u8, x: i32, y: i32
 }
 
 /// What a drawing shows that is drawn on a surface.
-pub fn shown_one(alloc: Global, surface: &Surface, d: &Drawing) -> Result<Shown, OutOfMemory>
+pub fn shown_one(alloc: Global, surface: &Tiles, d: &Drawing) -> Result<Shown, OutOfMemory>
     requires fits { FitsState surface.now.size surface.now.state d.now }
     requires few { surface.now.state.count < 2 ^ 64 }
     ensures { IfOk result (λ shown. all_shown (d.now ∷ []) (shown ∷ []) ≡ pending_drawings surface.now.size surface.now.state (d.now ∷ [])) }

@@ -11,12 +11,12 @@ use crate::filled::{Slot, glyph_slot, last_filling};
 use draw_ops::{Drawing, Shape};
 use px_core::Size;
 use std::alloc::Global;
-use surface_flat::Surface;
 use surface_parts::{LoadedBrush, LoadedGlyph, LoadedImage};
+use tile_surface::Tiles;
 
 /// The image in a slot.
 pub fn image_after(
-    surface: &Surface,
+    surface: &Tiles,
     before: &[Drawing],
     slot: u8,
 ) -> Result<Option<LoadedImage>, OutOfMemory>
@@ -52,7 +52,7 @@ pub fn shared_image(image: Option<&LoadedImage>) -> Result<Option<LoadedImage>, 
 
 /// The brush in a slot, which is below 64.
 pub fn brush_after(
-    surface: &Surface,
+    surface: &Tiles,
     before: &[Drawing],
     slot: u8,
 ) -> Result<Option<LoadedBrush>, OutOfMemory>
@@ -89,7 +89,7 @@ pub fn shared_brush(brush: Option<&LoadedBrush>) -> Result<Option<LoadedBrush>, 
 
 /// The glyph of a font, which is below 4, and a code.
 fn glyph_after(
-    surface: &Surface,
+    surface: &Tiles,
     before: &[Drawing],
     font: u8,
     code: u8,
@@ -128,7 +128,7 @@ fn shared_glyph(glyph: Option<&LoadedGlyph>) -> Result<Option<LoadedGlyph>, OutO
 /// The glyphs of a run.
 pub fn glyphs_after(
     alloc: Global,
-    surface: &Surface,
+    surface: &Tiles,
     before: &[Drawing],
     font: u8,
     pairs: &[(u8, u8)],
@@ -137,7 +137,7 @@ pub fn glyphs_after(
     requires few { surface.now.state.count + length before.now < 2 ^ 64 }
     ensures { IfOk result (λ glyphs. glyphs.items ≡ run_glyphs (state_after_drawings surface.now.size surface.now.state before.now).glyphs font pairs.now) }
 {
-    let mut glyphs = Vec::new(alloc);
+    let mut glyphs = Vec::with_capacity(alloc, pairs.len())?;
     for pair in pairs {
         let glyph = glyph_after(surface, before, font, pair.0)?;
         push_glyph(&mut glyphs, glyph)?;
@@ -156,7 +156,7 @@ fn push_glyph(glyphs: &mut Vec<LoadedGlyph>, glyph: Option<LoadedGlyph>) -> Resu
 }
 
 /// The sides of the block in a slot, which is below 16.
-pub fn block_sides(surface: &Surface, before: &[Drawing], slot: u8) -> Option<Size>
+pub fn block_sides(surface: &Tiles, before: &[Drawing], slot: u8) -> Option<Size>
     requires { slot ≤ 15 }
     ensures { result ≡ sides_of (lookup slot (state_after_drawings surface.now.size surface.now.state before.now).blocks) }
 {

@@ -1,5 +1,5 @@
 -- The answers of entries that are accepted or refused.
-use Rattle.std.proofs.Common.{◌≡◌, ℕ, List, refl, ap, sym, ◌∙◌, Some, None}
+use Rattle.std.proofs.Common.{◌≡◌, List, refl, ap, sym, Some, None}
 use Rattle.std.specs.Prelude.{Option, Err}
 use Rattle.session_rules.specs.declared.entry.Entry.{Entry}
 use Rattle.session_rules.specs.Journal.{Head, Reached, Refusal, refusal_of}

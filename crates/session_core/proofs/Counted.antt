@@ -1,13 +1,13 @@
 -- Entries in their places: what is kept of each, and how many drawings stand before it.
-use Rattle.std.proofs.Common.{◌≡◌, ℕ, zero, suc, ◌+◌, ◌≤◌, ◌<◌, List, [], ◌∷◌, ◌++◌, length, take, drop, refl, ap, sym, ◌∙◌, Some, None, arith, length-append}
-use Rattle.std.specs.Prelude.{map, slice_get, slice_index_or}
+use Rattle.std.proofs.Common.{◌≡◌, ℕ, zero, suc, ◌+◌, ◌≤◌, ◌<◌, List, [], ◌∷◌, ◌++◌, length, take, refl, ap, sym, ◌∙◌, Some, None, arith, length-append}
+use Rattle.std.specs.Prelude.{slice_get, slice_index_or}
 use Rattle.px_core.specs.declared.surface.Size.{Size}
 use Rattle.draw_ops.specs.declared.shape.Drawing.{Drawing}
 use Rattle.draw_ops.specs.Slots.{SurfaceState}
 use Rattle.draw_ops.specs.Drawing.{state_after_drawing, state_after_drawings}
 use Rattle.session_rules.specs.declared.entry.Entry.{Entry}
 use Rattle.session_rules.specs.Journal.{State, opening_state, drawings_of, state_after_entry, state_after}
-use Rattle.session_rules.specs.Pending.{Pending, pending_drawings, pending_from, pending_between}
+use Rattle.session_rules.specs.Pending.{pending_drawings, pending_from, pending_between}
 use Rattle.session_rules.proofs.Sound.{count_drawings}
 use Rattle.session_core.specs.declared.kept.Kept.{Kept}
 use Rattle.session_core.specs.Keeping.{journal_of, IsKept, AllKept}

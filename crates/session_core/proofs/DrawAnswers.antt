@@ -1,18 +1,16 @@
 -- A drawing of a viewer, accepted or refused.
-use Rattle.std.proofs.Common.{◌≡◌, ℕ, ◌+◌, ◌≤◌, ◌<◌, List, [], ◌∷◌, refl, ap, sym, ◌∙◌, Some, None, arith, inl, inr}
+use Rattle.std.proofs.Common.{◌≡◌, ℕ, ◌+◌, ◌<◌, [], ◌∷◌, refl, ap, sym, ◌∙◌, Some, None, arith, inl, inr}
 use Rattle.std.proofs.lemmas.Bool.Decides.{nat_tests}
-use Rattle.std.proofs.lemmas.Bool.{and_from}
-use Rattle.std.specs.Prelude.{◌⊎◌, Bool, true, false, ◌&&◌, not, nat_lt, nat_le, Option, option_map, Result, Ok, Err, if◌then◌else◌}
+use Rattle.std.specs.Prelude.{◌⊎◌, Bool, true, false, ◌&&◌, not, nat_lt, nat_le, Err, if◌then◌else◌}
 use Rattle.draw_ops.specs.declared.shape.Drawing.{Drawing}
 use Rattle.draw_ops.specs.Ranges.{is_u32, is_drawing_in_range}
-use Rattle.draw_ops.specs.Fits.{first_some, broken_rule, slot_misfit, FitsState, Misfit}
-use Rattle.draw_ops.specs.Fits.Misfit.{Rule}
+use Rattle.draw_ops.specs.Fits.{first_some, broken_rule, slot_misfit}
 use Rattle.session_rules.specs.declared.entry.Entry.TheVariants.{Draw}
-use Rattle.session_rules.specs.Journal.{Head, Reached, Refusal, unless, refusal_of, room_test, holds, names_board_slot, drawing_tests, misfit_refusal, shape_pixels, most_entries, most_image_pixels}
+use Rattle.session_rules.specs.Journal.{Head, Reached, unless, refusal_of, room_test, holds, names_board_slot, drawing_tests, shape_pixels, most_image_pixels}
 use Rattle.session_rules.specs.Journal.Refusal.{NotHolder, BadDrawing, JournalFull}
 use Rattle.session_core.specs.declared.faults.DrawRefusal.{DrawRefusal}
 use Rattle.session_core.specs.declared.faults.DrawRefusal.TheVariants as fault
-use Rattle.session_core.specs.Refusing.{draw_refusal, IsRefused, SaysFit, KeepsRules}
+use Rattle.session_core.specs.Refusing.{IsRefused, SaysFit, KeepsRules}
 
 pub not_none : {A : Type 0} (x : A) → Some x ≡ None → ⊥
 not_none x h = absurd (cc h)

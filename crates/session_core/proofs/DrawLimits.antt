@@ -1,11 +1,11 @@
 -- The limits of a legal drawing, and of a legal event.
 use Rattle.std.proofs.Common.{◌≡◌, ℕ, ◌+◌, ◌≤◌, ◌<◌, None, arith}
 use Rattle.std.proofs.lemmas.Bool.Decides.{nat_tests}
-use Rattle.std.specs.Prelude.{Bool, true, nat_lt, nat_le}
+use Rattle.std.specs.Prelude.{nat_lt, nat_le}
 use Rattle.draw_ops.specs.declared.shape.Drawing.{Drawing}
 use Rattle.input_pdu.specs.declared.event.Event.{Event}
 use Rattle.session_rules.specs.declared.entry.Entry.TheVariants.{Give, Input, Draw}
-use Rattle.session_rules.specs.Journal.{Head, Reached, unless, refusal_of, room_test, shape_pixels, most_entries, most_image_pixels}
+use Rattle.session_rules.specs.Journal.{Head, Reached, refusal_of, room_test, shape_pixels, most_entries, most_image_pixels}
 use Rattle.session_rules.specs.Journal.Refusal.{JournalFull}
 use Rattle.session_rules.proofs.OwnSteps.{unless-none, tests-legal}
 

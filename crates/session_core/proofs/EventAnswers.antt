@@ -1,12 +1,12 @@
 -- An event of a viewer, accepted or refused.
-use Rattle.std.proofs.Common.{◌≡◌, ℕ, ◌+◌, ◌≤◌, ◌<◌, [], ◌∷◌, refl, ap, sym, subst, ◌∙◌, Some, None, arith, eq-eqb}
+use Rattle.std.proofs.Common.{◌≡◌, ℕ, ◌≤◌, ◌<◌, [], ◌∷◌, refl, ap, ◌∙◌, Some, None, arith, eq-eqb}
 use Rattle.std.proofs.lemmas.Bool.Decides.{nat_tests}
-use Rattle.std.specs.Prelude.{Bool, true, false, ◌&&◌, ◌||◌, ◌==◌, not, nat_lt, Option, if◌then◌else◌}
+use Rattle.std.specs.Prelude.{Bool, true, false, ◌&&◌, ◌==◌, nat_lt, if◌then◌else◌}
 use Rattle.draw_ops.specs.Ranges.{is_u32}
 use Rattle.draw_ops.specs.Fits.{first_some}
 use Rattle.input_pdu.specs.declared.event.Event.{Event}
 use Rattle.session_rules.specs.declared.entry.Entry.TheVariants.{Give, Input}
-use Rattle.session_rules.specs.Journal.{Head, Reached, Refusal, unless, refusal_of, room_test, holds, may_give, next_of, is_owner_here, role_of, is_f12, is_event_in_range, most_entries}
+use Rattle.session_rules.specs.Journal.{Head, Reached, refusal_of, room_test, holds, next_of, is_owner_here, role_of, is_f12, is_event_in_range, most_entries}
 use Rattle.session_rules.specs.Journal.Refusal.{NotHolder, JournalFull}
 use Rattle.session_rules.specs.Steps.{receiver_of}
 

@@ -14,3 +14,4 @@ pub mod Reacted
 pub mod SeenLemmas
 pub mod Opening
 pub mod SlotMisfits
+pub mod MarkSteps

@@ -3,7 +3,7 @@ use Rattle.std.proofs.Common.{◌≡◌, ℕ, zero, suc, ◌<◌, List, [], ◌�
 use Rattle.std.specs.Prelude.{Bool, true, false, ◌==◌, Option, option_map, map, slice_set, slice_index_or, if◌then◌else◌}
 use Rattle.std.specs.List.{remove}
 use Rattle.std.proofs.lemmas.Bool.{eqb-true}
-use Rattle.session_rules.specs.Journal.{Viewer, is_present, role_of, without_viewer}
+use Rattle.session_rules.specs.Journal.{is_present, without_viewer}
 use Rattle.session_rules.specs.Steps.{replaced_for}
 use Rattle.session_core.specs.declared.members.Member.{Member}
 use Rattle.session_core.specs.PerViewer.{kept_for}

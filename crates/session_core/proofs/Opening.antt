@@ -1,16 +1,16 @@
 -- What a session starts with.
-use Rattle.std.proofs.Common.{◌≡◌, ℕ, [], ◌∷◌, length, refl, ap, ◌∙◌}
-use Rattle.std.specs.Prelude.{IsTrue, List}
+use Rattle.std.proofs.Common.{◌≡◌, [], refl}
+use Rattle.std.specs.Prelude.{IsTrue}
 use Rattle.px_core.specs.declared.surface.Size.{Size}
 use Rattle.px_core.specs.Rectangle.{is_session_size}
-use Rattle.draw_ops.specs.Slots.{SurfaceState, opening_surface}
+use Rattle.draw_ops.specs.Slots.{opening_surface}
 use Rattle.board_app.specs.Boards.{board_of}
 use Rattle.session_rules.specs.Board.{opening_board}
-use Rattle.session_rules.specs.Journal.{Head, reached_at_first}
+use Rattle.session_rules.specs.Journal.{Head}
 use Rattle.session_core.specs.declared.standing.Standing.{Standing}
 use Rattle.session_core.specs.Members.{viewers_of}
 use Rattle.session_core.specs.SessionModel.{AreInvited}
-use Rattle.session_core.specs.Standing.{reached_of, IsOpening, IsSession}
+use Rattle.session_core.specs.Standing.{IsOpening, IsSession}
 
 pub opening_is : (size : Size) (s : Standing) → s.surface.size ≡ size → s.surface.state ≡ opening_surface size → s.board.size ≡ size → board_of s.board ≡ opening_board → s.members ≡ []
     → s.holder ≡ 0 → s.joins ≡ 0 → s.limited ≡ 0 → s.image_pixels ≡ 0 → IsOpening size s

@@ -1,24 +1,22 @@
 -- The pending drawings of one entry, and of entries after entries.
-use Rattle.std.proofs.Common.{◌≡◌, ℕ, zero, suc, ◌+◌, ◌-◌, ◌^◌, ◌≤◌, ◌<◌, List, [], ◌∷◌, ◌++◌, length, take, drop, refl, ap, sym, subst, ◌∙◌, Some, None, arith, append_assoc}
-use Rattle.std.specs.Prelude.{IsTrue, slice_get, Option}
-use Rattle.std.specs.Global.{Box}
-use Rattle.std.specs.Box.{box_value}
+use Rattle.std.proofs.Common.{◌≡◌, ℕ, zero, suc, ◌+◌, ◌≤◌, List, [], ◌∷◌, ◌++◌, length, take, drop, refl, ap, sym, subst, ◌∙◌, Some, arith, append_assoc}
+use Rattle.std.specs.Prelude.{IsTrue, slice_get}
 use Rattle.px_core.specs.declared.surface.Size.{Size}
 use Rattle.px_core.specs.Rectangle.{is_session_size}
 use Rattle.draw_ops.specs.declared.shape.Drawing.{Drawing}
 use Rattle.draw_ops.specs.Slots.{SurfaceState}
 use Rattle.input_pdu.specs.declared.event.Event.{Event}
-use Rattle.board_app.specs.declared.board.Board.{Board as BoardKept}
-use Rattle.board_app.specs.Boards.{board_of}
 use Rattle.session_rules.specs.declared.entry.Entry.{Entry}
 use Rattle.session_rules.specs.declared.entry.Entry.TheVariants.{Input}
 use Rattle.session_rules.specs.Board.{Board, board_reaction}
-use Rattle.session_rules.specs.Journal.{Head, State, drawings_of, state_after_entry, state_after, reached_at_first, reached_after, IsLegalJournal}
+use Rattle.session_rules.specs.Journal.{Head, State, drawings_of, state_after_entry, state_after, reached_at_first, IsLegalJournal}
 use Rattle.session_rules.proofs.Journals.{IsLegalJournal-front}
-use Rattle.session_rules.specs.Pending.{Pending, pending_drawings, pending_from, pending_between}
+use Rattle.session_rules.specs.Pending.{pending_drawings, pending_from, pending_between}
 use Rattle.session_rules.proofs.Sound.{sound_reached}
 use Rattle.pending_core.specs.declared.shown.Shown.{Shown}
-use Rattle.pending_core.specs.Showing.{all_shown, shown_with}
+use Rattle.pending_core.specs.declared.shown.ShownList.{ShownList}
+use Rattle.pending_core.specs.declared.shown.ShownList.TheVariants.{Nothing, One, Reaction}
+use Rattle.pending_core.specs.Showing.{all_shown}
 use Rattle.session_core.specs.Keeping.{IsBoardKept}
 use Rattle.pending_core.specs.Putting.{drawings_made, IsBoardReady}
 use Rattle.session_core.proofs.Counted.{length_pending}
@@ -91,15 +89,17 @@ pub enough : (size : Size) (st : SurfaceState) (ds : List Drawing) (ss : List Sh
 enough size st ds ss h = omega (arith, length_shown ds ss, ap length h, length_pending size st ds)
 
 -- the board that is kept with an input makes the same drawings again
-pub made_again : (size : Size) (b : Board) (by : ℕ) (e : Event) (kept : Option (Box BoardKept)) → IsBoardKept size b (Input by e) kept → drawings_made kept e ≡ drawings_of size b (Input by e)
-made_again size b by e None h = absurd h
-made_again size b by e (Some k) h = λ i. (board_reaction (h.0 i) (h.1 i) e).drawings
+pub made_again : (size : Size) (b : Board) (by : ℕ) (e : Event) (kept : ShownList) → IsBoardKept size b (Input by e) kept → drawings_made kept e ≡ drawings_of size b (Input by e)
+made_again size b by e Nothing h = sym h
+made_again size b by e (One shown) h = absurd h
+made_again size b by e (Reaction found) h = λ i. (board_reaction (h.0 i) (h.1 i) e).drawings
 
 -- and counts its signs in its numbers' range
-pub is_ready : (head : Head) (j : List Entry) (k by : ℕ) (e : Event) (kept : Option (Box BoardKept)) → IsTrue (is_session_size head.size.w head.size.h) → IsLegalJournal head j
+pub is_ready : (head : Head) (j : List Entry) (k by : ℕ) (e : Event) (kept : ShownList) → IsTrue (is_session_size head.size.w head.size.h) → IsLegalJournal head j
     → IsBoardKept head.size (state_after head.size j k).board (Input by e) kept → IsBoardReady kept
-is_ready head j k by e None size legal h = absurd h
-is_ready head j k by e (Some kept) size legal h =
+is_ready head j k by e Nothing size legal h = tt
+is_ready head j k by e (One shown) size legal h = tt
+is_ready head j k by e (Reaction found) size legal h =
     let front : IsLegalJournal head (take k j) = IsLegalJournal-front head (take k j) (drop k j) (subst (IsLegalJournal head) (whole k j) legal) in
     let sound = sound_reached head (take k j) size front in
     omega (arith, ap (λ b. b.signs) h.1, sound.few_signs, sound.few_entries)

@@ -1,6 +1,6 @@
 -- What is reached, by its parts.
-use Rattle.std.proofs.Common.{◌≡◌, ℕ, List}
-use Rattle.session_rules.specs.Journal.{Reached, State, Viewer}
+use Rattle.std.proofs.Common.{◌≡◌}
+use Rattle.session_rules.specs.Journal.{Reached}
 
 pub same_reached : (a b : Reached) → a.state ≡ b.state → a.viewers ≡ b.viewers → a.holder ≡ b.holder → a.length ≡ b.length → a.joins ≡ b.joins → a.limited ≡ b.limited
     → a.image_pixels ≡ b.image_pixels → a ≡ b

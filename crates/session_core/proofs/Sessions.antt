@@ -1,14 +1,17 @@
 -- What holds of every session, and of one whose journal has one more entry.
-use Rattle.std.proofs.Common.{◌≡◌, ℕ, zero, suc, ◌+◌, ◌≤◌, List, [], ◌∷◌, ◌++◌, length, take, refl, ap, sym, subst, ◌∙◌, None, arith}
-use Rattle.std.specs.Prelude.{⊤, IsTrue, map, Option}
+use Rattle.std.proofs.Common.{◌≡◌, ℕ, suc, ◌+◌, List, [], ◌∷◌, ◌++◌, length, take, refl, ap, sym, subst, ◌∙◌, None, arith}
+use Rattle.std.specs.Prelude.{Option}
 use Rattle.px_core.specs.declared.surface.Size.{Size}
+use Rattle.draw_ops.specs.Slots.{SurfaceState}
 use Rattle.session_rules.specs.declared.entry.Entry.{Entry}
-use Rattle.session_rules.specs.Journal.{Head, State, Reached, is_present, refusal_of, opening_state, state_after_entry, reached_at, reached_at_first, reached_after, reached_after_entry, IsLegalJournal}
+use Rattle.session_rules.specs.Journal.{Head, State, Reached, is_present, refusal_of, opening_state, state_after, state_after_entry, reached_at, reached_at_first, reached_after, reached_after_entry}
 use Rattle.session_rules.proofs.Journals.{reached_after-append, IsLegalJournal-push}
 use Rattle.session_rules.specs.Steps.{Step, Answer}
 use Rattle.session_rules.specs.Entering.{answer_at, entry_of_step}
 use Rattle.session_rules.specs.Reaching.{IsSoundReached}
 use Rattle.session_rules.proofs.Sound.{sound_reached}
+use Rattle.surface_parts.specs.Surfaces.{SurfaceOf}
+use Rattle.touch_marks.specs.Marking.{Marked}
 use Rattle.session_core.specs.declared.members.Member.{Member}
 use Rattle.session_core.specs.declared.standing.Standing.{Standing}
 use Rattle.session_core.specs.declared.kept.Kept.{Kept}
@@ -87,9 +90,9 @@ pub same_length : (ms others : List Member) → viewers_of ms ≡ viewers_of oth
 same_length ms others h = sym (length_viewers ms) ∙ ap length h ∙ length_viewers others
 
 -- what is kept of the viewers beside their numbers and roles may change
-pub members_changed : (head : Head) (s : Standing) (ks : List Kept) (count room : ℕ) (ms : List Member) → IsOpen head s ks count room → viewers_of ms ≡ viewers_of s.members
-    → IsOpen head (record s { members = ms }) ks count room
-members_changed head s ks count room ms h same = record {
+pub members_changed : (head : Head) (s : Standing) (ks : List Kept) (marks : Marked) (count room : ℕ) (ms : List Member) → IsOpen head s ks marks count room → viewers_of ms ≡ viewers_of s.members
+    → IsOpen head (record s { members = ms }) ks marks count room
+members_changed head s ks marks count room ms h same = record {
   is_session = record {
     size = h.is_session.size;
     invited = h.is_session.invited;
@@ -100,6 +103,7 @@ members_changed head s ks count room ms h same = record {
     entries = h.is_session.entries;
   };
   room_left = omega (arith, h.room_left, same_length ms s.members same);
+  marked = h.marked;
 }
 
 -- ---- clauses on the journal, shown of what is kept as reached
@@ -142,3 +146,12 @@ pub entry_made : (head : Head) (s : Standing) (ks : List Kept) (now : SessionMod
 entry_made head s ks now made o h is t =
     subst (λ (v : SessionModel). entry_entered v.head (reached_by v) (made (reached_by v)) ≡ o) is
     (subst (λ r. entry_entered head r (made r) ≡ o) (sym (reached_is head s ks h)) t)
+
+-- the surface as it is kept is the one that the whole journal leaves
+pub looked_at : (head : Head) (s : Standing) (ks : List Kept) (now : SessionModel) → IsSession head s ks → model_of head s ks ≡ now
+    → s.surface ≡ record { size = now.head.size; state = (state_after now.head.size now.journal (length now.journal)).surface }
+looked_at head s ks now h is = subst (λ (v : SessionModel). s.surface ≡ seen v.head.size (state_after v.head.size v.journal (length v.journal)).surface) is
+    (ap (λ z. seen z s.surface.state) h.surface_size ∙ ap (λ (r : Reached). seen head.size r.state.surface) (sym (reached_is head s ks h)))
+  where
+    seen : Size → SurfaceState → SurfaceOf
+    seen z st = record { size = z; state = st }

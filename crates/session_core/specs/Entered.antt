@@ -1,5 +1,5 @@
 -- An entry that an event or a drawing is to make: its answer, and itself where it is legal.
-use Rattle.std.specs.Prelude.{Option, Some, None}
+use Rattle.std.specs.Prelude.{Option}
 use Rattle.session_rules.specs.declared.entry.Entry.{Entry}
 use Rattle.session_rules.specs.Journal.{Head, Reached, refusal_of}
 use Rattle.session_rules.specs.Steps.{Answer, entered}

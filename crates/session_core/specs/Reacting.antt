@@ -1,6 +1,5 @@
 -- What comes of input events.
-use Rattle.std.specs.Prelude.{◌≡◌, ℕ, false, Option, Some, None, Result, Ok, Err}
-use Rattle.std.specs.Box.{box_value}
+use Rattle.std.specs.Prelude.{◌≡◌, ℕ, false, None, Result, Ok, Err}
 use Rattle.input_pdu.specs.declared.event.Event.{Event}
 use Rattle.board_app.specs.Boards.{board_of}
 use Rattle.session_rules.specs.declared.entry.Entry.TheVariants.{Give, Input}
@@ -12,7 +11,8 @@ use Rattle.session_core.specs.declared.faults.InputRefusal.{InputRefusal}
 use Rattle.session_core.specs.declared.standing.Standing.{Standing}
 use Rattle.session_core.specs.declared.events.Reaction.{Reaction}
 use Rattle.session_core.specs.Refusing.{input_refusal, IsInputRefused}
-use Rattle.pending_core.specs.Showing.{all_shown}
+use Rattle.pending_core.specs.Putting.{IsFound}
+use Rattle.pending_core.specs.Showing.{all_shown, shown_list}
 
 -- the viewer to whom control is given, which is legal; else the refusal
 abbrev pub IsGiveRefused : Head → Reached → ℕ → Result ℕ InputRefusal → Type 0
@@ -25,8 +25,8 @@ IsReactRefused head r v event result = is_f12 event ≡ false → IsInputRefused
 
 -- a reaction is the board's, and what its drawings show is what they find
 pub record Reacts (s : Standing) (e : Event) (reaction : Reaction) : Type 0 where
-  pub found : box_value reaction.found ≡ s.board
+  pub found : IsFound s.board reaction.shown
   pub drawings : reaction.drawings.items ≡ (board_reaction s.surface.size (board_of s.board) e).drawings
   pub board : board_of reaction.board ≡ (board_reaction s.surface.size (board_of s.board) e).board
   pub sized : reaction.board.size ≡ s.board.size
-  pub shown : all_shown reaction.drawings.items reaction.shown.items ≡ pending_drawings s.surface.size s.surface.state reaction.drawings.items
+  pub shown : all_shown reaction.drawings.items (shown_list reaction.shown) ≡ pending_drawings s.surface.size s.surface.state reaction.drawings.items

@@ -1,5 +1,5 @@
 -- What contracts see of a session.
-use Rattle.std.specs.Prelude.{ℕ, ◌==◌, ◌≤◌, Bool, false, IsTrue, List, [], ◌∷◌, length, All, ◌≢◌, if◌then◌else◌}
+use Rattle.std.specs.Prelude.{ℕ, ◌≤◌, Bool, false, IsTrue, List, [], length, All, ◌≢◌}
 use Rattle.px_core.specs.Tiles.{Tiles}
 use Rattle.px_core.specs.TileFlags.{tiles}
 use Rattle.session_rules.specs.declared.entry.Entry.{Entry}

@@ -4,6 +4,7 @@ use Rattle.px_core.specs.declared.surface.Size.{Size}
 use Rattle.px_core.specs.Rectangle.{is_session_size}
 use Rattle.board_app.specs.Boards.{board_of}
 use Rattle.session_rules.specs.Journal.{Head, Reached, opening_state, reached_at_first, reached_after, IsLegalJournal}
+use Rattle.touch_marks.specs.Marking.{Marked, AreMarked}
 use Rattle.session_core.specs.declared.standing.Standing.{Standing}
 use Rattle.session_core.specs.declared.kept.Kept.{Kept}
 use Rattle.session_core.specs.Members.{viewers_of}
@@ -39,7 +40,8 @@ pub record IsSession (head : Head) (s : Standing) (kept : List Kept) : Type 0 wh
   pub board_size : s.board.size ≡ head.size
   pub entries : AllKept head.size (opening_state head.size) kept
 
--- likewise, with room for the leave of each viewer
-pub record IsOpen (head : Head) (s : Standing) (kept : List Kept) (count room : ℕ) : Type 0 where
+-- likewise, with room for the leave of each viewer, and with marks that tell what the drawings behind each front of the journal touch
+pub record IsOpen (head : Head) (s : Standing) (kept : List Kept) (marks : Marked) (count room : ℕ) : Type 0 where
   pub is_session : IsSession head s kept
   pub room_left : count + length s.members ≤ room
+  pub marked : AreMarked head.size (journal_of kept) marks

@@ -18,20 +18,19 @@ use crate::standing::{MOST_ENTRIES, Standing};
 use board_app::Board;
 use draw_ops::Drawing;
 use input_pdu::Event;
-use pending_core::{Shown, shown_all};
+use pending_core::{ShownList, reaction_list, shown_all};
 use session_rules::Role;
 use std::alloc::Global;
 
 /// The scan code of F12.
 const F12: u16 = 0x58;
 
-/// What the board makes of an event: the board before it and after it, its drawings, and what each of them shows.
+/// What the board makes of an event: the board after it, its drawings, and what is kept of them.
 #[derive(Drop)]
 pub struct Reaction {
-    pub found: Box<Board>,
     pub board: Board,
     pub drawings: Vec<Drawing>,
-    pub shown: Vec<Shown>,
+    pub shown: ShownList,
 }
 
 /// Whether an event is one of F12, which never reaches the board.
@@ -107,12 +106,11 @@ pub fn react_to(alloc: Global, standing: &Standing, e: Event) -> Result<Reaction
     requires few { standing.now.surface.state.count + 8 < 2 ^ 64 }
     ensures { IfOk result (λ reaction. Reacts standing.now e reaction) }
 {
-    let found = Box::new(alloc, standing.board)?;
     let mut board = standing.board;
     let drawings = board.react(alloc, e)?;
-    let shown = shown_all(alloc, &standing.surface, &drawings)?;
+    let all = shown_all(alloc, &standing.surface, &drawings)?;
+    let shown = reaction_list(alloc, standing.board, all)?;
     Ok(Reaction {
-        found,
         board,
         drawings,
         shown,

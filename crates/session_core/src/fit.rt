@@ -5,11 +5,11 @@ ghost use Rattle.session_core.specs.Refusing.{SaysFit};
 
 use crate::faults::DrawRefusal;
 use draw_ops::Drawing;
-use surface_flat::Surface;
 use surface_parts::DrawFault;
+use tile_surface::Tiles;
 
 /// Whether the slots that a drawing reads hold what it needs; else the first refusal.
-pub fn fit(surface: &Surface, d: &Drawing) -> Result<(), DrawRefusal>
+pub fn fit(surface: &Tiles, d: &Drawing) -> Result<(), DrawRefusal>
     ensures { SaysFit result (slot_misfit surface.now.size surface.now.state d.now.shape) }
 {
     match surface.fit(d) {

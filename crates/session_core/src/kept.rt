@@ -4,16 +4,14 @@ ghost use Rattle.std.specs.Prelude.{◌≡◌, ◌+◌, ◌≤◌};
 ghost use Rattle.std.specs.Bool.{OnTrue};
 ghost use Rattle.std.specs.Vec.{vec_len, vec_capacity};
 
-use board_app::Board;
 use pending_core::ShownList;
 use session_rules::Entry;
 
-/// An entry, the number of the drawings before it, the board that an input found, and what each of the entry's drawings shows.
+/// An entry, the number of the drawings before it, and what each of the entry's drawings shows, with the board that an input found.
 #[derive(Drop)]
 pub struct Kept {
     pub entry: Entry,
     pub first: u64,
-    pub board: Option<Box<Board>>,
     pub shown: ShownList,
 }
 

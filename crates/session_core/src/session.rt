@@ -1,8 +1,9 @@
 //! The session, in its public calls.
 
 ghost use Rattle.std.specs.Prelude.{◌≡◌, ◌≢◌, ℕ, ◌+◌, ◌≤◌, ◌<◌, [], ◌∷◌, ◌++◌, length, IsTrue, IfOk, OnErr, Some, true, false, slice_get};
-ghost use Rattle.px_core.specs.Rectangle.{is_session_size, IsPlaced};
-ghost use Rattle.px_core.specs.Tiles.{no_tiles, either_tiles, tiles_of};
+ghost use Rattle.std.specs.Arc.{arc_value};
+ghost use Rattle.px_core.specs.Rectangle.{is_session_size, cut_out, whole, IsPlaced};
+ghost use Rattle.px_core.specs.Tiles.{no_tiles, either_tiles, tile_rect, tiles_of};
 ghost use Rattle.px_core.specs.TileFlags.{tiles};
 ghost use Rattle.draw_ops.specs.Ranges.{HasColors};
 ghost use Rattle.session_rules.specs.declared.entry.Entry.TheVariants.{Leave, Give, Input};
@@ -11,6 +12,7 @@ ghost use Rattle.session_rules.specs.Steps.{replaced_for, receiver_of};
 ghost use Rattle.session_rules.specs.Steps.Step.{JoinStep, InputStep, DrawStep};
 ghost use Rattle.session_rules.specs.Entering.{entry_of_step, answer_at};
 ghost use Rattle.session_rules.specs.Pending.{pending_between};
+ghost use Rattle.touch_marks.specs.Touching.{touched_by, saved_by};
 ghost use Rattle.session_core.specs.Heads.{rows_of};
 ghost use Rattle.session_core.specs.SessionModel.{new_session, reached_by, is_here, asked_by, is_suppressed, AreInvited};
 ghost use Rattle.session_core.specs.Outcomes.{IsAnswered, GoesOn};
@@ -25,6 +27,7 @@ use crate::head::{Invite, SessionHead};
 use crate::joining::let_in;
 use crate::kept::{Kept, make_room};
 use crate::members::{asked_by, is_suppressed, role_of};
+use crate::noting::note_all;
 use crate::standing::Standing;
 use draw_ops::Drawing;
 use grow_lock::Grows;
@@ -35,7 +38,10 @@ use px_core::{Rect, Size, TileSet};
 use session_rules::Entry;
 use std::alloc::Global;
 use std::marker::Model;
-use surface_flat::Surface;
+use std::slice;
+use std::sync::Arc;
+use tile_surface::{Tile, Tiles};
+use touch_marks::Marks;
 
 /// A session: its journal, which only grows, and what the journal has reached.
 #[derive(Drop)]
@@ -44,6 +50,7 @@ pub struct Session {
     head: SessionHead,
     standing: Standing,
     kept: Vec<Kept>,
+    marks: Marks,
 }
 
 impl Model for Session {
@@ -57,7 +64,7 @@ impl Model for Session {
 
     ghost view = { λ s. record { head = s.head; journal = journal_of s.kept.items; asked = asked_of s.standing.members; suppressed = suppressed_of s.standing.members } };
 
-    ghost invariant = { λ s. IsOpen s.head s.standing s.kept.items (vec_len s.kept) (vec_capacity s.kept) };
+    ghost invariant = { λ s. IsOpen s.head s.standing s.kept.items s.marks (vec_len s.kept) (vec_capacity s.kept) };
 }
 
 impl Grows for Session {
@@ -92,6 +99,7 @@ impl Session {
             },
             standing,
             kept: Vec::new(alloc),
+            marks: Marks::new(),
         })
     }
 
@@ -114,8 +122,7 @@ impl Session {
         self.kept.push_reserved(Kept {
             entry: Entry::Join { v, role },
             first,
-            board: None,
-            shown: ShownList::Many(Vec::new(self.alloc)),
+            shown: ShownList::Nothing,
         });
         Ok(v)
     }
@@ -133,8 +140,7 @@ impl Session {
         self.kept.push_reserved(Kept {
             entry: Entry::Leave { v },
             first,
-            board: None,
-            shown: ShownList::Many(Vec::new(self.alloc)),
+            shown: ShownList::Nothing,
         });
     }
 
@@ -177,10 +183,18 @@ impl Session {
         if !self.standing.draw(&d) {
             return Err(DrawRefusal::OutOfMemory);
         }
+        let size = self.head.size();
+        let number = self.kept.len() as u64 + 1;
+        note_all(
+            &mut self.marks,
+            slice::from_ref(&d),
+            slice::from_ref(&shown),
+            size,
+            number,
+        );
         self.kept.push_reserved(Kept {
             entry: Entry::Draw { by: v, d },
             first,
-            board: None,
             shown: ShownList::One(shown),
         });
         Ok(())
@@ -222,10 +236,20 @@ impl Session {
     }
 
     /// The surface as the whole journal leaves it.
-    pub fn look(&self) -> &Surface
+    pub fn look(&self) -> &Tiles
         ensures { result.now ≡ record { size = self.now.head.size; state = (state_after self.now.head.size self.now.journal (length self.now.journal)).surface } }
     {
         &self.standing.surface
+    }
+
+    /// A handle of tile t, which has a pixel on the picture, for as long as its holder wants: its colours as the whole journal leaves them,
+    /// and black past the picture. The session is as it was, also after an `Err`.
+    pub fn lend(&mut self, t: u32) -> Result<Arc<Tile>, OutOfMemory>
+        requires { IsTrue (tiles_of self.old.head.size (whole self.old.head.size) t) }
+        ensures lent { IfOk result (λ tile. arc_value tile ≡ cut_out self.old.head.size (state_after self.old.head.size self.old.journal (length self.old.journal)).surface.picture 0 (tile_rect t)) }
+        ensures unchanged { self.new ≡ self.old }
+    {
+        self.standing.surface.lend(t)
     }
 
     /// The size in pixels.
@@ -301,12 +325,36 @@ impl Session {
         match &kept.entry {
             Entry::Draw { d, .. } => Ok(SeenDrawings::drawn(d, kept.shown.list())),
             Entry::Input { event, .. } => {
-                SeenDrawings::reaction(self.alloc, &kept.board, *event, kept.shown.list())
+                SeenDrawings::reaction(self.alloc, &kept.shown, *event)
             }
             Entry::Join { .. } => Ok(SeenDrawings::none()),
             Entry::Leave { .. } => Ok(SeenDrawings::none()),
             Entry::Give { .. } => Ok(SeenDrawings::none()),
         }
+    }
+
+    /// Adds the tiles that the drawings of the entries behind the first `before` touch to a set. It looks at each tile once, however many
+    /// entries there are.
+    pub fn add_touched(&self, before: u64, set: &mut TileSet)
+        requires { before ≤ length self.now.journal }
+        ensures { tiles set.new ≡ either_tiles (tiles set.old) (touched_by self.now.head.size (pending_between self.now.head.size self.now.journal before (length self.now.journal))) }
+    {
+        self.marks.add_past(before, self.head.size(), set);
+    }
+
+    /// Whether a drawing of the entries behind the first `before` saved into a slot.
+    pub fn saved_since(&self, before: u64, slot: u8) -> bool
+        requires { before ≤ length self.now.journal }
+        ensures { result ≡ saved_by (pending_between self.now.head.size self.now.journal before (length self.now.journal)) slot }
+    {
+        self.marks.is_saved_past(before, slot)
+    }
+
+    /// No drawing saved into a slot above 15; it does nothing.
+    pub fn recall_slots(&self)
+        ensures { (before slot : ℕ) → before ≤ length self.now.journal → 16 ≤ slot → saved_by (pending_between self.now.head.size self.now.journal before (length self.now.journal)) slot ≡ false }
+    {
+        self.marks.recall_ends();
     }
 
     /// What holds of every session; it does nothing.
@@ -339,8 +387,7 @@ impl Session {
         self.kept.push_reserved(Kept {
             entry: Entry::Give { by: v, to },
             first,
-            board: None,
-            shown: ShownList::Many(Vec::new(self.alloc)),
+            shown: ShownList::Nothing,
         });
         Ok(())
     }
@@ -364,11 +411,19 @@ impl Session {
         if !self.standing.react(reaction.board, &reaction.drawings) {
             return Err(InputRefusal::OutOfMemory);
         }
+        let size = self.head.size();
+        let number = self.kept.len() as u64 + 1;
+        note_all(
+            &mut self.marks,
+            &reaction.drawings,
+            reaction.shown.list(),
+            size,
+            number,
+        );
         self.kept.push_reserved(Kept {
             entry: Entry::Input { by: v, event: e },
             first,
-            board: Some(reaction.found),
-            shown: ShownList::Many(reaction.shown),
+            shown: reaction.shown,
         });
         Ok(())
     }

@@ -22,7 +22,7 @@ use draw_ops::Drawing;
 use px_core::Size;
 use session_rules::Role;
 use std::alloc::Global;
-use surface_flat::Surface;
+use tile_surface::Tiles;
 
 /// How many inputs, gives and draws a journal may have (profile).
 pub const MOST_ENTRIES: u32 = 1_048_576;
@@ -30,7 +30,7 @@ pub const MOST_ENTRIES: u32 = 1_048_576;
 /// The surface and the board, who is present and who holds control, and what is counted.
 #[derive(Drop)]
 pub struct Standing {
-    pub surface: Surface,
+    pub surface: Tiles,
     pub board: Board,
     pub members: Members,
     /// Who holds control; 0 for nobody.
@@ -48,7 +48,7 @@ impl Standing {
         requires { IsTrue (is_session_size size.w size.h) }
         ensures { IfOk result (λ standing. IsOpening size standing) }
     {
-        let surface = Surface::new(alloc, size)?;
+        let surface = Tiles::new(alloc, size)?;
         let members = Members::new(alloc)?;
         Ok(Standing {
             surface,

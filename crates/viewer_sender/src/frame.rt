@@ -1,5 +1,6 @@
 //! A frame in bytes: its orders gathered into updates, a bitmap update for each tile, and the mark's own update.
-ghost use Rattle.std.specs.Prelude.{◌≡◌, ◌&&◌, ◌++◌, [], IfOk, OnOk, IsTrue, flat_map};
+ghost use Rattle.std.specs.Prelude.{◌≡◌, ◌*◌, ◌&&◌, ◌++◌, [], length, IfOk, OnOk, IsTrue, flat_map};
+ghost use Rattle.px_core.specs.Colors.{are_colors};
 ghost use Rattle.px_core.specs.Rectangle.{is_session_size, whole};
 ghost use Rattle.px_core.specs.Tiles.{tile_on};
 ghost use Rattle.bitmap_upd.specs.Place.{IsUpdated};
@@ -8,7 +9,7 @@ ghost use Rattle.frame_rules.specs.Frame.{FrameOf};
 ghost use Rattle.frame_rules.specs.FrameOrders.{Uses, sending, start_orders, black_orders, uses_after, orders_before_tiles};
 ghost use Rattle.frame_rules.specs.FrameBytes.{mark_bytes, frame_bytes, registers_after_orders};
 ghost use Rattle.frame_plan.specs.Takes.{taken_as};
-ghost use Rattle.viewer_sender.specs.Gathering.{nothing_gathered, gathering, packets_of, closed};
+ghost use Rattle.viewer_sender.specs.Gathering.{nothing_gathered, gathering, packets_of, closed, with_packet};
 ghost use Rattle.viewer_sender.specs.Stands.{CachesStand};
 ghost use Rattle.viewer_sender.specs.Writes.{Writes};
 ghost use Rattle.viewer_sender.specs.Goes.{AllGo, TilesGo};
@@ -17,6 +18,7 @@ ghost use Rattle.viewer_sender.specs.Runs.{frame_sending};
 use crate::OutOfMemory;
 use crate::drawing::put_drawings;
 use crate::plain::put_fill;
+use crate::updates::Updates;
 use crate::writer::FrameWriter;
 use frame_plan::{Take, TakenTile};
 use px_core::{Rect, Size, meet};
@@ -107,9 +109,31 @@ fn put_tiles(
     for tile in tiles {
         let no_header = writer.confirmed.no_header;
         let r = tile_on(size, tile.number());
-        writer.updates.put_tile(alloc, r, tile.pixels(), no_header)?;
+        put_tile(alloc, &mut writer.updates, r, tile, no_header)?;
     }
     Ok(())
+}
+
+/// Writes the packet of a tile: of its pixels where the session keeps them, or of a copy where the picture's right edge cuts the tile.
+fn put_tile(
+    alloc: Global,
+    updates: &mut Updates,
+    r: Rect,
+    tile: &TakenTile,
+    no_header: bool,
+) -> Result<(), OutOfMemory>
+    requires place { IsUpdated r }
+    requires number { length tile.now.1 ≡ r.w * r.h }
+    requires colors { IsTrue (are_colors tile.now.1) }
+    ensures { OnOk result (updates.new ≡ with_packet updates.old (tile_packet no_header r tile.now.1)) }
+{
+    match tile.pixels_in_place() {
+        Some(pixels) => updates.put_tile(alloc, r, pixels, no_header),
+        None => {
+            let pixels = tile.copied_pixels(alloc)?;
+            updates.put_tile(alloc, r, pixels.as_slice(), no_header)
+        }
+    }
 }
 
 /// The rectangle of a tile on a picture, of which it has a pixel.

@@ -5,7 +5,7 @@ use Rattle.session_rules.specs.Entering.{entry_of_step, answer_at}
 use Rattle.session_core.specs.SessionModel.{reached_by, asked_by, is_suppressed}
 use Rattle.session_core.specs.Outcomes.{IsAnswered, GoesOn}
 use Rattle.session_core.specs.Faults.{join_answer}
-use Rattle.answer_run.proofs.Joined.{let_in_is, joined}
+use Rattle.answer_run.proofs.Joined.{let_in_is, joined, turned_away}
 use Rattle.answer_run.proofs.seat.join.Goals as goal
 
 pub new-requires-clause-rows : goal.new-requires-clause-rows
@@ -34,3 +34,8 @@ returns-in_ok-sender-in-Some c =
       sound = sender.idle.2;
       stands = sender.stands;
     })
+
+pub returns-in-None : goal.returns-in-None
+returns-in-None c =
+    turned_away c.args.size c.args.owner.now c.args.name.now c.join.result c.in_ok-v.field-0 c.in_ok-session.session c.in_ok-session.ensures c.in_ok-v.ensures.number
+    c.in-None.is c.join.ensures.answer

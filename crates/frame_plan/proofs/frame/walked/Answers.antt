@@ -20,8 +20,8 @@ overflow_sub-count c =
     let before = c.drawings_before.ensures in
     omega (arith, count, all, before)
 
-pub returns-in_ok-jump_over : goal.returns-in_ok-jump_over
-returns-in_ok-jump_over c =
+pub returns-then-count-gt-MOST_ORDERS : goal.returns-then-count-gt-MOST_ORDERS
+returns-then-count-gt-MOST_ORDERS c =
     let s = c.args.session.now in
     let d = c.args.desk.now in
     let number : c.desk.inside.number ≡ c.args.desk.now.number = ap (λ (d : DeskModel). d.number) c.desk.view_is in
@@ -37,9 +37,9 @@ returns-in_ok-jump_over c =
     let begun : IsBegun c.in_ok-walker.walker (begun_at c.args.session.now c.args.desk.now) = search rules in
     let test = c.if-count-gt-MOST_ORDERS.true in
     let many : 256 < length (pending_at c.args.session.now c.args.desk.now) = omega (arith, test, count, same, all, before) in
-    let new = c.jump_over.new.walker in
+    let new = c.jump.new.self in
     let jumps = subst (λ (n : ℕ). HasJumped c.in_ok-walker.walker (jumped s.head.size (walk_of c.in_ok-walker.walker) (pending_between s.head.size s.journal n (length s.journal))) new)
-    number c.in_ok-jump_over.ensures in
+    number c.jump.ensures in
     planned_jump s d c.in_ok-walker.walker new c.none.result begun many jumps c.none.ensures
 
 pub returns-in_ok-sent : goal.returns-in_ok-sent

@@ -1,8 +1,7 @@
-use Rattle.std.proofs.Common.{◌≡◌, ◌<◌, ◌∙◌, ℤ, pos, suc, ◌+◌, ap, arith, drop, length, w32, to_z, of_z}
+use Rattle.std.proofs.Common.{◌≡◌, ◌∙◌, pos, ◌+◌, ap, arith, drop, w32, to_z, of_z}
 use Rattle.std.specs.Prelude.{◌+ℤ◌, slice_index_or}
 use Rattle.std.proofs.lemmas.Grind.{common_steps}
 use Rattle.std.proofs.lemmas.Int.{to_z-of_z}
-use Rattle.draw_ops.specs.Content.{GlyphOf}
 use Rattle.draw_ops.specs.Formulas.{glyph_cell, joint_of}
 use Rattle.pending_core.specs.Cells.{cells_along}
 use Rattle.pending_core.proofs.CellLemmas.{plain_at, one_cell, more_cells}

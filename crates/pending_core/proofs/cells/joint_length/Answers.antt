@@ -1,4 +1,4 @@
-use Rattle.std.proofs.Common.{◌≡◌, ◌∙◌, ℤ, pos, ap, arith, w32, to_z, of_z}
+use Rattle.std.proofs.Common.{◌≡◌, ◌∙◌, pos, ap, arith, w32, to_z, of_z}
 use Rattle.std.specs.Prelude.{◌+ℤ◌, ◌-ℤ◌, nat_abs}
 use Rattle.std.specs.Int.{int_min, int_max}
 use Rattle.std.proofs.lemmas.Grind.{common_steps}

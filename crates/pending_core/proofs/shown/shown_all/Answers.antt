@@ -1,4 +1,4 @@
-use Rattle.std.proofs.Common.{◌≡◌, ◌<◌, ◌+◌, ◌∙◌, length, ap, sym, arith}
+use Rattle.std.proofs.Common.{◌+◌, ◌∙◌, ap, arith}
 use Rattle.pending_core.proofs.AllShown.{shown_more, fit_front, fit_at, length_pushed}
 use Rattle.pending_core.proofs.shown.shown_all.Goals as goal
 

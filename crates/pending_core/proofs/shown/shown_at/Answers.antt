@@ -1,10 +1,10 @@
-use Rattle.std.proofs.Common.{◌≡◌, ◌∙◌, [], None, refl, ap, sym, subst, arith, rules, w32, to_z, of_z, length}
+use Rattle.std.proofs.Common.{◌≡◌, ◌∙◌, refl, ap, sym, subst, arith, w32, to_z, of_z, length}
 use Rattle.std.proofs.lemmas.Grind.{common_steps}
 use Rattle.std.proofs.lemmas.Int.{to_z-of_z}
 use Rattle.draw_ops.specs.Drawing.{state_after_drawings}
 use Rattle.draw_ops.specs.Formulas.{line_rect, joint_of}
 use Rattle.session_rules.specs.Pending.{run_glyphs}
-use Rattle.pending_core.specs.Cells.{cells_along, ArePlain, IsNear, IsPen}
+use Rattle.pending_core.specs.Cells.{cells_along, ArePlain}
 use Rattle.pending_core.proofs.TextShown.{plain_after, run_length, run_plain, plain_text}
 use Rattle.pending_core.proofs.ShownLemmas.{rules_as, slots_as, pat_brush, blit3_brush, line_ends, bare_is, text_is, all_there}
 use Rattle.pending_core.proofs.shown.shown_at.Goals as goal
@@ -75,9 +75,9 @@ returns-in_ok-glyphs-in-Text c =
     let ey : to_z w32 (of_z w32 c.in-Text.y) ≡ c.in-Text.y = grind (arith, common_steps, to_z-of_z) in
     let full = all_there _ (slots_as c.args.surface.now.size st c.args.d.now _ c.requires.fits c.in-Text.is) in
     let glyphs = c.in_ok-glyphs-in-Text.ensures ∙ ap (run_glyphs st.glyphs c.in-Text.font) c.pairs.ensures in
-    text_is c.args.surface.now.size st c.args.d.now c.with_held-in-Text.result c.in-Text.x c.in-Text.y _ c.in-Text.font _ c.run_rect-rect.result c.in_ok-glyphs-in-Text.glyphs.items c.in-Text.is full
+    text_is c.args.surface.now.size st c.args.d.now c.with_glyphs.result c.in-Text.x c.in-Text.y _ c.in-Text.font _ c.run_rect-rect.result c.in_ok-glyphs-in-Text.glyphs.items c.in-Text.is full
     (c.run_rect-rect.ensures.rect ∙ (λ i. joint_of (cells_along ((c.deref.ensures.value ∙ glyphs) i) (c.pairs-in-Text.ensures i) (ex i) (ey i)))) glyphs
-    c.with_held-in-Text.ensures.rect c.with_held-in-Text.ensures.image c.with_held-in-Text.ensures.brush c.with_held-in-Text.ensures.glyphs
+    (c.with_glyphs.ensures.rect c.args.d.now.shape) c.with_glyphs.ensures.image c.with_glyphs.ensures.brush c.with_glyphs.ensures.glyphs
 
 pub returns-in-Line : goal.returns-in-Line
 returns-in-Line c =
@@ -86,4 +86,4 @@ returns-in-Line c =
     let f0 : to_z w32 (of_z w32 c.in-Line.y0) ≡ c.in-Line.y0 = grind (arith, common_steps, to_z-of_z) in
     let e1 : to_z w32 (of_z w32 c.in-Line.x1) ≡ c.in-Line.x1 = grind (arith, common_steps, to_z-of_z) in
     let f1 : to_z w32 (of_z w32 c.in-Line.y1) ≡ c.in-Line.y1 = grind (arith, common_steps, to_z-of_z) in
-    bare_is c.args.surface.now.size st c.args.d.now c.bare.result _ c.in-Line.is c.bare.ensures.held (c.bare.ensures.rect ∙ c.line_rect.ensures ∙ (λ i. line_rect (e0 i) (f0 i) (e1 i) (f1 i))) refl refl refl
+    bare_is c.args.surface.now.size st c.args.d.now c.line_rect.result _ c.in-Line.is (c.line_rect.ensures ∙ (λ i. line_rect (e0 i) (f0 i) (e1 i) (f1 i))) refl refl refl

@@ -1,7 +1,7 @@
-use Rattle.std.proofs.Common.{◌≡◌, ◌<◌, ◌∙◌, Some, None, length, ap, sym, arith}
+use Rattle.std.proofs.Common.{◌<◌, ◌∙◌, length, ap, sym, arith}
 use Rattle.draw_ops.specs.declared.shape.Drawing.{Drawing}
 use Rattle.draw_ops.specs.Slots.{lookup}
-use Rattle.pending_core.specs.Filled.{sides_of, sides_saved}
+use Rattle.pending_core.specs.Filled.{sides_saved}
 use Rattle.pending_core.proofs.LastFilling as filling
 use Rattle.pending_core.proofs.slots.block_sides.Goals as goal
 

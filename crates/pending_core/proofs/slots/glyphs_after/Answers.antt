@@ -1,4 +1,4 @@
-use Rattle.std.proofs.Common.{◌≡◌, ◌++◌, ◌∙◌, ap, sym, arith, take}
+use Rattle.std.proofs.Common.{◌++◌, ◌∙◌, ap, sym, arith, take}
 use Rattle.std.specs.Prelude.{option_to_list}
 use Rattle.draw_ops.specs.Drawing.{state_after_drawings}
 use Rattle.session_rules.specs.Pending.{run_glyphs}

@@ -1,6 +1,5 @@
-use Rattle.std.proofs.Common.{◌≡◌, ◌<◌, ◌+◌, ◌∙◌, Some, None, length, ap, sym, arith}
+use Rattle.std.proofs.Common.{◌<◌, ◌+◌, ◌∙◌, length, ap, sym, arith}
 use Rattle.std.proofs.lemmas.Result.{IfOk-weaker}
-use Rattle.draw_ops.specs.Slots.{glyph_slot}
 use Rattle.pending_core.specs.Filled.{image_load}
 use Rattle.pending_core.proofs.LastFilling as filling
 use Rattle.pending_core.proofs.slots.image_after.Goals as goal

@@ -1,7 +1,7 @@
-use Rattle.std.proofs.Common.{◌≡◌, ◌∙◌, ◌<◌, [], ◌∷◌, ap, sym, arith}
+use Rattle.std.proofs.Common.{◌≡◌, ◌∙◌, [], ◌∷◌, ap, sym, arith}
 use Rattle.draw_ops.specs.Fits.{first_some}
 use Rattle.session_rules.specs.declared.entry.Entry.TheVariants.{Give}
-use Rattle.session_rules.specs.Journal.{Head, refusal_of, room_test, next_of}
+use Rattle.session_rules.specs.Journal.{refusal_of, room_test, next_of}
 use Rattle.session_rules.specs.Steps.{receiver_of}
 use Rattle.session_core.specs.Members.{viewers_of}
 use Rattle.session_core.specs.Standing.{reached_of}

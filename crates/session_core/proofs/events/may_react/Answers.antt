@@ -1,4 +1,4 @@
-use Rattle.std.proofs.Common.{◌≡◌, ◌∙◌, sym}
+use Rattle.std.proofs.Common.{◌∙◌, sym}
 use Rattle.session_core.specs.Standing.{reached_of}
 use Rattle.session_core.proofs.DrawAnswers.{not_none}
 use Rattle.session_core.proofs.EventAnswers.{input_not_holder, input_by_room, full, roomy}

@@ -1,4 +1,4 @@
-use Rattle.std.proofs.Common.{◌≡◌, ◌<◌, ◌+◌, ◌∙◌, length, ap, sym, subst, arith}
+use Rattle.std.proofs.Common.{◌∙◌, length, ap, sym, subst, arith}
 use Rattle.draw_ops.specs.Fits.{AllFitState}
 use Rattle.board_app.specs.Boards.{board_of}
 use Rattle.session_rules.specs.Board.{board_reaction}

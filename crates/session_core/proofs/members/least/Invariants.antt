@@ -1,5 +1,5 @@
 use Rattle.std.proofs.Common.{◌≡◌, drop}
-use Rattle.session_rules.specs.Journal.{role_of, least_viewer}
+use Rattle.session_rules.specs.Journal.{least_viewer}
 use Rattle.session_core.specs.Members.{viewers_of, is_wanted}
 use Rattle.session_core.proofs.members.least.Given as goal
 

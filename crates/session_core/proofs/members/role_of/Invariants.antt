@@ -1,6 +1,6 @@
 use Rattle.std.proofs.Common.{◌≡◌, drop}
-use Rattle.session_rules.specs.Journal.{role_of, least_viewer}
-use Rattle.session_core.specs.Members.{viewers_of, is_wanted}
+use Rattle.session_rules.specs.Journal.{role_of}
+use Rattle.session_core.specs.Members.{viewers_of}
 use Rattle.session_core.proofs.members.role_of.Given as goal
 
 -- the viewer is none of those that were passed

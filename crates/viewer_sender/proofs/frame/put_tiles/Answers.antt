@@ -1,4 +1,4 @@
-use Rattle.std.proofs.Common.{◌≡◌, ◌∙◌, ◌++◌, ◌∷◌, [], List, ℕ, ◌+◌, take, ap, sym, subst}
+use Rattle.std.proofs.Common.{◌≡◌, ◌∙◌, ◌++◌, ◌∷◌, [], List, ℕ, ◌+◌, take, refl, ap, sym, subst}
 use Rattle.px_core.specs.Tiles.{tile_on}
 use Rattle.viewer_sender.specs.declared.writer.FrameWriter.{FrameWriter}
 use Rattle.viewer_sender.specs.Goes.{TilesGo}
@@ -12,10 +12,10 @@ loop-tile-preserved c =
     let t = c.tile-item.result in
     let a = c.args.writer.now in
     let next : take i ts ++ t ∷ [] ≡ take (i + 1) ts = ap (λ x. take i ts ++ x ∷ []) c.tile-item.is ∙ sym (take_next ts i t c.loop-tile-test.true) in
-    let end : FrameWriter = record c.loop-tile.writer { updates = c.put_tile.new.self } in
+    let end : FrameWriter = record c.loop-tile.writer { updates = c.put_tile.new.updates } in
     record {
       wrote = subst (λ (xs : List (ℕ × List ℕ)). end ≡ with_tiles a c.args.size xs) next
-          (tiles_more a c.loop-tile.writer c.put_tile.new.self c.args.size (take i ts) t c.tile_on-r.result c.pixels.result.now c.loop-tile.invariant.wrote c.in_ok-put_tile.ensures
-          (c.tile_on-r.ensures ∙ ap (tile_on c.args.size) c.number.ensures) c.pixels.ensures);
+          (tiles_more a c.loop-tile.writer c.put_tile.new.updates c.args.size (take i ts) t c.tile_on-r.result t.1 c.loop-tile.invariant.wrote c.in_ok-put_tile.ensures
+          (c.tile_on-r.ensures ∙ ap (tile_on c.args.size) c.number.ensures) refl);
       fit = (subst (λ (xs : List (ℕ × List ℕ)). TilesGo c.args.size xs) (drop_next ts i t c.loop-tile-test.true) c.loop-tile.invariant.fit).1;
     }

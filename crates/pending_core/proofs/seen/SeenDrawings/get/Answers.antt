@@ -1,7 +1,6 @@
-use Rattle.std.proofs.Common.{◌≡◌, ◌<◌, ◌≤◌, length, ap, sym, subst, ◌∙◌, arith, Some}
+use Rattle.std.proofs.Common.{length, ap, sym, ◌∙◌, arith}
 use Rattle.std.specs.Prelude.{slice_get}
 use Rattle.pending_core.specs.Showing.{all_shown}
-use Rattle.pending_core.specs.Seeing.{drawings_seen}
 use Rattle.pending_core.proofs.AllShown.{length_shown}
 use Rattle.pending_core.proofs.seen.SeenDrawings.get.Goals as goal
 

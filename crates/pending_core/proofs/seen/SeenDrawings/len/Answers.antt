@@ -1,4 +1,4 @@
-use Rattle.std.proofs.Common.{◌≡◌, length, ap, sym, ◌∙◌}
+use Rattle.std.proofs.Common.{length, ap, sym, ◌∙◌}
 use Rattle.pending_core.proofs.AllShown.{length_shown}
 use Rattle.pending_core.proofs.seen.SeenDrawings.len.Goals as goal
 

@@ -1,8 +1,7 @@
-use Rattle.std.proofs.Common.{◌≡◌, ◌∙◌, [], Some, false, refl, ap, sym}
-use Rattle.px_core.specs.Tiles.{either_tiles, tiles_of}
+use Rattle.std.proofs.Common.{◌≡◌, [], Some, false, ap}
 use Rattle.px_core.specs.TileFlags.{tiles}
-use Rattle.session_core.specs.Members.{viewer_of, place_of, tiles_asked}
-use Rattle.session_core.proofs.MemberSteps.{part_kept, kept_here, replaced_by, kept_removed, viewers_removed, kept_pushed}
+use Rattle.session_core.specs.Members.{place_of}
+use Rattle.session_core.proofs.MemberSteps.{kept_removed, viewers_removed}
 use Rattle.session_core.proofs.members.Members.remove.Goals as goal
 
 pub returns-clause-viewers : goal.returns-clause-viewers

@@ -1,9 +1,7 @@
-use Rattle.std.proofs.Common.{◌≡◌, ◌∙◌, [], Some, false, refl, ap, sym}
-use Rattle.px_core.specs.Tiles.{either_tiles, tiles_of}
-use Rattle.px_core.specs.TileFlags.{tiles}
+use Rattle.std.proofs.Common.{◌≡◌, Some, false, refl}
 use Rattle.session_core.specs.declared.members.Member.{Member}
-use Rattle.session_core.specs.Members.{viewer_of, place_of, tiles_asked}
-use Rattle.session_core.proofs.MemberSteps.{part_kept, kept_here, replaced_by, kept_removed, viewers_removed, kept_pushed}
+use Rattle.session_core.specs.Members.{viewer_of, place_of}
+use Rattle.session_core.proofs.MemberSteps.{part_kept, replaced_by}
 use Rattle.session_core.proofs.members.Members.stop.Goals as goal
 
 pub returns-clause-viewers : goal.returns-clause-viewers

@@ -1,7 +1,5 @@
-use Rattle.std.proofs.Common.{◌≡◌, ◌∙◌, ℕ, [], false, refl, ap, sym}
-use Rattle.px_core.specs.TileFlags.{tiles}
-use Rattle.session_core.proofs.MemberSteps.{kept_absent}
-use Rattle.session_core.proofs.Sessions.{reached_is, sound_now, here_is, members_changed}
+use Rattle.std.proofs.Common.{◌∙◌, sym}
+use Rattle.session_core.proofs.Sessions.{here_is}
 use Rattle.session_core.proofs.session.Session.asked.Goals as goal
 
 pub asked_by-requires : goal.asked_by-requires

@@ -1,10 +1,10 @@
-use Rattle.std.proofs.Common.{◌≡◌, ◌≤◌, ◌<◌, ◌+◌, ◌∙◌, [], ◌∷◌, ◌++◌, None, length, Some, refl, ap, sym, subst, arith}
+use Rattle.std.proofs.Common.{◌≡◌, ◌+◌, ◌∙◌, [], ◌∷◌, ◌++◌, None, length, Some, ap, sym, subst, arith}
 use Rattle.std.proofs.lemmas.Result.{err_from_is_err_and}
-use Rattle.std.specs.Prelude.{option_to_list}
+use Rattle.std.specs.Prelude.{All, option_to_list}
 use Rattle.draw_ops.specs.Fits.{FitsState, broken_rule}
 use Rattle.session_rules.specs.Pending.{pending_drawings}
 use Rattle.session_rules.specs.declared.entry.Entry.TheVariants.{Draw}
-use Rattle.session_rules.specs.Journal.{reached_after_entry, refusal_of, shape_pixels}
+use Rattle.session_rules.specs.Journal.{reached_after_entry}
 use Rattle.session_rules.specs.Steps.Step.{DrawStep}
 use Rattle.session_rules.specs.Steps.Answer.{Accepted}
 use Rattle.session_rules.proofs.OwnSteps.{FitsState-legal}
@@ -14,6 +14,7 @@ use Rattle.std.specs.Vec.{vec_len, vec_capacity}
 use Rattle.session_core.specs.Standing.{reached_of, IsOpen}
 use Rattle.session_core.proofs.Sessions.{sound_now, appended, journal_push, answered, goes_on, entry_now}
 use Rattle.pending_core.proofs.TextShown.{keeps_rules}
+use Rattle.session_core.proofs.MarkSteps.{marked_on, one_keeps, noted_as}
 use Rattle.session_core.proofs.DrawLimits.{draw_room, draw_pixels}
 use Rattle.session_core.proofs.Accepting.{accepted, draw_refused, draw_stays}
 use Rattle.session_core.proofs.session.Session.draw.Goals as goal
@@ -53,6 +54,7 @@ pub invariant_of-self : goal.invariant_of-self
 invariant_of-self c = record {
   is_session = rw c.make_room.ensures.items c.self.invariant.is_session;
   room_left = omega (arith, c.self.invariant.room_left, c.make_room.ensures.length, c.make_room.ensures.capacity);
+  marked = rw c.make_room.ensures.items c.self.invariant.marked;
 }
 
 pub draw-requires-clause-rules : goal.draw-requires-clause-rules
@@ -77,10 +79,20 @@ draw-requires-clause-pixels c =
     draw_pixels c.self.inside.head (reached_of c.self.inside.standing (length ks)) c.args.v c.args.d (c.in_ok-may_draw.ensures c.self.inside.head (length ks) (sym h.surface_size))
 
 pub invariant_of-self-then-not-draw : goal.invariant_of-self-then-not-draw
-invariant_of-self-then-not-draw c = subst (λ s. IsOpen c.self.inside.head s c.make_room.new.kept.items (vec_len c.make_room.new.kept) (vec_capacity c.make_room.new.kept)) (sym c.if-not-draw.ensures.unchanged) (record {
+invariant_of-self-then-not-draw c = subst (λ s. IsOpen c.self.inside.head s c.make_room.new.kept.items c.self.inside.marks (vec_len c.make_room.new.kept) (vec_capacity c.make_room.new.kept)) (sym c.if-not-draw.ensures.unchanged) (record {
   is_session = rw c.make_room.ensures.items c.self.invariant.is_session;
   room_left = omega (arith, c.self.invariant.room_left, c.make_room.ensures.length, c.make_room.ensures.capacity);
+  marked = rw c.make_room.ensures.items c.self.invariant.marked;
 })
+
+pub note_all-requires-clause-rules : goal.note_all-requires-clause-rules
+note_all-requires-clause-rules c =
+    let h = c.self.invariant.is_session in
+    let s = c.self.inside.standing in
+    let ks = c.self.inside.kept.items in
+    let legal = c.in_ok-may_draw.ensures c.self.inside.head (length ks) (sym h.surface_size) in
+    subst (λ ds. All (λ d. broken_rule c.size-size.result d ≡ None) ds) (sym c.from_ref.ensures.value) (rw c.size-size.ensures
+    (one_keeps c.self.inside.head.size s.surface.state c.args.d (FitsState-legal c.self.inside.head (reached_of s (length ks)) c.args.v c.args.d legal)))
 
 pub invariant_of-self-2 : goal.invariant_of-self-2
 invariant_of-self-2 c =
@@ -100,6 +112,11 @@ invariant_of-self-2 c =
           (c.if-not-draw.ensures.reached (length ks) c.args.v))
           (c.draw.ensures.size ∙ h.surface_size) (ap (λ b. b.size) c.draw.ensures.board ∙ h.board_size));
       room_left = omega (arith, c.if-not-make_room.ensures.room, c.push_reserved.ensures.len, c.push_reserved.ensures.capacity, ap length c.draw.ensures.members, ap length c.list.ensures);
+      marked = rw (c.push_reserved.ensures.items, c.make_room.ensures.items) (marked_on head s ks _ c.self.inside.marks c.note_all.new.marks (all_shown (c.args.d ∷ []) (c.in_ok-shown.shown ∷ [])) (c.len.result + 1) h c.self.invariant.marked
+          (sym (subst (λ z. all_shown (c.args.d ∷ []) (c.in_ok-shown.shown ∷ []) ≡ pending_drawings z s.surface.state (c.args.d ∷ [])) h.surface_size c.in_ok-shown.ensures))
+          (omega (arith, c.len.ensures, c.make_room.ensures.length, c.self.inside.kept.ok.0))
+          (noted_as head.size c.size-size.result c.from_ref.result.now (c.args.d ∷ []) c.from_ref-2.result.now (c.in_ok-shown.shown ∷ []) (c.len.result + 1) c.self.inside.marks c.note_all.new.marks
+          c.size-size.ensures c.from_ref.ensures.value c.from_ref-2.ensures.value c.note_all.ensures));
     }
 
 pub returns-clause-answer : goal.returns-clause-answer

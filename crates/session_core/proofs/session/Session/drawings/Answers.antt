@@ -1,8 +1,7 @@
-use Rattle.std.proofs.Common.{◌≡◌, ◌≤◌, ◌<◌, ◌∙◌, [], ◌∷◌, length, refl, ap, sym, subst, arith}
+use Rattle.std.proofs.Common.{◌≡◌, ◌<◌, ◌∙◌, [], ◌∷◌, length, refl, ap, sym, subst, arith}
 use Rattle.std.specs.Prelude.{IfOk}
 use Rattle.session_rules.specs.declared.entry.Entry.TheVariants.{Join, Leave, Give}
 use Rattle.session_core.specs.Keeping.{journal_of}
-use Rattle.pending_core.specs.Putting.{drawings_made}
 use Rattle.pending_core.specs.Showing.{all_shown}
 use Rattle.session_core.proofs.Counted.{item_at, length_journal}
 use Rattle.session_core.proofs.SeenLemmas.{sees_drawn, sees_reaction, sees_none, seen_so}
@@ -32,7 +31,7 @@ reaction-requires-clause-each c =
     let within : c.args.k < length ks = omega (arith, below, length_journal ks) in
     let sees = sees_reaction c.self.inside.head c.self.inside.standing ks c.args.k c.in-Input.by c.index-kept.result.now c.in-Input.event c.self.invariant.is_session
     (item_at ks c.args.k c.index-kept.result.now within c.index-kept.ensures) c.in-Input.is in
-    rw c.list-in-Input.ensures sees.each
+    sees.each
 
 pub returns-in-Draw : goal.returns-in-Draw
 returns-in-Draw c =
@@ -51,7 +50,7 @@ returns-in-Input c =
     let sees = sees_reaction c.self.inside.head c.self.inside.standing ks c.args.k c.in-Input.by c.index-kept.result.now c.in-Input.event c.self.invariant.is_session
     (item_at ks c.args.k c.index-kept.result.now within c.index-kept.ensures) c.in-Input.is in
     subst (λ ps. IfOk c.reaction.result (λ seen. seen ≡ ps))
-    (ap (all_shown (drawings_made c.index-kept.result.now.board c.in-Input.event)) c.list-in-Input.ensures ∙ (sees.pending ∙ seen_so c.self.inside.head c.self.inside.standing ks c.args.self.now c.args.k c.self.view_is))
+    (sees.pending ∙ seen_so c.self.inside.head c.self.inside.standing ks c.args.self.now c.args.k c.self.view_is)
     c.reaction.ensures
 
 pub returns-in-Join : goal.returns-in-Join

@@ -1,18 +1,17 @@
-use Rattle.std.proofs.Common.{◌≡◌, ◌≤◌, ◌<◌, ◌+◌, ◌∙◌, [], ◌∷◌, ◌++◌, false, length, Some, refl, ap, sym, arith}
+use Rattle.std.proofs.Common.{◌≡◌, ◌+◌, ◌∙◌, [], ◌∷◌, ◌++◌, false, length, Some, refl, ap, sym, arith}
 use Rattle.std.proofs.lemmas.Result.{err_from_is_err_and}
 use Rattle.std.specs.Prelude.{option_to_list}
 use Rattle.px_core.specs.TileFlags.{tiles}
 use Rattle.session_rules.specs.declared.entry.Entry.TheVariants.{Join}
-use Rattle.session_rules.specs.Journal.{is_present, reached_at}
+use Rattle.session_rules.specs.Journal.{is_present}
 use Rattle.session_rules.specs.Steps.Step.{JoinStep}
 use Rattle.session_rules.specs.Steps.Answer.{Joined}
-use Rattle.session_rules.specs.Entering.{entry_of_step}
-use Rattle.session_core.specs.Outcomes.{GoesOn}
-use Rattle.session_core.specs.Members.{viewers_of, tiles_asked, is_stopped}
+use Rattle.session_core.specs.Members.{viewers_of}
 use Rattle.session_core.specs.Keeping.{journal_of}
 use Rattle.session_core.specs.Standing.{reached_of}
 use Rattle.session_core.proofs.MemberSteps.{kept_absent}
-use Rattle.session_core.proofs.Sessions.{reached_is, sound_now, appended, journal_push, length_viewers, length_push, answered, goes_on, entry_now}
+use Rattle.session_core.proofs.Sessions.{sound_now, appended, journal_push, length_viewers, length_push, answered, goes_on, entry_now}
+use Rattle.session_core.proofs.MarkSteps.{marked_same}
 use Rattle.session_core.proofs.Leaving.{absent_past}
 use Rattle.session_core.proofs.JoinAnswers.{joined, join_legal, refused_stays, refused_answer}
 use Rattle.session_core.proofs.session.Session.join.Goals as goal
@@ -38,6 +37,7 @@ pub invariant_of-self : goal.invariant_of-self
 invariant_of-self c = record {
   is_session = rw c.make_room.ensures.items c.self.invariant.is_session;
   room_left = omega (arith, c.self.invariant.room_left, c.make_room.ensures.length, c.make_room.ensures.capacity);
+  marked = rw c.make_room.ensures.items c.self.invariant.marked;
 }
 
 pub admit-v-requires-clause-joins : goal.admit-v-requires-clause-joins
@@ -70,6 +70,7 @@ invariant_of-self-2 c =
         length_push (viewers_of s.members) (record { number = s.joins + 1; role = c.in_ok-role.role }),
         ap length c.list.ensures,
       );
+      marked = rw (c.push_reserved.ensures.items, c.make_room.ensures.items) (marked_same c.self.inside.head s ks _ c.self.inside.marks h c.self.invariant.marked refl);
     }
 
 pub returns-clause-answer : goal.returns-clause-answer

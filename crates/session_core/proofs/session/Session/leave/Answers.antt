@@ -1,10 +1,11 @@
-use Rattle.std.proofs.Common.{◌≡◌, ◌∙◌, ℕ, ◌+◌, [], false, true, length, refl, ap, sym, arith}
+use Rattle.std.proofs.Common.{◌≡◌, ◌∙◌, [], false, length, refl, ap, sym, arith}
 use Rattle.px_core.specs.TileFlags.{tiles}
-use Rattle.session_rules.specs.Journal.{is_present, without_viewer}
+use Rattle.session_rules.specs.Journal.{is_present}
 use Rattle.session_core.specs.Members.{viewers_of}
 use Rattle.session_core.specs.Standing.{reached_of}
 use Rattle.session_core.proofs.MemberSteps.{kept_absent}
 use Rattle.session_core.proofs.Sessions.{here_is, sound_now, appended, length_viewers}
+use Rattle.session_core.proofs.MarkSteps.{marked_same}
 use Rattle.session_core.proofs.Leaving.{leave_legal, gone, one_fewer, replaced_where}
 use Rattle.session_core.proofs.session.Session.leave.Goals as goal
 
@@ -38,6 +39,7 @@ invariant_of-self c =
         ap length viewers,
         one_fewer c.args.v (viewers_of c.self.inside.standing.members) here,
       );
+      marked = rw c.push_reserved.ensures.items (marked_same c.self.inside.head c.self.inside.standing c.self.inside.kept.items _ c.self.inside.marks h c.self.invariant.marked refl);
     }
 
 pub returns-clause-asked : goal.returns-clause-asked

@@ -2,6 +2,7 @@ use Rattle.std.proofs.Common.{◌∙◌, ◌++◌, length, ap, sym, subst, arith
 use Rattle.session_core.specs.Heads.{rows_of}
 use Rattle.session_core.specs.SessionModel.{AreInvited}
 use Rattle.session_core.proofs.Opening.{opened}
+use Rattle.session_core.proofs.MarkSteps.{marked_first}
 use Rattle.session_core.proofs.session.Session.new.Goals as goal
 
 pub invariant_of-result : goal.invariant_of-result
@@ -12,4 +13,5 @@ invariant_of-result c =
       is_session = rw c.new-2.ensures.items
           (opened (record { size = c.args.size; rows = rows_of c.extend_from_slice.new.self.items }) c.in_ok-standing.standing c.requires.size invited c.in_ok-standing.ensures);
       room_left = omega (arith, c.new-2.ensures.len, ap length c.in_ok-standing.ensures.nobody);
+      marked = rw (c.new-2.ensures.items, c.new-3.ensures) (marked_first c.args.size);
     }

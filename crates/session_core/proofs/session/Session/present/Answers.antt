@@ -1,10 +1,8 @@
-use Rattle.std.proofs.Common.{◌≡◌, ◌∙◌, ℕ, [], false, refl, ap, sym}
+use Rattle.std.proofs.Common.{◌∙◌, ap}
 use Rattle.std.specs.Prelude.{is_some}
 use Rattle.session_rules.specs.Journal.{role_of}
 use Rattle.session_core.specs.Members.{viewers_of}
-use Rattle.px_core.specs.TileFlags.{tiles}
-use Rattle.session_core.proofs.MemberSteps.{kept_absent}
-use Rattle.session_core.proofs.Sessions.{reached_is, sound_now, here_is, members_changed}
+use Rattle.session_core.proofs.Sessions.{here_is}
 use Rattle.session_core.proofs.session.Session.present.Goals as goal
 
 pub returns : goal.returns

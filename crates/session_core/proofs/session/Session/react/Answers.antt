@@ -1,21 +1,22 @@
-use Rattle.std.proofs.Common.{◌≡◌, ◌≤◌, ◌<◌, ◌+◌, ◌∙◌, [], ◌∷◌, ◌++◌, None, length, Some, refl, ap, sym, subst, arith}
+use Rattle.std.proofs.Common.{◌≡◌, ◌+◌, ◌∙◌, [], ◌∷◌, ◌++◌, None, length, Some, ap, sym, subst, arith}
 use Rattle.std.proofs.lemmas.Result.{err_from_is_err_and}
-use Rattle.std.specs.Prelude.{IsTrue, option_to_list}
+use Rattle.std.specs.Prelude.{All, IsTrue, option_to_list}
 use Rattle.px_core.specs.declared.surface.Size.{Size}
 use Rattle.px_core.specs.Rectangle.{is_session_size}
 use Rattle.std.specs.Vec.{vec_len, vec_capacity}
-use Rattle.draw_ops.specs.Fits.{AllFitState}
+use Rattle.draw_ops.specs.Fits.{broken_rule}
 use Rattle.board_app.specs.Boards.{board_of}
 use Rattle.session_rules.specs.declared.entry.Entry.TheVariants.{Input}
 use Rattle.session_rules.specs.Agreement.{BoardAgrees}
 use Rattle.session_rules.specs.Board.{board_reaction}
-use Rattle.session_rules.specs.Journal.{reached_after_entry, refusal_of}
+use Rattle.session_rules.specs.Journal.{reached_after_entry}
 use Rattle.session_rules.specs.Steps.Answer.{Accepted}
-use Rattle.session_rules.specs.Pending.{pending_drawings}
 use Rattle.session_core.specs.Keeping.{journal_of}
-use Rattle.pending_core.specs.Showing.{all_shown}
+use Rattle.pending_core.specs.Showing.{all_shown, shown_list}
 use Rattle.session_core.specs.Standing.{reached_of, IsOpen}
 use Rattle.session_core.proofs.Sessions.{sound_now, appended, journal_push, answered_entry, goes_on_entry, entry_made}
+use Rattle.session_core.proofs.MarkSteps.{marked_on, all_keep, noted_as}
+use Rattle.session_core.proofs.PendingLaws.{enough}
 use Rattle.session_core.proofs.DrawLimits.{input_room}
 use Rattle.session_core.proofs.Reacted.{reaction_fits, reaction_colors, reaction_kept}
 use Rattle.session_core.proofs.Accepting.{accepted, event_refused, event_stays}
@@ -56,6 +57,7 @@ pub invariant_of-self : goal.invariant_of-self
 invariant_of-self c = record {
   is_session = rw c.make_room.ensures.items c.self.invariant.is_session;
   room_left = omega (arith, c.self.invariant.room_left, c.make_room.ensures.length, c.make_room.ensures.capacity);
+  marked = rw c.make_room.ensures.items c.self.invariant.marked;
 }
 
 pub react-requires-clause-fit : goal.react-requires-clause-fit
@@ -76,10 +78,30 @@ react-requires-clause-entries c =
     input_room c.self.inside.head (reached_of c.self.inside.standing (length ks)) c.args.v c.args.e (c.in_ok-may_react.ensures c.self.inside.head (length ks) c.requires)
 
 pub invariant_of-self-then-not-react : goal.invariant_of-self-then-not-react
-invariant_of-self-then-not-react c = subst (λ s. IsOpen c.self.inside.head s c.make_room.new.kept.items (vec_len c.make_room.new.kept) (vec_capacity c.make_room.new.kept)) (sym c.if-not-react.ensures.unchanged) (record {
+invariant_of-self-then-not-react c = subst (λ s. IsOpen c.self.inside.head s c.make_room.new.kept.items c.self.inside.marks (vec_len c.make_room.new.kept) (vec_capacity c.make_room.new.kept)) (sym c.if-not-react.ensures.unchanged) (record {
   is_session = rw c.make_room.ensures.items c.self.invariant.is_session;
   room_left = omega (arith, c.self.invariant.room_left, c.make_room.ensures.length, c.make_room.ensures.capacity);
+  marked = rw c.make_room.ensures.items c.self.invariant.marked;
 })
+
+pub note_all-requires-clause-rules : goal.note_all-requires-clause-rules
+note_all-requires-clause-rules c =
+    let h = c.self.invariant.is_session in
+    let s = c.self.inside.standing in
+    let agrees = subst (λ z. BoardAgrees z s.surface.state (board_of s.board)) (sym h.surface_size) (sound_now _ _ _ h).agrees in
+    let size = subst (λ (z : Size). IsTrue (is_session_size z.w z.h)) (sym h.surface_size) h.size in
+    subst (λ (z : Size). All (λ d. broken_rule z d ≡ None) c.deref-2.result.now) (h.surface_size ∙ sym c.size-size.ensures)
+    (all_keep s.surface.size s.surface.state c.deref-2.result.now (reaction_fits s c.args.e c.in_ok-reaction.reaction c.deref-2.result.now size agrees c.in_ok-reaction.ensures c.deref-2.ensures.value))
+
+pub note_all-requires-clause-each : goal.note_all-requires-clause-each
+note_all-requires-clause-each c =
+    let s = c.self.inside.standing in
+    omega (
+      arith,
+      enough s.surface.size s.surface.state c.in_ok-reaction.reaction.drawings.items (shown_list c.in_ok-reaction.reaction.shown) c.in_ok-reaction.ensures.shown,
+      ap length c.deref-2.ensures.value,
+      ap length c.list-2.ensures,
+    )
 
 pub invariant_of-self-2 : goal.invariant_of-self-2
 invariant_of-self-2 c =
@@ -96,6 +118,13 @@ invariant_of-self-2 c =
           (c.if-not-react.ensures.reached (length ks) c.args.v c.args.e (c.deref.ensures.value ∙ made.drawings) made.board))
           (c.react.ensures.size ∙ h.surface_size) (c.react.ensures.board ∙ h.board_size));
       room_left = omega (arith, c.if-not-make_room.ensures.room, c.push_reserved.ensures.len, c.push_reserved.ensures.capacity, ap length c.react.ensures.members, ap length c.list.ensures);
+      marked = rw (c.push_reserved.ensures.items, c.make_room.ensures.items) (marked_on head s ks _ c.self.inside.marks c.note_all.new.marks
+          (all_shown (board_reaction head.size (board_of s.board) c.args.e).drawings (shown_list c.in_ok-reaction.reaction.shown)) (c.len.result + 1) h c.self.invariant.marked
+          (sym (reaction_kept head s (length ks) c.args.v c.count-first.result c.args.e c.in_ok-reaction.reaction h.surface_size h.board_size made c.count-first.ensures).shown)
+          (omega (arith, c.len.ensures, c.make_room.ensures.length, c.self.inside.kept.ok.0))
+          (noted_as head.size c.size-size.result c.deref-2.result.now (board_reaction head.size (board_of s.board) c.args.e).drawings c.list-2.result.now (shown_list c.in_ok-reaction.reaction.shown) (c.len.result + 1)
+          c.self.inside.marks c.note_all.new.marks c.size-size.ensures
+          (c.deref-2.ensures.value ∙ (made.drawings ∙ ap (λ (z : Size). (board_reaction z (board_of s.board) c.args.e).drawings) h.surface_size)) c.list-2.ensures c.note_all.ensures));
     }
 
 pub returns-clause-answer : goal.returns-clause-answer

@@ -1,0 +1,4 @@
+pub mod Lengths
+pub mod Noting
+pub mod Adding
+pub mod Entries

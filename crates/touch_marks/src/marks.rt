@@ -1,0 +1,126 @@
+//! The marks of tiles and of slots of saved blocks.
+ghost use Rattle.std.specs.Prelude.{◌≡◌, ℕ, ◌≤◌, ◌<◌, None, length, IsTrue};
+ghost use Rattle.px_core.specs.Rectangle.{clipped, is_session_size};
+ghost use Rattle.px_core.specs.Tiles.{either_tiles, tile_rect, tiles_of};
+ghost use Rattle.px_core.specs.TileFlags.{tiles, row_tiles};
+ghost use Rattle.draw_ops.specs.Fits.{broken_rule};
+ghost use Rattle.touch_marks.specs.Marking.{unmarked, marks_in, noted, past};
+ghost use Rattle.touch_marks.specs.Touching.{saves_into};
+
+use crate::area::{clipped, tile_rect};
+use crate::stretch::{Stretch, touched};
+use draw_ops::{Drawing, Shape};
+use px_core::{Rect, Size, TileSet};
+use std::marker::Model;
+
+/// The number of tiles, which is that of the greatest picture's.
+const TILES: u32 = 1_024;
+
+/// The number of tiles in a row.
+const TILES_IN_ROW: usize = 32;
+
+/// How many slots of saved blocks drawings may name.
+const SLOTS: u8 = 16;
+
+/// For each tile the number of entries up to the last one that touched it, and 0 where none did; likewise for each slot of saved blocks.
+#[derive(Drop)]
+pub struct Marks {
+    tiles: [u64; 1024],
+    slots: [u64; 16],
+}
+
+impl Model for Marks {
+    ghost use Rattle.touch_marks.specs.Marking.{Marked};
+
+    ghost Value = { Marked };
+
+    ghost view = { λ m. record { tiles = m.tiles; slots = m.slots } };
+}
+
+impl Marks {
+    /// Nothing is touched, and no slot is saved into.
+    pub fn new() -> Marks
+        ensures { result ≡ unmarked }
+    {
+        Marks {
+            tiles: [0; 1024],
+            slots: [0; 16],
+        }
+    }
+
+    /// Notes the tiles that a drawing over a rectangle touches, and the slot that it saves into, by an entry's number.
+    pub fn note(&mut self, d: &Drawing, rect: Rect, s: Size, number: u64)
+        requires size { IsTrue (is_session_size s.w s.h) }
+        requires rules { broken_rule s d.now ≡ None }
+        ensures tiles { marks_in self.new.tiles ≡ noted (tiles_of s (clipped rect d.now.clip)) number (marks_in self.old.tiles) }
+        ensures slots { marks_in self.new.slots ≡ noted (saves_into d.now.shape) number (marks_in self.old.slots) }
+    {
+        self.note_tiles(clipped(rect, d.clip), s, number);
+        if let Shape::Save { slot, .. } = &d.shape {
+            self.slots[usize::from(*slot)] = number;
+        }
+    }
+
+    /// Notes each tile that has a pixel of a rectangle on a picture.
+    fn note_tiles(&mut self, r: Rect, s: Size, number: u64)
+        requires { IsTrue (is_session_size s.w s.h) }
+        ensures tiles { marks_in self.new.tiles ≡ noted (tiles_of s r) number (marks_in self.old.tiles) }
+        ensures slots { self.new.slots ≡ self.old.slots }
+    {
+        let columns = touched(r.x, r.w, s.w);
+        let rows = touched(r.y, r.h, s.h);
+        for row in rows.from..rows.end {
+            note_row(&mut self.tiles, row, columns, number);
+        }
+    }
+
+    /// Adds the tiles that are noted past a number to a set.
+    pub fn add_past(&self, before: u64, s: Size, set: &mut TileSet)
+        requires size { IsTrue (is_session_size s.w s.h) }
+        requires on_picture { (tile : ℕ) → IsTrue (past before self.now.tiles tile) → IsTrue (tiles_of s (tile_rect tile) tile) }
+        ensures { tiles set.new ≡ either_tiles (tiles set.old) (past before self.now.tiles) }
+    {
+        self.recall_ends();
+        for tile in 0..TILES {
+            if self.is_touched_past(before, tile) {
+                set.add(tile_rect(tile), s);
+            }
+        }
+    }
+
+    /// Whether a tile is noted past a number.
+    fn is_touched_past(&self, before: u64, tile: u32) -> bool
+        requires { tile < 1024 }
+        ensures { result ≡ past before self.now.tiles tile }
+    {
+        before < self.tiles[tile as usize]
+    }
+
+    /// Whether a slot is noted past a number. None above 15 is.
+    pub fn is_saved_past(&self, before: u64, slot: u8) -> bool
+        ensures { result ≡ past before self.now.slots slot }
+    {
+        slot < SLOTS && before < self.slots[usize::from(slot)]
+    }
+
+    /// No tile above 1,023 and no slot above 15 is noted; it does nothing.
+    pub fn recall_ends(&self)
+        ensures tiles { (tile : ℕ) → 1024 ≤ tile → marks_in self.now.tiles tile ≡ 0 }
+        ensures slots { (slot : ℕ) → 16 ≤ slot → marks_in self.now.slots slot ≡ 0 }
+    {
+        let _last = self.slots[15];
+    }
+}
+
+/// Notes the tiles of some columns in a row.
+fn note_row(numbers: &mut [u64], row: usize, columns: Stretch, number: u64)
+    requires count { length numbers.old ≡ 1024 }
+    requires row { row < 32 }
+    requires ordered { columns.from ≤ columns.end }
+    requires columns { columns.end ≤ 32 }
+    ensures { marks_in numbers.new ≡ noted (row_tiles row columns.from columns.end) number (marks_in numbers.old) }
+{
+    for column in columns.from..columns.end {
+        numbers[TILES_IN_ROW * row + column] = number;
+    }
+}
