@@ -1,0 +1,79 @@
+#!/bin/sh
+# Counts, by valgrind's callgrind, what a take costs while the session is locked for it, and what sharing tiles costs those who draw:
+# a late joiner behind N entries; a take of all tiles of the largest picture, for each tile; a drawing on tiles that were lent and given
+# back; and the memory of a new session of the largest picture. A count is the difference of two runs: of all instructions, or of what the
+# profile gives for a function with all that it calls (`Sender::take`, which is what a turn does, and `Session::draw`).
+# Wanted: a late joiner behind 1,000,000 entries within 100,000 of one behind 1,000; at most 400 a tile; at most 1.2 times; at most 1 MiB.
+#
+# usage: sh bench/turns.sh      (it needs valgrind)
+bench=turns
+. "$(dirname "$0")/programs.sh"
+needs "$rdp_host"
+
+# A picture of one tile, so many fills of a pixel by its owner; a viewer who joins late and takes, or nobody.
+late() {
+    awk -v count="$1" -v joins="$2" 'BEGIN {
+        print "size 64 64\ninvite ann owner\ninvite bob view\njoin ann full"
+        for (i = 0; i < count; i++) printf "fill %d %d 1 1 %06X\n", i % 64, (i * 7) % 64, (i * 7919) % 16777216
+        if (joins) print "join bob full\n@2 take"
+    }'
+}
+
+# The largest picture, all of it drawn; its owner asks for all tiles and takes them, so many times.
+whole() {
+    awk -v takes="$1" 'BEGIN {
+        print "size 2048 2048\ninvite ann owner\njoin ann plain"
+        for (i = 0; i < takes; i++) printf "fill 0 0 2048 2048 %06X\nrefresh 0 0 2048 2048\ntake\n", (i * 7919 + 1) % 16777216
+    }'
+}
+
+# Fills of one tile, each behind a take that was lent it, or behind none.
+drawn() {
+    awk -v count="$1" -v takes="$2" 'BEGIN {
+        print "size 64 64\ninvite ann owner\njoin ann plain\ntake"
+        for (i = 0; i < count; i++) {
+            printf "fill 8 8 48 48 %06X\n", (i * 7919 + 1) % 16777216
+            if (takes) print "refresh 0 0 64 64\ntake"
+        }
+    }'
+}
+
+# The instructions of rdp_host over a generated script.
+script_instructions() {
+    "$@" >"$work/script"
+    instructions "$work/script" "$rdp_host" script
+}
+
+# The instructions of a function in the same run.
+within() {
+    script_instructions "$@" >/dev/null
+    inclusive "$function"
+}
+
+row 'a late joiner: its join and its first frame' instructions
+printf '|---|---:|\n'
+for entries in 1000 100000 1000000; do
+    alone=$(script_instructions late "$entries" 0)
+    joined=$(script_instructions late "$entries" 1)
+    row "behind $entries entries" $((joined - alone))
+done
+echo
+row 'a turn' instructions
+printf '|---|---:|\n'
+function='Sender::take'
+once=$(within whole 1)
+twice=$(within whole 2)
+row 'a take of all 1,024 tiles, for each of them' $(((twice - once) / 1024))
+function='Session::draw'
+few=$(within drawn 100 0)
+many=$(within drawn 200 0)
+row 'a fill of 48 by 48 on a tile that is own' $(((many - few) / 100))
+few=$(within drawn 100 1)
+many=$(within drawn 200 1)
+row 'the same on a tile that was lent and given back' $(((many - few) / 100))
+echo
+printf 'size 64 64\ntake\n' >"$work/small"
+printf 'size 2048 2048\ntake\n' >"$work/large"
+small=$(memory "$work/small" "$rdp_host" script)
+large=$(memory "$work/large" "$rdp_host" script)
+row 'bytes more of a new session of 2,048 by 2,048' $((large - small))
