@@ -2,7 +2,7 @@ ghost use Rattle.std.specs.Prelude.{◌≡◌, [], ℕ, List, Some, IfOk};
 ghost use Rattle.std.specs.Option.{option_map};
 ghost use Rattle.script_rules.specs.Capture.{line_read};
 ghost use Rattle.script_rules.specs.Capture.CaptureLine.{JoinedLine, OtherLine, BytesLine};
-ghost use Rattle.capture_read.specs.Lines.{meant_by};
+ghost use Rattle.capture_read.specs.Lines.{AreTheirs, Says, meant_by};
 ghost use Rattle.capture_read.specs.Reading.{AreJoined, StandsBefore, IsAnswer, Judges, JudgesLine, Finds, FindCause, ahead};
 
 use crate::OutOfMemory;
@@ -95,19 +95,24 @@ impl CaptureReader {
         ensures answer { IfOk result IsAnswer }
         ensures unread { self.new.unread ≡ self.old.unread }
     {
-        let said = read_line(self.lines.text(), ended, &mut self.bytes)?;
+        let said = read_line(self.viewer, self.lines.text(), ended, &mut self.bytes)?;
         let told = tell(self.viewer, &mut self.joined, self.line, said);
         self.line = self.line.saturating_add(1);
         Ok(told)
     }
 }
 
-/// What a line says, where it is ended and of a form, with the bytes that it gives in place of those that the vector held.
-fn read_line(text: &[u8], ended: bool, bytes: &mut Vec<u8>) -> Result<Option<Said>, OutOfMemory>
-    ensures { IfOk result (λ said. line_read (record { text = text.now; ended = ended }) ≡ option_map (meant_by bytes.new.items) said) }
+/// What a line says, where it is ended and of a form. The bytes that it gives this viewer come in place of those that the vector held.
+fn read_line(
+    viewer: u16,
+    text: &[u8],
+    ended: bool,
+    bytes: &mut Vec<u8>,
+) -> Result<Option<Said>, OutOfMemory>
+    ensures { IfOk result (λ said. Says viewer bytes.new.items said (line_read (record { text = text.now; ended = ended }))) }
 {
     if ended {
-        read_said(text, bytes)
+        read_said(viewer, text, bytes)
     } else {
         Ok(None)
     }
@@ -115,7 +120,8 @@ fn read_line(text: &[u8], ended: bool, bytes: &mut Vec<u8>) -> Result<Option<Sai
 
 /// What a line that says this tells of a viewer, and whether it may stand where these have joined.
 fn tell(viewer: u16, joined: &mut Joined, line: u64, said: Option<Said>) -> Told
-    ensures judged { (before bytes : List ℕ) → AreJoined before joined.old → Judges result viewer line before (option_map (meant_by bytes) said) bytes joined.new }
+    ensures judged { (before given bytes : List ℕ) → AreJoined before joined.old → AreTheirs viewer said given bytes
+        → Judges result viewer line before (option_map (meant_by given) said) bytes joined.new }
     ensures answer { IsAnswer result }
 {
     match said {
@@ -172,8 +178,8 @@ fn tell_other(joined: &Joined, line: u64, who: u16) -> Told
 
 /// What it tells of a viewer that one got bytes.
 fn tell_bytes(viewer: u16, joined: &Joined, line: u64, who: u16) -> Told
-    ensures judged { (before bytes : List ℕ) → AreJoined before joined.now
-        → Judges result viewer line before (Some (BytesLine who bytes)) bytes joined.now }
+    ensures judged { (before given bytes : List ℕ) → AreJoined before joined.now → (who ≡ viewer → given ≡ bytes)
+        → Judges result viewer line before (Some (BytesLine who given)) bytes joined.now }
     ensures answer { IsAnswer result }
 {
     if !joined.has(who) {

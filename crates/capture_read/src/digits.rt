@@ -1,7 +1,6 @@
 //! Bytes as a line of a capture writes them: lower-case hexadecimal digits, two for each byte.
 
-ghost use Rattle.std.specs.Prelude.{◌≡◌, ◌*◌, ◌++◌, ◌%◌, ◌<◌, ◌≤◌, [], length, true, IfOk, OnOk};
-ghost use Rattle.std.specs.Bool.{then_some};
+ghost use Rattle.std.specs.Prelude.{◌≡◌, ◌==◌, ◌*◌, ◌<◌, length, true, is_some, Some, IsSome, OnOk};
 ghost use Rattle.std.specs.Char.{digit_char};
 ghost use Rattle.line_text.specs.Hexadecimal.{hexadecimal_text};
 ghost use Rattle.script_rules.specs.Script.{all_bytes};
@@ -12,48 +11,23 @@ use crate::OutOfMemory;
 /// How many digits a byte has.
 const BYTE_DIGITS: usize = 2;
 
-/// How many digits are read at once.
-const PIECE: usize = 64;
-
-/// Reads the bytes that a word's digits write in place of those that the vector held; says whether the word is such digits.
-pub(crate) fn read_bytes(out: &mut Vec<u8>, word: &[u8]) -> Result<bool, OutOfMemory>
-    ensures { IfOk result (λ are. bytes_word word.now ≡ then_some are out.new.items) }
+/// Whether a word is the digits of some bytes.
+pub(crate) fn is_bytes_word(word: &[u8]) -> bool
+    ensures { result ≡ is_some (bytes_word word.now) }
 {
-    out.clear();
-    if word.is_empty() || word.len() % BYTE_DIGITS != 0 || !are_lower_digits(word) {
-        return Ok(false);
+    if word.is_empty() || word.len() % BYTE_DIGITS != 0 {
+        return false;
     }
-    fill(out, word)?;
-    Ok(true)
+    are_lower_digits(word)
 }
 
-/// Fills a vector with the bytes that digits write.
-fn fill(out: &mut Vec<u8>, word: &[u8]) -> Result<(), OutOfMemory>
-    requires empty { out.old.items ≡ [] }
-    requires even { length word.now % 2 ≡ 0 }
-    requires lower { all_bytes is_lower_digit word.now ≡ true }
-    ensures { OnOk result (hexadecimal_text out.new.items ≡ word.now) }
+/// Reads the bytes that a word's digits write in place of those that the vector held.
+pub(crate) fn read_bytes(out: &mut Vec<u8>, word: &[u8]) -> Result<(), OutOfMemory>
+    requires { IsSome (bytes_word word.now) }
+    ensures { OnOk result (bytes_word word.now ≡ Some out.new.items) }
 {
-    let mut rest = word;
-    while !rest.is_empty() {
-        let (piece, others) = rest.split_at(rest.len().min(PIECE));
-        append_piece(out, piece)?;
-        rest = others;
-    }
-    Ok(())
-}
-
-/// Appends the bytes that some digits write.
-fn append_piece(out: &mut Vec<u8>, piece: &[u8]) -> Result<(), OutOfMemory>
-    requires few { length piece.now ≤ PIECE }
-    requires even { length piece.now % 2 ≡ 0 }
-    requires lower { all_bytes is_lower_digit piece.now ≡ true }
-    ensures { OnOk result (hexadecimal_text out.new.items ≡ hexadecimal_text out.old.items ++ piece.now) }
-{
-    let mut room = [0; PIECE / BYTE_DIGITS];
-    let bytes = &mut room[..piece.len() / BYTE_DIGITS];
-    write_bytes(bytes, piece);
-    out.extend_from_slice(bytes)?;
+    out.resize(word.len() / BYTE_DIGITS, 0)?;
+    write_bytes(out, word);
     Ok(())
 }
 
@@ -84,19 +58,28 @@ fn digit_value(digit: u8) -> u8
 }
 
 /// Whether each byte is a digit of lower-case hexadecimal.
+///
+/// No byte ends the loop, and what it found is kept as a byte, so that it is done by vectors.
 fn are_lower_digits(word: &[u8]) -> bool
     ensures { result ≡ all_bytes is_lower_digit word.now }
 {
-    let mut are = true;
+    let mut wrong = 0;
     for byte in word {
-        are = is_lower_digit(*byte) && are;
+        wrong = wrong.max(fault(*byte));
     }
-    are
+    wrong == 0
+}
+
+/// 0 for a digit of lower-case hexadecimal, and 1 for any other byte.
+fn fault(byte: u8) -> u8
+    ensures { (result == 0) ≡ is_lower_digit byte }
+{
+    u8::from(!is_lower_digit(byte))
 }
 
 /// Whether a byte is a digit of lower-case hexadecimal.
 fn is_lower_digit(byte: u8) -> bool
     ensures { result ≡ is_lower_digit byte }
 {
-    byte.is_ascii_digit() || (97 <= byte && byte <= 102)
+    byte.is_ascii_digit() | (97 <= byte && byte <= 102)
 }

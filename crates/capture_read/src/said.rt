@@ -9,10 +9,10 @@ ghost use Rattle.line_text.specs.Words.{words_of, parts_left, is_same_word};
 ghost use Rattle.script_rules.specs.Script.{size_with};
 ghost use Rattle.script_rules.specs.Capture.{capture_line, viewer_word, joined_words, viewer_line, is_step_refusal};
 ghost use Rattle.script_rules.specs.Capture.CaptureLine.{OtherLine};
-ghost use Rattle.capture_read.specs.Lines.{meant_by};
+ghost use Rattle.capture_read.specs.Lines.{Says, meant_by, nobody_line};
 
 use crate::OutOfMemory;
-use crate::digits::read_bytes;
+use crate::digits::{is_bytes_word, read_bytes};
 use crate::find::find_byte;
 use crate::refusals::{is_broken_line, is_nobody_line, is_step_refusal};
 use caps_sets::{Confirmed, preset};
@@ -46,17 +46,47 @@ pub(crate) enum Said {
     Nobody,
 }
 
-/// What a line's text says, with the bytes that it gives in place of those that the vector held.
-pub(crate) fn read_said(text: &[u8], bytes: &mut Vec<u8>) -> Result<Option<Said>, OutOfMemory>
-    ensures { IfOk result (λ said. capture_line (words_of text.now) ≡ option_map (meant_by bytes.new.items) said) }
+/// What a line's text says. Where it gives this viewer bytes, they come in place of those that the vector held; those of another are judged
+/// and not read.
+///
+/// A viewer's number is looked for first, so that long digits aren't gone through for the lines that name no viewer.
+pub(crate) fn read_said(
+    wanted: u16,
+    text: &[u8],
+    bytes: &mut Vec<u8>,
+) -> Result<Option<Said>, OutOfMemory>
+    ensures { IfOk result (λ said. Says wanted bytes.new.items said (capture_line (words_of text.now))) }
+{
+    let (word, behind) = first_word(text);
+    match read_viewer(word) {
+        Some(viewer) => read_behind(wanted, viewer, behind, bytes),
+        None => Ok(read_nobody(text)),
+    }
+}
+
+/// What a line says whose first word is no number of a viewer.
+fn read_nobody(text: &[u8]) -> Option<Said>
+    ensures { (bytes : List ℕ) → nobody_line (words_of text.now) ≡ option_map (meant_by bytes) result }
 {
     if is_nobody_line(text) || is_broken_line(text) {
-        return Ok(Some(Said::Nobody));
+        Some(Said::Nobody)
+    } else {
+        None
     }
-    let (word, behind) = first_word(text);
-    match (read_viewer(word), behind) {
-        (Some(viewer), Some(behind)) => read_of_viewer(viewer, behind, bytes),
-        _ => Ok(None),
+}
+
+/// What it says that stands behind a viewer's number.
+fn read_behind(
+    wanted: u16,
+    viewer: u16,
+    behind: Option<&[u8]>,
+    bytes: &mut Vec<u8>,
+) -> Result<Option<Said>, OutOfMemory>
+    ensures { IfOk result (λ said. Says wanted bytes.new.items said (viewer_line viewer (parts_left 32 (option_copied behind.entry)))) }
+{
+    match behind {
+        Some(text) => read_of_viewer(wanted, viewer, text, bytes),
+        None => Ok(None),
     }
 }
 
@@ -82,31 +112,39 @@ fn read_viewer(word: &[u8]) -> Option<u16>
 
 /// What the text after a viewer's number says.
 fn read_of_viewer(
+    wanted: u16,
     viewer: u16,
     text: &[u8],
     bytes: &mut Vec<u8>,
 ) -> Result<Option<Said>, OutOfMemory>
-    ensures { IfOk result (λ said. viewer_line viewer (words_of text.now) ≡ option_map (meant_by bytes.new.items) said) }
+    ensures { IfOk result (λ said. Says wanted bytes.new.items said (viewer_line viewer (words_of text.now))) }
 {
     let (word, behind) = first_word(text);
     match behind {
-        None => read_alone(viewer, word, bytes),
+        None => read_alone(wanted, viewer, word, bytes),
         Some(behind) => Ok(read_several(viewer, word, behind)),
     }
 }
 
 /// What a word says that stands alone after a viewer's number.
-fn read_alone(viewer: u16, word: &[u8], bytes: &mut Vec<u8>) -> Result<Option<Said>, OutOfMemory>
-    ensures { IfOk result (λ said. viewer_line viewer (word.now ∷ []) ≡ option_map (meant_by bytes.new.items) said) }
+fn read_alone(
+    wanted: u16,
+    viewer: u16,
+    word: &[u8],
+    bytes: &mut Vec<u8>,
+) -> Result<Option<Said>, OutOfMemory>
+    ensures { IfOk result (λ said. Says wanted bytes.new.items said (viewer_line viewer (word.now ∷ []))) }
 {
     if is_same_word(word, b"left") || is_same_word(word, b"nothing") {
         return Ok(Some(Said::Other { viewer }));
     }
-    if read_bytes(bytes, word)? {
-        Ok(Some(Said::Bytes { viewer }))
-    } else {
-        Ok(None)
+    if !is_bytes_word(word) {
+        return Ok(None);
     }
+    if viewer == wanted {
+        read_bytes(bytes, word)?;
+    }
+    Ok(Some(Said::Bytes { viewer }))
 }
 
 /// What a word says after a viewer's number, with the text behind it.

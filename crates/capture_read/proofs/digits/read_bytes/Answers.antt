@@ -1,15 +1,19 @@
-use Rattle.std.proofs.Common.{◌<◌, ◌∙◌, length, sym, ap, arith}
-use Rattle.std.proofs.lemmas.Bool.Decides.{nat_tests}
+use Rattle.std.proofs.Common.{◌≡◌, ◌<◌, ◌++◌, ◌∙◌, length, take, drop, sym, ap}
+use Rattle.std.proofs.lemmas.List.{take_at}
 use Rattle.std.proofs.lemmas.List.Elements.{All-from_get_or}
+use Rattle.line_text.specs.Hexadecimal.{hexadecimal_text}
 use Rattle.script_rules.specs.Capture.{bytes_word}
 use Rattle.script_rules.proofs.ReadBack.{bytes_word-text}
-use Rattle.capture_read.proofs.Writing.{has_bytes}
+use Rattle.capture_read.proofs.Writing.{has_bytes, word_has_digits}
 use Rattle.capture_read.proofs.digits.read_bytes.Goals as goal
 
 pub returns : goal.returns
 returns c =
-    let bytes = c.fill.new.out.items in
-    let digits : 0 < length c.args.word.now = grind (arith, nat_tests, c.is_empty.ensures, c.if-is_empty.false) in
-    let some : 0 < length bytes = has_bytes bytes c.args.word.now c.in_ok-fill.ensures digits in
-    ap bytes_word (sym c.in_ok-fill.ensures) ∙ bytes_word-text bytes some (All-from_get_or (λ b. b < 256) bytes 0
+    let word = c.args.word.now in
+    let written = c.write_bytes.new.bytes in
+    let room = c.resize.new.self in
+    let bytes = take room.len (written ++ drop (length written) room.items) in
+    let whole : bytes ≡ written = take_at written (drop (length written) room.items) room.len (c.write_bytes.auto.bytes ∙ c.deref_mut.ensures.len) in
+    let text : hexadecimal_text bytes ≡ word = ap hexadecimal_text whole ∙ c.write_bytes.ensures in
+    ap bytes_word (sym text) ∙ bytes_word-text bytes (has_bytes bytes word text (word_has_digits word c.requires)) (All-from_get_or (λ b. b < 256) bytes 0
     (λ k below. c.type_inv.out k 0 below))

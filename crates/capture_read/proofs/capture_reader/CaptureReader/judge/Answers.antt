@@ -1,17 +1,17 @@
-use Rattle.std.proofs.Common.{◌≡◌, refl}
-use Rattle.std.specs.Option.{option_map}
+use Rattle.std.proofs.Common.{refl}
 use Rattle.script_rules.specs.Capture.{line_read}
-use Rattle.capture_read.specs.Lines.{meant_by}
+use Rattle.capture_read.specs.Lines.{Says}
 use Rattle.capture_read.proofs.Judging.{next_number}
 use Rattle.capture_read.proofs.capture_reader.CaptureReader.judge.Goals as goal
 
 pub returns-clause-judged : goal.returns-clause-judged
 returns-clause-judged c = λ k joined stands.
     let s = rw (← c.self.view_is) at stands in
-    let said : line_read (record { text = c.self.inside.lines.text; ended = c.args.ended }) ≡ option_map (meant_by c.read_line.new.bytes.items) c.in_ok-said.said =
+    let bytes = c.read_line.new.bytes.items in
+    let said : Says c.self.inside.viewer bytes c.in_ok-said.said (line_read (record { text = c.self.inside.lines.text; ended = c.args.ended })) =
     rw c.text.ensures at c.in_ok-said.ensures in
     rw (← c.self.view_is) (record {
-      judges = rw (said, ← s.line) (c.tell-told.ensures.judged joined c.read_line.new.bytes.items s.joined_are);
+      judges = rw (said.says, ← s.line) (c.tell-told.ensures.judged joined said.given bytes s.joined_are said.theirs);
       after = next_number c.self.inside.line c.saturating_add-self-inside.result k s.line c.saturating_add-self-inside.ensures;
       viewer = refl;
     })
