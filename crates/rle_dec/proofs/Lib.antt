@@ -3,3 +3,4 @@ pub mod Places
 pub mod CopyLaws
 pub mod ShortOrders
 pub mod Progress
+pub mod Steps

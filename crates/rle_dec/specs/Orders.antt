@@ -1,10 +1,8 @@
 -- The orders that the reader's own stand for.
-use Rattle.std.specs.Prelude.{ℕ, List, None}
-use Rattle.wire_num.specs.Field.{Read, map_read, then_read}
+use Rattle.std.specs.Prelude.{ℕ}
 use Rattle.wire_num.specs.Pixels.{pixels_of}
 use Rattle.run_lengths.specs.RunLength as runs
-use Rattle.run_lengths.specs.RunLength.{bits_of, greatest_length, length_if, mask_bits, run_at}
-use Rattle.run_lengths.specs.declared.codes.RunKind.{RunKind}
+use Rattle.run_lengths.specs.RunLength.{bits_of, mask_bits}
 use Rattle.rle_dec.specs.declared.orders.Order.{Order}
 use Rattle.rle_dec.specs.declared.orders.Run.{Run}
 use Rattle.rle_dec.specs.declared.orders.Run.TheVariants.{Background, Foreground, Mask, Bits, Color, Image, Dithered}
@@ -21,9 +19,3 @@ run_of n (Dithered first second) = runs.Run.Dithered n first second
 
 abbrev pub order_of : Order → runs.Order
 order_of o = record { foreground = o.foreground; run = run_of o.length o.run }
-
--- an order of a kind that sets no foreground, with this length in its code; `stream` begins with the code, `rest` after it
-abbrev pub short_order : RunKind → ℕ → ℕ → List ℕ → List ℕ → Read runs.Order
-short_order kind n left stream rest =
-    then_read (length_if (greatest_length kind left) n rest stream) (λ m after.
-    map_read (λ d. record { foreground = None; run = d }) (run_at kind m after))

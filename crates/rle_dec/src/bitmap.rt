@@ -1,17 +1,19 @@
 //! The pixels of a run-length stream, the bottom row first ([MS-RDPBCGR] 3.1.9).
-ghost use Rattle.std.specs.Prelude.{◌≡◌, ◌+◌, ◌≤◌, IfErr, IfOk, IsFalse, Ok, Err, OnOk, length, take};
+ghost use Rattle.std.specs.Prelude.{◌≡◌, ◌+◌, ◌<◌, ◌≤◌, IfErr, IfOk, IsFalse, Ok, Err, OnOk, length, take};
 ghost use Rattle.run_lengths.specs.RunLength.{Decompresses, background_stroke, before_next, follows_background, foreground_stroke, run_size, run_strokes, unrle};
 ghost use Rattle.run_lengths.specs.RunLength.Run.{Background};
 ghost use Rattle.rle_dec.specs.Drawing.{drawn_onto, drawn_whole, pixels_before};
 ghost use Rattle.rle_dec.specs.Faults.{RefusesAt};
 ghost use Rattle.rle_dec.specs.Orders.{run_of};
+ghost use Rattle.rle_dec.specs.Steps.{IsRefused, IsStep};
 
 use crate::draw::{
     background_pixel, draw_bits, draw_color, draw_dithered, draw_image, draw_mask, draw_pixel,
-    draw_run, foreground_pixel,
+    draw_run, follows_run, foreground_pixel,
 };
 use crate::fault::RleFault;
 use crate::orders::{MOST_PIXELS, Order, Run, read_order};
+use crate::short::{Step, draw_short};
 use run_lengths::{Before, Stroke};
 use std::alloc::Global;
 
@@ -50,15 +52,19 @@ fn draw_stream<'a>(out: &mut [u32], w: usize, bytes: &'a [u8]) -> Result<(), &'a
     let mut foreground = WHITE;
     let mut before = Before::Other;
     while at < out.len() {
-        let first = at < w;
-        let (order, rest) = match read_order(stream, out.len() - at) {
-            Ok(read) => read,
-            Err(refused) => return Err(refused),
-        };
-        foreground = order.foreground.unwrap_or(foreground);
-        at = draw_order(out, at, w, first, before, foreground, &order);
-        before = before_after(&order, first);
-        stream = rest;
+        match draw_short(out, at, w, &mut before, stream) {
+            Some(step) => {
+                at = step.at;
+                stream = step.rest;
+            }
+            None => match draw_any(out, at, w, &mut before, &mut foreground, stream) {
+                Ok(step) => {
+                    at = step.at;
+                    stream = step.rest;
+                }
+                Err(refused) => return Err(refused),
+            },
+        }
     }
     if stream.is_empty() {
         Ok(())
@@ -67,14 +73,31 @@ fn draw_stream<'a>(out: &mut [u32], w: usize, bytes: &'a [u8]) -> Result<(), &'a
     }
 }
 
-/// Whether a background run there begins with a foreground pixel (profile: not at or past the end of the first row after one that begins in it).
-fn follows_run(before: Before, first: bool) -> bool
-    ensures { result ≡ follows_background before first }
+/// Draws the next order, of any code; a refusal has the bytes from the refused field on.
+#[inline(never)]
+fn draw_any<'a>(
+    out: &mut [u32],
+    at: usize,
+    w: usize,
+    before: &mut Before,
+    foreground: &mut u32,
+    stream: &'a [u8],
+) -> Result<Step<'a>, &'a [u8]>
+    requires wide { 1 ≤ w }
+    requires more { at < length out.old }
+    requires most { length out.old ≤ MOST_PIXELS }
+    ensures step { IfOk result (IsStep w at foreground.old before.old out.old stream.now foreground.new before.new out.new) }
+    ensures refused { IfErr result (λ refused. IsRefused w at foreground.old before.old out.old stream.now refused.now) }
 {
-    match before {
-        Before::Other => false,
-        Before::FirstRowBackground => first,
-        Before::LaterBackground => true,
+    let first = at < w;
+    match read_order(stream, out.len() - at) {
+        Ok((order, rest)) => {
+            *foreground = order.foreground.unwrap_or(*foreground);
+            let end = draw_order(out, at, w, first, *before, *foreground, &order);
+            *before = before_after(&order, first);
+            Ok(Step { at: end, rest })
+        }
+        Err(refused) => Err(refused),
     }
 }
 

@@ -1,12 +1,12 @@
 //! Draws runs of pixels after the first `at` of a bitmap, which are drawn ([MS-RDPBCGR] 3.1.9).
 ghost use Rattle.std.specs.Prelude.{◌≡◌, ◌+◌, ◌*◌, ◌<◌, ◌≤◌, [], ◌∷◌, ◌++◌, length, replicate, take};
 ghost use Rattle.wire_num.specs.Pixels.{pixels_of};
-ghost use Rattle.run_lengths.specs.RunLength.{bits_of, dithered_strokes, background_stroke, foreground_stroke, mask_bits};
+ghost use Rattle.run_lengths.specs.RunLength.{background_stroke, bits_of, dithered_strokes, follows_background, foreground_stroke, mask_bits};
 ghost use Rattle.rle_dec.specs.Drawing.{drawn_onto, masked, pixels_before};
 
 use crate::copies::copy_back;
 use crate::reads::pixel;
-use run_lengths::Stroke;
+use run_lengths::{Before, Stroke};
 
 /// The bits of a byte.
 const BITS: usize = 8;
@@ -33,6 +33,17 @@ pub fn foreground_pixel(first: bool, foreground: u32) -> Stroke
     }
 }
 
+/// Whether a background run there begins with a foreground pixel (profile: not at or past the end of the first row after one that begins in it).
+pub fn follows_run(before: Before, first: bool) -> bool
+    ensures { result ≡ follows_background before first }
+{
+    match before {
+        Before::Other => false,
+        Before::FirstRowBackground => first,
+        Before::LaterBackground => true,
+    }
+}
+
 /// One pixel.
 pub fn draw_pixel(out: &mut [u32], at: usize, w: usize, stroke: Stroke)
     requires wide { 1 ≤ w }
@@ -55,6 +66,25 @@ pub fn draw_color(out: &mut [u32], at: usize, n: usize, color: u32)
     out[at..at + n].fill(color);
 }
 
+/// Two pixels.
+pub fn draw_two(out: &mut [u32], at: usize, first: u32, second: u32)
+    requires { at + 2 ≤ length out.old }
+    ensures { take (at + 2) out.new ≡ take at out.old ++ first ∷ second ∷ [] }
+{
+    out[at] = first;
+    out[at + 1] = second;
+}
+
+/// Three pixels.
+pub fn draw_three(out: &mut [u32], at: usize, first: u32, second: u32, third: u32)
+    requires { at + 3 ≤ length out.old }
+    ensures { take (at + 3) out.new ≡ take at out.old ++ first ∷ second ∷ third ∷ [] }
+{
+    out[at] = first;
+    out[at + 1] = second;
+    out[at + 2] = third;
+}
+
 /// Four pixels.
 fn draw_four(out: &mut [u32], at: usize, first: u32, second: u32, third: u32, fourth: u32)
     requires { at + 4 ≤ length out.old }
@@ -75,7 +105,7 @@ fn draw_colors(out: &mut [u32], at: usize, colors: &[u32])
 }
 
 /// So many pixels as one row earlier, at most a row at once.
-fn draw_above(out: &mut [u32], at: usize, w: usize, n: usize)
+pub fn draw_above(out: &mut [u32], at: usize, w: usize, n: usize)
     requires wide { 1 ≤ w }
     requires room { at + n ≤ length out.old }
     requires row { w ≤ at }

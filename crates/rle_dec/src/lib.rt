@@ -8,6 +8,7 @@ mod draw;
 mod fault;
 mod orders;
 mod reads;
+mod short;
 
 pub use bitmap::unpack;
 pub use fault::RleFault;

@@ -1,20 +1,15 @@
 //! Reads one order from the front of a stream.
 ghost use Rattle.std.specs.Prelude.{◌≡◌, ◌≤◌, ◌∷◌, IfOk};
 ghost use Rattle.run_lengths.specs.RunLength.{foreground_at, greatest_length, order_at, run_at};
-ghost use Rattle.rle_dec.specs.Orders.{order_of, run_of, short_order};
+ghost use Rattle.rle_dec.specs.Orders.{order_of, run_of};
 ghost use Rattle.rle_dec.specs.Reads.{itself, option_of, read_of};
 
 use crate::codes::find_row;
-use crate::reads::{Read, checked_length, read_bytes, read_length, read_pixel};
+use crate::reads::{Read, read_bytes, read_length, read_pixel};
 use run_lengths::RunKind;
 
 /// The most pixels of a bitmap: 64 by 64.
 pub const MOST_PIXELS: usize = 4096;
-
-/// The first code of colour runs, and of colour images.
-const COLOR_RUN: u8 = 0x60;
-
-const COLOR_IMAGE: u8 = 0x80;
 
 /// What an order of a length draws.
 #[derive(Clone, Copy)]
@@ -45,15 +40,9 @@ pub fn read_order(stream: &[u8], left: usize) -> Read<'_, Order<'_>>
     ensures is { read_of order_of result ≡ order_at left stream.now }
     ensures most { IfOk result (λ v. v.0.length ≤ left) }
 {
-    let [code, rest @ ..] = stream else {
-        return Err(stream);
-    };
-    // The commonest orders first, since each is then read with a kind that the compiler knows.
-    match *code {
-        0x01..=0x1F => read_short(RunKind::BackgroundRun, *code, left, stream, rest),
-        0x61..=0x7F => read_short(RunKind::ColorRun, *code - COLOR_RUN, left, stream, rest),
-        0x81..=0x9F => read_short(RunKind::ColorImage, *code - COLOR_IMAGE, left, stream, rest),
-        _ => read_in_table(*code, left, stream, rest),
+    match stream {
+        [code, rest @ ..] => read_in_table(*code, left, stream, rest),
+        [] => Err(stream),
     }
 }
 
@@ -74,31 +63,6 @@ fn read_in_table<'a>(code: u8, left: usize, stream: &'a [u8], rest: &'a [u8]) ->
     Ok((
         Order {
             foreground,
-            length,
-            run,
-        },
-        rest,
-    ))
-}
-
-/// An order of a kind that sets no foreground, with its length in the code; `stream` begins with the code, `rest` after it.
-#[inline(always)]
-fn read_short<'a>(
-    kind: RunKind,
-    length: u8,
-    left: usize,
-    stream: &'a [u8],
-    rest: &'a [u8],
-) -> Read<'a, Order<'a>>
-    requires left { left ≤ MOST_PIXELS }
-    ensures is { read_of order_of result ≡ short_order kind length left stream.now rest.now }
-    ensures most { IfOk result (λ v. v.0.length ≤ left) }
-{
-    let (length, rest) = checked_length(usize::from(length), longest(kind, left), rest, stream)?;
-    let (run, rest) = read_run(kind, length, rest)?;
-    Ok((
-        Order {
-            foreground: None,
             length,
             run,
         },

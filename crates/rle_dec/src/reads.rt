@@ -90,12 +90,7 @@ pub fn read_length<'a>(
 }
 
 /// A length from 1 to the greatest, else a refusal of its field.
-pub fn checked_length<'a>(
-    n: usize,
-    greatest: usize,
-    rest: &'a [u8],
-    field: &'a [u8],
-) -> Read<'a, usize>
+fn checked_length<'a>(n: usize, greatest: usize, rest: &'a [u8], field: &'a [u8]) -> Read<'a, usize>
     ensures is { read_of itself result ≡ length_if greatest n rest.now field.now }
     ensures most { IfOk result (λ v. v.0 ≤ greatest) }
 {

@@ -114,6 +114,16 @@ no_more : (b : Bool) (m i : ℕ) → m ≤ i → cond b (suc m) 0 ≤ suc i
 no_more true m i h = omega (arith, h)
 no_more false m i h = omega arith
 
+past_more : (t : Bool) (m k r : ℕ) → suc k ≤ cond t (suc m) 0 → (k ≤ m → m ≡ k + r) → cond t (suc m) 0 ≡ suc k + r
+past_more true m k r h f = let g : m ≡ k + r = f (omega (arith, h)) in omega (arith, g)
+past_more false m k r h f = absurd (omega (arith, h))
+
+-- past some of the items that are counted
+pub leading_past : (c k : ℕ) (xs : List ℕ) → k ≤ leading c xs → leading c xs ≡ k + leading c (drop k xs)
+leading_past c zero xs h = omega arith
+leading_past c (suc k) [] h = absurd (omega (arith, h))
+leading_past c (suc k) (x ∷ xs) h = past_more (x == c) (leading c xs) k (leading c (drop k xs)) h (leading_past c k xs)
+
 pub leading_within : (c : ℕ) (xs : List ℕ) → leading c xs ≤ length xs
 leading_within c [] = omega arith
 leading_within c (x ∷ xs) = no_more (x == c) (leading c xs) (length xs) (leading_within c xs)

@@ -20,12 +20,26 @@ const BLACK: u32 = 0;
 /// How many pixels are looked at one by one before the lanes are called; most runs are shorter.
 const NEAR: usize = 4;
 
+/// The fewest pixels of one colour that are packed as a run.
+const PAIR: usize = 2;
+
 /// How many pixels from the front on have a colour.
+#[inline(always)]
 pub fn count_color(pixels: &[u32], color: u32) -> usize
     ensures is { result ≡ leading color pixels.now }
     ensures within { result ≤ length pixels.now }
 {
-    let mut n = 0;
+    count_color_past(pixels, color, 0)
+}
+
+/// The same where so many are known to have it.
+#[inline(always)]
+fn count_color_past(pixels: &[u32], color: u32, known: usize) -> usize
+    requires { known ≤ leading color pixels.now }
+    ensures is { result ≡ leading color pixels.now }
+    ensures within { result ≤ length pixels.now }
+{
+    let mut n = known;
     while n < pixels.len().min(NEAR) && pixels[n] == color {
         n += 1;
     }
@@ -109,7 +123,7 @@ pub fn first_piece(pixels: &[u32], aboves: Option<&[u32]>) -> Piece
 {
     let background = count_background(pixels, aboves);
     if background == 0 {
-        return Piece::Color(count_color(pixels, pixels[0]));
+        return Piece::Color(count_color_past(pixels, pixels[0], PAIR));
     }
     if !has_color_at(pixels, background) {
         return Piece::Background(background);

@@ -100,14 +100,46 @@ pub fn write_color(out: &mut Vec<u8>, n: usize, color: u32) -> Result<(), AllocE
     write_pixel(out, color)
 }
 
-/// A colour image of pixels, or nothing where there are none.
+/// A colour image of pixels, or nothing where there are none; one of few pixels, as most are, is appended at once.
 pub fn write_literals(out: &mut Vec<u8>, pixels: &[u32]) -> Result<(), AllocError>
     requires { length pixels.now < 65536 }
     ensures { OnOk result (out.new.items ≡ out.old.items ++ literal_bytes pixels.now) }
 {
-    if pixels.is_empty() {
-        return Ok(());
+    match pixels {
+        [] => Ok(()),
+        [a] => out.extend_from_slice(&[COLOR_IMAGE + 1, blue(*a), green(*a), red(*a)]),
+        [a, b] => out.extend_from_slice(&[
+            COLOR_IMAGE + 2,
+            blue(*a),
+            green(*a),
+            red(*a),
+            blue(*b),
+            green(*b),
+            red(*b),
+        ]),
+        [a, b, c] => out.extend_from_slice(&[
+            COLOR_IMAGE + 3,
+            blue(*a),
+            green(*a),
+            red(*a),
+            blue(*b),
+            green(*b),
+            red(*b),
+            blue(*c),
+            green(*c),
+            red(*c),
+        ]),
+        _ => write_image(out, pixels),
     }
+}
+
+/// A colour image of pixels.
+#[inline(never)]
+fn write_image(out: &mut Vec<u8>, pixels: &[u32]) -> Result<(), AllocError>
+    requires some { 0 < length pixels.now }
+    requires few { length pixels.now < 65536 }
+    ensures { OnOk result (out.new.items ≡ out.old.items ++ literal_bytes pixels.now) }
+{
     write_length(out, COLOR_IMAGE, LONG_COLOR_IMAGE, pixels.len())?;
     write_pixels(out, pixels)
 }

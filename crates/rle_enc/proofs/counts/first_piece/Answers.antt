@@ -3,11 +3,14 @@ use Rattle.rle_enc.specs.Stretch.{leading, row_of}
 use Rattle.rle_enc.proofs.Counting.{leading_some, piece_background, piece_color}
 use Rattle.rle_enc.proofs.counts.first_piece.Goals as goal
 
+pub count_color_past-requires : goal.count_color_past-requires
+count_color_past-requires c = c.requires.run (omega (arith, c.count_background-background.ensures.is, c.if-background-eq0.true))
+
 pub returns-then-background-eq0-clause-is : goal.returns-then-background-eq0-clause-is
 returns-then-background-eq0-clause-is c =
     let ps : List ℕ = c.args.pixels.now in
     let two : 2 ≤ leading (get_or ps 0 0) ps = c.requires.run (omega (arith, c.count_background-background.ensures.is, c.if-background-eq0.true)) in
-    piece_color (row_of c.args.aboves) ps c.count_background-background.result c.count_color.result (get_or ps 0 0) c.requires.row c.count_background-background.ensures.is c.count_color.ensures.is (omega (arith, c.count_color.ensures.is, c.if-background-eq0.true, two)) (omega (arith, c.count_color.ensures.is, two))
+    piece_color (row_of c.args.aboves) ps c.count_background-background.result c.count_color_past.result (get_or ps 0 0) c.requires.row c.count_background-background.ensures.is c.count_color_past.ensures.is (omega (arith, c.count_color_past.ensures.is, c.if-background-eq0.true, two)) (omega (arith, c.count_color_past.ensures.is, two))
 
 pub returns-then-not-has_color_at-clause-is : goal.returns-then-not-has_color_at-clause-is
 returns-then-not-has_color_at-clause-is c =

@@ -1,5 +1,5 @@
 use Rattle.std.proofs.Common.{rules}
-use Rattle.rle_dec.proofs.bitmap.follows_run.Goals as goal
+use Rattle.rle_dec.proofs.draw.follows_run.Goals as goal
 
 pub returns-in-LaterBackground : goal.returns-in-LaterBackground
 returns-in-LaterBackground c = search rules
