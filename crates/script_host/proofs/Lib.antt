@@ -7,3 +7,4 @@ pub mod Joining
 pub mod Sending
 pub mod Taking
 pub mod Inviting
+mod FrameLines

@@ -1,12 +1,12 @@
 -- What steps are answered, as the text of their lines and as answers.
-use Rattle.std.specs.Prelude.{◌≡◌, ℕ, List, [], codes, Option, Some, None, ⊤}
+use Rattle.std.specs.Prelude.{◌≡◌, ℕ, List, [], codes, Option, Some, None, Vec, ⊤}
 use Rattle.px_core.specs.declared.surface.Size.{Size}
 use Rattle.line_text.specs.Hexadecimal.{hexadecimal_text}
 use Rattle.session_rules.specs.Journal.{Head}
 use Rattle.session_rules.specs.Steps.{Step, Answer, TakeOf, outcome}
 use Rattle.session_rules.specs.Steps.Answer.{Joined, Left, Accepted, Refused, Nothing, Frame}
 use Rattle.frame_rules.specs.Encoder.{Encoder}
-use Rattle.script_rules.specs.Capture.{of_viewer, viewer_of, joined_line, refusal_line}
+use Rattle.script_rules.specs.Capture.{ended, of_viewer, viewer_of, joined_line, refusal_line}
 use Rattle.script_rules.specs.CaptureText.{Run, bytes_of_answer, encoder_frames}
 use Rattle.script_lines.specs.Answers.{refusal_of}
 use Rattle.script_host.specs.declared.answer.StepAnswer.{StepAnswer}
@@ -20,6 +20,11 @@ answer_text size v preset says.Accepted = []
 answer_text size v preset (says.Refused cause) = refusal_line v (refusal_of cause)
 answer_text size v preset says.Nothing = of_viewer v (codes "nothing")
 answer_text size v preset (says.Frame bytes) = of_viewer v (hexadecimal_text bytes.items)
+
+-- what belongs behind the beginning of a frame's line: the digits of its bytes and a line feed
+abbrev pub frame_end : {Z : Type 0} → Option (Vec ℕ Z) → List ℕ
+frame_end None = []
+frame_end (Some bytes) = ended (hexadecimal_text bytes.items)
 
 -- an answer that is no frame, as a session's
 abbrev pub answer_of : StepAnswer → Option Answer

@@ -1,14 +1,14 @@
 //! What a step is answered, and its line.
-ghost use Rattle.std.specs.Prelude.{◌≡◌, ◌++◌, Ok, Err, IfOk, OnOk, OnErr};
+ghost use Rattle.std.specs.Prelude.{◌≡◌, ◌++◌, Ok, Err, IfOk, OnErr};
 ghost use Rattle.line_text.specs.Words.{words_of};
 ghost use Rattle.line_text.specs.Hexadecimal.{HoldsFront};
 ghost use Rattle.session_core.specs.Faults.{join_answer, input_answer, draw_answer};
 ghost use Rattle.script_host.specs.declared.answer.StepAnswer.TheVariants.{Refused};
-ghost use Rattle.script_host.specs.Answers.{answer_text, answer_of, IsVerdict};
+ghost use Rattle.script_host.specs.Answers.{answer_text, answer_of, frame_end, IsVerdict};
 
 use crate::OutOfMemory;
 use px_core::Size;
-use script_lines::{AnswerLine, Cause, write_answer};
+use script_lines::{AnswerLine, Cause, begin_frame, write_answer};
 use session_core::{DrawRefusal, InputRefusal, JoinFault};
 use std::alloc::Global;
 
@@ -31,42 +31,36 @@ pub enum StepAnswer {
 
 impl StepAnswer {
     /// Appends the line of the answer to a step of a viewer, 0 for a join, in a session of this size; preset words are those of a join.
-    /// An accepted step has none. After an `Err` a front of it was appended.
+    /// An accepted step has none. Of a frame's line only the beginning is appended, and its bytes are given, whose digits and a line feed
+    /// belong behind it. After an `Err` a front of the line was appended.
     pub fn write(
-        &self,
+        self,
         alloc: Global,
         out: &mut Vec<u8>,
         size: Size,
         viewer: u32,
         preset: &[u8],
-    ) -> Result<(), OutOfMemory>
-        ensures ok { OnOk result (out.new.items ≡ out.old.items ++ answer_text size viewer (words_of preset.now) self.now) }
-        ensures front { OnErr result (HoldsFront out.old.items out.new.items (answer_text size viewer (words_of preset.now) self.now)) }
+    ) -> Result<Option<Vec<u8>>, OutOfMemory>
+        ensures ok { IfOk result (λ frame. out.new.items ++ frame_end frame ≡ out.old.items ++ answer_text size viewer (words_of preset.now) self) }
+        ensures front { OnErr result (HoldsFront out.old.items out.new.items (answer_text size viewer (words_of preset.now) self)) }
     {
-        match self {
-            StepAnswer::Joined { viewer } => {
-                let viewer = *viewer;
-                write_answer(
-                    alloc,
-                    out,
-                    AnswerLine::Joined {
-                        viewer,
-                        size,
-                        preset,
-                    },
-                )
-            }
-            StepAnswer::Left => write_answer(alloc, out, AnswerLine::Left { viewer }),
-            StepAnswer::Accepted => Ok(()),
-            StepAnswer::Refused { cause } => {
-                let cause = *cause;
-                write_answer(alloc, out, AnswerLine::Refused { viewer, cause })
-            }
-            StepAnswer::Nothing => write_answer(alloc, out, AnswerLine::Nothing { viewer }),
+        let line = match self {
+            StepAnswer::Joined { viewer } => AnswerLine::Joined {
+                viewer,
+                size,
+                preset,
+            },
+            StepAnswer::Left => AnswerLine::Left { viewer },
+            StepAnswer::Accepted => return Ok(None),
+            StepAnswer::Refused { cause } => AnswerLine::Refused { viewer, cause },
+            StepAnswer::Nothing => AnswerLine::Nothing { viewer },
             StepAnswer::Frame { bytes } => {
-                write_answer(alloc, out, AnswerLine::Frame { viewer, bytes })
+                begin_frame(out, viewer)?;
+                return Ok(Some(bytes));
             }
-        }
+        };
+        write_answer(alloc, out, line)?;
+        Ok(None)
     }
 }
 

@@ -2,7 +2,6 @@
 use Rattle.std.specs.Prelude.{ℕ, List, ◌∷◌, ◌++◌, codes, decimal}
 use Rattle.px_core.specs.declared.surface.Size.{Size}
 use Rattle.line_text.specs.Words.{words_of}
-use Rattle.line_text.specs.Hexadecimal.{hexadecimal_text}
 use Rattle.session_rules.specs.Journal.{Refusal}
 use Rattle.session_rules.specs.Journal.Refusal.{NotInvited, RoomFull, JoinsSpent, NotHolder, BadDrawing, EmptySlot, SlotSize, JournalFull}
 use Rattle.script_rules.specs.Capture.{of_viewer, refusal_line, joined_line}
@@ -41,6 +40,5 @@ joined_text size preset = codes "joined " ++ decimal size.w ++ 32 ∷ decimal si
 abbrev pub line_of : AnswerLine → List ℕ
 line_of (says.Joined viewer size preset) = joined_line size viewer (words_of preset.now)
 line_of (says.Left viewer) = of_viewer viewer (codes "left")
-line_of (says.Frame viewer bytes) = of_viewer viewer (hexadecimal_text bytes.now)
 line_of (says.Nothing viewer) = of_viewer viewer (codes "nothing")
 line_of (says.Refused viewer c) = refusal_line viewer (refusal_of c)

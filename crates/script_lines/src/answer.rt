@@ -8,14 +8,13 @@
 //! | `V nothing` | its take found none |
 //! | `V refused CAUSE` | its step is refused; V is 0 where that is a join |
 //! | `line K rule R` | line K of the script breaks rule R |
-ghost use Rattle.std.specs.Prelude.{◌≡◌, ◌∷◌, ◌++◌, codes, string_bytes, IfOk, OnOk, OnErr};
-ghost use Rattle.line_text.specs.Hexadecimal.{hexadecimal_text, HoldsFront};
+ghost use Rattle.std.specs.Prelude.{◌≡◌, [], ◌∷◌, ◌++◌, codes, decimal, string_bytes, IfOk, OnOk, OnErr};
+ghost use Rattle.line_text.specs.Hexadecimal.{HoldsFront};
 ghost use Rattle.script_rules.specs.Capture.{ended, of_viewer, broken_line};
 ghost use Rattle.script_lines.specs.Answers.{joined_text, cause_text, line_of};
 ghost use Rattle.script_lines.specs.Lines.{number_of_rule};
 
 use crate::OutOfMemory;
-use crate::hexadecimal::append_hexadecimals;
 use crate::rule::LineRule;
 use itoa::Buffer;
 use px_core::Size;
@@ -26,12 +25,6 @@ const SPACE: u8 = b' ';
 
 /// What ends a line.
 const LINE_FEED: u8 = b'\n';
-
-/// How many hexadecimal digits a byte has.
-const BYTE_DIGITS: usize = 2;
-
-/// The most bytes of a frame's line beside its digits: a viewer's number, a space and the line feed.
-const LINE_ROOM: usize = 12;
 
 /// Why a step is refused.
 #[derive(Clone, Copy, Debug, PartialEq, Eq)]
@@ -67,11 +60,6 @@ pub enum AnswerLine<'a> {
     Left {
         viewer: u32,
     },
-    /// A take gave a frame of these bytes.
-    Frame {
-        viewer: u32,
-        bytes: &'a [u8],
-    },
     /// A take found no work.
     Nothing {
         viewer: u32,
@@ -102,7 +90,6 @@ pub fn write_answer(
             write_of_viewer(out, viewer, &text)
         }
         AnswerLine::Left { viewer } => write_of_viewer(out, viewer, b"left"),
-        AnswerLine::Frame { viewer, bytes } => write_frame(out, viewer, bytes),
         AnswerLine::Nothing { viewer } => write_of_viewer(out, viewer, b"nothing"),
         AnswerLine::Refused { viewer, cause } => {
             let text = cause_text(alloc, cause)?;
@@ -174,24 +161,14 @@ fn write_line(out: &mut Vec<u8>, head: &[u8], text: &[u8]) -> Result<(), OutOfMe
     Ok(())
 }
 
-/// Appends a viewer's number, the digits of a frame's bytes and a line feed. After an `Err` a front of them was appended.
-fn write_frame(out: &mut Vec<u8>, viewer: u32, bytes: &[u8]) -> Result<(), OutOfMemory>
-    ensures ok { OnOk result (out.new.items ≡ out.old.items ++ of_viewer viewer (hexadecimal_text bytes.now)) }
-    ensures front { OnErr result (HoldsFront out.old.items out.new.items (of_viewer viewer (hexadecimal_text bytes.now))) }
+/// Appends the beginning of a frame's line, a viewer's number and a space, behind which the digits of its bytes and a line feed belong. After
+/// an `Err` a front of it was appended.
+pub fn begin_frame(out: &mut Vec<u8>, viewer: u32) -> Result<(), OutOfMemory>
+    ensures ok { OnOk result (out.new.items ≡ out.old.items ++ decimal viewer ++ 32 ∷ []) }
+    ensures front { OnErr result (HoldsFront out.old.items out.new.items (decimal viewer ++ 32 ∷ [])) }
 {
     let mut buffer = Buffer::new();
-    out.reserve((BYTE_DIGITS * bytes.len()).saturating_add(LINE_ROOM))?;
-    write_digits_line(out, buffer.format(viewer).as_bytes(), bytes)
-}
-
-/// Appends a text, a space, the digits of bytes and a line feed. After an `Err` a front of them was appended.
-fn write_digits_line(out: &mut Vec<u8>, head: &[u8], bytes: &[u8]) -> Result<(), OutOfMemory>
-    ensures ok { OnOk result (out.new.items ≡ out.old.items ++ ended (head.now ++ 32 ∷ hexadecimal_text bytes.now)) }
-    ensures front { OnErr result (HoldsFront out.old.items out.new.items (ended (head.now ++ 32 ∷ hexadecimal_text bytes.now))) }
-{
-    out.extend_from_slice(head)?;
+    out.extend_from_slice(buffer.format(viewer).as_bytes())?;
     out.push(SPACE)?;
-    append_hexadecimals(out, bytes)?;
-    out.push(LINE_FEED)?;
     Ok(())
 }

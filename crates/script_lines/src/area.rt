@@ -76,7 +76,9 @@ pub(crate) fn last_rect(words: &mut Parts<'_>) -> Option<Rect>
     }
 }
 
-/// A drawing of a shape, with the clip that the words after its fields give; `None` where they are anything else.
+/// A drawing of a shape, with the clip that the words after its fields give; `None` where they are anything else. It is compiled into the
+/// forms that call it, since else a shape is copied for the call and a drawing back.
+#[inline(always)]
 pub(crate) fn clipped(shape: Shape, words: &mut Parts<'_>) -> Option<Drawing>
     ensures { result ≡ with_clip shape words.old }
 {

@@ -9,7 +9,7 @@ use crate::OutOfMemory;
 const PIECE: usize = 32;
 
 /// Appends bytes as lower-case hexadecimal digits, two for each byte. After an `Err` a front of them was appended.
-pub(crate) fn append_hexadecimals(out: &mut Vec<u8>, bytes: &[u8]) -> Result<(), OutOfMemory>
+pub fn append_hexadecimals(out: &mut Vec<u8>, bytes: &[u8]) -> Result<(), OutOfMemory>
     ensures ok { OnOk result (out.new.items ≡ out.old.items ++ hexadecimal_text bytes.now) }
     ensures front { OnErr result (HoldsFront out.old.items out.new.items (hexadecimal_text bytes.now)) }
 {
@@ -36,7 +36,7 @@ fn append_piece(out: &mut Vec<u8>, piece: &[u8]) -> Result<(), OutOfMemory>
 }
 
 /// Writes bytes as lower-case hexadecimal digits, two for each byte.
-fn write_digits(digits: &mut [u8], bytes: &[u8])
+pub fn write_digits(digits: &mut [u8], bytes: &[u8])
     requires { length digits.old ≡ 2 * length bytes.now }
     ensures { digits.new ≡ hexadecimal_text bytes.now }
 {

@@ -18,8 +18,9 @@ mod step;
 mod text;
 mod words;
 
-pub use answer::{AnswerLine, Cause, write_answer, write_broken};
+pub use answer::{AnswerLine, Cause, begin_frame, write_answer, write_broken};
 pub use form::{LineForm, line_form};
+pub use hexadecimal::{append_hexadecimals, write_digits};
 pub use name::is_name;
 pub use opening::{is_invite, size_of_line};
 pub use rule::LineRule;

@@ -51,7 +51,8 @@ pub(crate) fn read_step(
 }
 
 /// The step that the words after a keyword ask for. Each arm hands on what its form makes, so that only the one that is taken needs room
-/// for a step.
+/// for a step. It is compiled into its one caller, since else the step is copied once more.
+#[inline(always)]
 fn read_rest(
     alloc: Global,
     keyword: Keyword,

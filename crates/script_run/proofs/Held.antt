@@ -1,9 +1,10 @@
 -- What was held back, and what of it was written.
-use Rattle.std.proofs.Common.{◌≡◌, ℕ, ◌<◌, List, [], ◌∷◌, ◌++◌, length, refl, ap, sym, ◌∙◌, Some, None, append_assoc, append-nil, arith}
+use Rattle.std.proofs.Common.{◌≡◌, ℕ, ◌<◌, List, [], ◌∷◌, ◌++◌, length, refl, ap, sym, ◌∙◌, subst, Some, None, append_assoc, append-nil, arith}
 use Rattle.std.specs.Prelude.{Option}
 use Rattle.std.specs.Io.KnownBytes.{Appends, Keeps, append_known}
 use Rattle.std.proofs.KnownBytes.{Appends-nil, Appends-trans}
 use Rattle.edge_io.specs.Sink.{WritesFront}
+use Rattle.script_rules.specs.Capture.{ended}
 use Rattle.script_run.specs.Held.{Holds, Grows, IsFrontOf}
 
 pub append_known-nil : (a : Option (List ℕ)) → append_known a [] ≡ a
@@ -147,3 +148,37 @@ front_after told mid telling held text w f = record {
   whole = ap (λ t. held ++ t) f.whole ∙ sym (append_assoc held f.front f.rest);
   written = Appends-trans told mid telling held f.front w f.written;
 }
+
+-- ---- a text behind another one
+
+pub held_then : (told mid telling : Option (List ℕ)) (held between holding a b : List ℕ) → Holds told mid held between a → Holds mid telling between holding b
+    → Holds told telling held holding (a ++ b)
+held_then told mid telling held between holding a b h i = record {
+  front = h.front ++ i.front;
+  written = Appends-trans told mid telling h.front i.front h.written i.written;
+  whole = sym (append_assoc held a b) ∙ ap (λ t. t ++ b) h.whole ∙ append_assoc h.front between b ∙ ap (λ t. h.front ++ t) i.whole
+      ∙ sym (append_assoc h.front i.front holding);
+}
+
+pub front_then : (told mid telling : Option (List ℕ)) (held between a b : List ℕ) → Holds told mid held between a → WritesFront mid telling (between ++ b)
+    → WritesFront told telling (held ++ (a ++ b))
+front_then told mid telling held between a b h f = record {
+  front = h.front ++ f.front;
+  rest = f.rest;
+  whole = sym (append_assoc held a b) ∙ ap (λ t. t ++ b) h.whole ∙ append_assoc h.front between b ∙ ap (λ t. h.front ++ t) f.whole
+      ∙ sym (append_assoc h.front f.front f.rest);
+  written = Appends-trans told mid telling h.front f.front h.written f.written;
+}
+
+pub front_within : (told telling : Option (List ℕ)) (held a b : List ℕ) → WritesFront told telling (held ++ a) → WritesFront told telling (held ++ (a ++ b))
+front_within told telling held a b f =
+    subst (WritesFront told telling) (append_assoc held a b) (front_longer told telling (held ++ a) b f)
+
+-- ---- a frame's line in parts
+
+pub parts_of_line : (all done rest now later : List ℕ) → all ≡ done ++ rest → rest ≡ now ++ later → ended all ≡ done ++ (now ++ ended later)
+parts_of_line all done rest now later whole parts =
+    ap ended (whole ∙ ap (λ t. done ++ t) parts) ∙ append_assoc done (now ++ later) (10 ∷ []) ∙ ap (λ t. done ++ t) (append_assoc now later (10 ∷ []))
+
+pub end_of_line : (all done rest : List ℕ) → all ≡ done ++ rest → rest ≡ [] → ended all ≡ done ++ 10 ∷ []
+end_of_line all done rest whole none = ap ended (whole ∙ ap (λ t. done ++ t) none ∙ append-nil done)

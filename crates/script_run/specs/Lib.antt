@@ -7,3 +7,4 @@ pub mod Reading
 pub mod Standing
 pub mod Steps
 pub mod Progress
+pub mod Texts

@@ -11,10 +11,12 @@ ghost use Rattle.script_host.specs.Runs.{IsInCourse};
 ghost use Rattle.script_run.specs.Run.{WritesCause};
 ghost use Rattle.script_run.specs.Standing.{Stands};
 ghost use Rattle.script_run.specs.Steps.{DoesFound, FaultCause, IsWriteFault, Refuses, answer_of};
+ghost use Rattle.script_run.specs.Texts.{text_of};
 
 use crate::OutOfMemory;
 use crate::fault::ScriptFault;
 use crate::line::do_line;
+use crate::text::Text;
 use edge_io::{Found, Sink, Wrote};
 use script_host::ScriptHost;
 use script_lines::{LineRule, write_broken};
@@ -34,7 +36,7 @@ pub(crate) enum Step {
 /// Does what was found asks for, as line `k`, and appends its line of the capture, or the refusal. After want of memory nothing is said of the text.
 pub(crate) fn do_found(
     alloc: Global,
-    out: &mut Vec<u8>,
+    out: &mut Text,
     host: &mut ScriptHost,
     k: u32,
     found: Found,
@@ -43,7 +45,7 @@ pub(crate) fn do_found(
     requires course { IsInCourse host.old }
     requires read { found ≡ Found.Failed → ⊥ }
     ensures { IfOk result (λ step. (r : ScriptReading) (run : Run Encoder) → Stands host.old r run
-        → DoesFound step found k r run host.new text.now (Some out.old.items) (Some out.new.items)) }
+        → DoesFound step found k r run host.new text.now (Some (text_of out.old)) (Some (text_of out.new))) }
 {
     let broken = match found {
         Found::Line { ended } => do_line(alloc, out, host, text, ended)?,
@@ -52,7 +54,7 @@ pub(crate) fn do_found(
     };
     match broken {
         Some(rule) => {
-            write_broken(alloc, out, k, rule)?;
+            out.refusal(alloc, k, rule)?;
             Ok(Step::Refused(rule))
         }
         None => Ok(Step::Done),

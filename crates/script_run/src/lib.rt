@@ -9,6 +9,7 @@ mod opening;
 mod page;
 mod reader;
 mod script;
+mod text;
 
 pub use fault::ScriptFault;
 pub use found::put;

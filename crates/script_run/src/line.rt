@@ -11,8 +11,10 @@ ghost use Rattle.script_host.specs.Runs.{IsInCourse};
 ghost use Rattle.script_run.specs.Outcomes.{outcome_within};
 ghost use Rattle.script_run.specs.Standing.{Stands};
 ghost use Rattle.script_run.specs.Steps.{LineAnswered};
+ghost use Rattle.script_run.specs.Texts.{text_of};
 
 use crate::OutOfMemory;
+use crate::text::Text;
 use caps_sets::preset;
 use script_host::ScriptHost;
 use script_lines::{LineForm, LineRule, ViewerStep, is_name, is_text_line, line_form};
@@ -33,14 +35,14 @@ const NO_PRESET: &[u8] = b"";
 /// Want of memory may leave the line's step half done: nothing more is to be asked of the host then.
 pub(crate) fn do_line(
     alloc: Global,
-    out: &mut Vec<u8>,
+    out: &mut Text,
     host: &mut ScriptHost,
     text: &[u8],
     ended: bool,
 ) -> Result<Option<LineRule>, OutOfMemory>
     requires { IsInCourse host.old }
     ensures { IfOk result (λ broken. (r : ScriptReading) (run : Run Encoder) → Stands host.old r run
-        → LineAnswered (outcome_within r text.now ended) broken r run host.new out.old.items out.new.items) }
+        → LineAnswered (outcome_within r text.now ended) broken r run host.new (text_of out.old) (text_of out.new)) }
 {
     if !is_text_line(text, ended) {
         return Ok(Some(LineRule::Text));
@@ -76,13 +78,13 @@ pub(crate) fn invite(
 /// Lets a viewer join, where it may, and appends the line that says so, or why it may not.
 pub(crate) fn join(
     alloc: Global,
-    out: &mut Vec<u8>,
+    out: &mut Text,
     host: &mut ScriptHost,
     name: &[u8],
     words: &[u8],
 ) -> Result<Option<LineRule>, OutOfMemory>
     ensures { IfOk result (λ broken. (r : ScriptReading) (run : Run Encoder) → Stands host.old r run
-        → LineAnswered (form_outcome r (Some (JoinForm name.now (words_of words.now)))) broken r run host.new out.old.items out.new.items) }
+        → LineAnswered (form_outcome r (Some (JoinForm name.now (words_of words.now)))) broken r run host.new (text_of out.old) (text_of out.new)) }
 {
     if !is_name(name) {
         return Ok(Some(LineRule::Name));
@@ -91,14 +93,14 @@ pub(crate) fn join(
         return Ok(Some(LineRule::Preset));
     };
     let answer = host.join(name, confirmed)?;
-    answer.write(alloc, out, host.size(), NOBODY, words)?;
+    out.answer(alloc, answer, host.size(), NOBODY, words)?;
     Ok(None)
 }
 
 /// Does a step of a viewer that is present, and appends its line.
 fn do_step(
     alloc: Global,
-    out: &mut Vec<u8>,
+    out: &mut Text,
     host: &mut ScriptHost,
     viewer: u32,
     step: ViewerStep,
@@ -106,12 +108,12 @@ fn do_step(
     requires range { IsStepInRange step }
     requires course { IsInCourse host.old }
     ensures { IfOk result (λ broken. (r : ScriptReading) (run : Run Encoder) → Stands host.old r run
-        → LineAnswered (form_outcome r (Some (StepForm viewer (step_of viewer step)))) broken r run host.new out.old.items out.new.items) }
+        → LineAnswered (form_outcome r (Some (StepForm viewer (step_of viewer step)))) broken r run host.new (text_of out.old) (text_of out.new)) }
 {
     if !host.present(viewer) {
         return Ok(Some(LineRule::Presence));
     }
     let answer = host.step(viewer, step)?;
-    answer.write(alloc, out, host.size(), viewer, NO_PRESET)?;
+    out.answer(alloc, answer, host.size(), viewer, NO_PRESET)?;
     Ok(None)
 }

@@ -16,13 +16,15 @@ ghost use Rattle.script_run.specs.Steps.{HoldsNone, IsWriteFault};
 ghost use Rattle.script_run.specs.Solo.{BeginsRun, first_run, solo_reading, solo_run, joined};
 ghost use Rattle.script_run.specs.Reading.{moment, of_lines, of_rest};
 ghost use Rattle.script_run.specs.Progress.{NextLineDone, AllLinesDone};
+ghost use Rattle.script_run.specs.Texts.{text_of};
 
 use crate::OutOfMemory;
 use crate::fault::ScriptFault;
 use crate::found::{answer, do_found};
 use crate::line::{invite, join};
-use crate::page::{Page, flush, hold};
+use crate::page::{Page, flush};
 use crate::reader::LineReader;
+use crate::text::{Text, hold_text};
 use edge_io::{Found, Sink, Source};
 use px_core::Size;
 use script_host::ScriptHost;
@@ -111,7 +113,7 @@ fn do_second<S: Source, K: Sink>(
     }
     let mut out = begin(alloc, host, found, reader.text())?;
     let step = do_found(alloc, &mut out, host, SECOND, found, reader.text())?;
-    hold(output, page, &out)?;
+    hold_text(output, page, &out)?;
     answer(SECOND, step)
 }
 
@@ -139,9 +141,9 @@ fn do_next<S: Source, K: Sink>(
     if let Found::Failed = found {
         return Err(ScriptFault::ReadFault);
     }
-    let mut out = Vec::new(alloc);
+    let mut out = Text::new(alloc);
     let step = do_found(alloc, &mut out, host, k, found, reader.text())?;
-    hold(output, page, &out)?;
+    hold_text(output, page, &out)?;
     answer(k, step)
 }
 
@@ -187,11 +189,11 @@ fn begin(
     host: &mut ScriptHost,
     found: Found,
     text: &[u8],
-) -> Result<Vec<u8>, OutOfMemory>
+) -> Result<Text, OutOfMemory>
     requires { Stands host.old (opened_reading host.old.session.head.size []) (first_run host.old.session.head.size) }
-    ensures { IfOk result (λ out. BeginsRun (is_invite_found found text.now) host.old.session.head.size host.new out.items) }
+    ensures { IfOk result (λ out. BeginsRun (is_invite_found found text.now) host.old.session.head.size host.new (text_of out)) }
 {
-    let mut out = Vec::new(alloc);
+    let mut out = Text::new(alloc);
     if !is_invite_found(found, text) {
         join_alone(alloc, &mut out, host)?;
     }
@@ -199,10 +201,10 @@ fn begin(
 }
 
 /// Adds the row of the one viewer, and lets it join; appends the line that says so.
-fn join_alone(alloc: Global, out: &mut Vec<u8>, host: &mut ScriptHost) -> Result<(), OutOfMemory>
+fn join_alone(alloc: Global, out: &mut Text, host: &mut ScriptHost) -> Result<(), OutOfMemory>
     requires { Stands host.old (opened_reading host.old.session.head.size []) (first_run host.old.session.head.size) }
     ensures stands { OnOk result (Stands host.new (solo_reading host.old.session.head.size) (solo_run host.old.session.head.size)) }
-    ensures line { OnOk result (out.new.items ≡ out.old.items ++ joined host.old.session.head.size) }
+    ensures line { OnOk result (text_of out.new ≡ text_of out.old ++ joined host.old.session.head.size) }
 {
     invite(host, SOLO_NAME, Role::Owner)?;
     join(alloc, out, host, SOLO_NAME, SOLO_PRESET)?;

@@ -1,4 +1,4 @@
-use Rattle.std.proofs.Common.{◌≡◌, ◌++◌, subst, sym, ap, ◌∙◌, rules}
+use Rattle.std.proofs.Common.{◌≡◌, ◌++◌, subst, sym, ap, ◌∙◌}
 use Rattle.std.specs.Prelude.{OnOk, OnErr}
 use Rattle.std.proofs.lemmas.Result.{err_from_is_err_and}
 use Rattle.line_text.specs.Hexadecimal.{HoldsFront}
@@ -23,9 +23,3 @@ returns-in_ok-text-in-Joined-clause-front c =
     let is : of_viewer c.in-Joined.viewer c.deref.result.now ≡ line_of c.args.answer =
     ap (of_viewer c.in-Joined.viewer) (c.deref.ensures.value ∙ c.in_ok-text-in-Joined.ensures) ∙ joined_is c.in-Joined.size c.in-Joined.viewer c.in-Joined.preset.now ∙ ap line_of (sym c.in-Joined.is) in
     subst (λ line. OnErr c.write_of_viewer.result (HoldsFront c.args.out.now.items c.write_of_viewer.new.out.items line)) is c.write_of_viewer.ensures.front
-
-pub returns-in-Frame-clause-ok : goal.returns-in-Frame-clause-ok
-returns-in-Frame-clause-ok c = search rules
-
-pub returns-in-Frame-clause-front : goal.returns-in-Frame-clause-front
-returns-in-Frame-clause-front c = search rules

@@ -4,6 +4,7 @@ use Rattle.script_run.specs.Outcomes.{is_invite_found}
 use Rattle.script_run.specs.Solo.{first_run, solo_reading, solo_run}
 use Rattle.script_run.specs.Standing.{Stands}
 use Rattle.script_run.proofs.SoloJoins.{begins_solo, begins_invited}
+use Rattle.script_run.specs.Texts.{text_of}
 use Rattle.script_run.proofs.lines.begin.Goals as goal
 use Rattle.script_run.proofs.lines.begin.Goals.{then-not-is_invite_found+in_ok-join_alone, else-not-is_invite_found}
 
@@ -13,11 +14,11 @@ returns c =
     let is = is_invite_found c.args.found c.args.text.now in
     let invite : c.is_invite_found.result ≡ is = c.is_invite_found.ensures in
     elim c.if-not-is_invite_found.branch [
-      | then-not-is_invite_found+in_ok-join_alone w ↦ begins_solo is size c.if-not-is_invite_found.host c.new-out.result.items c.if-not-is_invite_found.out.items
-          (sym invite ∙ w.if-not-is_invite_found.true) c.new-out.ensures.items
+      | then-not-is_invite_found+in_ok-join_alone w ↦ begins_solo is size c.if-not-is_invite_found.host (text_of c.new-out.result) (text_of c.if-not-is_invite_found.out)
+          (sym invite ∙ w.if-not-is_invite_found.true) c.new-out.ensures
           (subst (λ h. Stands h (solo_reading size) (solo_run size)) (sym w.host-is) w.in_ok-join_alone.ensures.stands)
-          (ap (λ o. o.items) w.out-is ∙ w.in_ok-join_alone.ensures.line)
-      | else-not-is_invite_found w ↦ begins_invited is size c.if-not-is_invite_found.host c.if-not-is_invite_found.out.items
-          (sym invite ∙ w.if-not-is_invite_found.false) (ap (λ o. o.items) w.out-is ∙ c.new-out.ensures.items)
+          (ap text_of w.out-is ∙ w.in_ok-join_alone.ensures.line)
+      | else-not-is_invite_found w ↦ begins_invited is size c.if-not-is_invite_found.host (text_of c.if-not-is_invite_found.out)
+          (sym invite ∙ w.if-not-is_invite_found.false) (ap text_of w.out-is ∙ c.new-out.ensures)
           (subst (λ h. Stands h (opened_reading size []) (first_run size)) (sym w.host-is) c.requires)
     ]

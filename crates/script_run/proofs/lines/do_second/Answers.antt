@@ -15,39 +15,40 @@ use Rattle.script_run.proofs.HeldLines.{holding, line_held, line_cut, line_wanti
 use Rattle.script_run.specs.Outcomes.{is_invite_found}
 use Rattle.script_run.specs.Solo.{BeginsRun}
 use Rattle.script_run.proofs.SecondLine.{SecondBegins, second_leads}
+use Rattle.script_run.specs.Texts.{text_of}
 use Rattle.script_run.proofs.lines.do_second.Goals as goal
 
 pub returns : goal.returns
 returns g c =
     let told0 = g.K.Sink.told c.args.output.now in
     let told1 = g.K.Sink.told c.find_line.new.output in
-    let told2 = g.K.Sink.told c.hold.new.output in
+    let told2 = g.K.Sink.told c.hold_text.new.output in
     let f = c.in_ok-found.found in
     let now = c.find_line.new.reader in
-    let line = c.do_found.new.out.items in
+    let line = text_of c.do_found.new.out in
     let m = holding c.args.reader.now (g.S.Source.left c.args.input.now) told0 c.args.page.now in
-    let n = holding now (g.S.Source.left c.find_line.new.input) told2 c.hold.new.page in
-    let held : Holds told1 told2 c.find_line.new.page c.hold.new.page line = subst (Holds told1 told2 c.find_line.new.page c.hold.new.page) c.deref.ensures.value c.in_ok-hold.ensures.held in
+    let n = holding now (g.S.Source.left c.find_line.new.input) told2 c.hold_text.new.page in
+    let held : Holds told1 told2 c.find_line.new.page c.hold_text.new.page line = c.in_ok-hold_text.ensures.held in
     let size = c.args.host.now.session.head.size in
-    let begun = c.in_ok-out.out.items in
+    let begun = text_of c.in_ok-out.out in
     let b : SecondBegins f size c.args.reader.now.at now.text begun c.begin.new.host =
     second_leads (is_invite_found f now.text) f size c.args.reader.now.at now.text begun c.begin.new.host (within_is f m n c.in_ok-found.ensures.found) refl
     (subst (λ t. BeginsRun (is_invite_found f t) size c.begin.new.host begun) c.text.ensures c.in_ok-out.ensures) in
     record {
       done = subst (λ a. NextLineDone a (of_rest c.args.host.now.session.head.size c.args.reader.now.at) 2 c.do_found.new.host told0 m n) (sym c.answer.ensures)
           (line_held c.in_ok-step.step f (of_rest c.args.host.now.session.head.size c.args.reader.now.at) begun 2 b.r b.run c.do_found.new.host c.args.reader.now now (g.S.Source.left c.args.input.now)
-          (g.S.Source.left c.find_line.new.input) told0 told1 told2 c.args.page.now c.find_line.new.page c.hold.new.page line c.in_ok-found.ensures.found
+          (g.S.Source.left c.find_line.new.input) told0 told1 told2 c.args.page.now c.find_line.new.page c.hold_text.new.page line c.in_ok-found.ensures.found
           b.leads c.in_ok-found.ensures.held held (subst (λ t. DoesFound c.in_ok-step.step f 2 b.r b.run c.do_found.new.host t (Some begun) (Some line)) c.text-2.ensures
           (c.in_ok-step.ensures b.r b.run b.stands)));
       grows = grows_on told0 told1 told2 (held_grows told0 told1 c.args.page.now c.find_line.new.page [] c.in_ok-found.ensures.held)
-          (held_grows told1 told2 c.find_line.new.page c.hold.new.page line held);
-      empty = subst (λ a. HoldsNone a c.hold.new.page) (sym c.answer.ensures) (step_holds c.in_ok-step.step 2 c.hold.new.page);
+          (held_grows told1 told2 c.find_line.new.page c.hold_text.new.page line held);
+      empty = subst (λ a. HoldsNone a c.hold_text.new.page) (sym c.answer.ensures) (step_holds c.in_ok-step.step 2 c.hold_text.new.page);
       read = subst (λ a. ReadsCause a (g.S.Source.faults c.args.input.now) (g.S.Source.faults c.find_line.new.input)) (sym c.answer.ensures)
           (found_reads c.in_ok-step.step 2 f (g.S.Source.faults c.args.input.now) (g.S.Source.faults c.find_line.new.input) c.in_ok-found.ensures.read
           c.in_default.not-Failed);
-      write = subst (λ a. WritesCause a (g.K.Sink.faults c.args.output.now) (g.K.Sink.faults c.hold.new.output)) (sym c.answer.ensures)
-          (step_writes c.in_ok-step.step 2 (g.K.Sink.faults c.args.output.now) (g.K.Sink.faults c.hold.new.output)
-          (c.in_ok-hold.ensures.cause ∙ c.in_ok-found.ensures.cause));
+      write = subst (λ a. WritesCause a (g.K.Sink.faults c.args.output.now) (g.K.Sink.faults c.hold_text.new.output)) (sym c.answer.ensures)
+          (step_writes c.in_ok-step.step 2 (g.K.Sink.faults c.args.output.now) (g.K.Sink.faults c.hold_text.new.output)
+          (c.in_ok-hold_text.ensures.cause ∙ c.in_ok-found.ensures.cause));
     }
 
 pub returns-in_err-found-clause-done : goal.returns-in_err-found-clause-done
@@ -86,7 +87,7 @@ do_found-requires g c =
     let size = c.args.host.now.session.head.size in
     let f = c.in_ok-found.found in
     let now = c.find_line.new.reader in
-    let begun = c.in_ok-out.out.items in
+    let begun = text_of c.in_ok-out.out in
     let m = holding c.args.reader.now (g.S.Source.left c.args.input.now) (g.K.Sink.told c.args.output.now) c.args.page.now in
     let n = holding now (g.S.Source.left c.find_line.new.input) (g.K.Sink.told c.find_line.new.output) c.find_line.new.page in
     let b : SecondBegins f size c.args.reader.now.at now.text begun c.begin.new.host =
@@ -113,37 +114,37 @@ returns-in_err-step g c =
       write = subst (λ e. WritesCause {T = Bool} (Err e) (g.K.Sink.faults c.args.output.now) (g.K.Sink.faults c.find_line.new.output)) (sym p.2) c.in_ok-found.ensures.cause;
     })
 
-pub returns-in_err-hold : goal.returns-in_err-hold
-returns-in_err-hold g c =
-    let p = err_from_is_err_and c.from_residual-in_err-hold.result c.from_residual-in_err-hold.ensures.1 in
+pub returns-in_err-hold_text : goal.returns-in_err-hold_text
+returns-in_err-hold_text g c =
+    let p = err_from_is_err_and c.from_residual-in_err-hold_text.result c.from_residual-in_err-hold_text.ensures.1 in
     let told0 = g.K.Sink.told c.args.output.now in
     let told1 = g.K.Sink.told c.find_line.new.output in
-    let told2 = g.K.Sink.told c.hold.new.output in
+    let told2 = g.K.Sink.told c.hold_text.new.output in
     let f = c.in_ok-found.found in
     let now = c.find_line.new.reader in
-    let line = c.do_found.new.out.items in
-    let answer = c.in_err-hold.field-0.0 in
+    let line = text_of c.do_found.new.out in
+    let answer = c.in_err-hold_text.field-0.0 in
     let m = holding c.args.reader.now (g.S.Source.left c.args.input.now) told0 c.args.page.now in
-    let n = holding now (g.S.Source.left c.find_line.new.input) told2 c.hold.new.page in
-    let front : WritesFront told1 told2 (c.find_line.new.page ++ line) = subst (λ l. WritesFront told1 told2 (c.find_line.new.page ++ l)) c.deref.ensures.value c.in_err-hold.ensures.front in
+    let n = holding now (g.S.Source.left c.find_line.new.input) told2 c.hold_text.new.page in
+    let front : WritesFront told1 told2 (c.find_line.new.page ++ line) = c.in_err-hold_text.ensures.front in
     let size = c.args.host.now.session.head.size in
-    let begun = c.in_ok-out.out.items in
+    let begun = text_of c.in_ok-out.out in
     let b : SecondBegins f size c.args.reader.now.at now.text begun c.begin.new.host =
     second_leads (is_invite_found f now.text) f size c.args.reader.now.at now.text begun c.begin.new.host (within_is f m n c.in_ok-found.ensures.found) refl
     (subst (λ t. BeginsRun (is_invite_found f t) size c.begin.new.host begun) c.text.ensures c.in_ok-out.ensures) in
     rw p.1 (record {
       done = subst (λ e. NextLineDone (Err e) (of_rest c.args.host.now.session.head.size c.args.reader.now.at) 2 c.do_found.new.host told0 m n) (sym p.2)
           (line_cut answer c.in_ok-step.step f (of_rest c.args.host.now.session.head.size c.args.reader.now.at) begun 2 b.r b.run c.do_found.new.host c.args.reader.now now (g.S.Source.left c.args.input.now)
-          (g.S.Source.left c.find_line.new.input) told0 told1 told2 c.args.page.now c.find_line.new.page c.hold.new.page line c.in_err-hold.ensures.fault
-          (steady_rest size c.args.reader.now.at) c.in_ok-found.ensures.found b.leads c.in_ok-found.ensures.held front c.in_err-hold.ensures.empty (subst (λ t. DoesFound c.in_ok-step.step f 2 b.r b.run c.do_found.new.host t (Some begun) (Some line)) c.text-2.ensures
+          (g.S.Source.left c.find_line.new.input) told0 told1 told2 c.args.page.now c.find_line.new.page c.hold_text.new.page line c.in_err-hold_text.ensures.fault
+          (steady_rest size c.args.reader.now.at) c.in_ok-found.ensures.found b.leads c.in_ok-found.ensures.held front c.in_err-hold_text.ensures.empty (subst (λ t. DoesFound c.in_ok-step.step f 2 b.r b.run c.do_found.new.host t (Some begun) (Some line)) c.text-2.ensures
           (c.in_ok-step.ensures b.r b.run b.stands)));
       grows = grows_on told0 told1 told2 (held_grows told0 told1 c.args.page.now c.find_line.new.page [] c.in_ok-found.ensures.held)
           (front_grows told1 told2 (c.find_line.new.page ++ line) front);
-      empty = subst (λ e. HoldsNone {T = Bool} (Err e) c.hold.new.page) (sym p.2) (empty_holds answer c.hold.new.page c.in_err-hold.ensures.empty);
+      empty = subst (λ e. HoldsNone {T = Bool} (Err e) c.hold_text.new.page) (sym p.2) (empty_holds answer c.hold_text.new.page c.in_err-hold_text.ensures.empty);
       read = subst (λ e. ReadsCause {T = Bool} (Err e) (g.S.Source.faults c.args.input.now) (g.S.Source.faults c.find_line.new.input)) (sym p.2)
-          (fault_reads answer (g.S.Source.faults c.args.input.now) (g.S.Source.faults c.find_line.new.input) c.in_err-hold.ensures.fault
+          (fault_reads answer (g.S.Source.faults c.args.input.now) (g.S.Source.faults c.find_line.new.input) c.in_err-hold_text.ensures.fault
           (found_is_same f (g.S.Source.faults c.args.input.now) (g.S.Source.faults c.find_line.new.input) c.in_default.not-Failed c.in_ok-found.ensures.read));
-      write = subst (λ e. WritesCause {T = Bool} (Err e) (g.K.Sink.faults c.args.output.now) (g.K.Sink.faults c.hold.new.output)) (sym p.2)
-          (writes_after answer (g.K.Sink.faults c.args.output.now) (g.K.Sink.faults c.find_line.new.output) (g.K.Sink.faults c.hold.new.output) c.in_ok-found.ensures.cause
-          (fault_writes answer (g.K.Sink.faults c.find_line.new.output) (g.K.Sink.faults c.hold.new.output) c.in_err-hold.ensures.cause));
+      write = subst (λ e. WritesCause {T = Bool} (Err e) (g.K.Sink.faults c.args.output.now) (g.K.Sink.faults c.hold_text.new.output)) (sym p.2)
+          (writes_after answer (g.K.Sink.faults c.args.output.now) (g.K.Sink.faults c.find_line.new.output) (g.K.Sink.faults c.hold_text.new.output) c.in_ok-found.ensures.cause
+          (fault_writes answer (g.K.Sink.faults c.find_line.new.output) (g.K.Sink.faults c.hold_text.new.output) c.in_err-hold_text.ensures.cause));
     })
