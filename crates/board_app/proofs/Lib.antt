@@ -1,2 +1,3 @@
 pub mod KindsLemmas
 pub mod Shades
+pub mod BeforeLemmas

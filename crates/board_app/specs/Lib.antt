@@ -1,3 +1,4 @@
 pub mod Kinds
 pub mod Loaded
 pub mod Boards
+pub mod Before

@@ -2,6 +2,7 @@
 //! (profile).
 #![tactic(auto)]
 
+mod before;
 mod board;
 mod keys;
 mod mouse;
@@ -11,5 +12,6 @@ mod shapes;
 mod signs;
 mod writing;
 
+pub use before::BoardBefore;
 pub use board::{Board, Point};
 pub use draw_ops::OutOfMemory;

@@ -16,7 +16,7 @@ use std::alloc::Global;
 /// The signs that are written, `!` to `~`.
 const FIRST_SIGN: u16 = 0x21;
 
-const LAST_SIGN: u16 = 0x7E;
+pub const LAST_SIGN: u16 = 0x7E;
 /// The side of a sign's cell.
 const CELL_SIDE: u32 = 8;
 /// The font of the signs.

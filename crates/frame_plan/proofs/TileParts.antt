@@ -5,7 +5,7 @@ use Rattle.std.specs.Int.{int_min, int_max}
 use Rattle.std.proofs.lemmas.Int.{ints, clamps}
 use Rattle.std.proofs.lemmas.List.{length-take-le}
 use Rattle.std.proofs.lemmas.List.Elements.{All-filter, filter_passes}
-use Rattle.std.proofs.lemmas.Nat.{div_below, mod-mul-add, div-mul-add}
+use Rattle.std.proofs.lemmas.Nat.{div_below, mod-mul-add, div-mul-add, mul-le}
 use Rattle.px_core.specs.declared.surface.Size.{Size}
 use Rattle.px_core.specs.declared.rectangle.Rect.{Rect}
 use Rattle.px_core.specs.Picture.{item, listed, nat_of, pixel_in, rows_of}
@@ -100,6 +100,14 @@ pub part_is : (size : Size) (picture pixels : List ℕ) (tile : ℕ) → pixels 
 part_is size picture pixels tile is =
     corner_is size tile_sides picture pixels (tile_rect tile) refl refl is (tile_on size tile) (from_corner (64 * (tile % 32))) (from_corner (64 * (tile / 32)))
     (tile_on_wide size tile) (tile_on_high size tile)
+
+-- the pixels of a tile's part
+pub part_length : (pixels : List ℕ) (w h : ℕ) → length (part_of_tile pixels w h) ≡ w * h
+part_length pixels w h = length-listed (w * h) 0 (pixel_of (rows_of tile_sides.w tile_sides.h pixels) 0 (boxed (pos 0) (pos 0) w h))
+
+-- a part with all of a tile's pixels is as wide as the tile
+pub whole_is_wide : (w h : ℕ) → w ≤ 64 → h ≤ 64 → w * h ≡ 4096 → w ≡ 64
+whole_is_wide w h narrow low all = omega (arith, narrow, all, mul-le w h w 64 (omega arith) low)
 
 -- the first rows of a picture, cut out of it
 pub rows_in_place : (size : Size) (ps : List ℕ) (w h n : ℕ) → w ≡ size.w → h ≤ size.h → n ≡ w * h → n ≤ length ps → take n ps ≡ cut_out size ps 0 (boxed (pos 0) (pos 0) w h)

@@ -1,5 +1,5 @@
 //! A viewer's take: the frame that is due to it.
-ghost use Rattle.std.specs.Prelude.{◌≡◌, ◌≤◌, length, IfOk, OnOk, OnErr, IsTrue};
+ghost use Rattle.std.specs.Prelude.{◌≡◌, ◌≤◌, ◌<◌, ◌+◌, length, IfOk, OnOk, OnErr, IsTrue};
 ghost use Rattle.px_core.specs.Rectangle.{is_session_size};
 ghost use Rattle.px_core.specs.Tiles.{all_tiles, share_tile};
 ghost use Rattle.px_core.specs.TileFlags.{tiles};
@@ -7,7 +7,7 @@ ghost use Rattle.session_rules.specs.Pending.{pending_between};
 ghost use Rattle.session_core.specs.SessionModel.{is_here, asked_by};
 ghost use Rattle.frame_plan.specs.Takes.{taken_as};
 ghost use Rattle.frame_plan.specs.Plans.{is_work, frame_at, taken_if, desk_if, asked_if};
-ghost use Rattle.frame_plan.specs.Walks.{HasWalkedAll};
+ghost use Rattle.frame_plan.specs.Walks.{HasGoneOver, HasWalkedAll};
 ghost use Rattle.frame_plan.specs.Planning.{planned_as, HasPlanned};
 ghost use Rattle.frame_plan.specs.declared.taken.Taken.TheVariants.{Nothing};
 
@@ -142,14 +142,29 @@ fn walk_over(
     requires { desk.now.number ≤ length session.now.journal }
     ensures { IfOk result (λ sent. HasWalkedAll session.now.head.size desk.now.confirmed walker.old (pending_between session.now.head.size session.now.journal desk.now.number (length session.now.journal)) sent walker.new) }
 {
-    session.recall_legal();
-    let size = session.size();
     let mut orders = Orders::with_room(alloc, count)?;
     let mut entry = quiet_end(session, desk.number);
     while entry < session.length() {
-        let drawings = session.drawings(entry)?;
-        walker.walk_all(alloc, size, &desk.confirmed, &drawings, &mut orders)?;
+        walk_entry(alloc, session, desk, entry, walker, &mut orders)?;
         entry = quiet_end(session, entry + 1);
     }
     Ok(orders)
+}
+
+/// Walks over the drawings of an entry; appends those that go as orders.
+fn walk_entry(
+    alloc: Global,
+    session: &Session,
+    desk: &Desk,
+    entry: u64,
+    walker: &mut Walker,
+    orders: &mut Orders,
+) -> Result<(), OutOfMemory>
+    requires { entry < length session.now.journal }
+    ensures { OnOk result (HasGoneOver session.now.head.size desk.now.confirmed walker.old orders.old (pending_between session.now.head.size session.now.journal entry (entry + 1)) walker.new orders.new) }
+{
+    session.recall_legal();
+    let size = session.size();
+    let drawings = session.drawings(entry)?;
+    walker.walk_all(alloc, size, &desk.confirmed, &drawings, orders)
 }

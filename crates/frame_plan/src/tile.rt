@@ -1,5 +1,5 @@
 //! A tile of a frame, which the session lent to it.
-ghost use Rattle.std.specs.Prelude.{◌≡◌, ◌≤◌, length, IfOk};
+ghost use Rattle.std.specs.Prelude.{◌≡◌, ◌≤◌, ◌==◌, is_some, length, IfOk, IfSome};
 ghost use Rattle.frame_plan.specs.TileParts.{part_of_tile};
 
 use crate::OutOfMemory;
@@ -37,7 +37,7 @@ impl Model for TakenTile {
 }
 
 impl TakenTile {
-    ghost use Rattle.std.specs.Prelude.{◌≡◌, ◌≤◌, IfOk, IfSome};
+    ghost use Rattle.std.specs.Prelude.{◌≡◌, ◌≤◌, length, IfOk, IfSome, IsSome};
     ghost use Rattle.std.specs.Arc.{arc_value};
     ghost use Rattle.frame_plan.specs.TileParts.{part_of_tile};
 
@@ -58,15 +58,12 @@ impl TakenTile {
     }
 
     /// Its pixels on the picture, row by row from the top, where they lie so in the tile itself; `None` for a tile that the picture's right edge
-    /// cuts.
+    /// cuts, so never for one that lies on the picture whole.
     pub fn pixels_in_place(&self) -> Option<&[u32]>
-        ensures { IfSome result (λ pixels. pixels.now ≡ self.now.1) }
+        ensures pixels { IfSome result (λ pixels. pixels.now ≡ self.now.1) }
+        ensures whole { length self.now.1 ≡ 4096 → IsSome result }
     {
-        if self.w == TILE_SIDE {
-            Some(first_rows(self.tile.pixels(), self.h))
-        } else {
-            None
-        }
+        rows_in_place(self.tile.pixels(), self.w, self.h)
     }
 
     /// Its pixels on the picture, row by row from the top, in a list of their own.
@@ -74,6 +71,20 @@ impl TakenTile {
         ensures { IfOk result (λ pixels. pixels.items ≡ self.now.1) }
     {
         copied_part(alloc, self.tile.pixels(), self.w, self.h)
+    }
+}
+
+/// The first w pixels of each of the first h rows of a tile where they lie in it one after the other, as whole rows do, and else `None`.
+fn rows_in_place(pixels: &[u32], w: u32, h: u32) -> Option<&[u32]>
+    requires sized { length pixels.now ≡ 4096 }
+    requires high { h ≤ 64 }
+    ensures pixels { IfSome result (λ rows. rows.now ≡ part_of_tile pixels.now w h) }
+    ensures whole_rows { is_some result ≡ (w == 64) }
+{
+    if w == TILE_SIDE {
+        Some(first_rows(pixels, h))
+    } else {
+        None
     }
 }
 

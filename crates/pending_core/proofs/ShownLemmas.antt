@@ -1,7 +1,9 @@
 -- What single drawings show.
-use Rattle.std.proofs.Common.{◌≡◌, ℕ, ◌≤◌, List, [], ◌∷◌, refl, ap, sym, subst, ◌∙◌, Some, None}
+use Rattle.std.proofs.Common.{◌≡◌, ℕ, ◌≤◌, List, [], ◌∷◌, refl, ◌+◌, ap, sym, subst, ◌∙◌, Some, None, arith}
+use Rattle.std.proofs.lemmas.Int.{ints}
 use Rattle.std.proofs.lemmas.Bool.{and_parts}
-use Rattle.std.specs.Prelude.{Bool, true, false, ◌&&◌, ◌||◌, not, Option, Result, Ok, Err, IfOk, ℤ}
+use Rattle.std.specs.Prelude.{Bool, true, false, ◌&&◌, ◌||◌, not, Option, Result, Ok, Err, IfOk, ℤ, ◌-ℤ◌, nat_abs}
+use Rattle.std.specs.Int.{int_min}
 use Rattle.std.specs.Ordering.{int_eq}
 use Rattle.px_core.specs.declared.surface.Size.{Size}
 use Rattle.px_core.specs.declared.rectangle.Rect.{Rect}
@@ -10,14 +12,14 @@ use Rattle.draw_ops.specs.declared.shape.Shape.{Shape}
 use Rattle.draw_ops.specs.declared.shape.Shape.TheVariants as shape
 use Rattle.draw_ops.specs.Content.{GlyphOf}
 use Rattle.draw_ops.specs.Slots.{SurfaceState, Loaded}
-use Rattle.draw_ops.specs.Formulas.{joint_of}
+use Rattle.draw_ops.specs.Formulas.{joint_of, line_rect}
 use Rattle.draw_ops.specs.Fits.{first_some, rules_of, slot_tests, FitsState, is_corner, line_rule, empty_glyph}
 use Rattle.session_rules.specs.Pending.{pending_of, touched_rect, image_of, brush_of, glyphs_of, run_glyphs}
 use Rattle.session_rules.proofs.OwnSteps.{first_some-each}
 use Rattle.pending_core.specs.declared.shown.Shown.{Shown}
-use Rattle.pending_core.specs.declared.shown.Shown.TheVariants.{Bare}
+use Rattle.pending_core.specs.declared.shown.Shown.TheVariants.{Named}
 use Rattle.pending_core.specs.Cells.{cells_along, IsNear}
-use Rattle.pending_core.specs.Showing.{rect_shown, image_shown, brush_shown, glyphs_shown, shown_with}
+use Rattle.pending_core.specs.Showing.{side, line_box, named_rect, rect_shown, image_shown, brush_shown, glyphs_shown, shown_with}
 use Rattle.pending_core.proofs.TextShown.{keeps_rules, has_slots, below_limit, near, cells_are}
 
 pub rules_as : (size : Size) (st : SurfaceState) (d : Drawing) (s : Shape) → FitsState size st d → d.shape ≡ s → first_some (rules_of size d.clip s) ≡ None
@@ -62,16 +64,20 @@ line_ends size clip x0 y0 x1 y1 color h =
     let second = and_parts (is_corner x1) (is_corner y1) both.1 in
     record { left = near x0 first.0; above = near y0 first.1; right = near x1 second.0; below = near y1 second.1 }
 
--- a drawing that reads no slot
-pub bare_is : (size : Size) (st : SurfaceState) (d : Drawing) (rect : Rect) (x : Shape) → d.shape ≡ x → rect ≡ touched_rect size st x → image_of st x ≡ None → brush_of st x ≡ None → glyphs_of st x ≡ []
-    → shown_with d (Bare rect) ≡ pending_of size st d
-bare_is size st d place x is rect image brush glyphs = λ i. record {
-  drawing = d;
-  rect = (rect ∙ ap (touched_rect size st) (sym is)) i;
-  image = (sym image ∙ ap (image_of st) (sym is)) i;
-  brush = (sym brush ∙ ap (brush_of st) (sym is)) i;
-  glyphs = (sym glyphs ∙ ap (glyphs_of st) (sym is)) i;
-}
+-- a line, whose ends lie near the surface
+near_side : (a b : ℤ) → IsNear a → IsNear b → side a b ≡ nat_abs (b -ℤ a) + 1
+near_side a b ha hb = grind (arith, ints, ha.low, ha.high, hb.low, hb.high)
+
+pub line_is : (size : Size) (st : SurfaceState) (d : Drawing) (x0 y0 x1 y1 : ℤ) (color : ℕ) → d.shape ≡ shape.Line x0 y0 x1 y1 color → HasEnds x0 y0 x1 y1 → shown_with d Named ≡ pending_of size st d
+line_is size st d x0 y0 x1 y1 color is ends =
+    let box : line_box x0 y0 x1 y1 ≡ line_rect x0 y0 x1 y1 = λ i. record { x = int_min x0 x1; y = int_min y0 y1; w = near_side x0 x1 ends.left ends.right i; h = near_side y0 y1 ends.above ends.below i } in
+    λ i. record {
+      drawing = d;
+      rect = (ap named_rect is ∙ box ∙ ap (touched_rect size st) (sym is)) i;
+      image = ap (image_of st) (sym is) i;
+      brush = ap (brush_of st) (sym is) i;
+      glyphs = ap (glyphs_of st) (sym is) i;
+    }
 
 -- a text
 pub text_is : {E : Type 0} (size : Size) (st : SurfaceState) (d : Drawing) (r : Result Shown E) (x y : ℤ) (color font : ℕ) (run : List (ℕ × ℕ)) (rect : Rect) (glyphs : List (Loaded GlyphOf))

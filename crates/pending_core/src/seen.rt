@@ -1,16 +1,18 @@
 //! The drawings of an entry where they lie, each with what its slots held at its place.
 
-ghost use Rattle.std.specs.Prelude.{◌≡◌, ◌<◌, ◌≤◌, [], ◌∷◌, length, Some, IfOk, option_copied, slice_get};
+ghost use Rattle.std.specs.Prelude.{◌≡◌, ◌<◌, ◌≤◌, [], ◌∷◌, length, Some, IfOk, IsTrue, option_copied, slice_get};
+ghost use Rattle.px_core.specs.Rectangle.{is_session_size};
 ghost use Rattle.pending_core.specs.Showing.{all_shown, shown_list};
 ghost use Rattle.pending_core.specs.Seeing.{drawings_seen};
 ghost use Rattle.pending_core.specs.Putting.{drawings_made, IsBoardReady};
 
 use crate::OutOfMemory;
 use crate::pending::{Pending, shared};
+use crate::row::ShownRow;
 use crate::shown::{Shown, ShownList};
 use draw_ops::Drawing;
 use input_pdu::Event;
-use px_core::Rect;
+use px_core::{Rect, Size};
 use std::alloc::Global;
 use std::marker::Model;
 use std::slice;
@@ -86,20 +88,20 @@ impl<'a> SeenDrawing<'a> {
 pub struct SeenDrawings<'a> {
     kept: &'a [Drawing],
     made: Option<Vec<Drawing>>,
-    shown: &'a [Shown],
+    shown: ShownRow<'a>,
 }
 
 impl<'a> Model for SeenDrawings<'a> {
     ghost use Rattle.std.specs.Prelude.{◌≤◌, List, length};
     ghost use Rattle.session_rules.specs.Pending.{Pending as PendingOf};
-    ghost use Rattle.pending_core.specs.Showing.{all_shown};
+    ghost use Rattle.pending_core.specs.Showing.{all_shown, row_of};
     ghost use Rattle.pending_core.specs.Seeing.{drawings_seen};
 
     ghost Value = { List PendingOf };
 
-    ghost view = { λ s. all_shown (drawings_seen s.made s.kept.now) s.shown.now };
+    ghost view = { λ s. all_shown (drawings_seen s.made s.kept.now) (row_of s.shown) };
 
-    ghost invariant = { λ s. length (drawings_seen s.made s.kept.now) ≤ length s.shown.now };
+    ghost invariant = { λ s. length (drawings_seen s.made s.kept.now) ≤ length (row_of s.shown) };
 }
 
 impl<'a> SeenDrawings<'a> {
@@ -110,40 +112,49 @@ impl<'a> SeenDrawings<'a> {
         SeenDrawings {
             kept: &[],
             made: None,
-            shown: &[],
+            shown: ShownRow::Kept(&[]),
         }
     }
 
     /// A drawing with what it shows.
-    pub fn drawn(d: &'a Drawing, shown: &'a [Shown]) -> SeenDrawings<'a>
-        requires { 1 ≤ length shown.now }
-        ensures { result ≡ all_shown (d.now ∷ []) shown.now }
+    pub fn drawn(d: &'a Drawing, list: &'a ShownList) -> SeenDrawings<'a>
+        requires { 1 ≤ length (shown_list list.now) }
+        ensures { result ≡ all_shown (d.now ∷ []) (shown_list list.now) }
     {
         SeenDrawings {
             kept: slice::from_ref(d),
             made: None,
-            shown,
+            shown: list.list(),
         }
     }
 
-    /// The drawings of the board's reaction to an event, which is made again, with what they show.
+    /// The drawings of the board's reaction to an event on a surface of this size, which are made again, with what they show.
     pub fn reaction(
         alloc: Global,
+        size: Size,
         list: &'a ShownList,
         e: Event,
     ) -> Result<SeenDrawings<'a>, OutOfMemory>
+        requires size { IsTrue (is_session_size size.w size.h) }
         requires ready { IsBoardReady list.now }
-        requires each { length (drawings_made list.now e) ≤ length (shown_list list.now) }
-        ensures { IfOk result (λ seen. seen ≡ all_shown (drawings_made list.now e) (shown_list list.now)) }
+        requires each { length (drawings_made size list.now e) ≤ length (shown_list list.now) }
+        ensures { IfOk result (λ seen. seen ≡ all_shown (drawings_made size list.now e) (shown_list list.now)) }
     {
         match list {
-            ShownList::Reaction(found) => {
-                let mut board = found.board;
-                let made = board.react(alloc, e)?;
+            ShownList::Plain(board) => {
+                let made = board.drawings(alloc, size, e)?;
                 Ok(SeenDrawings {
                     kept: &[],
                     made: Some(made),
-                    shown: found.shown.as_slice(),
+                    shown: list.list(),
+                })
+            }
+            ShownList::Reaction(found) => {
+                let made = found.board().drawings(alloc, size, e)?;
+                Ok(SeenDrawings {
+                    kept: &[],
+                    made: Some(made),
+                    shown: ShownRow::Kept(found.shown()),
                 })
             }
             _ => Ok(SeenDrawings::none()),
@@ -162,7 +173,7 @@ impl<'a> SeenDrawings<'a> {
         requires { i < length self.now }
         ensures { slice_get self.now i ≡ Some result }
     {
-        seen_at(listed(&self.made, self.kept), self.shown, i)
+        seen_at(listed(&self.made, self.kept), self.shown.slice(), i)
     }
 }
 

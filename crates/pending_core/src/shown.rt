@@ -1,21 +1,23 @@
 //! What of a pending drawing is kept beside the drawing itself.
 
-ghost use Rattle.std.specs.Prelude.{◌≡◌, ◌+◌, ◌<◌, ◌≤◌, ◌^◌, [], ◌∷◌, IfOk, None, length, option_copied};
+ghost use Rattle.std.specs.Prelude.{◌≡◌, ◌+◌, ◌<◌, ◌≤◌, ◌^◌, [], ◌∷◌, ◌↔◌, IfOk, IsTrue, None, length, option_copied};
 ghost use Rattle.draw_ops.specs.declared.shape.Shape.{Shape};
 ghost use Rattle.draw_ops.specs.Slots.{lookup};
-ghost use Rattle.draw_ops.specs.Formulas.{line_rect};
 ghost use Rattle.draw_ops.specs.Drawing.{restoring, state_after_drawings};
 ghost use Rattle.draw_ops.specs.Fits.{FitsState, AllFitState};
 ghost use Rattle.session_rules.specs.Pending.{pending_of, pending_drawings};
-ghost use Rattle.pending_core.specs.Cells.{IsNear};
 ghost use Rattle.pending_core.specs.Putting.{IsFound};
-ghost use Rattle.pending_core.specs.Showing.{named_rect, rect_shown, image_shown, brush_shown, glyphs_shown, shown_with, all_shown, shown_list};
+ghost use Rattle.pending_core.specs.declared.shown.Shown.TheVariants.{Named};
+ghost use Rattle.pending_core.specs.Showing.{named_rect, line_box, side, rect_shown, image_shown, brush_shown, glyphs_shown, shown_with, all_shown, shown_list, row_of};
 
 use crate::OutOfMemory;
 use crate::cells::{lesser, run_rect};
+use crate::found::Found;
+use crate::row::ShownRow;
 use crate::slots::{block_sides, brush_after, glyphs_after, image_after};
-use board_app::Board;
+use board_app::{Board, BoardBefore};
 use draw_ops::{Drawing, Shape};
+use input_pdu::Event;
 use px_core::Rect;
 use std::alloc::Global;
 use std::slice;
@@ -41,7 +43,9 @@ pub struct Signs {
 /// held at its place. A further handle of it copies no more than one image's or brush's.
 #[derive(Drop)]
 pub enum Shown {
-    /// The rectangle of a drawing whose slots held nothing.
+    /// A drawing that touches the rectangle that it names, or the box of a line's ends, and whose slots held nothing.
+    Named,
+    /// The rectangle of another drawing whose slots held nothing.
     Bare(Rect),
     Image(LoadedImage),
     Brush(LoadedBrush),
@@ -100,6 +104,7 @@ impl Shown {
         ensures glyphs { IfOk result (λ shown. glyphs_shown shown ≡ glyphs_shown self.now) }
     {
         Ok(match self {
+            Shown::Named => Shown::Named,
             Shown::Bare(rect) => Shown::Bare(*rect),
             Shown::Image(image) => Shown::Image(image.share()?),
             Shown::Brush(brush) => Shown::Brush(brush.share()?),
@@ -109,7 +114,7 @@ impl Shown {
     }
 }
 
-/// The rectangle that a shape names.
+/// The rectangle that a shape names, of a line the box of its ends.
 fn named_rect(shape: &Shape) -> Rect
     ensures { result ≡ named_rect shape.now }
 {
@@ -121,15 +126,28 @@ fn named_rect(shape: &Shape) -> Rect
         | Shape::Blit { rect, .. }
         | Shape::Blit3 { rect, .. }
         | Shape::Save { rect, .. } => *rect,
+        Shape::Line { x0, y0, x1, y1, .. } => line_box(*x0, *y0, *x1, *y1),
         _ => NO_RECT,
     }
 }
 
-/// The board that an event found, and what each of the drawings of its reaction shows.
-#[derive(Drop)]
-pub struct Found {
-    pub board: Board,
-    pub shown: Vec<Shown>,
+/// The box of a line's ends.
+fn line_box(x0: i32, y0: i32, x1: i32, y1: i32) -> Rect
+    ensures { result ≡ line_box x0 y0 x1 y1 }
+{
+    Rect {
+        x: lesser(x0, x1),
+        y: lesser(y0, y1),
+        w: side(x0, x1),
+        h: side(y0, y1),
+    }
+}
+
+/// How long a stretch with both its ends is; a length that no number has becomes the greatest number.
+fn side(a: i32, b: i32) -> u32
+    ensures { result ≡ side a b }
+{
+    a.abs_diff(b).min(u32::MAX - 1) + 1
 }
 
 /// What each of an entry's drawings shows. What one alone shows takes no memory of its own, and an entry without drawings takes none.
@@ -137,36 +155,52 @@ pub struct Found {
 pub enum ShownList {
     Nothing,
     One(Shown),
+    /// What of the board a reaction depends on that makes one drawing, which shows the rectangle that it names.
+    Plain(BoardBefore),
     Reaction(Box<Found>),
 }
 
 impl ShownList {
     /// What each shows, in the order of the drawings.
-    pub fn list(&self) -> &[Shown]
-        ensures { result.now ≡ shown_list self.now }
+    pub fn list(&self) -> ShownRow<'_>
+        ensures { row_of result ≡ shown_list self.now }
     {
         match self {
-            ShownList::Nothing => &[],
-            ShownList::One(shown) => slice::from_ref(shown),
-            ShownList::Reaction(found) => found.shown.as_slice(),
+            ShownList::Nothing => ShownRow::Kept(&[]),
+            ShownList::One(shown) => ShownRow::Kept(slice::from_ref(shown)),
+            ShownList::Plain(_) => ShownRow::Alone(Shown::Named),
+            ShownList::Reaction(found) => ShownRow::Kept(found.shown()),
         }
     }
 }
 
-/// What is kept of a board's reaction: nothing where it draws nothing, else the board that it found, and what its drawings show.
+/// What is kept of a board's reaction to an event: nothing where it draws nothing, else what of the board its drawings depend on, and
+/// what they show.
 pub fn reaction_list(
     alloc: Global,
-    board: Board,
+    board: &Board,
+    e: Event,
     shown: Vec<Shown>,
 ) -> Result<ShownList, OutOfMemory>
     ensures shown { IfOk result (λ list. shown_list list ≡ shown.items) }
-    ensures board { IfOk result (λ list. IsFound board list) }
+    ensures board { IfOk result (λ list. IsFound board.now e list) }
 {
     if shown.is_empty() {
         return Ok(ShownList::Nothing);
     }
-    let found = Box::new(alloc, Found { board, shown })?;
+    let before = board.before(e);
+    if is_named(&shown) {
+        return Ok(ShownList::Plain(before));
+    }
+    let found = Box::new(alloc, Found::new(before, shown))?;
     Ok(ShownList::Reaction(found))
+}
+
+/// Whether one drawing is shown, over the rectangle that it names.
+fn is_named(shown: &[Shown]) -> bool
+    ensures { IsTrue result ↔ (shown.now ≡ Named ∷ []) }
+{
+    matches!(shown, [Shown::Named])
 }
 
 /// What each of some drawings shows, which are drawn one after the other on a surface.
@@ -195,10 +229,6 @@ fn shown_at(
     ensures { IfOk result (λ shown. shown_with d.now shown ≡ pending_of surface.now.size (state_after_drawings surface.now.size surface.now.state before.now) d.now) }
 {
     match &d.shape {
-        Shape::Fill { rect, .. }
-        | Shape::Dst { rect, .. }
-        | Shape::Copy { rect, .. }
-        | Shape::Save { rect, .. } => Ok(Shown::Bare(*rect)),
         Shape::Pat { brush, .. } => {
             let brush = brush_after(surface, before, *brush)?;
             with_slots(alloc, &d.shape, None, brush)
@@ -224,11 +254,12 @@ fn shown_at(
             let rect = run_rect(&glyphs, run.pairs(), *x, *y);
             with_glyphs(alloc, rect, glyphs)
         }
-        Shape::Line { x0, y0, x1, y1, .. } => Ok(Shown::Bare(line_rect(*x0, *y0, *x1, *y1))),
         Shape::Restore { slot, x, y } => Ok(Shown::Bare(restored_rect(
             surface, before, *slot, *x, *y,
         ))),
-        _ => Ok(Shown::Bare(NO_RECT)),
+        // Its ends lie near the surface, so that their box has its sides.
+        Shape::Line { .. } => Ok(Shown::Named),
+        _ => Ok(Shown::Named),
     }
 }
 
@@ -272,22 +303,6 @@ fn with_glyphs(alloc: Global, rect: Rect, glyphs: Vec<LoadedGlyph>) -> Result<Sh
 {
     let signs = Arc::new(alloc, Signs { rect, glyphs })?;
     Ok(Shown::Signs(signs))
-}
-
-/// The box of a line's ends, which lie near the surface.
-fn line_rect(x0: i32, y0: i32, x1: i32, y1: i32) -> Rect
-    requires left { IsNear x0 }
-    requires above { IsNear y0 }
-    requires right { IsNear x1 }
-    requires below { IsNear y1 }
-    ensures { result ≡ line_rect x0 y0 x1 y1 }
-{
-    Rect {
-        x: lesser(x0, x1),
-        y: lesser(y0, y1),
-        w: x0.abs_diff(x1) + 1,
-        h: y0.abs_diff(y1) + 1,
-    }
 }
 
 /// The rectangle of a block that is restored behind some drawings.

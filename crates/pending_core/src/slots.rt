@@ -89,6 +89,7 @@ pub fn shared_brush(brush: Option<&LoadedBrush>) -> Result<Option<LoadedBrush>, 
 
 /// The glyph of a font, which is below 4, and a code.
 fn glyph_after(
+    alloc: Global,
     surface: &Tiles,
     before: &[Drawing],
     font: u8,
@@ -100,17 +101,20 @@ fn glyph_after(
 {
     surface.recall_sound();
     match last_filling(glyph_slot(font, code), before) {
-        Some(i) => loaded_glyph(&before[i], surface.count() + i as u64 + 1),
+        Some(i) => loaded_glyph(alloc, &before[i], surface.count() + i as u64 + 1),
         None => shared_glyph(surface.glyph(font, code)),
     }
 }
 
 /// The glyph that a drawing loads as the n-th.
-fn loaded_glyph(d: &Drawing, n: u64) -> Result<Option<LoadedGlyph>, OutOfMemory>
+fn loaded_glyph(alloc: Global, d: &Drawing, n: u64) -> Result<Option<LoadedGlyph>, OutOfMemory>
     ensures { IfOk result (λ glyph. glyph ≡ glyph_load d.now.shape n) }
 {
     match &d.shape {
-        Shape::LoadGlyph { glyph, .. } => Ok(Some(LoadedGlyph::new(n, glyph.share()?))),
+        Shape::LoadGlyph { glyph, .. } => {
+            let glyph = LoadedGlyph::new(alloc, n, glyph.share()?)?;
+            Ok(Some(glyph))
+        }
         _ => Ok(None),
     }
 }
@@ -139,7 +143,7 @@ pub fn glyphs_after(
 {
     let mut glyphs = Vec::with_capacity(alloc, pairs.len())?;
     for pair in pairs {
-        let glyph = glyph_after(surface, before, font, pair.0)?;
+        let glyph = glyph_after(alloc, surface, before, font, pair.0)?;
         push_glyph(&mut glyphs, glyph)?;
     }
     Ok(glyphs)

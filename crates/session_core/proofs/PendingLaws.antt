@@ -1,6 +1,6 @@
 -- The pending drawings of one entry, and of entries after entries.
-use Rattle.std.proofs.Common.{◌≡◌, ℕ, zero, suc, ◌+◌, ◌≤◌, List, [], ◌∷◌, ◌++◌, length, take, drop, refl, ap, sym, subst, ◌∙◌, Some, arith, append_assoc}
-use Rattle.std.specs.Prelude.{IsTrue, slice_get}
+use Rattle.std.proofs.Common.{◌≡◌, ℕ, zero, suc, ◌+◌, ◌≤◌, ◌<◌, List, [], ◌∷◌, ◌++◌, length, take, drop, refl, ap, sym, subst, ◌∙◌, Some, arith, append_assoc}
+use Rattle.std.specs.Prelude.{IsTrue, ◌-◌, ◌^◌, slice_get}
 use Rattle.px_core.specs.declared.surface.Size.{Size}
 use Rattle.px_core.specs.Rectangle.{is_session_size}
 use Rattle.draw_ops.specs.declared.shape.Drawing.{Drawing}
@@ -8,14 +8,14 @@ use Rattle.draw_ops.specs.Slots.{SurfaceState}
 use Rattle.input_pdu.specs.declared.event.Event.{Event}
 use Rattle.session_rules.specs.declared.entry.Entry.{Entry}
 use Rattle.session_rules.specs.declared.entry.Entry.TheVariants.{Input}
-use Rattle.session_rules.specs.Board.{Board, board_reaction}
+use Rattle.session_rules.specs.Board.{Board}
 use Rattle.session_rules.specs.Journal.{Head, State, drawings_of, state_after_entry, state_after, reached_at_first, IsLegalJournal}
 use Rattle.session_rules.proofs.Journals.{IsLegalJournal-front}
 use Rattle.session_rules.specs.Pending.{pending_drawings, pending_from, pending_between}
 use Rattle.session_rules.proofs.Sound.{sound_reached}
 use Rattle.pending_core.specs.declared.shown.Shown.{Shown}
 use Rattle.pending_core.specs.declared.shown.ShownList.{ShownList}
-use Rattle.pending_core.specs.declared.shown.ShownList.TheVariants.{Nothing, One, Reaction}
+use Rattle.pending_core.specs.declared.shown.ShownList.TheVariants.{Nothing, One, Plain, Reaction}
 use Rattle.pending_core.specs.Showing.{all_shown}
 use Rattle.session_core.specs.Keeping.{IsBoardKept}
 use Rattle.pending_core.specs.Putting.{drawings_made, IsBoardReady}
@@ -88,23 +88,28 @@ length_shown (d ∷ ds) (s ∷ ss) = omega (arith, length_shown ds ss)
 pub enough : (size : Size) (st : SurfaceState) (ds : List Drawing) (ss : List Shown) → all_shown ds ss ≡ pending_drawings size st ds → length ds ≤ length ss
 enough size st ds ss h = omega (arith, length_shown ds ss, ap length h, length_pending size st ds)
 
--- the board that is kept with an input makes the same drawings again
-pub made_again : (size : Size) (b : Board) (by : ℕ) (e : Event) (kept : ShownList) → IsBoardKept size b (Input by e) kept → drawings_made kept e ≡ drawings_of size b (Input by e)
+-- of what is kept with an input the same drawings are made again
+pub made_again : (size : Size) (b : Board) (by : ℕ) (e : Event) (kept : ShownList) → IsBoardKept size b (Input by e) kept → drawings_made size kept e ≡ drawings_of size b (Input by e)
 made_again size b by e Nothing h = sym h
 made_again size b by e (One shown) h = absurd h
-made_again size b by e (Reaction found) h = λ i. (board_reaction (h.0 i) (h.1 i) e).drawings
+made_again size b by e (Plain board) h = h.drawings
+made_again size b by e (Reaction found) h = h.drawings
 
--- and counts its signs in its numbers' range
+whole : (k : ℕ) (j : List Entry) → j ≡ take k j ++ drop k j
+whole zero j = refl
+whole (suc k) [] = refl
+whole (suc k) (x ∷ xs) = ap (λ ys. x ∷ ys) (whole k xs)
+
+few_signs : (head : Head) (j : List Entry) (k : ℕ) → IsTrue (is_session_size head.size.w head.size.h) → IsLegalJournal head j → (state_after head.size j k).board.signs < 2 ^ 32 - 1
+few_signs head j k size legal =
+    let front : IsLegalJournal head (take k j) = IsLegalJournal-front head (take k j) (drop k j) (subst (IsLegalJournal head) (whole k j) legal) in
+    let sound = sound_reached head (take k j) size front in
+    omega (arith, sound.few_signs, sound.few_entries)
+
+-- and it counts its signs in its numbers' range
 pub is_ready : (head : Head) (j : List Entry) (k by : ℕ) (e : Event) (kept : ShownList) → IsTrue (is_session_size head.size.w head.size.h) → IsLegalJournal head j
     → IsBoardKept head.size (state_after head.size j k).board (Input by e) kept → IsBoardReady kept
 is_ready head j k by e Nothing size legal h = tt
 is_ready head j k by e (One shown) size legal h = tt
-is_ready head j k by e (Reaction found) size legal h =
-    let front : IsLegalJournal head (take k j) = IsLegalJournal-front head (take k j) (drop k j) (subst (IsLegalJournal head) (whole k j) legal) in
-    let sound = sound_reached head (take k j) size front in
-    omega (arith, ap (λ b. b.signs) h.1, sound.few_signs, sound.few_entries)
-  where
-    whole : (k : ℕ) (j : List Entry) → j ≡ take k j ++ drop k j
-    whole zero j = refl
-    whole (suc k) [] = refl
-    whole (suc k) (x ∷ xs) = ap (λ ys. x ∷ ys) (whole k xs)
+is_ready head j k by e (Plain board) size legal h = omega (arith, h.signs, few_signs head j k size legal)
+is_ready head j k by e (Reaction found) size legal h = omega (arith, h.signs, few_signs head j k size legal)

@@ -1,5 +1,5 @@
 -- What the session keeps of a reaction.
-use Rattle.std.proofs.Common.{◌≡◌, ◌≤◌, ℕ, List, [], ◌∷◌, length, refl, ap, sym, subst, ◌∙◌, arith}
+use Rattle.std.proofs.Common.{◌≡◌, ◌≤◌, ℕ, List, [], ◌∷◌, length, refl, sym, subst, ◌∙◌, arith}
 use Rattle.std.specs.Prelude.{IsTrue, All}
 use Rattle.px_core.specs.Rectangle.{is_session_size}
 use Rattle.draw_ops.specs.declared.shape.Drawing.{Drawing}
@@ -8,7 +8,9 @@ use Rattle.draw_ops.specs.Ranges.{HasColors}
 use Rattle.input_pdu.specs.declared.event.Event.{Event}
 use Rattle.px_core.specs.declared.surface.Size.{Size}
 use Rattle.board_app.specs.declared.board.Board.{Board}
+use Rattle.std.specs.Box.{box_value}
 use Rattle.board_app.specs.Boards.{board_of}
+use Rattle.board_app.specs.Before.{MakesAgain}
 use Rattle.session_rules.specs.declared.entry.Entry.TheVariants.{Input}
 use Rattle.session_rules.specs.Agreement.{BoardAgrees}
 use Rattle.session_rules.specs.Board.{board_reaction}
@@ -20,11 +22,11 @@ use Rattle.session_rules.proofs.Reactions.{reaction_colored}
 use Rattle.session_core.specs.declared.standing.Standing.{Standing}
 use Rattle.session_core.specs.declared.events.Reaction.{Reaction as ReactionOf}
 use Rattle.pending_core.specs.declared.shown.ShownList.{ShownList}
-use Rattle.pending_core.specs.declared.shown.ShownList.TheVariants.{Nothing, One, Reaction}
+use Rattle.pending_core.specs.declared.shown.ShownList.TheVariants.{Nothing, One, Plain, Reaction}
 use Rattle.session_core.specs.Keeping.{IsBoardKept, IsKept}
 use Rattle.session_core.specs.Reacting.{Reacts}
 use Rattle.pending_core.specs.Putting.{IsFound}
-use Rattle.pending_core.specs.Showing.{all_shown, shown_list}
+use Rattle.pending_core.specs.Showing.{all_shown, shown_list, board_found}
 use Rattle.session_core.specs.Standing.{reached_of}
 use Rattle.session_core.proofs.Colored.{all_colored}
 use Rattle.session_core.proofs.PendingLaws.{enough}
@@ -41,11 +43,12 @@ none_left : (ds : List Drawing) → length ds ≤ 0 → ds ≡ []
 none_left [] h = refl
 none_left (d ∷ ds) h = absurd (omega (arith, h))
 
-board_kept : (size : Size) (board : Board) (by : ℕ) (e : Event) (list : ShownList) → board.size ≡ size → IsFound board list → length (board_reaction size (board_of board) e).drawings ≤ length (shown_list list)
+board_kept : (size : Size) (board : Board) (by : ℕ) (e : Event) (list : ShownList) → board.size ≡ size → IsFound board e list → length (board_reaction size (board_of board) e).drawings ≤ length (shown_list list)
     → IsBoardKept size (board_of board) (Input by e) list
 board_kept size board by e Nothing sized h few = none_left (board_reaction size (board_of board) e).drawings few
 board_kept size board by e (One shown) sized h few = absurd h
-board_kept size board by e (Reaction found) sized h few = (ap (λ b. b.size) h ∙ sized, ap board_of h)
+board_kept size board by e (Plain before) sized h few = subst (λ z. MakesAgain z (board_of board) e before) sized h
+board_kept size board by e (Reaction found) sized h few = subst (λ z. MakesAgain z (board_of board) e (board_found (box_value found))) sized h
 
 -- the entry of an event is kept with the board that it found and with what its drawings show
 pub reaction_kept : (head : Head) (s : Standing) (n by first : ℕ) (e : Event) (r : ReactionOf) → s.surface.size ≡ head.size → s.board.size ≡ head.size → Reacts s e r → first ≡ s.surface.state.count

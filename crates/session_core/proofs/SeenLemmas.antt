@@ -41,19 +41,19 @@ sees_drawn head s ks k by x d h at is =
 
 pub record SeesReaction (size : Size) (ks : List Kept) (k : ℕ) (x : Kept) (e : Event) : Type 0 where
   pub ready : IsBoardReady x.shown
-  pub each : length (drawings_made x.shown e) ≤ length (shown_list x.shown)
-  pub pending : all_shown (drawings_made x.shown e) (shown_list x.shown) ≡ pending_between size (journal_of ks) k (k + 1)
+  pub each : length (drawings_made size x.shown e) ≤ length (shown_list x.shown)
+  pub pending : all_shown (drawings_made size x.shown e) (shown_list x.shown) ≡ pending_between size (journal_of ks) k (k + 1)
 
 pub sees_reaction : (head : Head) (s : Standing) (ks : List Kept) (k by : ℕ) (x : Kept) (e : Event) → IsSession head s ks → slice_get ks k ≡ Some x → x.entry ≡ Input by e → SeesReaction head.size ks k x e
 sees_reaction head s ks k by x e h at is =
     let st = state_after head.size (journal_of ks) k in
     let kept = kept_at head.size ks k x h.entries at in
     let board : IsBoardKept head.size st.board (Input by e) x.shown = subst (λ y. IsBoardKept head.size st.board y x.shown) is kept.board in
-    let made : drawings_of head.size st.board x.entry ≡ drawings_made x.shown e = ap (drawings_of head.size st.board) is ∙ sym (made_again head.size st.board by e x.shown board) in
+    let made : drawings_of head.size st.board x.entry ≡ drawings_made head.size x.shown e = ap (drawings_of head.size st.board) is ∙ sym (made_again head.size st.board by e x.shown board) in
     let shown = subst (λ ds. all_shown ds (shown_list x.shown) ≡ pending_drawings head.size st.surface ds) made kept.shown in
     record {
       ready = is_ready head (journal_of ks) k by e x.shown h.size h.legal board;
-      each = enough head.size st.surface (drawings_made x.shown e) (shown_list x.shown) shown;
+      each = enough head.size st.surface (drawings_made head.size x.shown e) (shown_list x.shown) shown;
       pending = subst (λ ds. all_shown ds (shown_list x.shown) ≡ pending_between head.size (journal_of ks) k (k + 1)) made (shown_is head.size ks k x at kept);
     }
 

@@ -25,7 +25,7 @@ IsReactRefused head r v event result = is_f12 event ≡ false → IsInputRefused
 
 -- a reaction is the board's, and what its drawings show is what they find
 pub record Reacts (s : Standing) (e : Event) (reaction : Reaction) : Type 0 where
-  pub found : IsFound s.board reaction.shown
+  pub found : IsFound s.board e reaction.shown
   pub drawings : reaction.drawings.items ≡ (board_reaction s.surface.size (board_of s.board) e).drawings
   pub board : board_of reaction.board ≡ (board_reaction s.surface.size (board_of s.board) e).board
   pub sized : reaction.board.size ≡ s.board.size

@@ -109,7 +109,7 @@ pub fn react_to(alloc: Global, standing: &Standing, e: Event) -> Result<Reaction
     let mut board = standing.board;
     let drawings = board.react(alloc, e)?;
     let all = shown_all(alloc, &standing.surface, &drawings)?;
-    let shown = reaction_list(alloc, standing.board, all)?;
+    let shown = reaction_list(alloc, &standing.board, e, all)?;
     Ok(Reaction {
         board,
         drawings,

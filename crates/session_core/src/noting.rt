@@ -3,11 +3,11 @@
 ghost use Rattle.std.specs.Prelude.{◌≡◌, ◌≤◌, None, length, All, IsTrue};
 ghost use Rattle.px_core.specs.Rectangle.{is_session_size};
 ghost use Rattle.draw_ops.specs.Fits.{broken_rule};
-ghost use Rattle.pending_core.specs.Showing.{all_shown};
+ghost use Rattle.pending_core.specs.Showing.{all_shown, shown_list};
 ghost use Rattle.touch_marks.specs.Marking.{AreNoted};
 
 use draw_ops::Drawing;
-use pending_core::Shown;
+use pending_core::{Shown, ShownList};
 use px_core::Size;
 use touch_marks::Marks;
 
@@ -23,4 +23,15 @@ pub fn note_all(marks: &mut Marks, ds: &[Drawing], shown: &[Shown], size: Size, 
         let rect = shown[i].rect(d);
         marks.note(d, rect, size, number);
     }
+}
+
+/// Notes what the drawings of a reaction touch and save into.
+pub fn note_reaction(marks: &mut Marks, ds: &[Drawing], list: &ShownList, size: Size, number: u64)
+    requires size { IsTrue (is_session_size size.w size.h) }
+    requires each { length ds.now ≤ length (shown_list list.now) }
+    requires rules { All (λ d. broken_rule size d ≡ None) ds.now }
+    ensures { AreNoted size (all_shown ds.now (shown_list list.now)) number marks.old marks.new }
+{
+    let row = list.list();
+    note_all(marks, ds, row.slice(), size, number);
 }

@@ -27,7 +27,7 @@ use crate::head::{Invite, SessionHead};
 use crate::joining::let_in;
 use crate::kept::{Kept, make_room};
 use crate::members::{asked_by, is_suppressed, role_of};
-use crate::noting::note_all;
+use crate::noting::{note_all, note_reaction};
 use crate::standing::Standing;
 use draw_ops::Drawing;
 use grow_lock::Grows;
@@ -323,9 +323,9 @@ impl Session {
     {
         let kept = &self.kept[k as usize];
         match &kept.entry {
-            Entry::Draw { d, .. } => Ok(SeenDrawings::drawn(d, kept.shown.list())),
+            Entry::Draw { d, .. } => Ok(SeenDrawings::drawn(d, &kept.shown)),
             Entry::Input { event, .. } => {
-                SeenDrawings::reaction(self.alloc, &kept.shown, *event)
+                SeenDrawings::reaction(self.alloc, self.head.size(), &kept.shown, *event)
             }
             Entry::Join { .. } => Ok(SeenDrawings::none()),
             Entry::Leave { .. } => Ok(SeenDrawings::none()),
@@ -413,10 +413,10 @@ impl Session {
         }
         let size = self.head.size();
         let number = self.kept.len() as u64 + 1;
-        note_all(
+        note_reaction(
             &mut self.marks,
             &reaction.drawings,
-            reaction.shown.list(),
+            &reaction.shown,
             size,
             number,
         );

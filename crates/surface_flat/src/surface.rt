@@ -8,7 +8,7 @@ ghost use Rattle.draw_ops.specs.Drawing.{state_after_drawing, state_after_drawin
 ghost use Rattle.draw_ops.specs.Fits.{broken_rule, slot_misfit, AllFitState};
 ghost use Rattle.draw_ops.specs.Ranges.{HasColors};
 ghost use Rattle.surface_parts.specs.Surfaces.{IsSoundSurface};
-ghost use Rattle.surface_parts.specs.Held.{AreRooms, IsRoomFor, IsSmallSave};
+ghost use Rattle.surface_parts.specs.Held.{AreRooms, IsRoomFor};
 ghost use Rattle.surface_parts.specs.Refused.{SaysMisfit, misfit_said};
 
 use crate::paint::paint;
@@ -19,6 +19,7 @@ use std::collections::VecDeque;
 use std::marker::Model;
 use surface_parts::{
     DrawFault, LoadedBrush, LoadedGlyph, LoadedImage, Room, Slots, black_pixels, cut_pixels,
+    take_rooms,
 };
 use wire_num::OutOfMemory;
 
@@ -115,20 +116,20 @@ impl Surface {
     /// The memory that drawings take, in their order, where so many more can be counted.
     fn rooms_for(&self, ds: &[Drawing]) -> Result<VecDeque<Room>, OutOfMemory>
         requires { AllFitState self.now.size self.now.state ds.now }
-        ensures rooms { IfOk result (λ rooms. AreRooms ds.now rooms.items) }
+        ensures rooms { IfOk result (λ rooms. AreRooms self.now.state.count ds.now rooms.items) }
         ensures count { OnOk result (self.now.state.count + length ds.now < 2 ^ 64) }
     {
         if u64::MAX - self.count < ds.len() as u64 {
             return Err(OutOfMemory);
         }
-        take_rooms(self.alloc, ds)
+        take_rooms(self.alloc, self.count, ds)
     }
 
     /// Draws drawings that fit, each with its memory.
     fn draw_each(&mut self, ds: &[Drawing], rooms: VecDeque<Room>)
         requires fit { AllFitState self.old.size self.old.state ds.now }
         requires colors { All HasColors ds.now }
-        requires rooms { AreRooms ds.now rooms.items }
+        requires rooms { AreRooms self.old.state.count ds.now rooms.items }
         requires count { self.old.state.count + length ds.now < 2 ^ 64 }
         ensures { self.new ≡ record { size = self.old.size; state = state_after_drawings self.old.size self.old.state ds.now } }
     {
@@ -144,13 +145,13 @@ impl Surface {
     /// The memory that a drawing takes, where one more can be counted.
     fn room_for(&self, d: &Drawing) -> Result<Room, OutOfMemory>
         requires { broken_rule self.now.size d.now ≡ None }
-        ensures room { IfOk result (λ room. IsRoomFor d.now.shape room) }
+        ensures room { IfOk result (λ room. IsRoomFor self.now.state.count d.now.shape room) }
         ensures count { OnOk result (self.now.state.count < 2 ^ 64 - 1) }
     {
         if self.count == u64::MAX {
             return Err(OutOfMemory);
         }
-        Room::new(self.alloc, &d.shape)
+        Room::new(self.alloc, self.count + 1, &d.shape)
     }
 
     /// Draws a drawing that fits, with its memory.
@@ -158,7 +159,7 @@ impl Surface {
         requires rules { broken_rule self.old.size d.now ≡ None }
         requires slots { slot_misfit self.old.size self.old.state d.now.shape ≡ None }
         requires colors { HasColors d.now }
-        requires room { IsRoomFor d.now.shape room }
+        requires room { IsRoomFor self.old.state.count d.now.shape room }
         requires count { self.old.state.count < 2 ^ 64 - 1 }
         ensures { self.new ≡ record { size = self.old.size; state = state_after_drawing self.old.size self.old.state d.now } }
     {
@@ -247,17 +248,4 @@ impl Surface {
     {
         let _ = &self.size;
     }
-}
-
-/// The memory that drawings take, in their order.
-fn take_rooms(alloc: Global, ds: &[Drawing]) -> Result<VecDeque<Room>, OutOfMemory>
-    requires { All (λ d. IsSmallSave d.shape) ds.now }
-    ensures { IfOk result (λ rooms. AreRooms ds.now rooms.items) }
-{
-    let mut rooms = VecDeque::new(alloc);
-    for d in ds {
-        let room = Room::new(alloc, &d.shape)?;
-        rooms.push_back(room)?;
-    }
-    Ok(rooms)
 }

@@ -1,5 +1,5 @@
 -- Drawings one after another.
-use Rattle.std.proofs.Common.{◌≡◌, ℕ, zero, suc, List, [], ◌∷◌, ◌++◌, refl, arith}
+use Rattle.std.proofs.Common.{◌≡◌, ℕ, zero, suc, ◌+◌, List, [], ◌∷◌, ◌++◌, length, refl, subst, arith}
 use Rattle.std.specs.Prelude.{All, Option, Some, None, option_map}
 use Rattle.px_core.specs.declared.surface.Size.{Size}
 use Rattle.draw_ops.specs.declared.shape.Drawing.{Drawing}
@@ -27,8 +27,8 @@ small_saves size st [] h k d lt = absurd (omega (arith, lt))
 small_saves size st (x ∷ ds) h zero d lt = is_small_save size x (fit_rules size st x h.0)
 small_saves size st (x ∷ ds) h (suc k) d lt = small_saves size (state_after_drawing size st x) ds h.1 k d (omega (arith, lt))
 
-pub rooms_more : (ds : List Drawing) (rooms : List Room) (d : Drawing) (room : Room) → AreRooms ds rooms → IsRoomFor d.shape room → AreRooms (ds ++ d ∷ []) (rooms ++ room ∷ [])
-rooms_more [] [] d room h is = (is, tt)
-rooms_more [] (r ∷ rooms) d room h is = absurd h
-rooms_more (x ∷ ds) [] d room h is = absurd h
-rooms_more (x ∷ ds) (r ∷ rooms) d room h is = (h.0, rooms_more ds rooms d room h.1 is)
+pub rooms_more : (count : ℕ) (ds : List Drawing) (rooms : List Room) (d : Drawing) (room : Room) → AreRooms count ds rooms → IsRoomFor (count + length ds) d.shape room → AreRooms count (ds ++ d ∷ []) (rooms ++ room ∷ [])
+rooms_more count [] [] d room h is = (subst (λ (n : ℕ). IsRoomFor n d.shape room) (omega arith) is, tt)
+rooms_more count [] (r ∷ rooms) d room h is = absurd h
+rooms_more count (x ∷ ds) [] d room h is = absurd h
+rooms_more count (x ∷ ds) (r ∷ rooms) d room h is = (h.0, rooms_more (count + 1) ds rooms d room h.1 (subst (λ (n : ℕ). IsRoomFor n d.shape room) (omega arith) is))

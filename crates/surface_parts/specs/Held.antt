@@ -1,5 +1,5 @@
 -- What the slots of a surface hold, and what a drawing puts into them.
-use Rattle.std.specs.Prelude.{◌≡◌, ℕ, ◌*◌, ◌≤◌, List, [], ◌∷◌, length, Option, None, IfSome, IsTrue}
+use Rattle.std.specs.Prelude.{◌≡◌, ℕ, ◌+◌, ◌*◌, ◌≤◌, List, [], ◌∷◌, length, Option, None, IfSome, IsTrue}
 use Rattle.px_core.specs.declared.rectangle.Rect.{Rect}
 use Rattle.px_core.specs.declared.surface.Size.{Size}
 use Rattle.px_core.specs.Rectangle.{boxed, cut_out, is_inside, IsPlaced}
@@ -29,12 +29,12 @@ state_of picture held count = record { picture = picture; images = held.images; 
 abbrev pub held_in : SurfaceState → Held
 held_in st = record { images = st.images; brushes = st.brushes; glyphs = st.glyphs; blocks = st.blocks }
 
--- the state after what a drawing loads or saves is in its slot
+-- the state after what a drawing loads or saves is in its slot; a glyph was numbered before
 abbrev pub state_filled : Size → SurfaceState → Room → SurfaceState
 state_filled size st Nothing = st
 state_filled size st (Image slot image) = record st { images = filled_slot slot (loaded st image) st.images }
 state_filled size st (Brush slot brush) = record st { brushes = filled_slot slot (loaded st brush) st.brushes }
-state_filled size st (Glyph font code glyph) = record st { glyphs = filled_slot (glyph_slot font code) (loaded st glyph) st.glyphs }
+state_filled size st (Glyph font code glyph) = record st { glyphs = filled_slot (glyph_slot font code) glyph st.glyphs }
 state_filled size st (Block slot rect block) = record st { blocks = filled_slot slot (block_of size st rect) st.blocks }
 
 -- a block has the sides of its rectangle and room for its pixels
@@ -114,15 +114,15 @@ IsSaveInside size (LoadImage slot image) = Unit {0}
 IsSaveInside size (LoadBrush slot brush) = Unit {0}
 IsSaveInside size (LoadGlyph font code glyph) = Unit {0}
 
--- what was made ready is what a shape loads or saves, whatever the state
-pub record IsRoomFor (shape : Shape) (room : Room) : Type 0 where
-  pub fills : (size : Size) (st : SurfaceState) → state_filled size st room ≡ slots_after size st shape
+-- what was made ready is what a shape loads or saves as the drawing behind so many, whatever else the state is
+pub record IsRoomFor (count : ℕ) (shape : Shape) (room : Room) : Type 0 where
+  pub fills : (size : Size) (st : SurfaceState) → st.count ≡ count → state_filled size st room ≡ slots_after size st shape
   pub block : HasBlockRoom room
   pub inside : (size : Size) → IsSaveInside size shape → IsSavedInside size room
 
--- each of these was made ready for the drawing at its place
-abbrev pub AreRooms : List Drawing → List Room → Type 0
-AreRooms [] [] = Unit {0}
-AreRooms [] (room ∷ rooms) = ⊥
-AreRooms (d ∷ ds) [] = ⊥
-AreRooms (d ∷ ds) (room ∷ rooms) = IsRoomFor d.shape room × AreRooms ds rooms
+-- each of these was made ready for the drawing at its place, of which the first is the one behind so many
+abbrev pub AreRooms : ℕ → List Drawing → List Room → Type 0
+AreRooms count [] [] = Unit {0}
+AreRooms count [] (room ∷ rooms) = ⊥
+AreRooms count (d ∷ ds) [] = ⊥
+AreRooms count (d ∷ ds) (room ∷ rooms) = IsRoomFor count d.shape room × AreRooms (count + 1) ds rooms

@@ -32,7 +32,7 @@ pub use mix::{Mix, mix_part, ready_pattern, ready_source, set_pattern, set_sourc
 pub use part::{Part, part_of, visible};
 pub use picture_copy::PictureCopy;
 pub use rects::{Blend, fill_rect, mix_rect, paste_block, restore_block, source_texture};
-pub use room::Room;
+pub use room::{Room, take_rooms};
 pub use rows::{cut_pixels, cut_rect, fill_part, paste_part};
 pub use slots::Slots;
 pub use text::{Script, write_run};

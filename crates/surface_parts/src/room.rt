@@ -1,30 +1,46 @@
 //! The memory that a drawing takes.
-ghost use Rattle.std.specs.Prelude.{◌≡◌, ◌≤◌, IfOk};
+ghost use Rattle.std.specs.Prelude.{◌≡◌, ℕ, ◌+◌, ◌<◌, ◌≤◌, ◌^◌, IfOk, All, length};
 ghost use Rattle.draw_ops.specs.Slots.{SurfaceState};
-ghost use Rattle.surface_parts.specs.Held.{state_filled, HasBlockRoom, HasSaved, IsRoomFor, IsSavedInside, IsSmallSave};
+ghost use Rattle.surface_parts.specs.Held.{state_filled, AreRooms, HasBlockRoom, HasSaved, IsRoomFor, IsSavedInside, IsSmallSave};
 ghost use Rattle.surface_parts.specs.Parts.{IsCanvas};
 
 use crate::OutOfMemory;
 use crate::block::Block;
-use draw_ops::{Glyph, Image, Shape, SharedBrush};
+use crate::loaded_glyph::LoadedGlyph;
+use draw_ops::{Drawing, Image, Shape, SharedBrush};
 use px_core::{Rect, Size};
 use std::alloc::Global;
+use std::collections::VecDeque;
 
-/// What a drawing puts into a slot, with its memory. The pixels of a block are still to be copied.
+/// What a drawing puts into a slot, with its memory. The pixels of a block are still to be copied; a glyph has its drawing's number.
 #[derive(Drop)]
 pub enum Room {
     Nothing,
-    Image { slot: u8, image: Image },
-    Brush { slot: u8, brush: SharedBrush },
-    Glyph { font: u8, code: u8, glyph: Glyph },
-    Block { slot: u8, rect: Rect, block: Block },
+    Image {
+        slot: u8,
+        image: Image,
+    },
+    Brush {
+        slot: u8,
+        brush: SharedBrush,
+    },
+    Glyph {
+        font: u8,
+        code: u8,
+        glyph: LoadedGlyph,
+    },
+    Block {
+        slot: u8,
+        rect: Rect,
+        block: Block,
+    },
 }
 
 impl Room {
-    /// Takes the memory that a shape needs.
-    pub fn new(alloc: Global, shape: &Shape) -> Result<Room, OutOfMemory>
+    /// Takes the memory that a shape needs, as the drawing of this number.
+    pub fn new(alloc: Global, number: u64, shape: &Shape) -> Result<Room, OutOfMemory>
         requires { IsSmallSave shape.now }
-        ensures { IfOk result (λ room. IsRoomFor shape.now room) }
+        ensures { IfOk result (λ room. (count : ℕ) → number ≡ count + 1 → IsRoomFor count shape.now room) }
     {
         match shape {
             Shape::LoadImage { slot, image } => {
@@ -36,7 +52,7 @@ impl Room {
                 Ok(Room::Brush { slot: *slot, brush })
             }
             Shape::LoadGlyph { font, code, glyph } => {
-                let glyph = glyph.share()?;
+                let glyph = LoadedGlyph::new(alloc, number, glyph.share()?)?;
                 Ok(Room::Glyph {
                     font: *font,
                     code: *code,
@@ -79,4 +95,20 @@ impl Room {
             room => room,
         }
     }
+}
+
+/// The memory that drawings take for their slots, in their order, where so many were drawn before them.
+pub fn take_rooms(alloc: Global, count: u64, ds: &[Drawing]) -> Result<VecDeque<Room>, OutOfMemory>
+    requires saves { All (λ d. IsSmallSave d.shape) ds.now }
+    requires count { count + length ds.now < 2 ^ 64 }
+    ensures { IfOk result (λ rooms. AreRooms count ds.now rooms.items) }
+{
+    let mut rooms = VecDeque::new(alloc);
+    let mut number = count;
+    for d in ds {
+        number += 1;
+        let room = Room::new(alloc, number, &d.shape)?;
+        rooms.push_back(room)?;
+    }
+    Ok(rooms)
 }

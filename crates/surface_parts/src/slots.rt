@@ -97,7 +97,6 @@ impl Slots {
                 set_slot(&mut self.brushes, usize::from(slot), brush)
             }
             Room::Glyph { font, code, glyph } => {
-                let glyph = LoadedGlyph::new(number, glyph);
                 set_slot(&mut self.glyphs, slot_of_glyph(font, code), glyph)
             }
             Room::Block { slot, block, .. } => {

@@ -1,6 +1,8 @@
 pub mod Tiled
 pub mod Owning
 pub mod Writings
+pub mod Filled
+pub mod Changed
 pub mod Readings
 pub mod RowByRow
 pub mod Lending

@@ -1,5 +1,5 @@
 -- Texts into tiles: a glyph row by row, and a run glyph by glyph.
-use Rattle.std.proofs.Common.{◌≡◌, ℕ, ◌+◌, ◌*◌, ◌/◌, ◌%◌, ◌-◌, ◌^◌, ◌≤◌, ◌<◌, List, [], ◌∷◌, length, get_or, ap, sym, ◌∙◌, subst, arith}
+use Rattle.std.proofs.Common.{◌≡◌, ℕ, ◌+◌, ◌*◌, ◌/◌, ◌%◌, ◌-◌, ◌^◌, ◌≤◌, ◌<◌, List, [], ◌∷◌, get_or, ap, sym, ◌∙◌, subst, arith}
 use Rattle.std.specs.Prelude.{◌==◌, if◌then◌else◌, ℤ, pos, ◌+ℤ◌, Option, Some, None}
 use Rattle.std.proofs.lemmas.Bool.Decides.{nat_tests}
 use borrow.Rule.Slice.PartMut.{mid_of}
@@ -12,11 +12,13 @@ use Rattle.surface_parts.specs.declared.part.Part.{Part}
 use Rattle.surface_parts.specs.declared.glyphs.Bits.{Bits}
 use Rattle.surface_parts.specs.Parts.{in_part, part_at, IsInside, IsRepainted}
 use Rattle.surface_parts.specs.Bits.{is_row_bit, is_ink, ink_color, HasBits}
-use Rattle.surface_parts.proofs.Repaint.{all_rows, mid_item, row_below_more, untouched}
+use Rattle.surface_parts.proofs.Repaint.{mid_item, untouched}
 use Rattle.tile_surface.specs.declared.cell.Cell.{Cell}
 use Rattle.tile_surface.specs.Needed.{OwnsGlyph, OwnsRun}
 use Rattle.tile_surface.specs.Ownership.{StaysOwn}
+use Rattle.tile_surface.specs.Rows.{row_inked}
 use Rattle.tile_surface.proofs.Owning.{owns_area_still}
+use Rattle.tile_surface.proofs.RowByRow.{next_row_by}
 
 -- ---- one more row of a glyph
 
@@ -29,31 +31,17 @@ within_byte k n h = omega (arith, h)
 
 module _ (size : Size) (part : Part) (bits : Bits) (color : ℕ) (old cur new : List ℕ) (y : ℕ) (inside : IsInside size part) (has : HasBits part bits) (low : part.y ≤ y) (high : y < part.y + part.h)
     (done : IsRepainted size (in_part (part_at part.x part.y part.w (y - part.y))) (ink_color size old part bits color) old cur) where
-  -- the row as it was read, with the bits of its bytes drawn over it
-  row_color : (was is : List ℕ) (m : ℕ) → m ≡ bits.row_bytes
-      → ((k : ℕ) → k < part.w → get_or was k 0 ≡ pixel_at size cur 0 (part.x + k) y)
-      → ((k : ℕ) → k < part.w → get_or is k 0 ≡ (if is_row_bit (mid_of (bits.row_bytes * (bits.row + (y - part.y))) m bits.bytes.now) (bits.column + k) then color else get_or was k 0))
-      → (i : ℕ) → i < part.w → get_or is i 0 ≡ ink_color size old part bits color (part.x + i) y
-  row_color was is m em read drawn i below =
-      let from = bits.row_bytes * (bits.row + (y - part.y)) in
-      let column : bits.column + i ≡ bits.column + ((part.x + i) - part.x) = omega arith in
-      let byte : (bits.column + i) / 8 < m = omega (arith, em, within_byte (bits.column + i) bits.row_bytes (omega (arith, below, has.columns))) in
-      drawn i below
-      ∙ ap (λ b. if b then color else get_or was i 0) (row_bit bits.bytes.now from m (bits.column + i) byte ∙ ap (λ k. is_ink bits.bytes.now bits.row_bytes k (bits.row + (y - part.y))) column)
-      ∙ ap (λ o. if is_ink bits.bytes.now bits.row_bytes (bits.column + ((part.x + i) - part.x)) (bits.row + (y - part.y)) then color else o)
-      (read i below
-      ∙ untouched size part.x part.y part.w (y - part.y) (ink_color size old part bits color) old cur (part.x + i) y done (omega (arith, below, inside.columns)) (omega (arith, high, inside.rows)) (grind (arith, nat_tests, low)))
-
-  pub bit_row_more : (was is : List ℕ) (m : ℕ) → m ≡ bits.row_bytes → length is ≡ part.w
-      → ((k : ℕ) → k < part.w → get_or was k 0 ≡ pixel_at size cur 0 (part.x + k) y)
-      → ((k : ℕ) → k < part.w → get_or is k 0 ≡ (if is_row_bit (mid_of (bits.row_bytes * (bits.row + (y - part.y))) m bits.bytes.now) (bits.column + k) then color else get_or was k 0))
-      → IsRepainted size (in_part (part_at part.x y (length is) 1)) (λ u v. get_or is (u - part.x) 0) cur new
+  pub bit_row_more : (m n : ℕ) → m ≡ bits.row_bytes → n ≡ part.w
+      → IsRepainted size (in_part (part_at part.x y n 1)) (row_inked size cur (mid_of (bits.row_bytes * (bits.row + (y - part.y))) m bits.bytes.now) bits.column color part.x) cur new
       → IsRepainted size (in_part (part_at part.x part.y part.w ((y + 1) - part.y))) (ink_color size old part bits color) old new
-  bit_row_more was is m em long read drawn written = all_rows size part.x part.y part.w ((y - part.y) + 1) ((y + 1) - part.y) (ink_color size old part bits color) old new (omega (arith, low))
-      (row_below_more size part.x part.w (ink_color size old part bits color) (λ u v. get_or is (u - part.x) 0) old cur new part.y (y - part.y) y (omega (arith, low)) done
-      (subst (λ (n : ℕ). IsRepainted size (in_part (part_at part.x y n 1)) (λ u v. get_or is (u - part.x) 0) cur new) long written)
-      (λ u more less. let there : part.x + (u - part.x) ≡ u = omega (arith, more) in
-      row_color was is m em read drawn (u - part.x) (omega (arith, more, less)) ∙ ap (λ k. ink_color size old part bits color k y) there))
+  bit_row_more m n em wide written = next_row_by size part (ink_color size old part bits color) (row_inked size cur (mid_of (bits.row_bytes * (bits.row + (y - part.y))) m bits.bytes.now) bits.column color part.x) old cur new y n low wide done written
+      (λ i below.
+      let from = bits.row_bytes * (bits.row + (y - part.y)) in
+      let column = bits.column + ((part.x + i) - part.x) in
+      let byte : column / 8 < m = omega (arith, em, within_byte column bits.row_bytes (omega (arith, below, has.columns))) in
+      ap (λ b. if b then color else pixel_at size cur 0 (part.x + i) y) (row_bit bits.bytes.now from m column byte)
+      ∙ ap (λ o. if is_ink bits.bytes.now bits.row_bytes column (bits.row + (y - part.y)) then color else o)
+      (untouched size part.x part.y part.w (y - part.y) (ink_color size old part bits color) old cur (part.x + i) y done (omega (arith, below, inside.columns)) (omega (arith, high, inside.rows)) (grind (arith, nat_tests, low))))
 
 -- ---- one more glyph of a run
 

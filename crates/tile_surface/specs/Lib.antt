@@ -1,4 +1,5 @@
 pub mod Cells
+pub mod Rows
 pub mod Ownership
 pub mod Needed
 pub mod Touched

@@ -6,7 +6,6 @@ use Rattle.px_core.specs.Picture.{both}
 use Rattle.px_core.specs.Rectangle.{boxed, in_clip, in_rect}
 use Rattle.draw_ops.specs.declared.shape.Shape.{Shape}
 use Rattle.draw_ops.specs.declared.shape.Shape.TheVariants.{Fill, Dst, Pat, Copy, Blit, Blit3, Text, Line, Save, Restore, LoadImage, LoadBrush, LoadGlyph}
-use Rattle.draw_ops.specs.Content.{ImageOf}
 use Rattle.draw_ops.specs.Formulas.{line_area}
 use Rattle.draw_ops.specs.Slots.{lookup}
 use Rattle.surface_parts.specs.Held.{Held}

@@ -1,14 +1,17 @@
 //! Where a tile is.
-ghost use Rattle.std.specs.Prelude.{◌≡◌, ℕ, ◌+◌, ◌-◌, ◌≤◌, ◌<◌, IfOk, OnOk, length, get_or};
+ghost use Rattle.std.specs.Prelude.{◌≡◌, ℕ, ◌+◌, ◌*◌, ◌-◌, ◌≤◌, ◌<◌, IfOk, OnOk, length, get_or};
 ghost use Rattle.std.specs.Arc.{arc_value};
+ghost use Rattle.std.specs.Bool.{OnTrue};
 ghost use Rattle.px_core.specs.Picture.{pixel_at};
-ghost use Rattle.surface_parts.specs.Parts.{in_part, part_at, IsRepainted};
+ghost use Rattle.surface_parts.specs.Parts.{in_part, part_at, IsInside, IsRepainted};
 ghost use Rattle.tile_surface.specs.Cells.{cell_pixels, tile_sides};
+ghost use Rattle.tile_surface.specs.Rows.{row_color, row_inked, row_mixed};
 ghost use Rattle.tile_surface.specs.Ownership.{IsOwn};
 
 use crate::tile::Tile;
 use std::alloc::Global;
 use std::sync::Arc;
+use surface_parts::Part;
 use wire_num::OutOfMemory;
 
 /// A tile that only the surface has, or one behind an `Arc`, which takes may share. A blank one is black and takes no memory.
@@ -60,7 +63,19 @@ impl Cell {
         }
     }
 
+    /// Whether the tile is the surface's own.
+    #[inline(always)]
+    pub(crate) fn is_own(&self) -> bool
+        ensures { OnTrue result (IsOwn self.now) }
+    {
+        match self {
+            Cell::Own(_) => true,
+            _ => false,
+        }
+    }
+
     /// Copies the pixels of row y of the tile from column x on, as many as `out` has room for.
+    #[inline(always)]
     pub(crate) fn read(&self, x: usize, y: usize, out: &mut [u32])
         requires columns { x + length out.old ≤ 64 }
         requires row { y < 64 }
@@ -74,6 +89,7 @@ impl Cell {
     }
 
     /// Gives the pixels of row y of a tile that is the surface's own, from column x on, the colours of `row`.
+    #[inline(always)]
     pub(crate) fn write(&mut self, x: usize, y: usize, row: &[u32])
         requires own { IsOwn self.old }
         requires columns { x + length row.now ≤ 64 }
@@ -83,6 +99,75 @@ impl Cell {
     {
         if let Cell::Own(tile) = self {
             tile.write(x, y, row);
+        }
+    }
+
+    /// Gives the pixels of a piece of a tile that is the surface's own one colour.
+    #[inline(always)]
+    pub(crate) fn fill(&mut self, piece: Part, color: u32)
+        requires own { IsOwn self.old }
+        requires inside { IsInside tile_sides piece }
+        ensures own { IsOwn self.new }
+        ensures painted { IsRepainted tile_sides (in_part piece) (λ u v. color) (cell_pixels self.old) (cell_pixels self.new) }
+    {
+        if let Cell::Own(tile) = self {
+            tile.fill(piece, color);
+        }
+    }
+
+    /// Gives the pixels of row y of a tile that is the surface's own, from column x on, the colours of `row`, by those of its bits that colours
+    /// have.
+    #[inline(always)]
+    pub(crate) fn paste(&mut self, x: usize, y: usize, row: &[u32])
+        requires own { IsOwn self.old }
+        requires columns { x + length row.now ≤ 64 }
+        requires row { y < 64 }
+        ensures own { IsOwn self.new }
+        ensures painted { IsRepainted tile_sides (in_part (part_at x y (length row.now) 1)) (row_color row.now x) (cell_pixels self.old) (cell_pixels self.new) }
+    {
+        if let Cell::Own(tile) = self {
+            tile.paste(x, y, row);
+        }
+    }
+
+    /// The raster operation of a code on the pixels of row y of a tile that is the surface's own, from column x on, as many as the rows of its
+    /// operands have.
+    #[inline(always)]
+    pub(crate) fn mix(&mut self, x: usize, y: usize, rop: u8, pattern: &[u32], source: &[u32])
+        requires own { IsOwn self.old }
+        requires columns { x + length pattern.now ≤ 64 }
+        requires row { y < 64 }
+        requires source { length source.now ≡ length pattern.now }
+        ensures own { IsOwn self.new }
+        ensures painted { IsRepainted tile_sides (in_part (part_at x y (length pattern.now) 1)) (row_mixed tile_sides (cell_pixels self.old) rop pattern.now source.now x) (cell_pixels self.old) (cell_pixels self.new) }
+    {
+        if let Cell::Own(tile) = self {
+            tile.mix(x, y, rop, pattern, source);
+        }
+    }
+
+    /// Gives those of n pixels of row y of a tile that is the surface's own, from column x on, a colour whose bit, from a column of the bytes
+    /// on, is one.
+    #[inline(always)]
+    pub(crate) fn ink(
+        &mut self,
+        x: usize,
+        y: usize,
+        n: usize,
+        bytes: &[u8],
+        column: usize,
+        color: u32,
+    )
+        requires own { IsOwn self.old }
+        requires columns { x + n ≤ 64 }
+        requires row { y < 64 }
+        requires bits { column + n ≤ 8 * length bytes.now }
+        requires few { length bytes.now ≤ 65536 }
+        ensures own { IsOwn self.new }
+        ensures painted { IsRepainted tile_sides (in_part (part_at x y n 1)) (row_inked tile_sides (cell_pixels self.old) bytes.now column color x) (cell_pixels self.old) (cell_pixels self.new) }
+    {
+        if let Cell::Own(tile) = self {
+            tile.ink(x, y, n, bytes, column, color);
         }
     }
 }

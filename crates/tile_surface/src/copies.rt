@@ -13,13 +13,12 @@ ghost use Rattle.tile_surface.specs.Cells.{picture_of, IsTiled};
 ghost use Rattle.tile_surface.specs.Ownership.{KeepsRest, OwnsArea, OwnsPart};
 
 use crate::cell::Cell;
-use crate::rows::{read_row, write_row};
-use lane_rop::rop_lanes;
+use crate::rows::{mix_row, read_row};
 use px_core::{Rect, Size};
 use surface_parts::{Part, PictureCopy, ready_pattern, source_place, visible};
 
-/// The raster operation of a code on a rectangle, with the picture itself, from (sx, sy) on, as its source. The three rows are for the
-/// operands of one row and for its pixels.
+/// The raster operation of a code on a rectangle, with the picture itself, from (sx, sy) on, as its source. The two rows are for the
+/// operands of one row.
 pub(crate) fn copy_rect(
     cells: &mut [Cell],
     size: Size,
@@ -30,7 +29,6 @@ pub(crate) fn copy_rect(
     sy: i32,
     pattern: &mut [u32],
     source: &mut [u32],
-    row: &mut [u32],
 )
     requires tiled { IsTiled size cells.old }
     requires rect { IsPlaced rect }
@@ -39,7 +37,6 @@ pub(crate) fn copy_rect(
     requires own { OwnsArea size cells.old (both (in_clip clip) (in_rect rect)) }
     requires pattern { 2048 ≤ length pattern.old }
     requires source { 2048 ≤ length source.old }
-    requires row { 2048 ≤ length row.old }
     ensures painted { picture_of size cells.new ≡ picture_after size (in_clip clip) (mixing rect rop (absent session_colors) (shifted (rows_of size.w size.h (picture_of size cells.old)) 0 rect sx sy)) (picture_of size cells.old) }
     ensures kept { KeepsRest size cells.old cells.new }
 {
@@ -58,14 +55,12 @@ pub(crate) fn copy_rect(
                 copy,
                 &mut pattern[..part.w],
                 &mut source[..part.w],
-                &mut row[..part.w],
             )
         }
     }
 }
 
-/// Makes each pixel of a part what a raster operation makes of it. Three rows of the part's width are for the operands of one row and for its
-/// pixels.
+/// Makes each pixel of a part what a raster operation makes of it. Two rows of the part's width are for the operands of one row.
 ///
 /// Where the source lies above the part, the lowest row goes first, so that no row is read after it was painted.
 fn copy_part(
@@ -75,7 +70,6 @@ fn copy_part(
     copy: PictureCopy,
     pattern: &mut [u32],
     source: &mut [u32],
-    row: &mut [u32],
 )
     requires tiled { IsTiled size cells.old }
     requires inside { IsInside size part }
@@ -83,15 +77,14 @@ fn copy_part(
     requires own { OwnsPart cells.old part }
     requires pattern { length pattern.old ≡ part.w }
     requires source { length source.old ≡ part.w }
-    requires row { length row.old ≡ part.w }
     ensures painted { IsRepainted size (in_part part) (copied_color size (picture_of size cells.old) part copy) (picture_of size cells.old) (picture_of size cells.new) }
     ensures kept { KeepsRest size cells.old cells.new }
 {
     ready_pattern(pattern, None);
     if copy.y < part.y {
-        copy_upwards(cells, size, part, copy, pattern, source, row)
+        copy_upwards(cells, size, part, copy, pattern, source)
     } else {
-        copy_downwards(cells, size, part, copy, pattern, source, row)
+        copy_downwards(cells, size, part, copy, pattern, source)
     }
 }
 
@@ -103,7 +96,6 @@ fn copy_downwards(
     copy: PictureCopy,
     pattern: &[u32],
     source: &mut [u32],
-    row: &mut [u32],
 )
     requires tiled { IsTiled size cells.old }
     requires inside { IsInside size part }
@@ -113,12 +105,11 @@ fn copy_downwards(
     requires pattern { length pattern.now ≡ part.w }
     requires blank { IsBlank pattern.now }
     requires source { length source.old ≡ part.w }
-    requires row { length row.old ≡ part.w }
     ensures painted { IsRepainted size (in_part part) (copied_color size (picture_of size cells.old) part copy) (picture_of size cells.old) (picture_of size cells.new) }
     ensures kept { KeepsRest size cells.old cells.new }
 {
     for k in 0..part.h {
-        copy_row(cells, size, part, copy, part.y + k, pattern, source, row);
+        copy_row(cells, size, part, copy, part.y + k, pattern, source);
     }
 }
 
@@ -130,7 +121,6 @@ fn copy_upwards(
     copy: PictureCopy,
     pattern: &[u32],
     source: &mut [u32],
-    row: &mut [u32],
 )
     requires tiled { IsTiled size cells.old }
     requires inside { IsInside size part }
@@ -140,7 +130,6 @@ fn copy_upwards(
     requires pattern { length pattern.now ≡ part.w }
     requires blank { IsBlank pattern.now }
     requires source { length source.old ≡ part.w }
-    requires row { length row.old ≡ part.w }
     ensures painted { IsRepainted size (in_part part) (copied_color size (picture_of size cells.old) part copy) (picture_of size cells.old) (picture_of size cells.new) }
     ensures kept { KeepsRest size cells.old cells.new }
 {
@@ -153,7 +142,6 @@ fn copy_upwards(
             part.y + (part.h - 1 - k),
             pattern,
             source,
-            row,
         );
     }
 }
@@ -167,7 +155,6 @@ fn copy_row(
     y: usize,
     pattern: &[u32],
     source: &mut [u32],
-    row: &mut [u32],
 )
     requires tiled { IsTiled size cells.old }
     requires inside { IsInside size part }
@@ -178,12 +165,9 @@ fn copy_row(
     requires pattern { length pattern.now ≡ part.w }
     requires blank { IsBlank pattern.now }
     requires source { length source.old ≡ part.w }
-    requires row { length row.old ≡ part.w }
     ensures painted { IsRepainted size (in_part (part_at part.x y part.w 1)) (copied_color size (picture_of size cells.old) part copy) (picture_of size cells.old) (picture_of size cells.new) }
     ensures kept { KeepsRest size cells.old cells.new }
 {
     read_row(cells, size, copy.x, copy.y + (y - part.y), source);
-    read_row(cells, size, part.x, y, row);
-    rop_lanes(copy.rop, pattern, source, row);
-    write_row(cells, size, part.x, y, row);
+    mix_row(cells, size, part.x, y, copy.rop, pattern, source);
 }

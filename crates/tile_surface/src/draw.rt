@@ -40,13 +40,13 @@ impl Tiles {
     /// The memory that a drawing takes for its slot, where one more can be counted.
     fn room_for(&self, d: &Drawing) -> Result<Room, OutOfMemory>
         requires { broken_rule self.now.size d.now ≡ None }
-        ensures room { IfOk result (λ room. IsRoomFor d.now.shape room) }
+        ensures room { IfOk result (λ room. IsRoomFor self.now.state.count d.now.shape room) }
         ensures count { OnOk result (self.now.state.count < 2 ^ 64 - 1) }
     {
         if self.count == u64::MAX {
             return Err(OutOfMemory);
         }
-        Room::new(self.alloc, &d.shape)
+        Room::new(self.alloc, self.count + 1, &d.shape)
     }
 
     /// Draws a drawing that fits, with its memory, where memory was left for the tiles that it paints on.
@@ -54,7 +54,7 @@ impl Tiles {
         requires rules { broken_rule self.old.size d.now ≡ None }
         requires slots { slot_misfit self.old.size self.old.state d.now.shape ≡ None }
         requires colors { HasColors d.now }
-        requires room { IsRoomFor d.now.shape room }
+        requires room { IsRoomFor self.old.state.count d.now.shape room }
         requires count { self.old.state.count < 2 ^ 64 - 1 }
         ensures drawn { OnOk result (self.new ≡ record { size = self.old.size; state = state_after_drawing self.old.size self.old.state d.now }) }
         ensures unchanged { OnErr result (self.new ≡ self.old) }
@@ -76,15 +76,14 @@ impl Tiles {
             room,
             self.pattern.as_mut_slice(),
             self.source.as_mut_slice(),
-            self.row.as_mut_slice(),
         );
         self.count += 1;
         Ok(())
     }
 }
 
-/// Draws a drawing that fits as the next one, with its memory, on tiles that are the surface's own. The three rows are for the operands of
-/// one row and for its pixels.
+/// Draws a drawing that fits as the next one, with its memory, on tiles that are the surface's own. The two rows are for the operands of
+/// one row.
 pub(crate) fn draw_owned(
     cells: &mut [Cell],
     slots: &mut Slots,
@@ -94,21 +93,19 @@ pub(crate) fn draw_owned(
     room: Room,
     pattern: &mut [u32],
     source: &mut [u32],
-    row: &mut [u32],
 )
     requires tiled { IsTiled size cells.old }
     requires sound { IsSoundSurface size (state_of (picture_of size cells.old) slots.old count) }
     requires rules { broken_rule size d.now ≡ None }
     requires fits { slot_misfit size (state_of (picture_of size cells.old) slots.old count) d.now.shape ≡ None }
-    requires room { IsRoomFor d.now.shape room }
+    requires room { IsRoomFor count d.now.shape room }
     requires own { OwnsShape size slots.old cells.old d.now.clip d.now.shape }
     requires count { count < 2 ^ 64 - 1 }
     requires pattern { 2048 ≤ length pattern.old }
     requires source { 2048 ≤ length source.old }
-    requires row { 2048 ≤ length row.old }
     ensures drawn { state_of (picture_of size cells.new) slots.new (count + 1) ≡ state_after_drawing size (state_of (picture_of size cells.old) slots.old count) d.now }
     ensures kept { KeepsRest size cells.old cells.new }
 {
     fill_slot(slots, count, room, cells, size);
-    paint(cells, size, slots, d.clip, &d.shape, pattern, source, row);
+    paint(cells, size, slots, d.clip, &d.shape, pattern, source);
 }

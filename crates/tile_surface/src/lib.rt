@@ -1,13 +1,14 @@
 //! The session's surface with its picture kept as tiles of 64 by 64 pixels, which takes may share, and the slots that its drawings fill and
 //! read (profile).
 //!
-//! A drawing first makes the tiles that it touches the surface's own, and then writes them row by row, which takes no memory.
+//! A drawing first makes the tiles that it touches the surface's own, and then writes into them in place, which takes no memory.
 #![tactic(auto)]
 
 mod cell;
 mod copies;
 mod draw;
 mod draw_all;
+mod fills;
 mod lines;
 mod own;
 mod own_all;

@@ -97,6 +97,9 @@ fn own_tile(cells: &mut [Cell], alloc: Global, tile: usize) -> Result<(), OutOfM
     ensures stays { StaysOwn cells.old cells.new }
     ensures own { OnOk result (IsOwn (cell_at cells.new tile)) }
 {
+    if cells[tile].is_own() {
+        return Ok(());
+    }
     let cell = mem::replace(&mut cells[tile], Cell::Blank);
     let (cell, owned) = cell.owned(alloc);
     cells[tile] = cell;

@@ -112,7 +112,7 @@ fn own_block(
     }
 }
 
-/// Paints a shape within a clip on tiles that are the surface's own. The three rows are for the operands of one row and for its pixels.
+/// Paints a shape within a clip on tiles that are the surface's own. The two rows are for the operands of one row.
 pub(crate) fn paint(
     cells: &mut [Cell],
     size: Size,
@@ -121,7 +121,6 @@ pub(crate) fn paint(
     shape: &Shape,
     pattern: &mut [u32],
     source: &mut [u32],
-    row: &mut [u32],
 )
     requires tiled { IsTiled size cells.old }
     requires paintable { IsPaintable size slots.now clip shape.now }
@@ -129,12 +128,11 @@ pub(crate) fn paint(
     requires own { OwnsShape size slots.now cells.old clip shape.now }
     requires pattern { 2048 ≤ length pattern.old }
     requires source { 2048 ≤ length source.old }
-    requires row { 2048 ≤ length row.old }
     ensures painted { (count : ℕ) → picture_of size cells.new ≡ picture_after size (in_clip clip) (painting_of size (state_of (picture_of size cells.old) slots.now count) shape.now) (picture_of size cells.old) }
     ensures kept { KeepsRest size cells.old cells.new }
 {
     match shape {
-        Shape::Fill { rect, color } => fill_rect(cells, size, *rect, clip, *color, row),
+        Shape::Fill { rect, color } => fill_rect(cells, size, *rect, clip, *color),
         Shape::Dst { rect, rop } => {
             let blend = Blend {
                 rop: *rop,
@@ -143,7 +141,7 @@ pub(crate) fn paint(
                 sx: 0,
                 sy: 0,
             };
-            mix_rect(cells, size, *rect, clip, blend, pattern, source, row)
+            mix_rect(cells, size, *rect, clip, blend, pattern, source)
         }
         Shape::Pat { rect, rop, brush } => {
             let blend = Blend {
@@ -153,10 +151,10 @@ pub(crate) fn paint(
                 sx: 0,
                 sy: 0,
             };
-            mix_rect(cells, size, *rect, clip, blend, pattern, source, row)
+            mix_rect(cells, size, *rect, clip, blend, pattern, source)
         }
         Shape::Copy { rect, rop, sx, sy } => copy_rect(
-            cells, size, *rect, clip, *rop, *sx, *sy, pattern, source, row,
+            cells, size, *rect, clip, *rop, *sx, *sy, pattern, source,
         ),
         Shape::Blit {
             rect,
@@ -172,7 +170,7 @@ pub(crate) fn paint(
                 sx: *sx,
                 sy: *sy,
             };
-            mix_rect(cells, size, *rect, clip, blend, pattern, source, row)
+            mix_rect(cells, size, *rect, clip, blend, pattern, source)
         }
         Shape::Blit3 {
             rect,
@@ -189,7 +187,7 @@ pub(crate) fn paint(
                 sx: *sx,
                 sy: *sy,
             };
-            mix_rect(cells, size, *rect, clip, blend, pattern, source, row)
+            mix_rect(cells, size, *rect, clip, blend, pattern, source)
         }
         Shape::Text {
             x,
@@ -204,7 +202,7 @@ pub(crate) fn paint(
                 x: *x,
                 y: *y,
             };
-            write_run(cells, size, clip, slots, script, run.pairs(), row)
+            write_run(cells, size, clip, slots, script, run.pairs())
         }
         Shape::Line {
             x0,

@@ -1,50 +1,43 @@
 //! Drawings of whole rectangles, within a clip, on tiles that are the surface's own.
-ghost use Rattle.std.specs.Prelude.{◌≡◌, ℕ, ◌≤◌, None, pos, length, IfSome, IsTrue, option_copied};
+ghost use Rattle.std.specs.Prelude.{◌≡◌, ℕ, ◌+◌, ◌≤◌, ◌<◌, None, pos, length, get_or, IfSome, IsTrue, option_copied};
 ghost use Rattle.px_core.specs.Picture.{both};
 ghost use Rattle.px_core.specs.Rectangle.{boxed, in_clip, in_rect, IsPlaced};
 ghost use Rattle.rop3_core.specs.Palette.{session_colors};
 ghost use Rattle.draw_ops.specs.Fits.{clip_rule};
 ghost use Rattle.draw_ops.specs.Formulas.{over_rect, picture_after, solid};
 ghost use Rattle.draw_ops.specs.Drawing.{mixing, pattern_of, restoring, source_of};
+ghost use Rattle.surface_parts.specs.Operands.{IsReady};
 ghost use Rattle.surface_parts.specs.Parts.{in_part, IsInside, IsRepainted, IsWithinRect};
 ghost use Rattle.surface_parts.specs.Textures.{mixed_color, source_color, texture_color, CoversPart, HasSource, IsRestorable};
 ghost use Rattle.tile_surface.specs.Cells.{picture_of, IsTiled};
 ghost use Rattle.tile_surface.specs.Ownership.{KeepsRest, OwnsArea, OwnsPart};
 
 use crate::cell::Cell;
-use crate::rows::{read_row, write_row};
+use crate::fills::fill_part;
+use crate::rows::{mix_row, write_row};
 use draw_ops::Image;
-use lane_rop::rop_lanes;
 use px_core::{Rect, Size};
 use surface_parts::{
-    Blend, Block, Mix, Part, Texture, ready_pattern, ready_source, set_pattern, set_source,
-    source_texture, texture_of, visible,
+    Blend, Block, Mix, Part, Texture, ready_pattern, ready_source, set_pattern, source_texture,
+    texture_of, visible,
 };
 
-/// Gives a rectangle one colour. `row` is for one row of it.
-pub(crate) fn fill_rect(
-    cells: &mut [Cell],
-    size: Size,
-    rect: Rect,
-    clip: Option<Rect>,
-    color: u32,
-    row: &mut [u32],
-)
+/// Gives a rectangle one colour.
+pub(crate) fn fill_rect(cells: &mut [Cell], size: Size, rect: Rect, clip: Option<Rect>, color: u32)
     requires tiled { IsTiled size cells.old }
     requires rect { IsPlaced rect }
     requires clip { clip_rule size clip ≡ None }
     requires own { OwnsArea size cells.old (both (in_clip clip) (in_rect rect)) }
-    requires row { 2048 ≤ length row.old }
     ensures painted { picture_of size cells.new ≡ picture_after size (in_clip clip) (over_rect rect (solid session_colors color)) (picture_of size cells.old) }
     ensures kept { KeepsRest size cells.old cells.new }
 {
     match visible(size, rect, clip) {
         None => {}
-        Some(part) => fill_part(cells, size, part, color, &mut row[..part.w]),
+        Some(part) => fill_part(cells, size, part, color),
     }
 }
 
-/// The raster operation of a code on a rectangle. The three rows are for the operands of one row and for its pixels.
+/// The raster operation of a code on a rectangle. The two rows are for the operands of one row.
 pub(crate) fn mix_rect(
     cells: &mut [Cell],
     size: Size,
@@ -53,7 +46,6 @@ pub(crate) fn mix_rect(
     blend: Blend,
     pattern: &mut [u32],
     source: &mut [u32],
-    row: &mut [u32],
 )
     requires tiled { IsTiled size cells.old }
     requires rect { IsPlaced rect }
@@ -62,7 +54,6 @@ pub(crate) fn mix_rect(
     requires image { IfSome (option_copied blend.image) (HasSource rect blend.sx blend.sy) }
     requires pattern { 2048 ≤ length pattern.old }
     requires source { 2048 ≤ length source.old }
-    requires row { 2048 ≤ length row.old }
     ensures painted { picture_of size cells.new ≡ picture_after size (in_clip clip) (mixing rect blend.entry.rop (pattern_of (option_copied blend.entry.brush)) (source_of (option_copied blend.entry.image) rect blend.entry.sx blend.entry.sy)) (picture_of size cells.old) }
     ensures kept { KeepsRest size cells.old cells.new }
 {
@@ -82,7 +73,6 @@ pub(crate) fn mix_rect(
                 mix,
                 &mut pattern[..part.w],
                 &mut source[..part.w],
-                &mut row[..part.w],
             )
         }
     }
@@ -138,21 +128,6 @@ fn paste_block(cells: &mut [Cell], size: Size, clip: Option<Rect>, block: &Block
     }
 }
 
-/// Gives every pixel of a part one colour. The colours of one row are made once, in `row`, and written to each.
-fn fill_part(cells: &mut [Cell], size: Size, part: Part, color: u32, row: &mut [u32])
-    requires tiled { IsTiled size cells.old }
-    requires inside { IsInside size part }
-    requires own { OwnsPart cells.old part }
-    requires row { length row.old ≡ part.w }
-    ensures painted { IsRepainted size (in_part part) (λ x y. color) (picture_of size cells.old) (picture_of size cells.new) }
-    ensures kept { KeepsRest size cells.old cells.new }
-{
-    row.fill(color);
-    for y in part.y..part.y + part.h {
-        write_row(cells, size, part.x, y, row);
-    }
-}
-
 /// Gives every pixel of a part the colour that a texture has for it.
 fn paste_part(cells: &mut [Cell], size: Size, part: Part, texture: Texture)
     requires tiled { IsTiled size cells.old }
@@ -168,8 +143,7 @@ fn paste_part(cells: &mut [Cell], size: Size, part: Part, texture: Texture)
     }
 }
 
-/// Makes each pixel of a part what a raster operation makes of it. Three rows of the part's width are for the operands of one row and for its
-/// pixels.
+/// Makes each pixel of a part what a raster operation makes of it. Two rows of the part's width are for the operands of one row.
 fn mix_part(
     cells: &mut [Cell],
     size: Size,
@@ -177,7 +151,6 @@ fn mix_part(
     mix: Mix,
     pattern: &mut [u32],
     source: &mut [u32],
-    row: &mut [u32],
 )
     requires tiled { IsTiled size cells.old }
     requires inside { IsInside size part }
@@ -185,7 +158,6 @@ fn mix_part(
     requires texture { IfSome mix.texture (CoversPart part) }
     requires pattern { length pattern.old ≡ part.w }
     requires source { length source.old ≡ part.w }
-    requires row { length row.old ≡ part.w }
     ensures painted { IsRepainted size (in_part part) (mixed_color size (picture_of size cells.old) part mix.entry) (picture_of size cells.old) (picture_of size cells.new) }
     ensures kept { KeepsRest size cells.old cells.new }
 {
@@ -193,9 +165,26 @@ fn mix_part(
     ready_source(source, mix.texture);
     for y in part.y..part.y + part.h {
         set_pattern(pattern, mix.brush, part.x, y);
-        set_source(source, mix.texture, part, y);
-        read_row(cells, size, part.x, y, row);
-        rop_lanes(mix.rop, pattern, source, row);
-        write_row(cells, size, part.x, y, row);
+        let from = source_row(mix.texture, source, part, y);
+        mix_row(cells, size, part.x, y, mix.rop, pattern, from);
+    }
+}
+
+/// The source of row y of a part: a texture's own row, or a blank one where the texture is missing.
+fn source_row<'a>(texture: Option<Texture<'a>>, blank: &'a [u32], part: Part, y: usize) -> &'a [u32]
+    requires above { part.y ≤ y }
+    requires below { y < part.y + part.h }
+    requires texture { IfSome texture (CoversPart part) }
+    requires wide { length blank.now ≡ part.w }
+    requires ready { IsReady texture blank.now }
+    ensures wide { length result.now ≡ part.w }
+    ensures colors { (k : ℕ) → k < part.w → get_or result.now k 0 ≡ source_color part texture.entry (part.x + k) y }
+{
+    match texture {
+        None => blank,
+        Some(texture) => {
+            let from = texture.w * (texture.y + (y - part.y)) + texture.x;
+            &texture.pixels[from..from + part.w]
+        }
     }
 }

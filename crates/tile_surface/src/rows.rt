@@ -5,6 +5,7 @@ ghost use Rattle.px_core.specs.Rectangle.{cut_out, is_inside};
 ghost use Rattle.px_core.specs.Tiles.{tile_number};
 ghost use Rattle.surface_parts.specs.Parts.{in_part, part_at, IsRepainted};
 ghost use Rattle.tile_surface.specs.Cells.{picture_of, IsTiled};
+ghost use Rattle.tile_surface.specs.Rows.{row_color, row_inked, row_mixed};
 ghost use Rattle.tile_surface.specs.Ownership.{IsOwnAt, KeepsRest, OwnsPart};
 
 use crate::cell::Cell;
@@ -15,7 +16,14 @@ use surface_parts::part_of;
 /// The number of tiles in a row of tiles.
 pub(crate) const TILES_IN_ROW: usize = 32;
 
+/// `SRCCOPY`: the source.
+const SRCCOPY: u8 = 0xCC;
+
+/// `PATCOPY`: the pattern.
+const PATCOPY: u8 = 0xF0;
+
 /// The number of the tile of pixel (x, y).
+#[inline(always)]
 pub(crate) fn tile_number(x: usize, y: usize) -> usize
     requires column { x < 2048 }
     requires row { y < 2048 }
@@ -58,6 +66,111 @@ pub(crate) fn write_row(cells: &mut [Cell], size: Size, x: usize, y: usize, row:
         let tile = tile_number(x + done, y);
         cells[tile].write(column, y % TILE_SIDE, &row[done..done + n]);
         done += n;
+    }
+}
+
+/// The raster operation of a code on the pixels of row y of the picture from column x on, as many as the rows of its operands have.
+///
+/// The codes that copy one operand read no other.
+pub(crate) fn mix_row(
+    cells: &mut [Cell],
+    size: Size,
+    x: usize,
+    y: usize,
+    rop: u8,
+    pattern: &[u32],
+    source: &[u32],
+)
+    requires tiled { IsTiled size cells.old }
+    requires columns { x + length pattern.now ≤ size.w }
+    requires row { y < size.h }
+    requires source { length source.now ≡ length pattern.now }
+    requires own { OwnsPart cells.old (part_at x y (length pattern.now) 1) }
+    ensures painted { IsRepainted size (in_part (part_at x y (length pattern.now) 1)) (row_mixed size (picture_of size cells.old) rop pattern.now source.now x) (picture_of size cells.old) (picture_of size cells.new) }
+    ensures kept { KeepsRest size cells.old cells.new }
+{
+    match rop {
+        SRCCOPY => paste_row(cells, size, x, y, source),
+        PATCOPY => paste_row(cells, size, x, y, pattern),
+        _ => mix_tiles(cells, size, x, y, rop, pattern, source),
+    }
+}
+
+/// Gives the pixels of row y of the picture from column x on the colours of `row`, by those of its bits that colours have.
+fn paste_row(cells: &mut [Cell], size: Size, x: usize, y: usize, row: &[u32])
+    requires tiled { IsTiled size cells.old }
+    requires columns { x + length row.now ≤ size.w }
+    requires row { y < size.h }
+    requires own { OwnsPart cells.old (part_at x y (length row.now) 1) }
+    ensures painted { IsRepainted size (in_part (part_at x y (length row.now) 1)) (row_color row.now x) (picture_of size cells.old) (picture_of size cells.new) }
+    ensures kept { KeepsRest size cells.old cells.new }
+{
+    let mut done = 0;
+    while done < row.len() {
+        let column = (x + done) % TILE_SIDE;
+        let n = (TILE_SIDE - column).min(row.len() - done);
+        let tile = tile_number(x + done, y);
+        cells[tile].paste(column, y % TILE_SIDE, &row[done..done + n]);
+        done += n;
+    }
+}
+
+/// The raster operation of any code on the same pixels, one tile after another.
+fn mix_tiles(
+    cells: &mut [Cell],
+    size: Size,
+    x: usize,
+    y: usize,
+    rop: u8,
+    pattern: &[u32],
+    source: &[u32],
+)
+    requires tiled { IsTiled size cells.old }
+    requires columns { x + length pattern.now ≤ size.w }
+    requires row { y < size.h }
+    requires source { length source.now ≡ length pattern.now }
+    requires own { OwnsPart cells.old (part_at x y (length pattern.now) 1) }
+    ensures painted { IsRepainted size (in_part (part_at x y (length pattern.now) 1)) (row_mixed size (picture_of size cells.old) rop pattern.now source.now x) (picture_of size cells.old) (picture_of size cells.new) }
+    ensures kept { KeepsRest size cells.old cells.new }
+{
+    let mut done = 0;
+    while done < pattern.len() {
+        let column = (x + done) % TILE_SIDE;
+        let n = (TILE_SIDE - column).min(pattern.len() - done);
+        let tile = tile_number(x + done, y);
+        let (p, s) = (&pattern[done..done + n], &source[done..done + n]);
+        cells[tile].mix(column, y % TILE_SIDE, rop, p, s);
+        done += n;
+    }
+}
+
+/// Gives those of n pixels of row y of the picture from column x on a colour whose bit, from a column of the bytes on, is one.
+pub(crate) fn ink_row(
+    cells: &mut [Cell],
+    size: Size,
+    x: usize,
+    y: usize,
+    n: usize,
+    bytes: &[u8],
+    column: usize,
+    color: u32,
+)
+    requires tiled { IsTiled size cells.old }
+    requires columns { x + n ≤ size.w }
+    requires row { y < size.h }
+    requires bits { column + n ≤ 8 * length bytes.now }
+    requires few { length bytes.now ≤ 65536 }
+    requires own { OwnsPart cells.old (part_at x y n 1) }
+    ensures painted { IsRepainted size (in_part (part_at x y n 1)) (row_inked size (picture_of size cells.old) bytes.now column color x) (picture_of size cells.old) (picture_of size cells.new) }
+    ensures kept { KeepsRest size cells.old cells.new }
+{
+    let mut done = 0;
+    while done < n {
+        let left = (x + done) % TILE_SIDE;
+        let few = (TILE_SIDE - left).min(n - done);
+        let tile = tile_number(x + done, y);
+        cells[tile].ink(left, y % TILE_SIDE, few, bytes, column + done, color);
+        done += few;
     }
 }
 

@@ -17,11 +17,11 @@ ghost use Rattle.tile_surface.specs.Ownership.{KeepsRest, OwnsPart, StaysOwn};
 
 use crate::cell::Cell;
 use crate::own::own_rect;
-use crate::rows::{read_row, write_row};
+use crate::rows::ink_row;
 use draw_ops::Glyph;
 use px_core::{Rect, Size};
 use std::alloc::Global;
-use surface_parts::{Bits, Part, Script, Slots, cell_of, draw_bit_row, source_place, visible};
+use surface_parts::{Bits, Part, Script, Slots, cell_of, source_place, visible};
 use wire_num::OutOfMemory;
 
 /// The bits of a byte.
@@ -61,7 +61,7 @@ pub(crate) fn own_run(
     Ok(())
 }
 
-/// Draws a run of glyphs; each one's delta moves the pen to the right before it. `row` is for one row of a glyph.
+/// Draws a run of glyphs; each one's delta moves the pen to the right before it.
 pub(crate) fn write_run(
     cells: &mut [Cell],
     size: Size,
@@ -69,7 +69,6 @@ pub(crate) fn write_run(
     slots: &Slots,
     script: Script,
     run: &[(u8, u8)],
-    row: &mut [u32],
 )
     requires tiled { IsTiled size cells.old }
     requires clip { clip_rule size clip ≡ None }
@@ -77,7 +76,6 @@ pub(crate) fn write_run(
     requires pen { IsPenAtStart script.x script.y }
     requires short { length run.now ≤ 64 }
     requires own { OwnsRun size cells.old (in_clip clip) (glyphs_held slots.now script.font) script.x script.y run.now }
-    requires row { 2048 ≤ length row.old }
     ensures painted { picture_of size cells.new ≡ picture_after size (in_clip clip) (writing (glyphs_held slots.now script.font) script.x script.y script.color run.now) (picture_of size cells.old) }
     ensures kept { KeepsRest size cells.old cells.new }
 {
@@ -88,7 +86,7 @@ pub(crate) fn write_run(
             x: script.x + moved as i32,
             ..script
         };
-        draw_code(cells, size, clip, slots, pen, pair.0, row);
+        draw_code(cells, size, clip, slots, pen, pair.0);
     }
 }
 
@@ -124,29 +122,18 @@ fn draw_code(
     slots: &Slots,
     pen: Script,
     code: u8,
-    row: &mut [u32],
 )
     requires tiled { IsTiled size cells.old }
     requires clip { clip_rule size clip ≡ None }
     requires glyphs { AllInSlots (λ glyph. glyph_rule glyph.content ≡ None) slots.now.glyphs }
     requires pen { IsPenNear pen.x pen.y }
     requires own { OwnsGlyph size cells.old (in_clip clip) (glyphs_held slots.now pen.font code) pen.x pen.y }
-    requires row { 2048 ≤ length row.old }
     ensures painted { picture_of size cells.new ≡ painted size (both (in_clip clip) (glyph_area (glyphs_held slots.now pen.font code) pen.x pen.y)) (solid session_colors pen.color) (picture_of size cells.old) }
     ensures kept { KeepsRest size cells.old cells.new }
 {
     match slots.glyph(pen.font, code) {
         None => {}
-        Some(glyph) => draw_glyph(
-            cells,
-            size,
-            clip,
-            glyph.content(),
-            pen.x,
-            pen.y,
-            pen.color,
-            row,
-        ),
+        Some(glyph) => draw_glyph(cells, size, clip, glyph.content(), pen.x, pen.y, pen.color),
     }
 }
 
@@ -171,7 +158,7 @@ fn own_glyph(
     own_rect(cells, alloc, size, cell_of(glyph, x, y), clip)
 }
 
-/// Gives the pixels of a glyph's one bits one colour, with the pen at (x, y). `row` is for one row of it.
+/// Gives the pixels of a glyph's one bits one colour, with the pen at (x, y).
 fn draw_glyph(
     cells: &mut [Cell],
     size: Size,
@@ -180,14 +167,12 @@ fn draw_glyph(
     x: i32,
     y: i32,
     color: u32,
-    row: &mut [u32],
 )
     requires tiled { IsTiled size cells.old }
     requires clip { clip_rule size clip ≡ None }
     requires rule { glyph_rule glyph.now ≡ None }
     requires pen { IsPenNear x y }
     requires own { OwnsGlyph size cells.old (in_clip clip) (Some glyph.now) x y }
-    requires row { 2048 ≤ length row.old }
     ensures painted { picture_of size cells.new ≡ painted size (both (in_clip clip) (glyph_area (Some glyph.now) x y)) (solid session_colors color) (picture_of size cells.old) }
     ensures kept { KeepsRest size cells.old cells.new }
 {
@@ -201,30 +186,23 @@ fn draw_glyph(
                 column: source_place(part.x, cell.x, 0),
                 row: source_place(part.y, cell.y, 0),
             };
-            draw_bits(cells, size, part, bits, color, &mut row[..part.w])
+            draw_bits(cells, size, part, bits, color)
         }
     }
 }
 
-/// Gives the pixels of a part one colour whose bit is one. `row` is of the part's width, for one row of it.
-fn draw_bits(cells: &mut [Cell], size: Size, part: Part, bits: Bits, color: u32, row: &mut [u32])
+/// Gives the pixels of a part one colour whose bit is one.
+fn draw_bits(cells: &mut [Cell], size: Size, part: Part, bits: Bits, color: u32)
     requires tiled { IsTiled size cells.old }
     requires inside { IsInside size part }
     requires bits { HasBits part bits }
     requires own { OwnsPart cells.old part }
-    requires row { length row.old ≡ part.w }
     ensures painted { IsRepainted size (in_part part) (ink_color size (picture_of size cells.old) part bits.entry color) (picture_of size cells.old) (picture_of size cells.new) }
     ensures kept { KeepsRest size cells.old cells.new }
 {
     for y in part.y..part.y + part.h {
         let from = bits.row_bytes * (bits.row + (y - part.y));
-        read_row(cells, size, part.x, y, row);
-        draw_bit_row(
-            row,
-            &bits.bytes[from..from + bits.row_bytes],
-            bits.column,
-            color,
-        );
-        write_row(cells, size, part.x, y, row);
+        let bytes = &bits.bytes[from..from + bits.row_bytes];
+        ink_row(cells, size, part.x, y, part.w, bytes, bits.column, color);
     }
 }

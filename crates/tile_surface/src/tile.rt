@@ -1,15 +1,21 @@
 //! A tile: 64 by 64 pixels of a picture.
-ghost use Rattle.std.specs.Prelude.{◌≡◌, ℕ, ◌+◌, ◌-◌, ◌≤◌, ◌<◌, IfOk, length, get_or, replicate};
+ghost use Rattle.std.specs.Prelude.{◌≡◌, ℕ, ◌+◌, ◌*◌, ◌-◌, ◌≤◌, ◌<◌, ◌^◌, IfOk, length, get_or, bit_and, replicate};
 ghost use Rattle.px_core.specs.Picture.{pixel_at};
-ghost use Rattle.surface_parts.specs.Parts.{in_part, part_at, IsRepainted};
+ghost use Rattle.surface_parts.specs.Parts.{in_part, part_at, IsInside, IsRepainted};
 ghost use Rattle.tile_surface.specs.Cells.{tile_sides};
+ghost use Rattle.tile_surface.specs.Rows.{row_color, row_inked, row_mixed};
 
+use lane_rop::rop_lanes;
 use std::alloc::Global;
 use std::marker::Model;
+use surface_parts::{Part, draw_bit_row};
 use wire_num::OutOfMemory;
 
 /// The columns, and the rows, of a tile.
 pub(crate) const TILE_SIDE: usize = 64;
+
+/// The bits of a pixel that colours have.
+const COLOR_BITS: u32 = 0x00FF_FFFF;
 
 /// The pixels of a tile.
 const TILE_PIXELS: usize = 4_096;
@@ -64,6 +70,7 @@ impl Tile {
     }
 
     /// Copies the pixels of row y from column x on, as many as `out` has room for.
+    #[inline(always)]
     pub(crate) fn read(&self, x: usize, y: usize, out: &mut [u32])
         requires columns { x + length out.old ≤ 64 }
         requires row { y < 64 }
@@ -74,6 +81,7 @@ impl Tile {
     }
 
     /// Gives the pixels of row y from column x on the colours of `row`.
+    #[inline(always)]
     pub(crate) fn write(&mut self, x: usize, y: usize, row: &[u32])
         requires columns { x + length row.now ≤ 64 }
         requires row { y < 64 }
@@ -81,5 +89,98 @@ impl Tile {
     {
         let at = TILE_SIDE * y + x;
         self.pixels[at..at + row.len()].copy_from_slice(row);
+    }
+
+    /// Gives the pixels of a piece of the tile one colour.
+    #[inline(always)]
+    pub(crate) fn fill(&mut self, piece: Part, color: u32)
+        requires { IsInside tile_sides piece }
+        ensures { IsRepainted tile_sides (in_part piece) (λ u v. color) self.old self.new }
+    {
+        if piece.w == TILE_SIDE {
+            fill_whole_rows(self.pixels.as_mut_slice(), piece.y, piece.h, color);
+        } else {
+            fill_stretches(self.pixels.as_mut_slice(), piece, color);
+        }
+    }
+
+    /// Gives the pixels of row y from column x on the colours of `row`, by those of its bits that colours have.
+    #[inline(always)]
+    pub(crate) fn paste(&mut self, x: usize, y: usize, row: &[u32])
+        requires columns { x + length row.now ≤ 64 }
+        requires row { y < 64 }
+        ensures { IsRepainted tile_sides (in_part (part_at x y (length row.now) 1)) (row_color row.now x) self.old self.new }
+    {
+        let at = TILE_SIDE * y + x;
+        copy_colors(row, &mut self.pixels[at..at + row.len()]);
+    }
+
+    /// The raster operation of a code on the pixels of row y from column x on, as many as the rows of its operands have.
+    #[inline(always)]
+    pub(crate) fn mix(&mut self, x: usize, y: usize, rop: u8, pattern: &[u32], source: &[u32])
+        requires columns { x + length pattern.now ≤ 64 }
+        requires row { y < 64 }
+        requires source { length source.now ≡ length pattern.now }
+        ensures { IsRepainted tile_sides (in_part (part_at x y (length pattern.now) 1)) (row_mixed tile_sides self.old rop pattern.now source.now x) self.old self.new }
+    {
+        let at = TILE_SIDE * y + x;
+        let pixels = &mut self.pixels[at..at + pattern.len()];
+        rop_lanes(rop, pattern, source, pixels);
+    }
+
+    /// Gives those of n pixels of row y from column x on a colour whose bit, from a column of the bytes on, is one.
+    #[inline(always)]
+    pub(crate) fn ink(
+        &mut self,
+        x: usize,
+        y: usize,
+        n: usize,
+        bytes: &[u8],
+        column: usize,
+        color: u32,
+    )
+        requires columns { x + n ≤ 64 }
+        requires row { y < 64 }
+        requires bits { column + n ≤ 8 * length bytes.now }
+        requires few { length bytes.now ≤ 65536 }
+        ensures { IsRepainted tile_sides (in_part (part_at x y n 1)) (row_inked tile_sides self.old bytes.now column color x) self.old self.new }
+    {
+        let at = TILE_SIDE * y + x;
+        draw_bit_row(&mut self.pixels[at..at + n], bytes, column, color);
+    }
+}
+
+/// Copies a row of colours, by those of its bits that colours have.
+#[inline(always)]
+fn copy_colors(from: &[u32], to: &mut [u32])
+    requires { length from.now ≡ length to.old }
+    ensures { (k : ℕ) → k < length to.old → get_or to.new k 0 ≡ bit_and (get_or from.now k 0) (2 ^ 24 - 1) }
+{
+    for i in 0..to.len() {
+        to[i] = from[i] & COLOR_BITS;
+    }
+}
+
+/// Gives the pixels of whole rows of a tile, from row y on, one colour.
+#[inline(always)]
+fn fill_whole_rows(pixels: &mut [u32], y: usize, h: usize, color: u32)
+    requires pixels { length pixels.old ≡ 4096 }
+    requires rows { y + h ≤ 64 }
+    ensures { IsRepainted tile_sides (in_part (part_at 0 y 64 h)) (λ u v. color) pixels.old pixels.new }
+{
+    let at = TILE_SIDE * y;
+    pixels[at..at + TILE_SIDE * h].fill(color);
+}
+
+/// Gives the pixels of a piece of a tile one colour, row by row.
+#[inline(always)]
+fn fill_stretches(pixels: &mut [u32], piece: Part, color: u32)
+    requires pixels { length pixels.old ≡ 4096 }
+    requires inside { IsInside tile_sides piece }
+    ensures { IsRepainted tile_sides (in_part piece) (λ u v. color) pixels.old pixels.new }
+{
+    for y in piece.y..piece.y + piece.h {
+        let at = TILE_SIDE * y + piece.x;
+        pixels[at..at + piece.w].fill(color);
     }
 }

@@ -44,8 +44,6 @@ pub struct Tiles {
     pub(crate) pattern: Vec<u32>,
     /// One row for its source.
     pub(crate) source: Vec<u32>,
-    /// One row of the picture.
-    pub(crate) row: Vec<u32>,
 }
 
 impl Model for Tiles {
@@ -60,7 +58,7 @@ impl Model for Tiles {
     ghost view = { λ s. record { size = s.size; state = state_of (picture_of s.size s.cells.items) s.slots s.count } };
 
     ghost invariant = { λ s. IsSoundSurface s.size (state_of (picture_of s.size s.cells.items) s.slots s.count) × (length s.cells.items ≡ 1024) × IsBlackPast s.size s.cells.items
-        × (2048 ≤ length s.pattern.items) × (2048 ≤ length s.source.items) × (2048 ≤ length s.row.items) };
+        × (2048 ≤ length s.pattern.items) × (2048 ≤ length s.source.items) };
 }
 
 impl Tiles {
@@ -74,7 +72,6 @@ impl Tiles {
         let slots = Slots::new(alloc)?;
         let pattern = black_pixels(alloc, WIDEST)?;
         let source = black_pixels(alloc, WIDEST)?;
-        let row = black_pixels(alloc, WIDEST)?;
         Ok(Tiles {
             alloc,
             size,
@@ -83,7 +80,6 @@ impl Tiles {
             count: 0,
             pattern,
             source,
-            row,
         })
     }
 

@@ -1,12 +1,12 @@
-use Rattle.std.proofs.Common.{◌≡◌, ◌∙◌, refl, ap, sym, subst, arith, w32, to_z, of_z, length}
+use Rattle.std.proofs.Common.{◌≡◌, ◌∙◌, ap, sym, subst, arith, w32, to_z, of_z, length}
 use Rattle.std.proofs.lemmas.Grind.{common_steps}
 use Rattle.std.proofs.lemmas.Int.{to_z-of_z}
 use Rattle.draw_ops.specs.Drawing.{state_after_drawings}
-use Rattle.draw_ops.specs.Formulas.{line_rect, joint_of}
+use Rattle.draw_ops.specs.Formulas.{joint_of}
 use Rattle.session_rules.specs.Pending.{run_glyphs}
 use Rattle.pending_core.specs.Cells.{cells_along, ArePlain}
 use Rattle.pending_core.proofs.TextShown.{plain_after, run_length, run_plain, plain_text}
-use Rattle.pending_core.proofs.ShownLemmas.{rules_as, slots_as, pat_brush, blit3_brush, line_ends, bare_is, text_is, all_there}
+use Rattle.pending_core.proofs.ShownLemmas.{rules_as, slots_as, pat_brush, blit3_brush, line_ends, line_is, text_is, all_there}
 use Rattle.pending_core.proofs.shown.shown_at.Goals as goal
 
 pub brush_after-requires-clause-slot : goal.brush_after-requires-clause-slot
@@ -40,34 +40,6 @@ run_rect-rect-requires-clause-pen c =
     let text = plain_text c.args.surface.now.size c.args.d.now.clip c.in-Text.x c.in-Text.y c.in-Text.color c.in-Text.font c.in-Text.run' (rules_as c.args.surface.now.size st c.args.d.now _ c.requires.fits c.in-Text.is) in
     rw (ex, ey, c.pairs-in-Text.ensures) text.pen
 
-pub line_rect-requires-clause-left : goal.line_rect-requires-clause-left
-line_rect-requires-clause-left c =
-    let st = state_after_drawings c.args.surface.now.size c.args.surface.now.state c.args.before.now in
-    let ends = line_ends c.args.surface.now.size c.args.d.now.clip c.in-Line.x0 c.in-Line.y0 c.in-Line.x1 c.in-Line.y1 c.in-Line.color (rules_as c.args.surface.now.size st c.args.d.now _ c.requires.fits c.in-Line.is) in
-    let e : to_z w32 (of_z w32 c.in-Line.x0) ≡ c.in-Line.x0 = grind (arith, common_steps, to_z-of_z) in
-    rw e ends.left
-
-pub line_rect-requires-clause-above : goal.line_rect-requires-clause-above
-line_rect-requires-clause-above c =
-    let st = state_after_drawings c.args.surface.now.size c.args.surface.now.state c.args.before.now in
-    let ends = line_ends c.args.surface.now.size c.args.d.now.clip c.in-Line.x0 c.in-Line.y0 c.in-Line.x1 c.in-Line.y1 c.in-Line.color (rules_as c.args.surface.now.size st c.args.d.now _ c.requires.fits c.in-Line.is) in
-    let e : to_z w32 (of_z w32 c.in-Line.y0) ≡ c.in-Line.y0 = grind (arith, common_steps, to_z-of_z) in
-    rw e ends.above
-
-pub line_rect-requires-clause-right : goal.line_rect-requires-clause-right
-line_rect-requires-clause-right c =
-    let st = state_after_drawings c.args.surface.now.size c.args.surface.now.state c.args.before.now in
-    let ends = line_ends c.args.surface.now.size c.args.d.now.clip c.in-Line.x0 c.in-Line.y0 c.in-Line.x1 c.in-Line.y1 c.in-Line.color (rules_as c.args.surface.now.size st c.args.d.now _ c.requires.fits c.in-Line.is) in
-    let e : to_z w32 (of_z w32 c.in-Line.x1) ≡ c.in-Line.x1 = grind (arith, common_steps, to_z-of_z) in
-    rw e ends.right
-
-pub line_rect-requires-clause-below : goal.line_rect-requires-clause-below
-line_rect-requires-clause-below c =
-    let st = state_after_drawings c.args.surface.now.size c.args.surface.now.state c.args.before.now in
-    let ends = line_ends c.args.surface.now.size c.args.d.now.clip c.in-Line.x0 c.in-Line.y0 c.in-Line.x1 c.in-Line.y1 c.in-Line.color (rules_as c.args.surface.now.size st c.args.d.now _ c.requires.fits c.in-Line.is) in
-    let e : to_z w32 (of_z w32 c.in-Line.y1) ≡ c.in-Line.y1 = grind (arith, common_steps, to_z-of_z) in
-    rw e ends.below
-
 pub returns-in_ok-glyphs-in-Text : goal.returns-in_ok-glyphs-in-Text
 returns-in_ok-glyphs-in-Text c =
     let st = state_after_drawings c.args.surface.now.size c.args.surface.now.state c.args.before.now in
@@ -81,9 +53,7 @@ returns-in_ok-glyphs-in-Text c =
 
 pub returns-in-Line : goal.returns-in-Line
 returns-in-Line c =
-    let st = state_after_drawings c.args.surface.now.size c.args.surface.now.state c.args.before.now in
-    let e0 : to_z w32 (of_z w32 c.in-Line.x0) ≡ c.in-Line.x0 = grind (arith, common_steps, to_z-of_z) in
-    let f0 : to_z w32 (of_z w32 c.in-Line.y0) ≡ c.in-Line.y0 = grind (arith, common_steps, to_z-of_z) in
-    let e1 : to_z w32 (of_z w32 c.in-Line.x1) ≡ c.in-Line.x1 = grind (arith, common_steps, to_z-of_z) in
-    let f1 : to_z w32 (of_z w32 c.in-Line.y1) ≡ c.in-Line.y1 = grind (arith, common_steps, to_z-of_z) in
-    bare_is c.args.surface.now.size st c.args.d.now c.line_rect.result _ c.in-Line.is (c.line_rect.ensures ∙ (λ i. line_rect (e0 i) (f0 i) (e1 i) (f1 i))) refl refl refl
+    let size = c.args.surface.now.size in
+    let st = state_after_drawings size c.args.surface.now.state c.args.before.now in
+    let l = c.in-Line in
+    line_is size st c.args.d.now l.x0 l.y0 l.x1 l.y1 l.color l.is (line_ends size c.args.d.now.clip l.x0 l.y0 l.x1 l.y1 l.color (rules_as size st c.args.d.now _ c.requires.fits l.is))

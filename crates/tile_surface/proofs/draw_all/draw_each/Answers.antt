@@ -55,10 +55,9 @@ loop-d-preserved c = let ds = c.args.ds.now in let i = c.loop-d.d-index in let d
       sound = sound;
       fit = subst (λ (s : SurfaceState). AllFitState size s rest) (sym made) fit.1;
       left = ap (λ (s : SurfaceState). state_after_drawings size s rest) made ∙ ap (λ (xs : List Drawing). state_after_drawings size st xs) (sym here) ∙ l.invariant.left;
-      rooms = (subst (λ (rooms : List Room). AreRooms (d ∷ rest) rooms) popped (subst (λ (xs : List Drawing). AreRooms xs l.rooms.items) here l.invariant.rooms)).1;
+      rooms = (subst (λ (rooms : List Room). AreRooms l.drawn (d ∷ rest) rooms) popped (subst (λ (xs : List Drawing). AreRooms l.drawn xs l.rooms.items) here l.invariant.rooms)).1;
       own = rest_owned size l.cells next c.draw_owned.ensures.kept.own held rest sound.glyphs (subst (λ (xs : List Drawing). OwnsAll size l.slots l.cells xs) here l.invariant.own).1;
       kept = keeps_twice size c.args.cells.now l.cells next l.invariant.kept c.draw_owned.ensures.kept;
       pattern = omega (arith, c.draw_owned.auto.pattern, l.invariant.pattern);
       source = omega (arith, c.draw_owned.auto.source, l.invariant.source);
-      row = omega (arith, c.draw_owned.auto.row, l.invariant.row);
     }

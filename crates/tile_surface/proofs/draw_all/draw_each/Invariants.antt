@@ -16,10 +16,9 @@ invariant-loop-d l = record {
   fit : AllFitState l.fn.size (state_of (picture_of l.fn.size l.cells) l.slots l.drawn) (drop l.d-index l.ds);
   left : state_after_drawings l.fn.size (state_of (picture_of l.fn.size l.cells) l.slots l.drawn) (drop l.d-index l.ds)
       ≡ state_after_drawings l.fn.size (state_of (picture_of l.fn.size l.initial.cells) l.initial.slots l.fn.count) l.ds;
-  rooms : AreRooms (drop l.d-index l.ds) l.rooms.items;
+  rooms : AreRooms l.drawn (drop l.d-index l.ds) l.rooms.items;
   own : OwnsAll l.fn.size l.slots l.cells (drop l.d-index l.ds);
   kept : KeepsRest l.fn.size l.initial.cells l.cells;
   pattern : 2048 ≤ length l.pattern;
   source : 2048 ≤ length l.source;
-  row : 2048 ≤ length l.row;
 }

@@ -11,9 +11,9 @@ seen_at-requires-clause-there c =
     omega (arith, c.requires, all, each, ap length c.listed.ensures)
 
 pub seen_at-requires-clause-each : goal.seen_at-requires-clause-each
-seen_at-requires-clause-each c = omega (arith, c.self.invariant, ap length c.listed.ensures)
+seen_at-requires-clause-each c = omega (arith, c.self.invariant, ap length c.listed.ensures, ap length c.slice.ensures)
 
 pub returns : goal.returns
 returns c =
-    let same = ap (λ ds. slice_get (all_shown ds c.self.inside.shown.now) c.args.i) (sym c.listed.ensures) ∙ c.seen_at.ensures in
+    let same = (λ j. slice_get (all_shown (sym c.listed.ensures j) (sym c.slice.ensures j)) c.args.i) ∙ c.seen_at.ensures in
     ap (λ ps. slice_get ps c.args.i) (sym c.self.view_is) ∙ same

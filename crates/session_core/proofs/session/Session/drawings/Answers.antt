@@ -1,8 +1,10 @@
-use Rattle.std.proofs.Common.{◌≡◌, ◌<◌, ◌∙◌, [], ◌∷◌, length, refl, ap, sym, subst, arith}
+use Rattle.std.proofs.Common.{◌≡◌, ◌<◌, ◌∙◌, length, refl, ap, sym, subst, arith}
 use Rattle.std.specs.Prelude.{IfOk}
+use Rattle.px_core.specs.declared.surface.Size.{Size}
 use Rattle.session_rules.specs.declared.entry.Entry.TheVariants.{Join, Leave, Give}
 use Rattle.session_core.specs.Keeping.{journal_of}
-use Rattle.pending_core.specs.Showing.{all_shown}
+use Rattle.pending_core.specs.Showing.{all_shown, shown_list}
+use Rattle.pending_core.specs.Putting.{drawings_made}
 use Rattle.session_core.proofs.Counted.{item_at, length_journal}
 use Rattle.session_core.proofs.SeenLemmas.{sees_drawn, sees_reaction, sees_none, seen_so}
 use Rattle.session_core.proofs.session.Session.drawings.Goals as goal
@@ -14,7 +16,7 @@ drawn-requires c =
     let within : c.args.k < length ks = omega (arith, below, length_journal ks) in
     let sees = sees_drawn c.self.inside.head c.self.inside.standing ks c.args.k c.in-Draw.by c.index-kept.result.now c.in-Draw.d c.self.invariant.is_session
     (item_at ks c.args.k c.index-kept.result.now within c.index-kept.ensures) c.in-Draw.is in
-    rw c.list.ensures sees.each
+    sees.each
 
 pub reaction-requires-clause-ready : goal.reaction-requires-clause-ready
 reaction-requires-clause-ready c =
@@ -31,7 +33,7 @@ reaction-requires-clause-each c =
     let within : c.args.k < length ks = omega (arith, below, length_journal ks) in
     let sees = sees_reaction c.self.inside.head c.self.inside.standing ks c.args.k c.in-Input.by c.index-kept.result.now c.in-Input.event c.self.invariant.is_session
     (item_at ks c.args.k c.index-kept.result.now within c.index-kept.ensures) c.in-Input.is in
-    sees.each
+    rw c.size.ensures sees.each
 
 pub returns-in-Draw : goal.returns-in-Draw
 returns-in-Draw c =
@@ -40,7 +42,7 @@ returns-in-Draw c =
     let within : c.args.k < length ks = omega (arith, below, length_journal ks) in
     let sees = sees_drawn c.self.inside.head c.self.inside.standing ks c.args.k c.in-Draw.by c.index-kept.result.now c.in-Draw.d c.self.invariant.is_session
     (item_at ks c.args.k c.index-kept.result.now within c.index-kept.ensures) c.in-Draw.is in
-    c.drawn.ensures ∙ (ap (all_shown (c.in-Draw.d ∷ [])) c.list.ensures ∙ (sees.pending ∙ seen_so c.self.inside.head c.self.inside.standing ks c.args.self.now c.args.k c.self.view_is))
+    c.drawn.ensures ∙ (sees.pending ∙ seen_so c.self.inside.head c.self.inside.standing ks c.args.self.now c.args.k c.self.view_is)
 
 pub returns-in-Input : goal.returns-in-Input
 returns-in-Input c =
@@ -50,7 +52,7 @@ returns-in-Input c =
     let sees = sees_reaction c.self.inside.head c.self.inside.standing ks c.args.k c.in-Input.by c.index-kept.result.now c.in-Input.event c.self.invariant.is_session
     (item_at ks c.args.k c.index-kept.result.now within c.index-kept.ensures) c.in-Input.is in
     subst (λ ps. IfOk c.reaction.result (λ seen. seen ≡ ps))
-    (sees.pending ∙ seen_so c.self.inside.head c.self.inside.standing ks c.args.self.now c.args.k c.self.view_is)
+    (ap (λ (z : Size). all_shown (drawings_made z c.index-kept.result.now.shown c.in-Input.event) (shown_list c.index-kept.result.now.shown)) c.size.ensures ∙ sees.pending ∙ seen_so c.self.inside.head c.self.inside.standing ks c.args.self.now c.args.k c.self.view_is)
     c.reaction.ensures
 
 pub returns-in-Join : goal.returns-in-Join

@@ -1,4 +1,4 @@
-use Rattle.std.proofs.Common.{◌≡◌, ◌+◌, ◌∙◌, [], ◌∷◌, ◌++◌, None, length, Some, ap, sym, subst, arith}
+use Rattle.std.proofs.Common.{◌≡◌, ◌+◌, ◌∙◌, [], ◌∷◌, ◌++◌, None, length, Some, refl, ap, sym, subst, arith}
 use Rattle.std.proofs.lemmas.Result.{err_from_is_err_and}
 use Rattle.std.specs.Prelude.{All, IsTrue, option_to_list}
 use Rattle.px_core.specs.declared.surface.Size.{Size}
@@ -84,8 +84,8 @@ invariant_of-self-then-not-react c = subst (λ s. IsOpen c.self.inside.head s c.
   marked = rw c.make_room.ensures.items c.self.invariant.marked;
 })
 
-pub note_all-requires-clause-rules : goal.note_all-requires-clause-rules
-note_all-requires-clause-rules c =
+pub note_reaction-requires-clause-rules : goal.note_reaction-requires-clause-rules
+note_reaction-requires-clause-rules c =
     let h = c.self.invariant.is_session in
     let s = c.self.inside.standing in
     let agrees = subst (λ z. BoardAgrees z s.surface.state (board_of s.board)) (sym h.surface_size) (sound_now _ _ _ h).agrees in
@@ -93,14 +93,13 @@ note_all-requires-clause-rules c =
     subst (λ (z : Size). All (λ d. broken_rule z d ≡ None) c.deref-2.result.now) (h.surface_size ∙ sym c.size-size.ensures)
     (all_keep s.surface.size s.surface.state c.deref-2.result.now (reaction_fits s c.args.e c.in_ok-reaction.reaction c.deref-2.result.now size agrees c.in_ok-reaction.ensures c.deref-2.ensures.value))
 
-pub note_all-requires-clause-each : goal.note_all-requires-clause-each
-note_all-requires-clause-each c =
+pub note_reaction-requires-clause-each : goal.note_reaction-requires-clause-each
+note_reaction-requires-clause-each c =
     let s = c.self.inside.standing in
     omega (
       arith,
       enough s.surface.size s.surface.state c.in_ok-reaction.reaction.drawings.items (shown_list c.in_ok-reaction.reaction.shown) c.in_ok-reaction.ensures.shown,
       ap length c.deref-2.ensures.value,
-      ap length c.list-2.ensures,
     )
 
 pub invariant_of-self-2 : goal.invariant_of-self-2
@@ -118,13 +117,13 @@ invariant_of-self-2 c =
           (c.if-not-react.ensures.reached (length ks) c.args.v c.args.e (c.deref.ensures.value ∙ made.drawings) made.board))
           (c.react.ensures.size ∙ h.surface_size) (c.react.ensures.board ∙ h.board_size));
       room_left = omega (arith, c.if-not-make_room.ensures.room, c.push_reserved.ensures.len, c.push_reserved.ensures.capacity, ap length c.react.ensures.members, ap length c.list.ensures);
-      marked = rw (c.push_reserved.ensures.items, c.make_room.ensures.items) (marked_on head s ks _ c.self.inside.marks c.note_all.new.marks
+      marked = rw (c.push_reserved.ensures.items, c.make_room.ensures.items) (marked_on head s ks _ c.self.inside.marks c.note_reaction.new.marks
           (all_shown (board_reaction head.size (board_of s.board) c.args.e).drawings (shown_list c.in_ok-reaction.reaction.shown)) (c.len.result + 1) h c.self.invariant.marked
           (sym (reaction_kept head s (length ks) c.args.v c.count-first.result c.args.e c.in_ok-reaction.reaction h.surface_size h.board_size made c.count-first.ensures).shown)
           (omega (arith, c.len.ensures, c.make_room.ensures.length, c.self.inside.kept.ok.0))
-          (noted_as head.size c.size-size.result c.deref-2.result.now (board_reaction head.size (board_of s.board) c.args.e).drawings c.list-2.result.now (shown_list c.in_ok-reaction.reaction.shown) (c.len.result + 1)
-          c.self.inside.marks c.note_all.new.marks c.size-size.ensures
-          (c.deref-2.ensures.value ∙ (made.drawings ∙ ap (λ (z : Size). (board_reaction z (board_of s.board) c.args.e).drawings) h.surface_size)) c.list-2.ensures c.note_all.ensures));
+          (noted_as head.size c.size-size.result c.deref-2.result.now (board_reaction head.size (board_of s.board) c.args.e).drawings (shown_list c.in_ok-reaction.reaction.shown) (shown_list c.in_ok-reaction.reaction.shown) (c.len.result + 1)
+          c.self.inside.marks c.note_reaction.new.marks c.size-size.ensures
+          (c.deref-2.ensures.value ∙ (made.drawings ∙ ap (λ (z : Size). (board_reaction z (board_of s.board) c.args.e).drawings) h.surface_size)) refl c.note_reaction.ensures));
     }
 
 pub returns-clause-answer : goal.returns-clause-answer

@@ -10,6 +10,6 @@ invariant-loop-d l = record {
   size : l.self.size ≡ l.fn.self.size;
   fit : AllFitState l.self.size l.self.state (drop l.d-index l.ds);
   left : state_after_drawings l.self.size l.self.state (drop l.d-index l.ds) ≡ state_after_drawings l.fn.self.size l.fn.self.state l.ds;
-  rooms : AreRooms (drop l.d-index l.ds) l.rooms.items;
+  rooms : AreRooms l.self.state.count (drop l.d-index l.ds) l.rooms.items;
   count : l.self.state.count + length (drop l.d-index l.ds) < 2 ^ 64;
 }

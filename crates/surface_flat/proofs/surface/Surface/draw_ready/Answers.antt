@@ -28,7 +28,7 @@ paint-requires-clause-paintable c = let i = c.self.inside in let d = c.args.d.no
     let rules : broken_rule i.size d ≡ None = subst (λ (v : SurfaceOf). broken_rule v.size d ≡ None) (sym c.self.view_is) c.requires.rules in
     let fits : slot_misfit i.size st d.shape ≡ None = subst (λ (v : SurfaceOf). slot_misfit v.size v.state d.shape ≡ None) (sym c.self.view_is) c.requires.slots in
     let filled : c.fill.new.self ≡ held_in (slots_after i.size st d.shape)
-    = c.fill.ensures ∙ ap (λ (ps : List ℕ). held_in (state_filled i.size (state_of ps i.slots i.count) c.args.room)) c.as_slice.ensures.value ∙ ap held_in (c.requires.room.fills i.size st) in
+    = c.fill.ensures ∙ ap (λ (ps : List ℕ). held_in (state_filled i.size (state_of ps i.slots i.count) c.args.room)) c.as_slice.ensures.value ∙ ap held_in (c.requires.room.fills i.size st (ap (λ (v : SurfaceOf). v.state.count) c.self.view_is)) in
     subst (λ (h : Held). IsPaintable i.size h d.clip d.shape) (sym filled) (is_paintable i.size st d rules fits c.self.invariant.0)
 
 pub paint-requires-clause-glyphs : goal.paint-requires-clause-glyphs
@@ -36,7 +36,7 @@ paint-requires-clause-glyphs c = let i = c.self.inside in let d = c.args.d.now i
     let st : SurfaceState = state_of i.pixels.items i.slots i.count in
     let rules : broken_rule i.size d ≡ None = subst (λ (v : SurfaceOf). broken_rule v.size d ≡ None) (sym c.self.view_is) c.requires.rules in
     let filled : c.fill.new.self ≡ held_in (slots_after i.size st d.shape)
-    = c.fill.ensures ∙ ap (λ (ps : List ℕ). held_in (state_filled i.size (state_of ps i.slots i.count) c.args.room)) c.as_slice.ensures.value ∙ ap held_in (c.requires.room.fills i.size st) in
+    = c.fill.ensures ∙ ap (λ (ps : List ℕ). held_in (state_filled i.size (state_of ps i.slots i.count) c.args.room)) c.as_slice.ensures.value ∙ ap held_in (c.requires.room.fills i.size st (ap (λ (v : SurfaceOf). v.state.count) c.self.view_is)) in
     subst (λ (h : Held). AllInSlots (λ glyph. glyph_rule glyph.content ≡ None) h.glyphs) (sym filled) (glyphs_after i.size st d rules c.self.invariant.0)
 
 pub invariant_of-self : goal.invariant_of-self
@@ -45,7 +45,7 @@ invariant_of-self c =
     let st : SurfaceState = state_of i.pixels.items i.slots i.count in
     let rules : broken_rule i.size d ≡ None = subst (λ (v : SurfaceOf). broken_rule v.size d ≡ None) (sym c.self.view_is) c.requires.rules in
     let filled : c.fill.new.self ≡ held_in (slots_after i.size st d.shape)
-    = c.fill.ensures ∙ ap (λ (ps : List ℕ). held_in (state_filled i.size (state_of ps i.slots i.count) c.args.room)) c.as_slice.ensures.value ∙ ap held_in (c.requires.room.fills i.size st) in
+    = c.fill.ensures ∙ ap (λ (ps : List ℕ). held_in (state_filled i.size (state_of ps i.slots i.count) c.args.room)) c.as_slice.ensures.value ∙ ap held_in (c.requires.room.fills i.size st (ap (λ (v : SurfaceOf). v.state.count) c.self.view_is)) in
     let drawn : c.paint.new.pixels ≡ picture_after i.size (in_clip d.clip) (painting_of i.size (state_of i.pixels.items (held_in (slots_after i.size st d.shape)) i.count) d.shape) i.pixels.items
     = c.paint.ensures i.count
     ∙ ap (λ (ps : List ℕ). picture_after i.size (in_clip d.clip) (painting_of i.size (state_of ps c.fill.new.self i.count) d.shape) ps) c.as_mut_slice.ensures.value
@@ -68,7 +68,7 @@ returns c =
     let st : SurfaceState = state_of i.pixels.items i.slots i.count in
     let rules : broken_rule i.size d ≡ None = subst (λ (v : SurfaceOf). broken_rule v.size d ≡ None) (sym c.self.view_is) c.requires.rules in
     let filled : c.fill.new.self ≡ held_in (slots_after i.size st d.shape)
-    = c.fill.ensures ∙ ap (λ (ps : List ℕ). held_in (state_filled i.size (state_of ps i.slots i.count) c.args.room)) c.as_slice.ensures.value ∙ ap held_in (c.requires.room.fills i.size st) in
+    = c.fill.ensures ∙ ap (λ (ps : List ℕ). held_in (state_filled i.size (state_of ps i.slots i.count) c.args.room)) c.as_slice.ensures.value ∙ ap held_in (c.requires.room.fills i.size st (ap (λ (v : SurfaceOf). v.state.count) c.self.view_is)) in
     let drawn : c.paint.new.pixels ≡ picture_after i.size (in_clip d.clip) (painting_of i.size (state_of i.pixels.items (held_in (slots_after i.size st d.shape)) i.count) d.shape) i.pixels.items
     = c.paint.ensures i.count
     ∙ ap (λ (ps : List ℕ). picture_after i.size (in_clip d.clip) (painting_of i.size (state_of ps c.fill.new.self i.count) d.shape) ps) c.as_mut_slice.ensures.value

@@ -1,5 +1,5 @@
 use Rattle.surface_parts.proofs.Many.{small_saves}
 use Rattle.surface_flat.proofs.surface.Surface.rooms_for.Goals as goal
 
-pub take_rooms-requires : goal.take_rooms-requires
-take_rooms-requires c = small_saves c.args.self.now.size c.args.self.now.state c.args.ds.now c.requires
+pub take_rooms-requires-clause-saves : goal.take_rooms-requires-clause-saves
+take_rooms-requires-clause-saves c = small_saves c.args.self.now.size c.args.self.now.state c.args.ds.now c.requires

@@ -38,7 +38,6 @@ invariant_of-self c = let i = c.self.inside in let new = (with_items i.cells c.o
       black_same i.size i.cells.items new same c.self.invariant.2,
       c.self.invariant.3,
       c.self.invariant.4,
-      c.self.invariant.5,
     )
 
 pub returns-in_err-own_shape-clause-unchanged : goal.returns-in_err-own_shape-clause-unchanged
@@ -67,15 +66,12 @@ invariant_of-self-2 c = let i = c.self.inside in let d = c.args.d.now in let own
     let pattern : length (with_items i.pattern c.draw_owned.new.pattern).items ≡ length i.pattern.items
     = ap (λ (ps : List ℕ). length ps) (with_items_is i.pattern c.draw_owned.new.pattern (c.draw_owned.auto.pattern ∙ c.as_mut_slice-3.ensures.len)) ∙ c.draw_owned.auto.pattern ∙ ap (λ (ps : List ℕ). length ps) c.as_mut_slice-3.ensures.value in
     let source : length (with_items i.source c.draw_owned.new.source).items ≡ length i.source.items
-    = ap (λ (ps : List ℕ). length ps) (with_items_is i.source c.draw_owned.new.source (c.draw_owned.auto.source ∙ c.as_mut_slice-4.ensures.len)) ∙ c.draw_owned.auto.source ∙ ap (λ (ps : List ℕ). length ps) c.as_mut_slice-4.ensures.value in
-    let row : length (with_items i.row c.draw_owned.new.row).items ≡ length i.row.items
-    = ap (λ (ps : List ℕ). length ps) (with_items_is i.row c.draw_owned.new.row (c.draw_owned.auto.row ∙ c.as_mut_slice-5.ensures.len)) ∙ c.draw_owned.auto.row ∙ ap (λ (ps : List ℕ). length ps) c.as_mut_slice-5.ensures.value in (
+    = ap (λ (ps : List ℕ). length ps) (with_items_is i.source c.draw_owned.new.source (c.draw_owned.auto.source ∙ c.as_mut_slice-4.ensures.len)) ∙ c.draw_owned.auto.source ∙ ap (λ (ps : List ℕ). length ps) c.as_mut_slice-4.ensures.value in (
       subst (λ (s : SurfaceState). IsSoundSurface i.size s) (sym final) (sound_after i.size st d rules c.requires.colors c.self.invariant.0),
       ap (λ (cells : List Cell). length cells) written ∙ c.draw_owned.ensures.kept.own.sized ∙ same_length i.cells.items mid same ∙ c.self.invariant.1,
       subst (λ (cells : List Cell). IsBlackPast i.size cells) (sym written) (black_still i.size mid new c.draw_owned.ensures.kept (black_same i.size i.cells.items mid same c.self.invariant.2)),
       omega (arith, pattern, c.self.invariant.3),
       omega (arith, source, c.self.invariant.4),
-      omega (arith, row, c.self.invariant.5),
     )
 
 pub returns-clause-drawn : goal.returns-clause-drawn

@@ -29,7 +29,6 @@ invariant_of-self c = let i = c.self.inside in let new = (with_items i.cells c.l
       black_same i.size i.cells.items new same c.self.invariant.2,
       c.self.invariant.3,
       c.self.invariant.4,
-      c.self.invariant.5,
     )
 
 pub returns-clause-lent : goal.returns-clause-lent

@@ -21,5 +21,4 @@ invariant_of-result c = let size = c.args.size in let cells = c.in_ok-cells.cell
       blank_is_black size cells 1024 c.in_ok-cells.ensures,
       omega (arith, ap (λ (ps : List ℕ). length ps) c.in_ok-pattern.ensures, length-replicate {A = ℕ} 2048 0),
       omega (arith, ap (λ (ps : List ℕ). length ps) c.in_ok-source.ensures, length-replicate {A = ℕ} 2048 0),
-      omega (arith, ap (λ (ps : List ℕ). length ps) c.in_ok-row.ensures, length-replicate {A = ℕ} 2048 0),
     )
