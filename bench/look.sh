@@ -3,9 +3,7 @@
 # runs that differ in how often it stands in the capture, over that difference. So what the process takes to start, to make its picture of
 # 2,048 by 2,048 and to write it isn't in it; reading the capture's digits is. The second column is what the profile gives for `advance` of
 # them, in which the client is fed, and of a tile `upright_pixels`, which unpacks it and turns its rows over.
-# Then it times a capture of 100 MB.
-# Wanted: a digit at most 8. Wanted of the client: an order at most 600 beside its pixels, a packed tile at most 30,000 beside unpacking it, a
-# mark after a fill of one pixel at most 500.
+# What is wanted of the client, and of all of a digit, stands behind. Then it times a capture of 100 MB.
 #
 # usage: sh bench/look.sh      (it needs valgrind)
 bench=look
@@ -65,8 +63,8 @@ fed() {
     pixel_work=$((($(inclusive '::upright_pixels') - pixel_work_a) / 10))
 }
 
-# A row: what, all instructions, those of the client.
-counted() { printf '| %-42s | %12s | %12s |\n' "$1" "$2" "$3"; }
+# A row: what, all instructions, those of the client, and what is wanted of these.
+counted() { printf '| %-42s | %12s | %12s | %12s |\n' "$1" "$2" "$3" "${4-}"; }
 
 # The row of one more fill of a side in a packet.
 order() {
@@ -74,13 +72,13 @@ order() {
     few_all=$all
     few_client=$client
     fed "$(fills 201 "$1")"
-    counted "an OpaqueRect order of $1 by $1" $(((all - few_all) / 100)) $(((client - few_client) / 100))
+    counted "an OpaqueRect order of $1 by $1" $(((all - few_all) / 100)) $(((client - few_client) / 100)) "${2-}"
 }
 
-counted 'one more' instructions 'the client'
-printf '|---|---:|---:|\n'
-counted 'a digit that is read and not obeyed' "$(digits_read 20000)" ''
-order 1
+counted 'one more' instructions 'the client' wanted
+printf '|---|---:|---:|---:|\n'
+counted 'a digit that is read and not obeyed' "$(digits_read 20000)" '' 8
+order 1 600
 order 10
 for side in 1 10; do
     small=$(fills 1 "$side")
@@ -88,15 +86,17 @@ for side in 1 10; do
     fill_all=$all
     fill_client=$client
     fed "$small$(packet 03000000)"
-    counted "a mark after a fill of $side by $side" $((all - fill_all)) $((client - fill_client))
+    wanted=
+    [ "$side" -ne 1 ] || wanted=500
+    counted "a mark after a fill of $side by $side" $((all - fill_all)) $((client - fill_client)) "$wanted"
 done
 fed "$(tile 60200000fff0c00f)"
 counted 'a packed tile of one colour, 8 bytes' "$all" "$client"
-counted 'the same, beside its pixels' $((all - pixel_work)) $((client - pixel_work))
+counted 'the same, beside its pixels' $((all - pixel_work)) $((client - pixel_work)) 30000
 pixels=$(awk 'BEGIN { for (i = 0; i < 3072; i++) printf "%02x", i * 37 % 256 }')
 fed "$(tile "f40004${pixels}f3000c010203")"
 counted 'a packed tile of 3,081 bytes' "$all" "$client"
-counted 'the same, beside its pixels' $((all - pixel_work)) $((client - pixel_work))
+counted 'the same, beside its pixels' $((all - pixel_work)) $((client - pixel_work)) 30000
 
 capture "$small$(packet 03000000)" 1 >"$work/line"
 {

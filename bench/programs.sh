@@ -61,5 +61,5 @@ least() {
     if [ "$1" -lt "$2" ]; then echo "$1"; else echo "$2"; fi
 }
 
-# A row of a table: a text and a number.
-row() { printf '| %-52s | %12s |\n' "$1" "$2"; }
+# A row of a table: a text, a number, and what is wanted of it, where that is said.
+row() { printf '| %-52s | %12s | %12s |\n' "$1" "$2" "${3-}"; }

@@ -2,8 +2,7 @@
 # Counts, by valgrind's callgrind, what rdp_host takes for a line of each form, for a take by what is in it, and for a tile by what it
 # shows; then it counts and times scripts of N and of 2N lines, and runs one of the greatest size. A count is the difference of two runs that
 # differ in how many lines, takes or tiles there are, over that difference: what the process takes to start, and all lines before, aren't
-# in it. Drawings are of 16 by 16 pixels where nothing else is said.
-# Wanted: ratios of at most 2.2, and at most 450 bytes of memory for each fill.
+# in it. Drawings are of 16 by 16 pixels where nothing else is said. What is wanted of a figure stands beside it, where that is said.
 #
 # usage: sh bench/scripts.sh [N]      (N lines, 100,000; it needs valgrind)
 bench=scripts
@@ -29,6 +28,11 @@ generate() {
     function image(i) { return "image 0 16 16 " color(i) }
     function glyph(i) { return sprintf("glyph 0 %d 0 0 8 8 %s%s%04X", i % 8, color(i), color(i + 1), i % 65536) }
     function text(i) { return "text " place(i) " " color(i) " 0 " i % 8 ":0 " (i + 1) % 8 ":8 " (i + 2) % 8 ":8" }
+    # 17 signs more
+    function signs(i, k, more) {
+        for (k = 0; k < 17; k++) more = more " " (i + k) % 8 ":8"
+        return more
+    }
     function line(i) { return sprintf("line %s %d %d %s", place(i), (i * 37) % 1000 + 15, (i * 53) % 700 + 11, color(i)) }
     function of_form(form, i) {
         if (form == "fill") return "fill " box(i) " " color(i)
@@ -38,6 +42,7 @@ generate() {
         if (form == "blit") return "blit " box(i) " CC 0 0 0"
         if (form == "blit3") return "blit3 " box(i) " CA 0 0 0 0"
         if (form == "text") return text(i)
+        if (form == "text of 20 signs") return text(i) signs(i)
         if (form == "line") return line(i)
         if (form == "save") return "save 0 " box(i)
         if (form == "restore") return "restore 0 " place(i)
@@ -174,7 +179,8 @@ take_of() {
     echo $(((b - a - (d - c)) / 10))
 }
 
-# The instructions of a take that sends a tile of a kind, and of them those of packing it.
+# The instructions of a take that sends a tile of a kind, and of them those of packing it; by what it shows, a preset, a name, and what is
+# wanted of packing.
 tile_of() {
     a=$(script_instructions tiles "$1" 10 1 "$2")
     p=$(inclusive ::packed_pixels)
@@ -183,35 +189,81 @@ tile_of() {
     bytes=$(tail -n 1 "$work/output" | awk '{ print (length($2) / 2) }')
     c=$(script_instructions tiles "$1" 10 0 "$2")
     d=$(script_instructions tiles "$1" 20 0 "$2")
-    printf '| %-12s | %12d | %12d | %8d |\n' "$3" $(((b - a - (d - c)) / 10)) $(((q - p) / 10)) "$bytes"
+    printf '| %-12s | %12d | %12d | %12s | %8d |\n' "$3" $(((b - a - (d - c)) / 10)) $(((q - p) / 10)) "$4" "$bytes"
 }
 
-row 'a line more of a form' instructions
-printf '|---|---:|\n'
+# What is wanted of a line of a form, of a pixel more of it, of an entry of it.
+line_wanted() {
+    case $1 in
+        fill) echo 1973 ;;
+        copy) echo 2700 ;;
+        blit) echo 3125 ;;
+        text) echo 4845 ;;
+    esac
+}
+pixel_wanted() {
+    case $1 in
+        fill) echo 0.55 ;;
+        dst) echo 3.3 ;;
+        pat) echo 7 ;;
+        copy) echo 2.06 ;;
+    esac
+}
+entry_wanted() {
+    case $1 in
+        fill) echo 128 ;;
+        blit) echo 150 ;;
+        text*) echo 400 ;;
+        key | mouse) echo 160 ;;
+    esac
+}
+
+# The memory of an entry more of a form, in bytes: the journal's list has room for 131,072 entries, and then for twice as many.
+entry_of() {
+    generate "form:$1" 129900 >"$work/few"
+    generate "form:$1" 260900 >"$work/many"
+    few=$(memory "$work/few" "$rdp_host" script)
+    many=$(memory "$work/many" "$rdp_host" script)
+    echo $(((many - few) / 131000))
+}
+
+row 'a line more of a form' instructions wanted
+printf '|---|---:|---:|\n'
 for form in fill dst pat copy blit blit3 text line save restore image brush glyph key char mouse refresh 'suppress, allow' 'take, with nothing due' 'join, leave'; do
-    row "$form" "$(line_of "$form")"
+    row "$form" "$(line_of "$form")" "$(line_wanted "$form")"
 done
 for form in fill dst pat copy; do
-    row "a pixel more of it: $form" "$(pixel_of "$form")"
+    row "a pixel more of it: $form" "$(pixel_of "$form")" "$(pixel_wanted "$form")"
 done
 echo
-row 'a take' instructions
-printf '|---|---:|\n'
+row 'an entry more of a form' bytes wanted
+printf '|---|---:|---:|\n'
+for form in fill blit 'text of 20 signs' key mouse; do
+    row "$form" "$(entry_of "$form")" "$(entry_wanted "$form")"
+done
+echo
+row 'a take' instructions wanted
+printf '|---|---:|---:|\n'
 for form in fill blit text; do
     one=$(take_of "$form" 1 1100)
     eleven=$(take_of "$form" 11 1100)
     row "of one $form" "$one"
-    row "one $form more in it" $(((eleven - one) / 10))
+    wanted=
+    [ "$form" != fill ] || wanted=500
+    row "one $form more in it" $(((eleven - one) / 10)) "$wanted"
 done
 row 'of ten fills, behind 1,100 entries' "$(take_of fill 10 1100)"
 row 'of ten fills, behind 100,000 entries' "$(take_of fill 10 100000)"
 echo
-printf '| %-12s | %12s | %12s | %8s |\n' 'a tile' 'its take' 'packing' bytes
-printf '|---|---:|---:|---:|\n'
-for kind in 'one colour' 'a window' 'grey text' 'black text' 'a photo' noise; do
-    tile_of "$kind" bare "$kind"
-done
-tile_of noise plain 'unpacked'
+printf '| %-12s | %12s | %12s | %12s | %8s |\n' 'a tile' 'its take' packing wanted bytes
+printf '|---|---:|---:|---:|---:|\n'
+tile_of 'one colour' bare 'one colour' 12536
+tile_of 'a window' bare 'a window' 12730
+tile_of 'grey text' bare 'grey text' 55236
+tile_of 'black text' bare 'black text' 58061
+tile_of 'a photo' bare 'a photo' 150000
+tile_of noise bare noise 90540
+tile_of noise plain unpacked ''
 echo
 
 # Counts and times scripts of N and of 2N lines. The times are the least of five runs each, which take turns, so that what else the
@@ -228,21 +280,35 @@ time_both() {
         double=$(least "$double" "$(milliseconds "$work/double" "$rdp_host" script)")
     done
     awk -v viewers="$1" -v lines="$timed" -v few="$few" -v many="$many" -v single="$single" -v double="$double" 'BEGIN {
-        printf "| fills seen by %d: %d lines, and %d | %.0f instructions, %.2f times; %.2f s, %.2f times |\n", viewers, lines, 2 * lines, few, many / few, single / 1000, double / single
+        printf "| fills seen by %d: %d lines, and %d | %.0f instructions, %.2f times; %.2f s, %.2f times | 2.2 |\n", viewers, lines, 2 * lines, few, many / few, single / 1000, double / single
     }'
 }
 
-printf '| script | seen |\n|---|---:|\n'
+printf '| script | seen | wanted |\n|---|---:|---:|\n'
 time_both 1
 full=$(memory "$work/double" "$rdp_host" script)
 fills=$(grep -c fill "$work/double")
 printf 'size 1024 768\ntake\n' >"$work/empty"
 empty=$(memory "$work/empty" "$rdp_host" script)
-awk -v fills="$fills" -v empty="$empty" -v full="$full" 'BEGIN { printf "| memory for each of %d fills | %.0f bytes |\n", fills, (full - empty) / fills }'
+awk -v fills="$fills" -v empty="$empty" -v full="$full" 'BEGIN { printf "| memory for each of %d fills | %.0f bytes | 450 |\n", fills, (full - empty) / fills }'
 time_both 16
 greatest_script >"$work/greatest"
 [ "$(wc -c <"$work/greatest")" -eq "$greatest" ]
-/usr/bin/time -f "| of $greatest bytes | %U s and %S s in the system, %M KiB |" "$rdp_host" script <"$work/greatest" 2>&1 >"$work/output"
+/usr/bin/time -f "| of $greatest bytes | %U s and %S s in the system, %M KiB | 5.9 s, 0.5 s |" "$rdp_host" script <"$work/greatest" 2>&1 >"$work/output"
+
+# A frame of all tiles of the largest picture, none of whose pixels is like its neighbours.
+all_tiles() {
+    awk 'BEGIN {
+        print "size 2048 2048\ninvite ann owner\njoin ann plain"
+        printf "image 0 64 64 "
+        for (i = 0; i < 4096; i++) printf "%06X", int(i * 2654435761 % 4294967296 / 256)
+        print ""
+        for (i = 0; i < 1024; i++) print "blit " i % 32 * 64 " " int(i / 32) * 64 " 64 64 CC 0 0 0"
+        print "take"
+    }'
+}
+all_tiles >"$work/tiles"
+/usr/bin/time -f '| a frame of all tiles of the largest picture | %U s, %M KiB | 40 MB |' "$rdp_host" script <"$work/tiles" 2>&1 >"$work/output"
 
 # How often it writes, where strace is there to count it.
 if command -v strace >/dev/null; then
