@@ -3,6 +3,7 @@ pub mod Seen
 pub mod Cuts
 pub mod Paintings
 pub mod Rules
+pub mod Bytes
 pub mod Inks
 pub mod Runs
 pub mod Dots

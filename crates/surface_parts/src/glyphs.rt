@@ -1,12 +1,10 @@
 //! Glyphs, bit by bit within what is seen of their cells.
-ghost use Rattle.std.specs.Prelude.{◌≡◌, ℕ, ◌+◌, ◌*◌, ◌/◌, ◌<◌, ◌≤◌, None, pos, ◌≤ℤ◌, negsuc, length, get_or, if◌then◌else◌};
-ghost use Rattle.std.specs.Bool.{OnTrue};
+ghost use Rattle.std.specs.Prelude.{◌≡◌, ℕ, ◌+◌, ◌*◌, ◌/◌, ◌<◌, ◌≤◌, None, pos, ◌≤ℤ◌, negsuc, length, get_or, [], ◌∷◌, if◌then◌else◌};
 ghost use Rattle.px_core.specs.Picture.{both, painted};
 ghost use Rattle.px_core.specs.Rectangle.{in_clip, IsPlaced};
 ghost use Rattle.rop3_core.specs.Palette.{session_colors};
 ghost use Rattle.draw_ops.specs.Fits.{clip_rule, glyph_rule};
 ghost use Rattle.draw_ops.specs.Formulas.{glyph_area, glyph_cell, solid};
-ghost use Rattle.surface_parts.specs.Operands.{IsBlank};
 ghost use Rattle.surface_parts.specs.Parts.{in_part, IsCanvas, IsInside, IsRepainted};
 ghost use Rattle.surface_parts.specs.Bits.{is_row_bit, ink_color, HasBits, IsPenNear};
 
@@ -56,28 +54,33 @@ pub fn draw_bit_row(row: &mut [u32], bytes: &[u8], column: usize, color: u32)
     requires few { length bytes.now ≤ 65536 }
     ensures { (k : ℕ) → k < length row.old → get_or row.new k 0 ≡ (if is_row_bit bytes.now (column + k) then color else get_or row.old k 0) }
 {
-    if is_blank(bytes) {
-        return;
-    }
-    for k in 0..row.len() {
-        let at = column + k;
+    let mut done = 0;
+    while done < row.len() {
+        let at = column + done;
+        let first = at % BYTE_BITS;
+        let n = (BYTE_BITS - first).min(row.len() - done);
         let byte = bytes[at / BYTE_BITS];
-        if (byte >> (HIGHEST_BIT - at % BYTE_BITS)) % 2 == 1 {
-            row[k] = color;
+        if byte != 0 {
+            draw_byte(&mut row[done..done + n], byte, first, color);
         }
+        done += n;
     }
 }
 
-/// Whether no bit of some bytes is one.
-fn is_blank(bytes: &[u8]) -> bool
-    ensures { OnTrue result (IsBlank bytes.now) }
+/// Gives the pixels of a row one colour whose bit, from a column of a byte on, is one.
+///
+/// The bits are moved to the left, so that the bit of each pixel comes to the same place.
+fn draw_byte(pixels: &mut [u32], byte: u8, first: usize, color: u32)
+    requires within { first + length pixels.old ≤ 8 }
+    ensures { (k : ℕ) → k < length pixels.old → get_or pixels.new k 0 ≡ (if is_row_bit (byte ∷ []) (first + k) then color else get_or pixels.old k 0) }
 {
-    for byte in bytes {
-        if *byte != 0 {
-            return false;
+    let mut bits = u32::from(byte) << first;
+    for k in 0..pixels.len() {
+        if (bits >> HIGHEST_BIT) % 2 == 1 {
+            pixels[k] = color;
         }
+        bits *= 2;
     }
-    true
 }
 
 /// The cell of a glyph that a pen at (x, y) draws.

@@ -13,3 +13,4 @@ pub mod Penned
 pub mod Touching
 pub mod Later
 pub mod Drawn
+pub mod Colored

@@ -1,5 +1,5 @@
--- Stretches of rows that were changed in place, each pixel by its place in the stretch and by what it was.
-use Rattle.std.specs.Prelude.{ℕ, ◌+◌, ◌-◌, ◌^◌, List, get_or, bit_and, if◌then◌else◌}
+-- Stretches of rows that were changed in place, each pixel by its place in the stretch and by what it was; and rows of colours.
+use Rattle.std.specs.Prelude.{ℕ, ◌+◌, ◌-◌, ◌<◌, ◌^◌, List, length, get_or, if◌then◌else◌}
 use Rattle.px_core.specs.declared.surface.Size.{Size}
 use Rattle.px_core.specs.Picture.{pixel_at}
 use Rattle.rop3_core.specs.Rop3.{ternary_raster}
@@ -9,10 +9,14 @@ use Rattle.surface_parts.specs.Bits.{is_row_bit}
 abbrev pub row_mixed : Size → List ℕ → ℕ → List ℕ → List ℕ → ℕ → ℕ → ℕ → ℕ
 row_mixed size old rop pattern source x u v = ternary_raster rop (get_or pattern (u - x) 0) (get_or source (u - x) 0) (pixel_at size old 0 u v)
 
--- the colour that a row of pixels has for a pixel, by those of its bits that colours have; the row begins at column x
-abbrev pub row_color : List ℕ → ℕ → ℕ → ℕ → ℕ
-row_color row x u v = bit_and (get_or row (u - x) 0) (2 ^ 24 - 1)
-
 -- a pixel of a row after its bit was drawn in a colour over the old picture; the bit of column x of the picture is that of a column in the bytes
 abbrev pub row_inked : Size → List ℕ → List ℕ → ℕ → ℕ → ℕ → ℕ → ℕ → ℕ
 row_inked size old bytes column color x u v = if is_row_bit bytes (column + (u - x)) then color else pixel_at size old 0 u v
+
+-- each word of a row is a colour
+abbrev pub IsColored : List ℕ → Type 0
+IsColored row = (k : ℕ) → k < length row → get_or row k 0 < 2 ^ 24
+
+-- each pixel of a picture is a colour
+abbrev pub HasColoredPixels : Size → List ℕ → Type 0
+HasColoredPixels size picture = (x y : ℕ) → x < size.w → y < size.h → pixel_at size picture 0 x y < 2 ^ 24

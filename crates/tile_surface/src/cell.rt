@@ -5,7 +5,7 @@ ghost use Rattle.std.specs.Bool.{OnTrue};
 ghost use Rattle.px_core.specs.Picture.{pixel_at};
 ghost use Rattle.surface_parts.specs.Parts.{in_part, part_at, IsInside, IsRepainted};
 ghost use Rattle.tile_surface.specs.Cells.{cell_pixels, tile_sides};
-ghost use Rattle.tile_surface.specs.Rows.{row_color, row_inked, row_mixed};
+ghost use Rattle.tile_surface.specs.Rows.{row_inked, row_mixed};
 ghost use Rattle.tile_surface.specs.Ownership.{IsOwn};
 
 use crate::tile::Tile;
@@ -112,21 +112,6 @@ impl Cell {
     {
         if let Cell::Own(tile) = self {
             tile.fill(piece, color);
-        }
-    }
-
-    /// Gives the pixels of row y of a tile that is the surface's own, from column x on, the colours of `row`, by those of its bits that colours
-    /// have.
-    #[inline(always)]
-    pub(crate) fn paste(&mut self, x: usize, y: usize, row: &[u32])
-        requires own { IsOwn self.old }
-        requires columns { x + length row.now ≤ 64 }
-        requires row { y < 64 }
-        ensures own { IsOwn self.new }
-        ensures painted { IsRepainted tile_sides (in_part (part_at x y (length row.now) 1)) (row_color row.now x) (cell_pixels self.old) (cell_pixels self.new) }
-    {
-        if let Cell::Own(tile) = self {
-            tile.paste(x, y, row);
         }
     }
 

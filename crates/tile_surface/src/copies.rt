@@ -1,5 +1,6 @@
 //! Copies within the picture, row by row, on tiles that are the surface's own.
 ghost use Rattle.std.specs.Prelude.{◌≡◌, ℕ, ◌+◌, ◌<◌, ◌≤◌, None, length, IsTrue};
+ghost use Rattle.px_core.specs.Colors.{are_colors};
 ghost use Rattle.px_core.specs.Picture.{both, rows_of};
 ghost use Rattle.px_core.specs.Rectangle.{in_clip, in_rect, boxed, is_inside, IsPlaced};
 ghost use Rattle.rop3_core.specs.Palette.{session_colors};
@@ -10,6 +11,7 @@ ghost use Rattle.surface_parts.specs.Operands.{IsBlank};
 ghost use Rattle.surface_parts.specs.Parts.{in_part, part_at, IsInside, IsRepainted};
 ghost use Rattle.surface_parts.specs.Textures.{copied_color, IsSourceInside};
 ghost use Rattle.tile_surface.specs.Cells.{picture_of, IsTiled};
+ghost use Rattle.tile_surface.specs.Rows.{HasColoredPixels};
 ghost use Rattle.tile_surface.specs.Ownership.{KeepsRest, OwnsArea, OwnsPart};
 
 use crate::cell::Cell;
@@ -31,6 +33,7 @@ pub(crate) fn copy_rect(
     source: &mut [u32],
 )
     requires tiled { IsTiled size cells.old }
+    requires colors { IsTrue (are_colors (picture_of size cells.old)) }
     requires rect { IsPlaced rect }
     requires clip { clip_rule size clip ≡ None }
     requires inside { IsTrue (is_inside size (boxed sx sy rect.w rect.h)) }
@@ -72,6 +75,7 @@ fn copy_part(
     source: &mut [u32],
 )
     requires tiled { IsTiled size cells.old }
+    requires colors { HasColoredPixels size (picture_of size cells.old) }
     requires inside { IsInside size part }
     requires from { IsSourceInside size part copy }
     requires own { OwnsPart cells.old part }
@@ -98,6 +102,7 @@ fn copy_downwards(
     source: &mut [u32],
 )
     requires tiled { IsTiled size cells.old }
+    requires colors { HasColoredPixels size (picture_of size cells.old) }
     requires inside { IsInside size part }
     requires from { IsSourceInside size part copy }
     requires not_above { part.y ≤ copy.y }
@@ -123,6 +128,7 @@ fn copy_upwards(
     source: &mut [u32],
 )
     requires tiled { IsTiled size cells.old }
+    requires colors { HasColoredPixels size (picture_of size cells.old) }
     requires inside { IsInside size part }
     requires from { IsSourceInside size part copy }
     requires above { copy.y ≤ part.y }
@@ -147,6 +153,7 @@ fn copy_upwards(
 }
 
 /// Copies row y of a part: its source is read whole before any of it is written.
+#[inline(always)]
 fn copy_row(
     cells: &mut [Cell],
     size: Size,
@@ -157,6 +164,7 @@ fn copy_row(
     source: &mut [u32],
 )
     requires tiled { IsTiled size cells.old }
+    requires colors { HasColoredPixels size (picture_of size cells.old) }
     requires inside { IsInside size part }
     requires from { IsSourceInside size part copy }
     requires above { part.y ≤ y }

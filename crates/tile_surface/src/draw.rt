@@ -98,6 +98,7 @@ pub(crate) fn draw_owned(
     requires sound { IsSoundSurface size (state_of (picture_of size cells.old) slots.old count) }
     requires rules { broken_rule size d.now ≡ None }
     requires fits { slot_misfit size (state_of (picture_of size cells.old) slots.old count) d.now.shape ≡ None }
+    requires colors { HasColors d.now }
     requires room { IsRoomFor count d.now.shape room }
     requires own { OwnsShape size slots.old cells.old d.now.clip d.now.shape }
     requires count { count < 2 ^ 64 - 1 }

@@ -4,6 +4,7 @@ ghost use Rattle.px_core.specs.Rectangle.{boxed, in_clip};
 ghost use Rattle.draw_ops.specs.Drawing.{painting_of};
 ghost use Rattle.draw_ops.specs.Fits.{clip_rule, glyph_rule};
 ghost use Rattle.draw_ops.specs.Formulas.{picture_after};
+ghost use Rattle.draw_ops.specs.StateColors.{StateHasColors};
 ghost use Rattle.surface_parts.specs.Held.{state_of, IsPaintable};
 ghost use Rattle.surface_parts.specs.Surfaces.{AllInSlots};
 ghost use Rattle.surface_parts.specs.Textures.{IsRestorable};
@@ -125,6 +126,7 @@ pub(crate) fn paint(
     requires tiled { IsTiled size cells.old }
     requires paintable { IsPaintable size slots.now clip shape.now }
     requires glyphs { AllInSlots (λ glyph. glyph_rule glyph.content ≡ None) slots.now.glyphs }
+    requires colors { StateHasColors (state_of (picture_of size cells.old) slots.now 0) }
     requires own { OwnsShape size slots.now cells.old clip shape.now }
     requires pattern { 2048 ≤ length pattern.old }
     requires source { 2048 ≤ length source.old }

@@ -1,5 +1,6 @@
 //! Drawings of whole rectangles, within a clip, on tiles that are the surface's own.
-ghost use Rattle.std.specs.Prelude.{◌≡◌, ℕ, ◌+◌, ◌≤◌, ◌<◌, None, pos, length, get_or, IfSome, IsTrue, option_copied};
+ghost use Rattle.std.specs.Prelude.{◌≡◌, ℕ, ◌+◌, ◌≤◌, ◌<◌, ◌^◌, None, pos, length, get_or, IfSome, IsTrue, option_copied};
+ghost use Rattle.px_core.specs.Colors.{are_colors};
 ghost use Rattle.px_core.specs.Picture.{both};
 ghost use Rattle.px_core.specs.Rectangle.{boxed, in_clip, in_rect, IsPlaced};
 ghost use Rattle.rop3_core.specs.Palette.{session_colors};
@@ -52,6 +53,8 @@ pub(crate) fn mix_rect(
     requires clip { clip_rule size clip ≡ None }
     requires own { OwnsArea size cells.old (both (in_clip clip) (in_rect rect)) }
     requires image { IfSome (option_copied blend.image) (HasSource rect blend.sx blend.sy) }
+    requires image_colors { IfSome (option_copied blend.image) (λ image. IsTrue (are_colors image.pixels)) }
+    requires brush_colors { IfSome (option_copied blend.brush) (λ brush. IsTrue (are_colors brush)) }
     requires pattern { 2048 ≤ length pattern.old }
     requires source { 2048 ≤ length source.old }
     ensures painted { picture_of size cells.new ≡ picture_after size (in_clip clip) (mixing rect blend.entry.rop (pattern_of (option_copied blend.entry.brush)) (source_of (option_copied blend.entry.image) rect blend.entry.sx blend.entry.sy)) (picture_of size cells.old) }
@@ -156,6 +159,8 @@ fn mix_part(
     requires inside { IsInside size part }
     requires own { OwnsPart cells.old part }
     requires texture { IfSome mix.texture (CoversPart part) }
+    requires brush_colors { (x y : ℕ) → pattern_of (option_copied mix.brush) (pos x) (pos y) < 2 ^ 24 }
+    requires source_colors { (x y : ℕ) → IsTrue (in_part part x y) → source_color part mix.texture x y < 2 ^ 24 }
     requires pattern { length pattern.old ≡ part.w }
     requires source { length source.old ≡ part.w }
     ensures painted { IsRepainted size (in_part part) (mixed_color size (picture_of size cells.old) part mix.entry) (picture_of size cells.old) (picture_of size cells.new) }

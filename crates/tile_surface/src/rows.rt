@@ -5,7 +5,7 @@ ghost use Rattle.px_core.specs.Rectangle.{cut_out, is_inside};
 ghost use Rattle.px_core.specs.Tiles.{tile_number};
 ghost use Rattle.surface_parts.specs.Parts.{in_part, part_at, IsRepainted};
 ghost use Rattle.tile_surface.specs.Cells.{picture_of, IsTiled};
-ghost use Rattle.tile_surface.specs.Rows.{row_color, row_inked, row_mixed};
+ghost use Rattle.tile_surface.specs.Rows.{row_inked, row_mixed, IsColored};
 ghost use Rattle.tile_surface.specs.Ownership.{IsOwnAt, KeepsRest, OwnsPart};
 
 use crate::cell::Cell;
@@ -34,6 +34,7 @@ pub(crate) fn tile_number(x: usize, y: usize) -> usize
 }
 
 /// Copies the pixels of row y of the picture from column x on, as many as `out` has room for.
+#[inline(always)]
 pub(crate) fn read_row(cells: &[Cell], size: Size, x: usize, y: usize, out: &mut [u32])
     requires tiled { IsTiled size cells.now }
     requires columns { x + length out.old ≤ size.w }
@@ -51,6 +52,7 @@ pub(crate) fn read_row(cells: &[Cell], size: Size, x: usize, y: usize, out: &mut
 }
 
 /// Gives the pixels of row y of the picture from column x on the colours of `row`.
+#[inline(always)]
 pub(crate) fn write_row(cells: &mut [Cell], size: Size, x: usize, y: usize, row: &[u32])
     requires tiled { IsTiled size cells.old }
     requires columns { x + length row.now ≤ size.w }
@@ -71,7 +73,8 @@ pub(crate) fn write_row(cells: &mut [Cell], size: Size, x: usize, y: usize, row:
 
 /// The raster operation of a code on the pixels of row y of the picture from column x on, as many as the rows of its operands have.
 ///
-/// The codes that copy one operand read no other.
+/// The codes that copy one operand read no other. All words of the operands are colours, so that their rows are copied as they are.
+#[inline(always)]
 pub(crate) fn mix_row(
     cells: &mut [Cell],
     size: Size,
@@ -85,33 +88,16 @@ pub(crate) fn mix_row(
     requires columns { x + length pattern.now ≤ size.w }
     requires row { y < size.h }
     requires source { length source.now ≡ length pattern.now }
+    requires pattern_colors { IsColored pattern.now }
+    requires source_colors { IsColored source.now }
     requires own { OwnsPart cells.old (part_at x y (length pattern.now) 1) }
     ensures painted { IsRepainted size (in_part (part_at x y (length pattern.now) 1)) (row_mixed size (picture_of size cells.old) rop pattern.now source.now x) (picture_of size cells.old) (picture_of size cells.new) }
     ensures kept { KeepsRest size cells.old cells.new }
 {
     match rop {
-        SRCCOPY => paste_row(cells, size, x, y, source),
-        PATCOPY => paste_row(cells, size, x, y, pattern),
+        SRCCOPY => write_row(cells, size, x, y, source),
+        PATCOPY => write_row(cells, size, x, y, pattern),
         _ => mix_tiles(cells, size, x, y, rop, pattern, source),
-    }
-}
-
-/// Gives the pixels of row y of the picture from column x on the colours of `row`, by those of its bits that colours have.
-fn paste_row(cells: &mut [Cell], size: Size, x: usize, y: usize, row: &[u32])
-    requires tiled { IsTiled size cells.old }
-    requires columns { x + length row.now ≤ size.w }
-    requires row { y < size.h }
-    requires own { OwnsPart cells.old (part_at x y (length row.now) 1) }
-    ensures painted { IsRepainted size (in_part (part_at x y (length row.now) 1)) (row_color row.now x) (picture_of size cells.old) (picture_of size cells.new) }
-    ensures kept { KeepsRest size cells.old cells.new }
-{
-    let mut done = 0;
-    while done < row.len() {
-        let column = (x + done) % TILE_SIDE;
-        let n = (TILE_SIDE - column).min(row.len() - done);
-        let tile = tile_number(x + done, y);
-        cells[tile].paste(column, y % TILE_SIDE, &row[done..done + n]);
-        done += n;
     }
 }
 

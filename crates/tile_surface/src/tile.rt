@@ -1,9 +1,9 @@
 //! A tile: 64 by 64 pixels of a picture.
-ghost use Rattle.std.specs.Prelude.{◌≡◌, ℕ, ◌+◌, ◌*◌, ◌-◌, ◌≤◌, ◌<◌, ◌^◌, IfOk, length, get_or, bit_and, replicate};
+ghost use Rattle.std.specs.Prelude.{◌≡◌, ℕ, ◌+◌, ◌*◌, ◌-◌, ◌≤◌, ◌<◌, IfOk, length, get_or, replicate};
 ghost use Rattle.px_core.specs.Picture.{pixel_at};
 ghost use Rattle.surface_parts.specs.Parts.{in_part, part_at, IsInside, IsRepainted};
 ghost use Rattle.tile_surface.specs.Cells.{tile_sides};
-ghost use Rattle.tile_surface.specs.Rows.{row_color, row_inked, row_mixed};
+ghost use Rattle.tile_surface.specs.Rows.{row_inked, row_mixed};
 
 use lane_rop::rop_lanes;
 use std::alloc::Global;
@@ -13,9 +13,6 @@ use wire_num::OutOfMemory;
 
 /// The columns, and the rows, of a tile.
 pub(crate) const TILE_SIDE: usize = 64;
-
-/// The bits of a pixel that colours have.
-const COLOR_BITS: u32 = 0x00FF_FFFF;
 
 /// The pixels of a tile.
 const TILE_PIXELS: usize = 4_096;
@@ -104,17 +101,6 @@ impl Tile {
         }
     }
 
-    /// Gives the pixels of row y from column x on the colours of `row`, by those of its bits that colours have.
-    #[inline(always)]
-    pub(crate) fn paste(&mut self, x: usize, y: usize, row: &[u32])
-        requires columns { x + length row.now ≤ 64 }
-        requires row { y < 64 }
-        ensures { IsRepainted tile_sides (in_part (part_at x y (length row.now) 1)) (row_color row.now x) self.old self.new }
-    {
-        let at = TILE_SIDE * y + x;
-        copy_colors(row, &mut self.pixels[at..at + row.len()]);
-    }
-
     /// The raster operation of a code on the pixels of row y from column x on, as many as the rows of its operands have.
     #[inline(always)]
     pub(crate) fn mix(&mut self, x: usize, y: usize, rop: u8, pattern: &[u32], source: &[u32])
@@ -147,17 +133,6 @@ impl Tile {
     {
         let at = TILE_SIDE * y + x;
         draw_bit_row(&mut self.pixels[at..at + n], bytes, column, color);
-    }
-}
-
-/// Copies a row of colours, by those of its bits that colours have.
-#[inline(always)]
-fn copy_colors(from: &[u32], to: &mut [u32])
-    requires { length from.now ≡ length to.old }
-    ensures { (k : ℕ) → k < length to.old → get_or to.new k 0 ≡ bit_and (get_or from.now k 0) (2 ^ 24 - 1) }
-{
-    for i in 0..to.len() {
-        to[i] = from[i] & COLOR_BITS;
     }
 }
 

@@ -1,10 +1,18 @@
 use Rattle.std.proofs.Common.{◌+◌, ◌-◌, refl, arith}
 use Rattle.std.proofs.lemmas.Bool.Decides.{nat_tests}
+use Rattle.rop3_core.proofs.RasterBits.{ternary_raster_below}
+use Rattle.surface_parts.specs.Parts.{in_part, part_at}
 use Rattle.surface_parts.specs.Textures.{copied_color}
 use Rattle.surface_parts.proofs.Repaint.{same_mix, untouched, row_below_more}
 use Rattle.tile_surface.specs.Cells.{picture_of}
+use Rattle.tile_surface.proofs.Colored.{repainted_colored}
 use Rattle.tile_surface.proofs.Owning.{keeps_twice}
 use Rattle.tile_surface.proofs.copies.copy_downwards.Goals as goal
+
+pub copy_row-requires-clause-colors : goal.copy_row-requires-clause-colors
+copy_row-requires-clause-colors c = let p = c.args.part in let size = c.args.size in let old = picture_of size c.args.cells.now in
+    repainted_colored size (in_part (part_at p.x p.y p.w c.loop-k.k)) (copied_color size old p c.args.copy) old (picture_of size c.loop-k.cells) c.requires.colors
+    (λ x y. ternary_raster_below c.args.copy.rop _ _ _) c.loop-k.invariant.painted
 
 pub loop-k-preserved : goal.loop-k-preserved
 loop-k-preserved c = let p = c.args.part in let copy = c.args.copy in let size = c.args.size in let k = c.loop-k.k in

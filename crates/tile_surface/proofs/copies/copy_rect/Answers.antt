@@ -6,6 +6,7 @@ use Rattle.rop3_core.specs.Palette.{session_colors}
 use Rattle.draw_ops.specs.Formulas.{rastered, absent, shifted}
 use Rattle.surface_parts.proofs.Paintings.{unseen}
 use Rattle.tile_surface.specs.Cells.{picture_of}
+use Rattle.tile_surface.proofs.Colored.{pixels_colored}
 use Rattle.tile_surface.proofs.Copied.{source_inside, copied_is}
 use Rattle.tile_surface.proofs.Owning.{owns_part}
 use Rattle.tile_surface.proofs.Tiled.{tiled_canvas, tiled_length}
@@ -14,6 +15,9 @@ use Rattle.tile_surface.proofs.copies.copy_rect.Goals as goal
 pub copy_part-requires-clause-from : goal.copy_part-requires-clause-from
 copy_part-requires-clause-from c = source_inside c.args.size c.args.rect c.in-Some.part c.args.rop c.source_place.result c.source_place-in-Some.result c.args.sx c.args.sy c.in-Some.ensures.within c.requires.inside
     (omega (arith, ints, c.source_place.ensures)) (omega (arith, ints, c.source_place-in-Some.ensures))
+
+pub copy_part-requires-clause-colors : goal.copy_part-requires-clause-colors
+copy_part-requires-clause-colors c = pixels_colored c.args.size (picture_of c.args.size c.args.cells.now) c.requires.colors
 
 pub copy_part-requires-clause-own : goal.copy_part-requires-clause-own
 copy_part-requires-clause-own c = owns_part c.args.size c.args.cells.now (both (in_clip c.args.clip) (in_rect c.args.rect)) c.in-Some.part c.in-Some.ensures.inside c.requires.own c.in-Some.ensures.pixels

@@ -1,10 +1,19 @@
-use Rattle.std.proofs.Common.{◌-◌, ◌<◌, length, refl, arith}
+use Rattle.std.proofs.Common.{◌+◌, ◌-◌, ◌<◌, ◌^◌, length, refl, subst, sym, arith}
 use Rattle.surface_parts.specs.Textures.{copied_color}
 use Rattle.surface_parts.proofs.Repaint.{same_mix}
 use Rattle.tile_surface.specs.Cells.{picture_of}
 use Rattle.tile_surface.specs.Rows.{row_mixed}
 use Rattle.tile_surface.proofs.Copied.{row_again}
 use Rattle.tile_surface.proofs.copies.copy_row.Goals as goal
+
+pub mix_row-requires-clause-pattern_colors : goal.mix_row-requires-clause-pattern_colors
+mix_row-requires-clause-pattern_colors c = λ k below. omega (arith, c.requires.blank k below)
+
+pub mix_row-requires-clause-source_colors : goal.mix_row-requires-clause-source_colors
+mix_row-requires-clause-source_colors c = let p = c.args.part in let copy = c.args.copy in λ k below.
+    let seen : k < p.w = omega (arith, below, c.read_row.auto.out, c.requires.source) in
+    subst (λ color. color < 2 ^ 24) (sym (c.read_row.ensures k (omega (arith, seen, c.requires.source))))
+    (c.requires.colors (copy.x + k) (copy.y + (c.args.y - p.y)) (omega (arith, seen, c.requires.from.columns)) (omega (arith, c.requires.above, c.requires.below, c.requires.from.rows)))
 
 pub returns-clause-painted : goal.returns-clause-painted
 returns-clause-painted c = let p = c.args.part in let copy = c.args.copy in let size = c.args.size in let old = picture_of size c.args.cells.now in let y = c.args.y in let pattern = c.args.pattern.now in

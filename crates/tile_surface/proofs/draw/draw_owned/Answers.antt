@@ -5,6 +5,8 @@ use Rattle.draw_ops.specs.Drawing.{painting_of, slots_after}
 use Rattle.draw_ops.specs.Fits.{glyph_rule}
 use Rattle.draw_ops.specs.Formulas.{picture_after}
 use Rattle.draw_ops.specs.Slots.{SurfaceState}
+use Rattle.draw_ops.specs.StateColors.{StateHasColors}
+use Rattle.draw_ops.proofs.KeptColors.{drawing_keeps}
 use Rattle.surface_parts.specs.Held.{Held, held_in, state_of, IsPaintable}
 use Rattle.surface_parts.specs.Surfaces.{AllInSlots}
 use Rattle.surface_parts.proofs.Sound.{drawn_after, glyphs_after, is_paintable, is_save_inside}
@@ -27,6 +29,14 @@ paint-requires-clause-glyphs c = let size = c.args.size in let d = c.args.d.now 
     let st : SurfaceState = state_of (picture_of size c.args.cells.now) c.args.slots.now c.args.count in
     let filled : c.fill_slot.new.slots ≡ held_in (slots_after size st d.shape) = c.fill_slot.ensures ∙ ap held_in (c.requires.room.fills size st refl) in
     subst (λ (h : Held). AllInSlots (λ glyph. glyph_rule glyph.content ≡ None) h.glyphs) (sym filled) (glyphs_after size st d c.requires.rules c.requires.sound)
+
+pub paint-requires-clause-colors : goal.paint-requires-clause-colors
+paint-requires-clause-colors c = let size = c.args.size in let d = c.args.d.now in let old = picture_of size c.args.cells.now in
+    let st : SurfaceState = state_of old c.args.slots.now c.args.count in
+    let filled : c.fill_slot.new.slots ≡ held_in (slots_after size st d.shape) = c.fill_slot.ensures ∙ ap held_in (c.requires.room.fills size st refl) in
+    let kept = drawing_keeps size st d c.requires.sound.colors c.requires.colors in
+    subst (λ (h : Held). StateHasColors (state_of old h 0)) (sym filled)
+    (record { picture = c.requires.sound.colors.picture; images = kept.images; brushes = kept.brushes; blocks = kept.blocks })
 
 pub paint-requires-clause-own : goal.paint-requires-clause-own
 paint-requires-clause-own c = let size = c.args.size in let d = c.args.d.now in

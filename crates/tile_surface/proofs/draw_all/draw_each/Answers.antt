@@ -31,6 +31,11 @@ draw_owned-requires-clause-fits c = let ds = c.args.ds.now in let i = c.loop-d.d
     let here : drop i ds ≡ d ∷ drop (i + 1) ds = drop_more ds i d inside ∙ ap (λ (x : Drawing). x ∷ drop (i + 1) ds) (sym c.d-item.is) in
     fit_slots size st d (subst (λ (xs : List Drawing). AllFitState size st xs) here l.invariant.fit).0
 
+pub draw_owned-requires-clause-colors : goal.draw_owned-requires-clause-colors
+draw_owned-requires-clause-colors c = let i = c.loop-d.d-index in let d = c.d-item.result in
+    let inside : i < length c.args.ds.now = omega arith in
+    subst HasColors (sym c.d-item.is) (c.requires.colors i d inside)
+
 pub draw_owned-requires-clause-own : goal.draw_owned-requires-clause-own
 draw_owned-requires-clause-own c = let ds = c.args.ds.now in let i = c.loop-d.d-index in let d = c.d-item.result in let l = c.loop-d in let size = c.args.size in
     let inside : i < length ds = omega arith in

@@ -1,7 +1,10 @@
-use Rattle.std.proofs.Common.{◌≡◌, ℕ, ℤ, List, ap, sym, ◌∙◌, rules, w32, to_z, of_z}
+use Rattle.std.proofs.Common.{◌≡◌, ℕ, ℤ, List, Option, ap, sym, subst, ◌∙◌, rules, w32, to_z, of_z}
+use Rattle.std.specs.Prelude.{IfSome, IsTrue}
 use Rattle.std.proofs.lemmas.Int.{to_z-of_z}
+use Rattle.px_core.specs.Colors.{are_colors}
 use Rattle.px_core.specs.Rectangle.{in_clip}
 use Rattle.draw_ops.specs.declared.shape.Shape.{Shape}
+use Rattle.draw_ops.specs.Content.{ImageOf}
 use Rattle.draw_ops.specs.Drawing.{painting_of, writing}
 use Rattle.draw_ops.specs.Formulas.{picture_after}
 use Rattle.surface_parts.specs.Held.{state_of}
@@ -9,8 +12,25 @@ use Rattle.surface_parts.specs.Lined.{lined}
 use Rattle.surface_parts.specs.Texts.{glyphs_held}
 use Rattle.surface_parts.proofs.Paintings.{nothing_is}
 use Rattle.tile_surface.specs.Cells.{picture_of}
+use Rattle.tile_surface.proofs.Colored.{content_colored}
 use Rattle.tile_surface.proofs.Tiled.{tiled_length}
 use Rattle.tile_surface.proofs.paint.paint.Goals as goal
+
+pub mix_rect-requires-in-Pat-clause-brush_colors : goal.mix_rect-requires-in-Pat-clause-brush_colors
+mix_rect-requires-in-Pat-clause-brush_colors c = let colored = content_colored (λ (brush : List ℕ). brush) c.args.slots.now.brushes c.in-Pat.brush c.requires.colors.brushes in
+    subst (λ (o : Option (List ℕ)). IfSome o (λ brush. IsTrue (are_colors (brush)))) (sym c.bare_brush.ensures) colored
+
+pub mix_rect-requires-in-Blit-clause-image_colors : goal.mix_rect-requires-in-Blit-clause-image_colors
+mix_rect-requires-in-Blit-clause-image_colors c = let colored = content_colored (λ (image : ImageOf). image.pixels) c.args.slots.now.images c.in-Blit.image c.requires.colors.images in
+    subst (λ (o : Option ImageOf). IfSome o (λ image. IsTrue (are_colors (image.pixels)))) (sym c.bare_image.ensures) colored
+
+pub mix_rect-requires-in-Blit3-clause-image_colors : goal.mix_rect-requires-in-Blit3-clause-image_colors
+mix_rect-requires-in-Blit3-clause-image_colors c = let colored = content_colored (λ (image : ImageOf). image.pixels) c.args.slots.now.images c.in-Blit3.image c.requires.colors.images in
+    subst (λ (o : Option ImageOf). IfSome o (λ image. IsTrue (are_colors (image.pixels)))) (sym c.bare_image-in-Blit3.ensures) colored
+
+pub mix_rect-requires-in-Blit3-clause-brush_colors : goal.mix_rect-requires-in-Blit3-clause-brush_colors
+mix_rect-requires-in-Blit3-clause-brush_colors c = let colored = content_colored (λ (brush : List ℕ). brush) c.args.slots.now.brushes c.in-Blit3.brush c.requires.colors.brushes in
+    subst (λ (o : Option (List ℕ)). IfSome o (λ brush. IsTrue (are_colors (brush)))) (sym c.bare_brush-in-Blit3.ensures) colored
 
 pub returns-in-Text-clause-painted : goal.returns-in-Text-clause-painted
 returns-in-Text-clause-painted c = λ count.

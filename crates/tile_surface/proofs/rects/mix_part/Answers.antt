@@ -1,4 +1,4 @@
-use Rattle.std.proofs.Common.{◌≡◌, ℕ, ◌+◌, ◌-◌, ◌<◌, length, get_or, ap, ◌∙◌, arith}
+use Rattle.std.proofs.Common.{◌≡◌, ℕ, ◌+◌, ◌-◌, ◌<◌, ◌^◌, length, get_or, ap, sym, subst, ◌∙◌, arith}
 use Rattle.std.proofs.lemmas.Bool.Decides.{nat_tests}
 use Rattle.surface_parts.specs.Textures.{mixed_color}
 use Rattle.surface_parts.proofs.Repaint.{same_mix, untouched, no_rows, all_rows}
@@ -17,6 +17,15 @@ loop-y-init c = let p = c.args.part in let old = picture_of c.args.size c.args.c
 
 pub mix_row-requires-clause-own : goal.mix_row-requires-clause-own
 mix_row-requires-clause-own c = owns_next c.args.size c.args.part c.args.cells.now c.loop-y.cells c.loop-y.y _ (omega arith) (omega arith) (omega (arith, c.requires.pattern, c.loop-y.auto.pattern, c.set_pattern.auto.row)) c.requires.own c.loop-y.invariant.kept
+
+pub mix_row-requires-clause-pattern_colors : goal.mix_row-requires-clause-pattern_colors
+mix_row-requires-clause-pattern_colors c = let p = c.args.part in let y = c.loop-y.y in λ k below.
+    subst (λ color. color < 2 ^ 24) (sym (c.set_pattern.ensures.colors k (omega (arith, below, c.set_pattern.auto.row)))) (c.requires.brush_colors (p.x + k) y)
+
+pub mix_row-requires-clause-source_colors : goal.mix_row-requires-clause-source_colors
+mix_row-requires-clause-source_colors c = let p = c.args.part in let y = c.loop-y.y in λ k below.
+    let seen : k < p.w = omega (arith, below, c.source_row-from.ensures.wide) in
+    subst (λ color. color < 2 ^ 24) (sym (c.source_row-from.ensures.colors k seen)) (c.requires.source_colors (p.x + k) y (grind (arith, nat_tests, seen, c.loop-y.auto.y, c.loop-y-test)))
 
 pub loop-y-preserved : goal.loop-y-preserved
 loop-y-preserved c = let p = c.args.part in let mix = c.args.mix in let size = c.args.size in let y = c.loop-y.y in

@@ -1,4 +1,4 @@
-use Rattle.std.proofs.Common.{◌≡◌, ap, ◌∙◌, rules, w32, to_z, of_z}
+use Rattle.std.proofs.Common.{◌≡◌, ◌<◌, ◌^◌, ap, sym, subst, ◌∙◌, rules, w32, to_z, of_z}
 use Rattle.std.proofs.lemmas.Int.{to_z-of_z}
 use Rattle.std.specs.Prelude.{pos, option_copied}
 use Rattle.px_core.specs.Picture.{both, pixel_at}
@@ -12,6 +12,7 @@ use Rattle.surface_parts.specs.Parts.{in_part}
 use Rattle.surface_parts.specs.Textures.{mixed_color}
 use Rattle.surface_parts.proofs.Paintings.{over_rect_is, unseen}
 use Rattle.tile_surface.specs.Cells.{picture_of}
+use Rattle.tile_surface.proofs.Colored.{pattern_colored, source_colored}
 use Rattle.tile_surface.proofs.Owning.{keeps_self, owns_part}
 use Rattle.tile_surface.proofs.Tiled.{tiled_length}
 use Rattle.tile_surface.proofs.rects.mix_rect.Goals as goal
@@ -19,6 +20,13 @@ use Rattle.tile_surface.proofs.rects.mix_rect.Goals as goal
 pub mix_part-requires-clause-own : goal.mix_part-requires-clause-own
 mix_part-requires-clause-own c = owns_part c.args.size c.args.cells.now (both (in_clip c.args.clip) (in_rect c.args.rect)) c.in-Some.part c.in-Some.ensures.inside c.requires.own
     (λ x y left above. c.in-Some.ensures.pixels x y left above)
+
+pub mix_part-requires-clause-brush_colors : goal.mix_part-requires-clause-brush_colors
+mix_part-requires-clause-brush_colors c = λ x y. pattern_colored (option_copied c.args.blend.brush) x y c.requires.brush_colors
+
+pub mix_part-requires-clause-source_colors : goal.mix_part-requires-clause-source_colors
+mix_part-requires-clause-source_colors c = let b = c.args.blend in λ x y inside.
+    subst (λ color. color < 2 ^ 24) (sym (c.source_texture-texture.ensures.colors x y inside)) (source_colored (option_copied b.image) c.args.rect _ _ x y c.requires.image_colors)
 
 pub returns-in-Some-clause-painted : goal.returns-in-Some-clause-painted
 returns-in-Some-clause-painted c = let size = c.args.size in let b = c.args.blend in let old = picture_of size c.args.cells.now in let rect = c.args.rect in
