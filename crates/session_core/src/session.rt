@@ -91,6 +91,7 @@ impl Session {
         let mut invites = Vec::new(alloc);
         invites.extend_from_slice(rows)?;
         let standing = Standing::new(alloc, size)?;
+        let marks = Marks::new(alloc)?;
         Ok(Session {
             alloc,
             head: SessionHead {
@@ -99,7 +100,7 @@ impl Session {
             },
             standing,
             kept: Vec::new(alloc),
-            marks: Marks::new(),
+            marks,
         })
     }
 

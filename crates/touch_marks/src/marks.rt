@@ -1,16 +1,17 @@
 //! The marks of tiles and of slots of saved blocks.
-ghost use Rattle.std.specs.Prelude.{◌≡◌, ℕ, ◌≤◌, ◌<◌, None, length, IsTrue};
+ghost use Rattle.std.specs.Prelude.{◌≡◌, ℕ, ◌≤◌, ◌<◌, None, IfOk, length, IsTrue};
 ghost use Rattle.px_core.specs.Rectangle.{clipped, is_session_size};
 ghost use Rattle.px_core.specs.Tiles.{either_tiles, tile_rect, tiles_of};
-ghost use Rattle.px_core.specs.TileFlags.{tiles, row_tiles};
+ghost use Rattle.px_core.specs.TileFlags.{tiles, box_tiles, row_tiles};
 ghost use Rattle.draw_ops.specs.Fits.{broken_rule};
 ghost use Rattle.touch_marks.specs.Marking.{unmarked, marks_in, noted, past};
 ghost use Rattle.touch_marks.specs.Touching.{saves_into};
 
 use crate::area::{clipped, tile_rect};
 use crate::stretch::{Stretch, touched};
-use draw_ops::{Drawing, Shape};
+use draw_ops::{Drawing, OutOfMemory, Shape};
 use px_core::{Rect, Size, TileSet};
+use std::alloc::Global;
 use std::marker::Model;
 
 /// The number of tiles, which is that of the greatest picture's.
@@ -23,29 +24,36 @@ const TILES_IN_ROW: usize = 32;
 const SLOTS: u8 = 16;
 
 /// For each tile the number of entries up to the last one that touched it, and 0 where none did; likewise for each slot of saved blocks.
+///
+/// The tiles' numbers stand in a box, 8 KiB, so that whoever holds a session by value moves no more than a handle of them.
 #[derive(Drop)]
 pub struct Marks {
-    tiles: [u64; 1024],
+    tiles: Box<[u64; 1024]>,
     slots: [u64; 16],
 }
 
 impl Model for Marks {
+    ghost use Rattle.std.specs.Prelude.{◌≡◌, length};
+    ghost use Rattle.std.specs.Box.{box_value};
     ghost use Rattle.touch_marks.specs.Marking.{Marked};
 
     ghost Value = { Marked };
 
-    ghost view = { λ m. record { tiles = m.tiles; slots = m.slots } };
+    ghost view = { λ m. record { tiles = box_value m.tiles; slots = m.slots } };
+
+    ghost invariant = { λ m. (length (box_value m.tiles) ≡ 1024) × (length m.slots ≡ 16) };
 }
 
 impl Marks {
     /// Nothing is touched, and no slot is saved into.
-    pub fn new() -> Marks
-        ensures { result ≡ unmarked }
+    pub fn new(alloc: Global) -> Result<Marks, OutOfMemory>
+        ensures { IfOk result (λ marks. marks ≡ unmarked) }
     {
-        Marks {
-            tiles: [0; 1024],
+        let tiles = Box::new(alloc, [0; 1024])?;
+        Ok(Marks {
+            tiles,
             slots: [0; 16],
-        }
+        })
     }
 
     /// Notes the tiles that a drawing over a rectangle touches, and the slot that it saves into, by an entry's number.
@@ -69,9 +77,7 @@ impl Marks {
     {
         let columns = touched(r.x, r.w, s.w);
         let rows = touched(r.y, r.h, s.h);
-        for row in rows.from..rows.end {
-            note_row(&mut self.tiles, row, columns, number);
-        }
+        note_rows(self.tiles.as_mut_slice(), rows, columns, number);
     }
 
     /// Adds the tiles that are noted past a number to a set.
@@ -109,6 +115,20 @@ impl Marks {
         ensures slots { (slot : ℕ) → 16 ≤ slot → marks_in self.now.slots slot ≡ 0 }
     {
         let _last = self.slots[15];
+    }
+}
+
+/// Notes the tiles of some columns in some rows.
+fn note_rows(numbers: &mut [u64], rows: Stretch, columns: Stretch, number: u64)
+    requires count { length numbers.old ≡ 1024 }
+    requires rows { rows.from ≤ rows.end }
+    requires low { rows.end ≤ 32 }
+    requires columns { columns.from ≤ columns.end }
+    requires right { columns.end ≤ 32 }
+    ensures { (t : ℕ) → marks_in numbers.new t ≡ noted (box_tiles rows.from rows.end columns.from columns.end) number (marks_in numbers.old) t }
+{
+    for row in rows.from..rows.end {
+        note_row(numbers, row, columns, number);
     }
 }
 

@@ -10,8 +10,8 @@ invariant_of-result c =
     let same = c.in_ok-extend_from_slice.ensures.items ∙ ap (λ xs. xs ++ c.args.rows.now) c.new-invites.ensures.items in
     let invited = subst (λ xs. AreInvited (rows_of xs)) (sym same) c.requires.rows in
     record {
-      is_session = rw c.new-2.ensures.items
+      is_session = rw c.new-3.ensures.items
           (opened (record { size = c.args.size; rows = rows_of c.extend_from_slice.new.self.items }) c.in_ok-standing.standing c.requires.size invited c.in_ok-standing.ensures);
-      room_left = omega (arith, c.new-2.ensures.len, ap length c.in_ok-standing.ensures.nobody);
-      marked = rw (c.new-2.ensures.items, c.new-3.ensures) (marked_first c.args.size);
+      room_left = omega (arith, c.new-3.ensures.len, ap length c.in_ok-standing.ensures.nobody);
+      marked = rw (c.new-3.ensures.items, c.in_ok-marks.ensures) (marked_first c.args.size);
     }
