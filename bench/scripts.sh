@@ -50,6 +50,7 @@ generate() {
         if (form == "brush") return brush(i)
         if (form == "glyph") return glyph(i)
         if (form == "key") return "key 58 up"
+        if (form == "a key that draws nothing") return "key 1E down"
         if (form == "char") return "char " 33 + i % 94
         if (form == "mouse") return "mouse 9000 " place(i)
         if (form == "suppress, allow") return i % 2 ? "suppress" : "allow"
@@ -214,7 +215,7 @@ entry_wanted() {
         fill) echo 128 ;;
         blit) echo 150 ;;
         text*) echo 400 ;;
-        key | mouse) echo 160 ;;
+        'a key that draws nothing' | mouse) echo 160 ;;
     esac
 }
 
@@ -238,7 +239,7 @@ done
 echo
 row 'an entry more of a form' bytes wanted
 printf '|---|---:|---:|\n'
-for form in fill blit 'text of 20 signs' key mouse; do
+for form in fill blit 'text of 20 signs' 'a key that draws nothing' mouse; do
     row "$form" "$(entry_of "$form")" "$(entry_wanted "$form")"
 done
 echo
