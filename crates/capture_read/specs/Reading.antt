@@ -30,8 +30,8 @@ AreJoined joined table = (u : ℕ) → u < viewer_numbers → get_or table u fal
 
 -- ---- a capture
 
--- a reader: whose bytes it hands out, the text of the last line, the bytes behind it that were read already, the flags of viewers, the bytes of the last line that gave the
--- viewer some, and the number of the next line
+-- a reader: whose bytes it hands out, the text of the last line, the bytes behind it that were read already, the flags of viewers, the bytes that the last line gave the
+-- viewer where it gave some, and the number of the next line
 pub record CaptureReading : Type 0 where
   pub viewer : ℕ
   pub text : List ℕ

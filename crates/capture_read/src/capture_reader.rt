@@ -66,7 +66,7 @@ impl CaptureReader {
         })
     }
 
-    /// The bytes of the last line that gave the viewer some.
+    /// The bytes of a line that was told as `Bytes`, until the next one is read.
     pub fn bytes(&self) -> &[u8]
         ensures { result.now ≡ self.now.bytes }
     {
