@@ -1,5 +1,4 @@
 pub mod Fronts
 pub mod Areas
 pub mod Part
-pub mod Wanted
 pub mod Loop

@@ -1,12 +1,11 @@
 -- What is heard of a part of a packet.
-use Rattle.std.proofs.Common.{◌≡◌, ℕ, ◌≤◌, List, [], ◌∷◌, ◌++◌, length, take, drop, refl, ap, ap₂, sym, ◌∙◌, append-nil, Bool, true, false, cond, arith}
-use Rattle.std.proofs.Math.Seq.{take-length, drop-length}
+use Rattle.std.proofs.Common.{◌≡◌, ℕ, ◌≤◌, List, [], ◌++◌, length, refl, ap, ap₂, sym, ◌∙◌, append-nil, Bool, true, false, cond, arith}
 use Rattle.std.specs.Prelude.{Ok, Err}
 use Rattle.tpkt_x224.specs.declared.tpkt.Packet.{Packet}
 use Rattle.tpkt_x224.specs.declared.tpkt.Packet.TheVariants.{Whole, Part, NotTpkt, BadLength}
 use Rattle.tpkt_x224.specs.Tpkt.{packet_at}
-use Rattle.tpkt_x224.specs.Pieces.{Cut, after_packets, cut_by, cut_from, packets_of}
-use Rattle.tpkt_x224.proofs.Cutting.{once, whole_is_cut}
+use Rattle.tpkt_x224.specs.Pieces.{cut_by, cut_from, packets_of}
+use Rattle.tpkt_x224.proofs.Cutting.{once, one_cut}
 use Rattle.tpkt_x224.proofs.Stream.{starts, none_left}
 use Rattle.conn_rules.specs.declared.conn_step.ConnStep.{ConnStep}
 use Rattle.conn_rules.specs.Answers.{Judged}
@@ -33,15 +32,6 @@ rest_by false h e = ap (with_part h) (sym e)
 
 no_rest : (h : Hearing) → h.part ≡ [] → with_rest h [] ≡ h
 no_rest h e = rest_by (is_over h.stage) h e
-
-abbrev cut_of : List ℕ → Cut
-cut_of bytes = record { packets = bytes ∷ []; rest = [] }
-
-one_cut : (bytes : List ℕ) (n : ℕ) → packet_at bytes ≡ Whole n → n ≡ length bytes → packets_of bytes ≡ cut_of bytes
-one_cut bytes n p e =
-    whole_is_cut bytes n p
-    ∙ ap (λ first. after_packets (first ∷ []) (packets_of (drop n bytes))) (ap (λ k. take k bytes) e ∙ take-length bytes)
-    ∙ ap (λ left. after_packets (bytes ∷ []) (packets_of left)) (ap (λ k. drop k bytes) e ∙ drop-length bytes)
 
 judged_between : (h : Hearing) (p : List ℕ) (j : Judged) → (judged_heard h p j).after.part ≡ []
 judged_between h p (Ok answer) = refl

@@ -1,5 +1,5 @@
 -- How a connection is kept.
-use Rattle.std.specs.Prelude.{◌≡◌, ◌≤◌, ℕ, ◌+◌, ◌*◌, true, List, [], ◌∷◌}
+use Rattle.std.specs.Prelude.{◌≡◌, ◌≤◌, ℕ, true, List, []}
 use Rattle.tpkt_x224.specs.declared.tpkt.Packet.TheVariants.{Part}
 use Rattle.tpkt_x224.specs.Tpkt.{packet_at}
 use Rattle.tpkt_x224.specs.Pieces.{packets_of}
@@ -25,11 +25,3 @@ pub record IsStanding (h : Hearing) : Type 0 where
   pub over : is_over h.stage ≡ true → h.part ≡ []
   pub wide : h.size.w ≤ 65535
   pub high : h.size.h ≤ 65535
-
--- how many bytes there must be before more can be said: the header, and behind it the packet
-abbrev pub wanted_length : List ℕ → ℕ
-wanted_length [] = 4
-wanted_length (v ∷ []) = 4
-wanted_length (v ∷ r ∷ []) = 4
-wanted_length (v ∷ r ∷ h ∷ []) = 4
-wanted_length (v ∷ r ∷ h ∷ l ∷ carried) = 256 * h + l

@@ -6,7 +6,7 @@ ghost use Rattle.tpkt_x224.specs.Tpkt.{packet_at};
 ghost use Rattle.conn_rules.specs.Hearing.{is_over, judged_heard, heard};
 ghost use Rattle.conn_rules.specs.Packets.{packet_judged};
 ghost use Rattle.conn_core.specs.Feeds.{Appends, AppendsSome};
-ghost use Rattle.conn_core.specs.Stream.{hearing, refused_talk, part_heard, IsStanding, wanted_length};
+ghost use Rattle.conn_core.specs.Stream.{hearing, refused_talk, part_heard, IsStanding};
 ghost use Rattle.conn_core.specs.Judges.{IsWritable};
 
 use crate::fault::Fault;
@@ -17,11 +17,9 @@ use crate::talk::Talk;
 use crate::told::tell;
 use conn_rules::{Answer, ConnStep, Stage};
 use input_pdu::Event;
-use tpkt_x224::{Packet, next_packet};
+use tpkt_x224::{Packet, lacking, next_packet};
 use wire_num::OutOfMemory;
 
-/// The bytes of a TPKT header.
-const TPKT_SIZE: usize = 4;
 /// The place of a packet's length in it.
 const LENGTH: u64 = 2;
 
@@ -60,6 +58,7 @@ pub fn hear(
 }
 
 /// Hears the first bytes: as many as the part of a packet that is there lacks, or all of them. Gives how many they are.
+#[tactic(auto, using(tpkt_x224::proofs::Wanted::alone))]
 fn hear_some(
     talk: &mut Talk,
     part: &mut Vec<u8>,
@@ -96,26 +95,6 @@ fn is_over(stage: Stage) -> bool
         | Stage::Joins { .. }
         | Stage::Shares { .. } => false,
         Stage::Over | Stage::Refused { .. } => true,
-    }
-}
-
-/// How many bytes the header of a packet lacks, or, behind it, the packet.
-#[tactic(auto, using(crate::proofs::Wanted::lacks))]
-fn lacking(part: &[u8]) -> usize
-    requires { packet_at part.now ≡ Part }
-    ensures wanted { result + length part.now ≡ wanted_length part.now }
-    ensures some { 0 < result }
-{
-    wanted_length(part) - part.len()
-}
-
-/// How many bytes there must be before more can be said: the header, and behind it the packet.
-fn wanted_length(part: &[u8]) -> usize
-    ensures { result ≡ wanted_length part.now }
-{
-    match part {
-        [_, _, high, low, ..] => usize::from(*high) * 256 + usize::from(*low),
-        _ => TPKT_SIZE,
     }
 }
 

@@ -1,5 +1,5 @@
 pub mod Pieces
 pub mod Packet
 pub mod Orders
-mod Cut
+pub mod Cut
 mod Indication

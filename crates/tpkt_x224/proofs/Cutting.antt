@@ -2,6 +2,7 @@
 use Rattle.std.proofs.Common.{◌≡◌, ℕ, zero, suc, ◌-◌, ◌≤◌, List, [], ◌∷◌, ◌++◌, length, take, drop, refl, ap, sym, ◌∙◌, arith, length-drop, append-nil, append_assoc}
 use Rattle.std.specs.Prelude.{flat_map}
 use Rattle.std.proofs.lemmas.List.{take-append-le, drop-append-le}
+use Rattle.std.proofs.Math.Seq.{take-length, drop-length}
 use Rattle.tpkt_x224.specs.declared.tpkt.Packet.{Packet}
 use Rattle.tpkt_x224.specs.declared.tpkt.Packet.TheVariants.{Whole, Part, NotTpkt, BadLength}
 use Rattle.tpkt_x224.specs.Tpkt.{packet_at}
@@ -41,6 +42,16 @@ pub whole_is_cut : (bytes : List ℕ) (n : ℕ) → packet_at bytes ≡ Whole n 
 whole_is_cut bytes n e =
     once bytes ∙ ap (λ p. cut_by p bytes (λ after. cut_from (length bytes) after)) e
     ∙ ap (after_packets (take n bytes ∷ [])) (enough (length bytes) (length (drop n bytes)) (drop n bytes) (omega (arith, length-drop n bytes)) (omega arith))
+
+-- one packet, and nothing behind it
+abbrev pub one_packet : List ℕ → Cut
+one_packet bytes = record { packets = bytes ∷ []; rest = [] }
+
+pub one_cut : (bytes : List ℕ) (n : ℕ) → packet_at bytes ≡ Whole n → n ≡ length bytes → packets_of bytes ≡ one_packet bytes
+one_cut bytes n p e =
+    whole_is_cut bytes n p
+    ∙ ap (λ first. after_packets (first ∷ []) (packets_of (drop n bytes))) (ap (λ k. take k bytes) e ∙ take-length bytes)
+    ∙ ap (λ left. after_packets (bytes ∷ []) (packets_of left)) (ap (λ k. drop k bytes) e ∙ drop-length bytes)
 
 join_by : (p : Packet) (k : ℕ) (xs ys : List ℕ) → packet_at xs ≡ p → length xs ≤ suc k →
     ((bs : List ℕ) → length bs ≤ k → packets_of (bs ++ ys) ≡ after_packets (cut_from k bs).packets (packets_of ((cut_from k bs).rest ++ ys))) →

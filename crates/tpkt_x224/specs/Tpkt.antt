@@ -46,3 +46,11 @@ after_version (r ∷ h ∷ l ∷ carried) = packet_of_length (256 * h + l) (leng
 abbrev pub packet_at : List ℕ → Packet
 packet_at [] = Part
 packet_at (v ∷ bs) = if v == 3 then after_version bs else NotTpkt
+
+-- how many bytes of a stream must be there before more can be said of its head: the header, and behind it the packet
+abbrev pub wanted_length : List ℕ → ℕ
+wanted_length [] = 4
+wanted_length (v ∷ []) = 4
+wanted_length (v ∷ r ∷ []) = 4
+wanted_length (v ∷ r ∷ h ∷ []) = 4
+wanted_length (v ∷ r ∷ h ∷ l ∷ carried) = 256 * h + l

@@ -15,4 +15,4 @@ pub use data::data_header;
 pub use laws::packets_are_read_exactly;
 pub use pieces::{heads_of_streams, packets_in_any_pieces};
 pub use request::{Request, read_request};
-pub use tpkt::{Packet, next_packet};
+pub use tpkt::{Packet, lacking, next_packet};

@@ -7,8 +7,9 @@
 //! | 2 | 2 | packet length | big-endian, of the whole packet, at least 7 |
 //! | 4 | | TPDU | |
 
-ghost use Rattle.std.specs.Prelude.{◌≡◌, ◌<◌, ◌^◌};
-ghost use Rattle.tpkt_x224.specs.Tpkt.{packet_at, packet_of_length};
+ghost use Rattle.std.specs.Prelude.{◌≡◌, ◌<◌, ◌+◌, ◌^◌, length};
+ghost use Rattle.tpkt_x224.specs.Tpkt.{packet_at, packet_of_length, wanted_length};
+ghost use Rattle.tpkt_x224.specs.declared.tpkt.Packet.TheVariants.{Part};
 
 /// The first byte of a packet.
 const VERSION: u8 = 3;
@@ -55,5 +56,25 @@ fn packet_of_length(length: usize, carried: usize) -> Packet
         Packet::Part
     } else {
         Packet::Whole(length)
+    }
+}
+
+/// How many bytes the header of a packet lacks, or, behind it, the packet: with no more bytes than these no second packet begins.
+#[tactic(auto, using(crate::proofs::Wanted::lacks))]
+pub fn lacking(part: &[u8]) -> usize
+    requires { packet_at part.now ≡ Part }
+    ensures wanted { result + length part.now ≡ wanted_length part.now }
+    ensures some { 0 < result }
+{
+    wanted_length(part) - part.len()
+}
+
+/// How many bytes there must be before more can be said: the header, and behind it the packet.
+fn wanted_length(part: &[u8]) -> usize
+    ensures { result ≡ wanted_length part.now }
+{
+    match part {
+        [_, _, high, low, ..] => usize::from(*high) * 256 + usize::from(*low),
+        _ => HEADER_SIZE,
     }
 }

@@ -1,9 +1,8 @@
 -- How many bytes a packet lacks.
 use Rattle.std.proofs.Common.{◌≡◌, ℕ, ◌+◌, ◌*◌, ◌<◌, ◌≤◌, List, [], ◌∷◌, ◌++◌, length, length-append, arith}
 use Rattle.tpkt_x224.specs.declared.tpkt.Packet.TheVariants.{Whole, Part, NotTpkt}
-use Rattle.tpkt_x224.specs.Tpkt.{packet_at, after_version}
+use Rattle.tpkt_x224.specs.Tpkt.{packet_at, after_version, wanted_length}
 use Rattle.tpkt_x224.proofs.Heads.{of_length_whole, of_length_part, right_version, whole_bounds}
-use Rattle.conn_core.specs.Stream.{wanted_length}
 
 not_part : Part ≡ NotTpkt → ⊥
 not_part e = cc
