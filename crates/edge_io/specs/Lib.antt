@@ -9,3 +9,5 @@ pub mod PlannedSink
 pub mod PlannedGate
 pub mod Reading
 pub mod Finding
+pub mod Dial
+pub mod PlannedDial

@@ -4,12 +4,14 @@
 
 mod buffer;
 mod bytes;
+mod dial;
 mod file_in;
 mod file_out;
 mod gate;
 mod keep;
 pub mod laws;
 mod link;
+mod mem_dial;
 mod mem_link;
 mod plan;
 mod plan_gate;
@@ -20,11 +22,13 @@ mod sink;
 mod source;
 
 pub use bytes::Bytes;
+pub use dial::Dial;
 pub use file_in::FileIn;
 pub use file_out::FileOut;
 pub use gate::{Gate, Next};
 pub use keep::Keep;
 pub use link::Link;
+pub use mem_dial::MemDial;
 pub use mem_link::MemLink;
 pub use plan_gate::PlanGate;
 pub use plan_sink::PlanSink;

@@ -1,7 +1,7 @@
 ghost use Rattle.std.specs.Prelude.{◌≡◌, ◌==◌};
 ghost use Rattle.std.specs.Bool.{OnTrue};
 ghost use Rattle.std.specs.List.{list_any};
-ghost use Rattle.edge_io.specs.Faults.{Rose};
+ghost use Rattle.edge_io.specs.Faults.{Rose, raised};
 ghost use Rattle.edge_io.specs.Plan.{CallPlan, new_plan, next_fails, plan_after_call};
 
 use std::alloc::AllocError;
@@ -44,6 +44,14 @@ impl Plan {
             self.faults = self.faults.saturating_add(1);
         }
         fails
+    }
+
+    /// Counts one more fault.
+    pub fn count_fault(&mut self)
+        ensures after { self.new ≡ record self.old { faults = raised self.old.faults } }
+        ensures rose { Rose self.old.faults self.new.faults }
+    {
+        self.faults = self.faults.saturating_add(1);
     }
 }
 

@@ -29,3 +29,14 @@ pub record GateCounts : Type 0 where
 -- a gate before any call
 abbrev pub closed_gate : GateCounts
 closed_gate = record { given = []; finished = []; asked = None; ended = false; faults = 0 }
+
+-- the connections given and what came back of them, the port that was asked for last, and how often asking has failed
+pub record DialCounts : Type 0 where
+  pub given : List LinkCounts
+  pub finished : List LinkCounts
+  pub asked : Option ℕ
+  pub faults : ℕ
+
+-- before any call
+abbrev pub new_dial : DialCounts
+new_dial = record { given = []; finished = []; asked = None; faults = 0 }

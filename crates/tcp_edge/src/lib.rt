@@ -1,6 +1,7 @@
 //! Sockets as links and a gate: the clients that connect to a port, over the system's TCP (profile).
 #![tactic(auto)]
 
+mod dial;
 mod gate;
 mod limits;
 mod link;
@@ -9,6 +10,7 @@ mod reader;
 mod refusal;
 mod writer;
 
+pub use dial::TcpDial;
 pub use gate::TcpGate;
 pub use limits::{LIMITS, Limits};
 pub use link::{TcpLink, TcpSpent};
