@@ -1,4 +1,4 @@
-ghost use Rattle.std.specs.Prelude.{◌<◌, List, ℕ, length};
+ghost use Rattle.std.specs.Prelude.{◌≡◌, ◌<◌, List, ℕ, length};
 ghost use Rattle.std.specs.declared.option.Option.{Option};
 
 /// What a read gave.
@@ -28,4 +28,10 @@ pub trait Source {
         ensures count { FitsRoom result (length buf.old) }
         ensures bytes { Takes (left self.old) (left self.new) result buf.new }
         ensures cause { ReadCause result (faults self.old) (faults self.new) };
+
+    /// From now on a read may wait for as long as it takes. A source whose reads have no limit of time does nothing.
+    fn lift_limit(&mut self)
+        ensures left { left self.new ≡ left self.old }
+        ensures faults { faults self.new ≡ faults self.old }
+    {}
 }
