@@ -1,4 +1,4 @@
-ghost use Rattle.std.specs.Prelude.{◌≡◌, IfOk, IfSome};
+ghost use Rattle.std.specs.Prelude.{◌≡◌, ◌<◌, ◌≤◌, vec_len, vec_capacity, true, IfOk, IfSome};
 ghost use Rattle.tcp_edge.specs.Counts.{fresh, new_dial};
 
 use crate::limits::{LIMITS, Limits};
@@ -8,17 +8,15 @@ use std::alloc::Global;
 use std::marker::Model;
 use std::net::{Ipv4Addr, Net, SocketAddr, SocketAddrV4, TcpStream};
 
-/// The most links that are handed out.
-const MOST_LINKS: u16 = 65_535;
-
-/// Ports of this machine, over its loopback interface.
+/// Ports of this machine, over its loopback interface. Before a link is handed out there is room for what is left of it, so taking
+/// it back needs no memory.
 #[derive(Drop)]
 pub struct TcpDial<'a, R: Net<Stream = TcpStream>> {
     rt: &'a R,
     limits: Limits,
     asked: Option<u16>,
-    given: u16,
-    // With room for each link.
+    given: usize,
+    // With room for each link that was given.
     finished: Vec<TcpSpent>,
     faults: u64,
 }
@@ -31,11 +29,11 @@ impl<'a, R: Net<Stream = TcpStream>> Model for TcpDial<'a, R> {
 
     ghost view = { λ d. record { given = all_fresh d.given; finished = d.finished.items; asked = d.asked; faults = d.faults } };
 
-    ghost invariant = { λ d. (65535 ≤ vec_capacity d.finished) × (vec_len d.finished ≤ d.given) };
+    ghost invariant = { λ d. (d.given ≤ vec_capacity d.finished) × (vec_len d.finished ≤ d.given) };
 }
 
 impl<'a, R: Net<Stream = TcpStream>> TcpDial<'a, R> {
-    /// Before any call, with room for what is left of 65,535 links, and the limits `LIMITS`.
+    /// Before any call, with the limits `LIMITS`, and room for what is left of one link.
     pub fn new(rt: &'a R, alloc: Global) -> Result<TcpDial<'a, R>, OutOfMemory>
         ensures { IfOk result (λ d. d ≡ new_dial) }
     {
@@ -44,7 +42,7 @@ impl<'a, R: Net<Stream = TcpStream>> TcpDial<'a, R> {
             limits: LIMITS,
             asked: None,
             given: 0,
-            finished: Vec::with_capacity(alloc, MOST_LINKS as usize)?,
+            finished: Vec::with_capacity(alloc, 1)?,
             faults: 0,
         })
     }
@@ -63,7 +61,7 @@ impl<'a, R: Net<Stream = TcpStream>> Dial for TcpDial<'a, R> {
 
     fn dial(&mut self, port: u16) -> Option<TcpLink> {
         self.asked = Some(port);
-        if self.given < MOST_LINKS {
+        if makes_room(&mut self.finished, self.given) {
             if let Some(link) = link_to(self.rt, port, &self.limits) {
                 self.given += 1;
                 return Some(link);
@@ -78,7 +76,23 @@ impl<'a, R: Net<Stream = TcpStream>> Dial for TcpDial<'a, R> {
     }
 }
 
-/// A connection to a port of this machine; None where nobody takes it, or the system has no handle for it.
+/// Makes room for what is left of one more than `given` links, and says whether there is.
+fn makes_room(finished: &mut Vec<TcpSpent>, given: usize) -> bool
+    requires { vec_len finished.old ≤ given }
+    ensures items { finished.new.items ≡ finished.old.items }
+    ensures kept { vec_capacity finished.old ≤ vec_capacity finished.new }
+    ensures room { result ≡ true → given < vec_capacity finished.new }
+{
+    if given < finished.capacity() {
+        return true;
+    }
+    match (given - finished.len()).checked_add(1) {
+        Some(more) => finished.reserve(more).is_ok(),
+        None => false,
+    }
+}
+
+/// A connection to a port of this machine; `None` where nobody takes it, or the system has no handle for it.
 fn link_to<R: Net<Stream = TcpStream>>(rt: &R, port: u16, limits: &Limits) -> Option<TcpLink>
     ensures { IfSome result (λ l. l ≡ fresh) }
 {

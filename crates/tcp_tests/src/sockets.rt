@@ -1,7 +1,7 @@
 //! One gate and one client each.
 ghost use Rattle.std.specs.Prelude.{IsSome};
 
-use edge_io::{Gate, Got, Link, Next, Sink, Source, Wrote};
+use edge_io::{Dial, Gate, Got, Link, Next, Sink, Source, Wrote};
 use std::alloc::Global;
 use std::io::{Read, Write};
 use std::net::{Ipv4Addr, Net, SocketAddr, SocketAddrV4, TcpListener, TcpStream};
@@ -9,7 +9,7 @@ use std::process::Abort;
 use std::test::Fail;
 use std::thread;
 use std::time::{Clock, Duration};
-use tcp_edge::{Limits, TcpGate, TcpLink};
+use tcp_edge::{Limits, TcpDial, TcpGate, TcpLink};
 
 /// Limits that a test can wait for.
 const SHORT: Limits = Limits {
@@ -145,5 +145,48 @@ fn a_gate_ends_after_its_links_and_refuses_who_comes_later(rt: HostRuntime) -> R
     assert_eq!(rt; gate.port(), 0);
     let address = SocketAddr::V4(SocketAddrV4::new(Ipv4Addr::LOCALHOST, port));
     assert!(rt; TcpStream::connect(&rt, address).is_err());
+    Ok(())
+}
+
+/// The viewer's last words are small and its host has said what it doesn't read; they arrive before the end all the same.
+#[test]
+fn a_dialled_link_reaches_the_gate_and_comes_back(rt: HostRuntime) -> Result<(), Fail> {
+    let mut gate = open(&rt);
+    let mut dial = TcpDial::new(&rt, rt.alloc())?;
+    let Some(dialled) = dial.dial(gate.port()) else {
+        panic!(rt; "an open port");
+    };
+    let (mut reader, mut writer) = next_link(&rt, &mut gate).split();
+    let (near, mut out) = dialled.split();
+    assert_eq!(rt; out.write_all(b"request"), Wrote::All);
+    let mut buf = [0u8; 16];
+    assert_eq!(rt; reader.read(&mut buf), Got::Bytes(7));
+    assert_eq!(rt; writer.write_all(&[7u8; 100_000]), Wrote::All);
+    let ((), got) = thread::join(
+        &rt,
+        || {
+            out.write_all(b"ultimatum");
+            dial.done(TcpLink::close(near, out));
+        },
+        || reader.read(&mut buf),
+    );
+    assert_eq!(rt; got, Got::Bytes(9));
+    assert_eq!(rt; buf[..9], b"ultimatum"[..]);
+    assert_eq!(rt; reader.read(&mut buf), Got::End);
+    Ok(())
+}
+
+/// The port was open a moment before.
+#[test]
+fn a_port_that_nobody_has_is_a_fault_and_the_next_may_be_dialled(
+    rt: HostRuntime,
+) -> Result<(), Fail> {
+    let gone = open(&rt);
+    let port = gone.port();
+    drop(gone);
+    let gate = open(&rt);
+    let mut dial = TcpDial::new(&rt, rt.alloc())?;
+    assert!(rt; dial.dial(port).is_none());
+    assert!(rt; dial.dial(gate.port()).is_some());
     Ok(())
 }
