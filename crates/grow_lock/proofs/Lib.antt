@@ -2,4 +2,5 @@ pub mod Lists
 pub mod Moves
 pub mod Passing
 mod Rows
+pub mod Shares
 pub mod Turning

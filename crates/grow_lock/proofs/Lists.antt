@@ -5,6 +5,10 @@ use Rattle.std.proofs.lemmas.Bool.{ltb-true, ltb-false}
 use Rattle.std.proofs.lemmas.List.FromFn.{length-range_with_len, get_or-range_with_len}
 use Rattle.grow_lock.specs.Journal.{StartsWith, longer, added_places}
 
+-- an empty list has no place
+pub none_has : (n : ℕ) → Contains [] n → ⊥
+none_has n has = let f = has.1 in absurd (omega arith)
+
 module _ {E : Type 0} where
   -- a list begins with itself
   pub starts_itself : (xs : List E) → StartsWith xs xs
@@ -92,3 +96,11 @@ module _ {E : Type 0} where
       let room : k < count = omega (arith, below, length-range_with_len (length before) count) in
       let at : length before + k ≡ n = sym (get_or-range_with_len (length before) count k n room) ∙ is in
       (omega (arith, at), omega (arith, at, room, le))
+
+  -- and each such place is a place that it gained
+  pub added_places_all : (before list : List E) (n : ℕ) → length before ≤ n → n < length list → Contains (added_places before list) n
+  added_places_all before list n le lt =
+      let count : ℕ = length list - length before in
+      let k : ℕ = n - length before in
+      let room : k < count = omega (arith, le, lt) in
+      (k, omega (arith, room, length-range_with_len (length before) count), get_or-range_with_len (length before) count k n room ∙ omega (arith, le))

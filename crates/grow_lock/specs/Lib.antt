@@ -3,4 +3,5 @@ pub mod Lending
 pub mod Notes
 pub mod Passes
 pub mod Rule
+pub mod Shares
 pub mod Steps

@@ -2,6 +2,7 @@
 use Rattle.std.specs.Prelude.{List, [], ◌++◌, Option, None, Bool, true, false}
 use Rattle.grow_lock.specs.Journal.{longer}
 use Rattle.grow_lock.specs.declared.notes.Notes.{Notes}
+use Rattle.grow_lock.specs.Shares.{Share, nothing, left_half, right_half, both}
 use Rattle.grow_lock.specs.declared.notes.Stage.{Stage}
 use Rattle.grow_lock.specs.declared.notes.Stage.TheVariants.{Out, Taken, Measured, Published, Joined}
 
@@ -22,15 +23,19 @@ base_of Published = []
 base_of (Joined seen other_seen mine other_mine) = []
 
 module _ {H E : Type 0} where
-  -- a seat that has seen this list, and was never in turn
-  abbrev pub fresh_notes : Option H → List E → Notes H E
-  fresh_notes head seen = record { head = head; stage = Out; seen = seen; found = []; mine = [] }
+  -- a seat that has seen this list, was never in turn, and has this share
+  abbrev pub fresh_notes : Option H → List E → Share → Notes H E
+  fresh_notes head seen share = record { head = head; stage = Out; seen = seen; found = []; mine = []; part = record { share = share } }
 
-  -- the further seat that is split off: it has seen the same
+  -- the seat that a further one is split off from: it has the left half of its share
+  abbrev pub kept_notes : Notes H E → Notes H E
+  kept_notes notes = record notes { part = record { share = left_half notes.part.share } }
+
+  -- the further seat that is split off: it has seen the same, and has the right half of the share
   abbrev pub split_notes : Notes H E → Notes H E
-  split_notes notes = fresh_notes notes.head notes.seen
+  split_notes notes = fresh_notes notes.head notes.seen (right_half notes.part.share)
 
-  -- the seat that takes in another: the longer `seen`, and the turns of both
+  -- the seat that takes in another: the longer `seen`, and the turns and the shares of both
   abbrev pub joined_notes : Notes H E → Notes H E → Notes H E
   joined_notes notes other = record {
     head = notes.head;
@@ -38,8 +43,9 @@ module _ {H E : Type 0} where
     seen = longer notes.seen other.seen;
     found = notes.found ++ other.found;
     mine = notes.mine ++ other.mine;
+    part = record { share = both notes.part.share other.part.share };
   }
 
   -- the seat that was taken in
   abbrev pub spent_notes : Notes H E
-  spent_notes = fresh_notes None []
+  spent_notes = fresh_notes None [] nothing

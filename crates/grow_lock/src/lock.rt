@@ -1,7 +1,9 @@
 //! The lock.
-ghost use Rattle.std.specs.Prelude.{◌≡◌, ◌++◌, ◌∷◌, [], length, IfOk, Some};
+ghost use Rattle.std.specs.Prelude.{◌≡◌, ℕ, ◌<◌, ◌≤◌, ◌++◌, ◌∷◌, [], length, Contains, IfOk, Some};
+ghost use Rattle.std.specs.Slots.{slots_len, IsFull};
 ghost use Rattle.grow_lock.specs.Journal.{StartsWith, IsDisjoint, added_places, longer};
 ghost use Rattle.grow_lock.specs.Passes.{IsPassOf, pass_of, pass_after_entering};
+ghost use Rattle.grow_lock.specs.Shares.{left_half, right_half, both, IsWhole};
 ghost use Rattle.grow_lock.specs.Steps.{HasTaken};
 
 use crate::OutOfMemory;
@@ -14,7 +16,7 @@ use crate::steps::{
     FreeTurn, JoinSeat, PublishLength, ReadJoined, ReadLength, SplitSeat, TakeTurn,
 };
 use crate::turn::Turn;
-use atomic_table::{Refused, Table};
+use atomic_table::{Closed, Refused, Table};
 use std::alloc::Global;
 use std::hint;
 use std::marker::Model;
@@ -26,7 +28,7 @@ use std::sync::atomic::{AtomicU64, Ordering};
 const TRIES: u64 = 100;
 
 /// A lock round a value that only grows. Threads share it by reference, each with a pass of its own. Contracts see
-/// which lock it is, and the head of its value.
+/// which lock it is, the head of its value, and the list of the value that it was made with.
 #[derive(Drop)]
 pub struct GrowLock<T: Grows> {
     table: Table<Option<T>, Notes<T::Head, T::Entry>, Snapshot<T>, LockRule<T>, Global>,
@@ -40,19 +42,21 @@ impl<T: Grows> Model for GrowLock<T> {
     ghost use Rattle.std.specs.Prelude.{◌≡◌};
     ghost use Rattle.grow_lock.specs.Passes.{LockModel};
 
-    ghost Value = { LockModel T.Head };
+    ghost Value = { LockModel T.Head T.Entry };
 
-    ghost view = { λ l. record { id = l.table.shared.table_id; head = T.head l.table.shared.key.value } };
+    ghost view = { λ l. record { id = l.table.shared.table_id; head = T.head l.table.shared.key.value; first = T.list l.table.shared.key.value } };
 
     ghost invariant = { λ l. (l.table.shared.table_id.words ≡ 2) × (l.table.shared.table_id.slots ≡ 1) };
 }
 
 impl<T: Grows> GrowLock<T> {
     /// A lock round the value, whose head is the lock's head from now on, and its first pass, which has seen the whole
-    /// list. After an `Err` the value is dropped.
+    /// list and has the whole lock as its share. After an `Err` the value is dropped.
     pub fn new(alloc: Global, value: T) -> Result<(GrowLock<T>, Pass<T>), OutOfMemory>
         ensures head { IfOk result (λ made. made.0.head ≡ T.head value) }
+        ensures first { IfOk result (λ made. made.0.first ≡ T.list value) }
         ensures pass { IfOk result (λ made. IsPassOf made.0 made.1 × (made.1.seen ≡ T.list value) × (made.1.found ≡ []) × (made.1.mine ≡ [])) }
+        ensures share { IfOk result (λ made. IsWhole made.1.share) }
     {
         let about = Snapshot::of(&value);
         let count = value.ready();
@@ -80,6 +84,7 @@ impl<T: Grows> GrowLock<T> {
         ensures seen { result.pass.seen ≡ pass.seen }
         ensures found { result.pass.found ≡ pass.found ++ length result.base ∷ [] }
         ensures mine { result.pass.mine ≡ pass.mine }
+        ensures share { result.pass.share ≡ pass.share }
     {
         let Pass { mut seat, count: _ } = pass;
         let shared = &self.table.shared;
@@ -136,6 +141,7 @@ impl<T: Grows> GrowLock<T> {
         ensures seen { result.seen ≡ T.list turn.value }
         ensures found { result.found ≡ turn.pass.found }
         ensures mine { result.mine ≡ turn.pass.mine ++ added_places turn.base (T.list turn.value) }
+        ensures share { result.share ≡ turn.pass.share }
     {
         let Turn { value, mut seat } = turn;
         let shared = &self.table.shared;
@@ -153,22 +159,23 @@ impl<T: Grows> GrowLock<T> {
         Pass { seat, count }
     }
 
-    /// A further pass of this lock, which has seen the same and has never entered. Does not wait, and takes no memory:
-    /// the number of passes has no bound.
+    /// A further pass of this lock, which has seen the same and has never entered. Each of the two has one half of the
+    /// share. Does not wait, and takes no memory: the number of passes has no bound.
     pub fn split(&self, pass: &mut Pass<T>) -> Pass<T>
         requires { IsPassOf self.now pass.old }
-        ensures unchanged { pass.new ≡ pass.old }
+        ensures unchanged { pass.new ≡ record pass.old { share = left_half pass.old.share } }
         ensures lock { IsPassOf self.now result }
         ensures seen { result.seen ≡ pass.old.seen }
         ensures found { result.found ≡ [] }
         ensures mine { result.mine ≡ [] }
+        ensures share { result.share ≡ right_half pass.old.share }
     {
         let count = pass.count;
         let seat = self.table.shared.split_seat::<SplitSeat>(&mut pass.seat);
         Pass { seat, count }
     }
 
-    /// The pass that has seen what both have, with the turns of both. The shorter of what they have seen begins the
+    /// The pass that has seen what both have, with the turns and the shares of both. The shorter of what they have seen begins the
     /// longer, and no place was added by both. Does not wait, and takes no memory.
     pub fn meet(&self, from: Pass<T>, into: Pass<T>) -> Pass<T>
         requires from { IsPassOf self.now from }
@@ -177,6 +184,7 @@ impl<T: Grows> GrowLock<T> {
         ensures seen { (result.seen ≡ longer into.seen from.seen) × StartsWith result.seen into.seen × StartsWith result.seen from.seen }
         ensures found { result.found ≡ into.found ++ from.found }
         ensures mine { (result.mine ≡ into.mine ++ from.mine) × IsDisjoint into.mine from.mine }
+        ensures share { result.share ≡ both into.share from.share }
     {
         let Pass {
             seat: other,
@@ -206,13 +214,32 @@ impl<T: Grows> GrowLock<T> {
         self.news.sleep(rt, rings);
     }
 
-    /// Enters a last time, and gives the value. Waits as `enter` does.
+    /// Enters a last time, and gives the value. The pass has the whole lock as its share, so there is no other: each
+    /// entry behind those that the lock was made with was appended in a turn of this pass, or of one that it met. Waits
+    /// as `enter` does.
     pub fn close<R: Wait>(self, rt: &R, pass: Pass<T>) -> T
-        requires { IsPassOf self pass }
+        requires lock { IsPassOf self pass }
+        requires whole { IsWhole pass.share }
         ensures head { T.head result ≡ self.head }
         ensures list { StartsWith (T.list result) pass.seen }
+        ensures begins { StartsWith (T.list result) self.first }
+        ensures all { (n : ℕ) → length self.first ≤ n → n < length (T.list result) → Contains pass.mine n }
     {
-        let Turn { value, seat: _ } = self.enter(rt, pass);
+        let Turn { value, seat } = self.enter(rt, pass);
+        let GrowLock {
+            table,
+            waiting: _,
+            news: _,
+        } = self;
+        free(table.close_with(seat));
         value
     }
+}
+
+// Frees the table's memory. The value of its slot is dropped.
+fn free<T: Drop>(mut closed: Closed<Option<T>, Global>)
+    requires { (slots_len closed.slots ≡ 1) × IsFull closed.slots }
+{
+    drop(closed.take(0));
+    closed.free();
 }

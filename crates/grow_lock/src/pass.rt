@@ -7,7 +7,7 @@ use std::marker::Model;
 
 /// The right to enter one lock. It may move to another thread. Contracts see its lock's head and three lists: `seen`,
 /// the list as far as it has seen it; `found`, the lengths that its enters found; `mine`, the places of the entries
-/// that were appended in its turns.
+/// that were appended in its turns. They also see its `share`: which part of the lock it has, and no other pass.
 #[derive(Drop)]
 pub struct Pass<T: Grows> {
     pub(crate) seat: Place<T>,
@@ -16,10 +16,14 @@ pub struct Pass<T: Grows> {
 
 impl<T: Grows> Model for Pass<T> {
     ghost use Rattle.std.specs.Prelude.{◌≡◌, [], length};
+    ghost use Rattle.std.specs.Coded.{codes};
     ghost use Rattle.grow_lock.specs.Passes.{PassModel, pass_of};
+    ghost use Rattle.grow_lock.specs.Shares.{share_coded};
     ghost use Rattle.grow_lock.specs.declared.notes.Stage.TheVariants.{Out};
 
     ghost Value = { PassModel T.Head T.Entry };
+
+    ghost coded = { Prim.hlevel (codes, share_coded) };
 
     ghost view = { λ p. pass_of p.seat.table_id p.seat.me.0 };
 

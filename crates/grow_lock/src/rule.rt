@@ -34,11 +34,12 @@ pub struct LockRule<T> {
 impl<T: Grows> TableRule<Option<T>, Notes<T::Head, T::Entry>, Snapshot<T>> for LockRule<T> {
     ghost use Rattle.std.specs.Prelude.{Some};
     ghost use Rattle.grow_lock.specs.Notes.{fresh_notes};
+    ghost use Rattle.grow_lock.specs.Shares.{whole};
     ghost use Rattle.grow_lock.specs.Rule.{IsKept};
 
-    ghost holds = { λ key. IsKept T.head T.list (T.head key.value) };
+    ghost holds = { λ key. IsKept T.head T.list (T.head key.value) (T.list key.value) };
 
-    ghost first = { λ key. fresh_notes (Some (T.head key.value)) (T.list key.value) };
+    ghost first = { λ key. fresh_notes (Some (T.head key.value)) (T.list key.value) whole };
 }
 
 /// A seat at the lock's table.

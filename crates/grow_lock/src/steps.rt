@@ -9,9 +9,9 @@
 //! | 4 | `PublishLength` | word `LENGTH`, store | `seen` and `mine` |
 //! | 5 | `exchange`, of the table | slot `VALUE` | nothing: the value moves home |
 //! | 6 | `FreeTurn` | word `TURN`, store of 0 | it is out of turn, and gives the slot back |
-//! | 7 | `SplitSeat` | loads word `TURN` | the new seat has the same `seen` |
-//! | 8 | `JoinSeat` | loads word `TURN` | one seat has the lists of both, the other is spent |
-ghost use Rattle.grow_lock.specs.Notes.{split_notes, joined_notes, spent_notes};
+//! | 7 | `SplitSeat` | loads word `TURN` | each has half the share, the new seat the same `seen` |
+//! | 8 | `JoinSeat` | loads word `TURN` | one seat has the lists and shares of both, the other is spent |
+ghost use Rattle.grow_lock.specs.Notes.{kept_notes, split_notes, joined_notes, spent_notes};
 ghost use Rattle.grow_lock.specs.Steps.{TakesTurn, ReadsLength, PublishesLength, FreesTurn, ReadsJoined};
 
 use crate::grows::Grows;
@@ -53,11 +53,11 @@ impl<T: Grows> Play<Option<T>, Notes<T::Head, T::Entry>> for FreeTurn {
     ghost then = { FreesTurn };
 }
 
-/// Kind 7: a further seat has seen the same.
+/// Kind 7: a further seat has seen the same, and half the share.
 pub struct SplitSeat;
 
 impl<H, E> Split<Notes<H, E>> for SplitSeat {
-    ghost left = { λ v. v };
+    ghost left = { kept_notes };
 
     ghost right = { split_notes };
 }

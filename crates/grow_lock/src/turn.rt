@@ -18,11 +18,15 @@ pub struct Turn<T: Grows> {
 
 impl<T: Grows> Model for Turn<T> {
     ghost use Rattle.std.specs.Prelude.{◌≡◌, [], ◌∷◌, None};
+    ghost use Rattle.std.specs.Coded.{codes};
     ghost use Rattle.grow_lock.specs.Passes.{TurnModel, pass_of};
+    ghost use Rattle.grow_lock.specs.Shares.{share_coded};
     ghost use Rattle.grow_lock.specs.Notes.{base_of};
     ghost use Rattle.grow_lock.specs.declared.notes.Stage.TheVariants.{Measured};
 
     ghost Value = { TurnModel T T.Head T.Entry };
+
+    ghost coded = { Prim.hlevel (codes, share_coded) };
 
     ghost view = { λ t. record { value = t.value; base = base_of t.seat.me.0.stage; pass = pass_of t.seat.table_id t.seat.me.0 } };
 

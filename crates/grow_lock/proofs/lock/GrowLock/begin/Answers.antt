@@ -9,7 +9,7 @@ pub load-requires : goal.load-requires
 load-requires g c = let taken = c.requires.taken in (
   search rules,
   search rules,
-  reads_length g.T.Grows.head g.T.Grows.list _ _ _ _ (taken.2 ∙ sym (ap (λ s. Taken (base_of s)) taken.2)),
+  reads_length g.T.Grows.head g.T.Grows.list _ _ _ _ _ (taken.2 ∙ sym (ap (λ s. Taken (base_of s)) taken.2)),
 )
 
 pub exchange-requires : goal.exchange-requires

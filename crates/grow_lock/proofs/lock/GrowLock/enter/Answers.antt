@@ -9,7 +9,7 @@ pub compare_exchange-requires : goal.compare_exchange-requires
 compare_exchange-requires g c = (
   search rules,
   search rules,
-  takes_turn g.T.Grows.head g.T.Grows.list _ _ _ _ _ (ap (λ p. p.head) c.loop.invariant.0 ∙ c.requires.1) c.loop.invariant.1,
+  takes_turn g.T.Grows.head g.T.Grows.list _ _ _ _ _ _ (ap (λ p. p.head) c.loop.invariant.0 ∙ c.requires.1) c.loop.invariant.1,
 )
 
 pub begin-requires-clause-taken : goal.begin-requires-clause-taken
