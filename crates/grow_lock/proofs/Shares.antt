@@ -1,5 +1,5 @@
 -- Halves of a share are apart and make it up again; what two shares have together is what each of them has.
-use Rattle.std.proofs.Common.{◌≡◌, ◌⊎◌, List, [], ◌∷◌, Bool, true, false, refl, inl, inr, ⊎_elim}
+use Rattle.std.proofs.Common.{◌≡◌, ◌⊎◌, List, [], ◌∷◌, Bool, true, false, refl, ap, ◌∙◌, inl, inr, ⊎_elim}
 use Rattle.std.specs.Prelude.{if◌then◌else◌}
 use Rattle.std.proofs.lemmas.Bool.{false≢true}
 use Rattle.grow_lock.specs.Shares.{Share, nothing, whole, halves, goes_right, onward, covers, left_half, right_half, both, IsWhole, IsHeld, HoldsShare, AreSharesApart}
@@ -106,3 +106,11 @@ holds_trans s t u a b p e = a p (b p e)
 -- who has all of the whole has the whole
 pub whole_held : (s t : Share) → HoldsShare s t → IsWhole t → IsWhole s
 whole_held s t a w p = a p (w p)
+
+-- a share has all of one that it is
+pub holds_same : (s t : Share) → s ≡ t → HoldsShare s t
+holds_same s t same p e = ap (λ (x : Share). covers x p) same ∙ e
+
+-- who has all of both halves of the whole has the whole
+pub whole_of_halves : (w s t : Share) → IsWhole w → HoldsShare s (left_half w) → HoldsShare t (right_half w) → IsWhole (both s t)
+whole_of_halves w s t all a b = whole_held (both s t) w (both_of_halves w s t a b) all
