@@ -4,5 +4,6 @@ pub mod Outsiders
 pub mod Viewed
 pub mod Standing
 pub mod Visits
+mod Dropped
 pub mod Served
 pub mod Reports

@@ -89,6 +89,12 @@ leave_stands size v base j a role ns false place is grows at below is_join of =
     subst (λ (o : Option ℕ). IsLeave v j (a ∷ ns) (option_to_list o)) (sym at)
     (gone.0, is_leave, leave_is_apart v j a gone.0 role ns (got_on j base a (Join v role) ([], grows) is_join) is_leave of)
 
+-- its turn is behind those of the events
+pub leave_behind : (base : List Entry) (here : Bool) (place : Option ℕ) (high : ℕ) → place ≡ leave_place here base → high ≤ length base → All (λ k. high ≤ k) (option_to_list place)
+leave_behind base true place high at le =
+    subst (λ (o : Option ℕ). All (λ k. high ≤ k) (option_to_list o)) (sym at) (All-cons (λ k. high ≤ k) (length base) [] le (All-nil (λ k. high ≤ k)))
+leave_behind base false place high at le = subst (λ (o : Option ℕ). All (λ k. high ≤ k) (option_to_list o)) (sym at) (All-nil (λ k. high ≤ k))
+
 -- its place is behind those of the events
 pub leave_ascends : (v : ℕ) (base j : List Entry) (here : Bool) (place : Option ℕ) → j ≡ base ++ leave_if here v → place ≡ leave_place here base
     → Ascend (length base) (option_to_list place) (length j)

@@ -36,7 +36,7 @@ use Rattle.serve_rules.specs.declared.ends.ConnEnd.{ConnEnd}
 use Rattle.serve_rules.specs.declared.ends.ConnEnd.TheVariants.{Left, Refused, Truncated, NotInvited, RoomFull, JoinsSpent, ReadFault, WriteFault, OutOfMemory}
 use Rattle.serve_rules.specs.declared.told.ConnReport.{ConnReport}
 use Rattle.serve_rules.specs.declared.told.Told.{Told}
-use Rattle.serve_rules.proofs.Handling.{handles_more}
+use Rattle.serve_rules.proofs.Handling.{handles_more, high_stays}
 use Rattle.serve_rules.proofs.Noticing.{events_then}
 use Rattle.serve_rules.proofs.Ascending.{places_ascend, places_are_of_events}
 use Rattle.serve_rules.proofs.Lists.{got_end, within_front, within_back}
@@ -55,11 +55,11 @@ use Rattle.link_run.specs.Links.{link_state}
 use Rattle.link_run.specs.Ending.{is_cut, SaysLast, Writes}
 use Rattle.link_run.specs.Served.{ReportsVisit}
 use Rattle.link_run.specs.Serving.{HasLeftElsewhere, BeginsWith, ServesViewer}
-use Rattle.link_run.proofs.Words.{IsCutShort, Said, said_last, word_of, uncut_before, writes_said}
+use Rattle.link_run.proofs.Words.{IsCutShort, Said, said_last, word_of, uncut_before, writes_said, whole_or_still}
 use Rattle.link_run.proofs.Streams.{IsReadyStream, ready_stream}
 use Rattle.link_run.proofs.Outsiders.{turn_grows, idle_grows, idle_mine}
 use Rattle.link_run.proofs.Viewed.{Viewed, viewed}
-use Rattle.link_run.proofs.Standing.{ascend_below, ascend_then, got_on, leave_stands, leave_ascends, left_before}
+use Rattle.link_run.proofs.Standing.{ascend_below, ascend_then, got_on, leave_stands, leave_behind, leave_ascends, left_before}
 
 -- ---- ends
 
@@ -191,6 +191,8 @@ module _ (head : Head) (p p1 r : SessionPass) (size : Size) (conn : Hearing) (na
       let last_pass : SessionPass = record u { seen = r.seen; found = r.found } in
       let done : Handles head v (events_in view.steps) q last_pass n0.places.list t1.places.list
       = handles_more head v (events_in view.steps) q u last_pass n0.places.list t1.places.list (length c ∷ []) view.handles on_r turn.found refl in
+      let same_high : done.high ≡ view.handles.high
+      = high_stays head v (events_in view.steps) q u last_pass n0.places.list t1.places.list (length c ∷ []) view.handles on_r turn.found refl in
       let ns : List ℕ = places_of head v r.seen done.acts in
       let same_places : places_of head v u.seen view.handles.acts ≡ places_of head v r.seen done.acts
       = append_cancel_left n0.places.list (places_of head v u.seen view.handles.acts) (places_of head v r.seen done.acts) (sym view.handles.places ∙ done.places) in
@@ -267,6 +269,7 @@ module _ (head : Head) (p p1 r : SessionPass) (size : Size) (conn : Hearing) (na
           leave = option_to_list place;
           leaves = leave_stands head.size v c r.seen (length b) role (places_of head v r.seen done.acts) here place refl turn.seen sa.leaves.1.place_is below_c
               (got_on c u.seen (length b) (Join v role) turn.goes_on join_u) of;
+          in_time = leave_behind c here place done.high sa.leaves.1.place_is (omega (arith, same_high, view.handles.within_seen, length_starts c u.seen turn.goes_on));
           places = all_places;
           ascend = subst (λ (l : List ℕ). Ascend (length b) l (length r.seen)) (sym all_places) (
             omega arith,
@@ -299,6 +302,11 @@ module _ (head : Head) (p p1 r : SessionPass) (size : Size) (conn : Hearing) (na
           viewed = view.written;
           viewed_front = record { rest = view.unwritten; joined = same_frames ∙ view.bytes };
           said = s.written;
+          said_front = record { rest = s.unwritten; joined = s.whole };
+          in_order = ⊎_elim
+              (λ (none : view.unwritten ≡ []). inl (sym (same_frames ∙ (view.bytes ∙ (ap (λ l. view.written ++ l) none ∙ append-nil view.written)))))
+              (λ (still : s.written ≡ []). inr still)
+              (whole_or_still visit.end noted.shutdown said view.unwritten mid out2 wm wf2 view.all_written s);
           told = subst (Appends out out2)
               (append_assoc a.written view.written s.written ∙ ap (λ l. l ++ (view.written ++ s.written)) (sym replied))
               (Appends-trans out mid out2 (a.written ++ view.written) s.written (Appends-trans out out1 mid a.written view.written a.told view.told) s.told);

@@ -144,3 +144,12 @@ writes_said end asked said bytes w u link spent mid wf wf' whole told all s = by
           told = Appends-trans link.told mid spent.told w s.written told s.told;
           all = λ free. absurd (not_free (is_cut said) (ap is_cut (uncut_before end asked said mid spent.told wf wf' s free) ∙ e) free);
         }
+
+-- the last word is begun only where all before it was written
+pub whole_or_still : (end : ConnEnd) (asked : Bool) (said : ConnEnd) (u : List ℕ) (out out' : Option (List ℕ)) (wf wf' : ℕ) → (is_cut end ≡ false → u ≡ [])
+    → (s : Said end asked said out out' wf wf') → (u ≡ []) ⊎ (s.written ≡ [])
+whole_or_still end asked said u out out' wf wf' all s = by (is_cut end) refl
+  where
+    by : (b : Bool) → is_cut end ≡ b → (u ≡ []) ⊎ (s.written ≡ [])
+    by false e = inl (all e)
+    by true e = inr (none_first s.written s.unwritten (sym (cut_quiet end asked e) ∙ s.whole))

@@ -109,9 +109,10 @@ pub record IsVisit (head : Head) (before after : SessionPass) (report : ConnRepo
   pub undone : List Event
   pub events : events_in steps ≡ map (λ (a : Act). a.event) acts ++ undone
   pub all : is_cut report.end ≡ false → undone ≡ []
-  -- its Leave, and the places of all of its entries
+  -- its Leave, behind the turns of its events, and the places of all of its entries
   pub leave : List ℕ
   pub leaves : IsLeave report.viewer after.seen (join ∷ places_of head report.viewer after.seen acts) leave
+  pub in_time : All (λ k. high ≤ k) leave
   pub places : report.places.list ≡ join ∷ places_of head report.viewer after.seen acts ++ leave
   pub ascend : Ascend join report.places.list (length after.seen)
   pub of_events : AreOfEvents report.viewer after.seen (places_of head report.viewer after.seen acts)
@@ -139,6 +140,8 @@ pub record IsVisit (head : Head) (before after : SessionPass) (report : ConnRepo
   pub viewed : List ℕ
   pub viewed_front : IsFront viewed (joined_bytes (bytes_of_takes head.size confirmed after.seen first_encoder takes))
   pub said : List ℕ
+  pub said_front : IsFront said word
+  pub in_order : (viewed ≡ joined_bytes (bytes_of_takes head.size confirmed after.seen first_encoder takes)) ⊎ (said ≡ [])
   pub told : Appends link.told spent.told ((host_handshake head.size read).replies ++ (viewed ++ said))
   pub sees_first : SeesFirstOfJournal head.size confirmed after.seen (map (λ (t : TakeOf). t.number) takes) viewed
   -- the connection's end, and the last mark at it

@@ -83,6 +83,12 @@ module _ (head : Head) (v : ℕ) where
         places = h.places ∙ ap (λ l. P ++ l) (sym kept);
       }
 
+  -- and no later turn found less than before
+  pub high_stays : (es : List Event) (p q r : SessionPass) (P Q : List ℕ) (turns : List ℕ) (h : Handles head v es p q P Q) (grows : StartsWith r.seen q.seen)
+      (found : r.found ≡ q.found ++ turns) (mine : r.mine ≡ q.mine) → (handles_more es p q r P Q turns h grows found mine).high ≡ h.high
+  unfolding handles_more
+  high_stays es p q r P Q turns h grows found mine = refl
+
   -- events after events
   pub handles_then : (es es' : List Event) (p q r : SessionPass) (P Q S : List ℕ) → Handles head v es p q P Q → Handles head v es' q r Q S → Handles head v (es ++ es') p r P S
   handles_then es es' p q r P Q S h k =

@@ -4,3 +4,4 @@ pub mod Handling
 pub mod Ascending
 pub mod Noticing
 pub mod ReadOn
+pub mod Rows
