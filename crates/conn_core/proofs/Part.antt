@@ -1,5 +1,5 @@
 -- What is heard of a part of a packet.
-use Rattle.std.proofs.Common.{◌≡◌, ℕ, ◌≤◌, List, [], ◌++◌, length, refl, ap, ap₂, sym, ◌∙◌, append-nil, Bool, true, false, cond, arith}
+use Rattle.std.proofs.Common.{◌≡◌, ℕ, ◌≤◌, List, [], ◌∷◌, ◌++◌, length, refl, ap, ap₂, sym, ◌∙◌, append-nil, Bool, true, false, cond, arith}
 use Rattle.std.specs.Prelude.{Ok, Err}
 use Rattle.tpkt_x224.specs.declared.tpkt.Packet.{Packet}
 use Rattle.tpkt_x224.specs.declared.tpkt.Packet.TheVariants.{Whole, Part, NotTpkt, BadLength}
