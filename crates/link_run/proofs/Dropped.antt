@@ -1,5 +1,5 @@
 -- A click of the holder isn't dropped: over a journal of her Join and her own Leave alone there is no visit whose stream had one.
-use Rattle.std.proofs.Common.{◌≡◌, ℕ, suc, ◌≤◌, List, [], ◌∷◌, ◌++◌, map, sym, ap, ◌∙◌, subst, arith, false}
+use Rattle.std.proofs.Common.{◌≡◌, ℕ, suc, ◌≤◌, List, [], ◌∷◌, ◌++◌, map, sym, ◌∙◌, subst, arith, false}
 use Rattle.std.proofs.lemmas.List.Elements.{All-head}
 use Rattle.std.specs.Prelude.{All}
 use Rattle.input_pdu.specs.declared.event.Event.{Event}
@@ -25,7 +25,7 @@ no_click_is_dropped before after report link spent read visit seen viewer free e
     let one = one_act visit.acts visit.undone (sym events ∙ visit.events) (visit.all free) in
     let happen : HappenFrom ann 1 unclicked (suc visit.join) (click_at one.0 ∷ []) visit.high
     = subst (λ (acts : List Act). HappenFrom ann 1 unclicked (suc visit.join) acts visit.high) one.1
-      (subst (λ (j : List Entry). HappenFrom ann 1 j (suc visit.join) visit.acts visit.high) seen
-      (subst (λ (v : ℕ). HappenFrom ann v after.seen (suc visit.join) visit.acts visit.high) viewer visit.happen)) in
+    (subst (λ (j : List Entry). HappenFrom ann 1 j (suc visit.join) visit.acts visit.high) seen
+    (subst (λ (v : ℕ). HappenFrom ann v after.seen (suc visit.join) visit.acts visit.high) viewer visit.happen)) in
     let below : All (λ k. visit.high ≤ k) (1 ∷ []) = subst (λ (l : List ℕ). All (λ k. visit.high ≤ k) l) own visit.in_time in
     no_click_is_dropped_up_to_the_leave (suc visit.join) one.0 visit.high happen (omega arith) (All-head (λ k. visit.high ≤ k) 1 [] below)

@@ -120,7 +120,7 @@ module _ (left : Option (List ℕ)) (fed unwritten : List ℕ) (g : Greeting) (a
       → OutsideEnd head pass g after fed (link_state left out rf wf) (link_state left' out' rf' wf') end
   greet_ends head pass left' out out' Left e = e.1
   greet_ends head pass left' out out' (Refused k at) e = (e.1, e.2)
-  greet_ends head pass left' out out' Truncated e = (e.1, e.2)
+  greet_ends head pass left' out out' Truncated e = (e.1, e.2, e.4)
   greet_ends head pass left' out out' NotInvited e = absurd e
   greet_ends head pass left' out out' RoomFull e = absurd e
   greet_ends head pass left' out out' JoinsSpent e = absurd e

@@ -24,7 +24,7 @@ use Rattle.serve_rules.specs.declared.ends.SideEnd.{SideEnd}
 use Rattle.serve_rules.specs.declared.ends.SideEnd.TheVariants.{Done, Stopped}
 use Rattle.serve_rules.specs.declared.told.Told.{Told}
 use Rattle.serve_rules.proofs.Handling.{handles_nothing}
-use Rattle.viewer_run.specs.Sending.{IsPresentAtEach, IsSendEnd}
+use Rattle.viewer_run.specs.Sending.{AtLeast, IsPresentAtEach, IsSendEnd}
 use Rattle.viewer_run.specs.Frames.{first_take, FramesSent}
 use Rattle.viewer_run.specs.Serving.{ViewEnd, EndsSending, Attends, IsShownLast, wants_last}
 use Rattle.viewer_run.specs.Arriving.{Stays, IsUntouched}
@@ -50,6 +50,7 @@ pub record Viewed (head : Head) (v : ℕ) (confirmed : Confirmed) (rest : List C
   pub follow : TakesFollow 0 takes last
   pub within_seen : last ≤ length after.seen
   pub begins : BeginsWith (length joined.seen) end takes
+  pub up_to_date : AtLeast (length joined.seen) (drop 1 takes)
   pub present : IsPresentAtEach head v after.seen takes
   pub more_found : List ℕ
   pub found : after.found ≡ joined.found ++ more_found
@@ -105,6 +106,7 @@ module _ (head : Head) (v : ℕ) (confirmed : Confirmed) (rest : List ConnStep) 
         follow = f.follow;
         within_seen = f.within_seen;
         begins = refl;
+        up_to_date = f.up_to_date;
         present = (
           ap (λ (j : List Entry). is_present v (reached_at head.size j (length p.seen)).viewers) f.grows.1
               ∙ (ap (λ (x : Reached). is_present v x.viewers) (reached_at-append head.size p.seen f.grows.0 (length p.seen) (omega arith)) ∙ here),
@@ -143,6 +145,7 @@ module _ (head : Head) (v : ℕ) (confirmed : Confirmed) (rest : List ConnStep) 
         follow = refl;
         within_seen = omega arith;
         begins = is;
+        up_to_date = tt;
         present = tt;
         more_found = [];
         found = ap (λ (x : SessionPass). x.found) same ∙ sym (nil p.found);

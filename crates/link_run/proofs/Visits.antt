@@ -44,6 +44,7 @@ use Rattle.serve_rules.proofs.ReadOn.{consumes_then}
 use Rattle.viewer_run.specs.declared.guest.Guest.{Guest}
 use Rattle.viewer_run.specs.declared.arriving.Visit.{Visit}
 use Rattle.viewer_run.specs.Greeting.{Greets}
+use Rattle.viewer_run.specs.Sending.{AtLeast}
 use Rattle.viewer_run.specs.Serving.{ViewEnd, wants_last}
 use Rattle.viewer_run.specs.Visiting.{leave_if, leave_place}
 use Rattle.viewer_run.specs.Arriving.{no_notice, IsUnnoted, ServesArrival}
@@ -284,6 +285,7 @@ module _ (head : Head) (p p1 r : SessionPass) (size : Size) (conn : Hearing) (na
           within_takes = within;
           begins = begins_said (suc (length b)) visit.end said view.takes (want_stays visit.end noted.shutdown said mid out2 wm wf2 s)
               (subst (λ (n : ℕ). BeginsWith n visit.end view.takes) q_len view.begins);
+          up_to_date = subst (λ (n : ℕ). AtLeast n (drop 1 view.takes)) q_len view.up_to_date;
           present = present_stays head v r.seen u.seen view.takes 0 view.last view.follow view.within_seen on_r view.present;
           more_found = length idle.0 ∷ (length b ∷ (view.more_found ++ length c ∷ []));
           found = found_0;

@@ -26,13 +26,13 @@ use Rattle.grow_lock.specs.Journal.{StartsWith}
 use Rattle.serve_rules.specs.Turns.{SessionPass}
 use Rattle.serve_rules.specs.Events.{Act, HappenFrom, places_of, Ascend, AreOfEvents, IsWithin}
 use Rattle.serve_rules.specs.Notices.{events_in, notice_after_all}
-use Rattle.serve_rules.specs.Reading.{IsWhole}
+use Rattle.serve_rules.specs.Reading.{IsWhole, IsNoRefusal}
 use Rattle.serve_rules.specs.declared.ends.ConnEnd.{ConnEnd}
 use Rattle.serve_rules.specs.declared.ends.ConnEnd.TheVariants.{Left, Refused, Truncated, NotInvited, RoomFull, JoinsSpent, ReadFault, WriteFault, OutOfMemory}
 use Rattle.serve_rules.specs.declared.told.ConnReport.{ConnReport}
 use Rattle.viewer_run.specs.Greeting.{Greeting, greeting, StillConnects}
 use Rattle.viewer_run.specs.Greeting.Greeting.{IsReady, HasLeft}
-use Rattle.viewer_run.specs.Sending.{IsPresentAtEach}
+use Rattle.viewer_run.specs.Sending.{AtLeast, IsPresentAtEach}
 use Rattle.viewer_run.specs.Serving.{ViewEnd, wants_last}
 use Rattle.viewer_run.specs.Arriving.{no_notice}
 use Rattle.link_run.specs.Links.{LinkState}
@@ -49,11 +49,12 @@ pub record IsTurnedAwayAs (head : Head) (after : SessionPass) (g : Greeting) (fa
   pub answer : IsAnswered (join_answer (Err fault)) (answer_at head (reached_at head.size after.seen (length after.seen)) (JoinStep name))
   pub in_found : IsWithin (length after.seen ∷ []) after.found
 
--- when the connection of a client ends so that didn't join: by what its steps came to, where its stream stands, and what of it was read
+-- when the connection of a client ends so that didn't join: by what its steps came to, where its stream stands, which is cut only where it isn't refused, and what
+-- of it was read
 abbrev pub OutsideEnd : Head → SessionPass → Greeting → Hearing → List ℕ → LinkState → LinkState → ConnEnd → Type 0
 OutsideEnd head after g h read link spent Left = g ≡ HasLeft
 OutsideEnd head after g h read link spent (Refused k at) = StillConnects g × (end_of h ≡ RefusedAt k at)
-OutsideEnd head after g h read link spent Truncated = StillConnects g × IsWhole link.left read
+OutsideEnd head after g h read link spent Truncated = StillConnects g × IsWhole link.left read × IsNoRefusal (end_of h)
 OutsideEnd head after g h read link spent NotInvited = IsTurnedAwayAs head after g join.NotInvited
 OutsideEnd head after g h read link spent RoomFull = IsTurnedAwayAs head after g join.RoomFull
 OutsideEnd head after g h read link spent JoinsSpent = IsTurnedAwayAs head after g join.JoinsSpent
@@ -116,12 +117,13 @@ pub record IsVisit (head : Head) (before after : SessionPass) (report : ConnRepo
   pub places : report.places.list ≡ join ∷ places_of head report.viewer after.seen acts ++ leave
   pub ascend : Ascend join report.places.list (length after.seen)
   pub of_events : AreOfEvents report.viewer after.seen (places_of head report.viewer after.seen acts)
-  -- its takes, the first right behind its Join, each at a number where it is present
+  -- its takes, the first right behind its Join, each at a number where it is present, and the later ones at or above all that the pass had seen at the Join
   pub takes : List TakeOf
   pub last : ℕ
   pub follow : TakesFollow 0 takes last
   pub within_takes : last ≤ length after.seen
   pub begins : BeginsWith (suc join) report.end takes
+  pub up_to_date : AtLeast (suc join) (drop 1 takes)
   pub present : IsPresentAtEach head report.viewer after.seen takes
   -- the lengths that the pass found in its turns: the Join's, those of the events, those of the later takes
   pub more_found : List ℕ

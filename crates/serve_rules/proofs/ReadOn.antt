@@ -1,5 +1,5 @@
 -- A read side that goes on: one stretch of reading after another, and the pass that meets another one.
-use Rattle.std.proofs.Common.{◌≡◌, ℕ, List, [], ◌++◌, sym, refl, ap, ap₂, ◌∙◌, subst, append_assoc, append-nil}
+use Rattle.std.proofs.Common.{◌≡◌, ℕ, ◌≤◌, List, [], ◌++◌, length, sym, refl, ap, ap₂, ◌∙◌, subst, append_assoc, append-nil, ⊎_elim, inr}
 use Rattle.std.specs.Prelude.{Bool, true, ⊤}
 use Rattle.std.specs.declared.option.Option.{Option}
 use Rattle.std.specs.declared.option.Option.TheVariants.{Some, None}
@@ -13,7 +13,7 @@ use Rattle.conn_rules.proofs.Pieces.{heard_then}
 use Rattle.serve_rules.specs.Turns.{SessionPass}
 use Rattle.serve_rules.specs.Events.{Handles}
 use Rattle.serve_rules.specs.Notices.{Notice, events_in, notice_after_all, notice_in}
-use Rattle.serve_rules.specs.Reading.{ReadsOn, ReadEnd, IsOrderly, IsWhole}
+use Rattle.serve_rules.specs.Reading.{ReadsOn, ReadEnd, IsOrderly, IsWhole, IsUnended, StopsReading, one_read}
 use Rattle.serve_rules.specs.declared.ends.ConnEnd.{ConnEnd}
 use Rattle.serve_rules.specs.declared.ends.ConnEnd.TheVariants.{Left, Refused, Truncated, NotInvited, RoomFull, JoinsSpent, ReadFault, WriteFault, OutOfMemory}
 use Rattle.serve_rules.specs.declared.ends.SideEnd.{SideEnd}
@@ -54,6 +54,26 @@ end_then flagged left left' xs ys h notice f f' f'' (Done WriteFault) whole same
 end_then flagged left left' xs ys h notice f f' f'' (Done OutOfMemory) whole same e = e
 end_then flagged left left' xs ys h notice f f' f'' Stopped whole same e = e
 
+-- bytes behind others: where nothing was read behind a Bye or a Shutdown of the second ones, none was of both, if the first ones had none
+stops_then : (rest steps : List ConnStep) (h k : Hearing) (n m : Notice) (xs ys : List ℕ) → rest ++ (heard h xs).steps ≡ steps → m ≡ notice_after_all n steps
+    → ((before : List ℕ) → (heard h (xs ++ before)).steps ≡ (heard h xs).steps ++ (heard k before).steps)
+    → StopsReading rest h n xs → StopsReading [] k m ys → StopsReading rest h n (xs ++ ys)
+stops_then rest steps h k n m xs ys all same both a b = ⊎_elim
+    (λ (none : ys ≡ []). subst (StopsReading rest h n) (sym (ap (λ l. xs ++ l) none ∙ append-nil xs)) a)
+    (λ (some : (before : List ℕ) × (last : List ℕ) × (ys ≡ before ++ last) × (length last ≤ one_read) × IsUnended (notice_after_all m ([] ++ (heard k before).steps))).
+    inr (
+      xs ++ some.0,
+      some.1,
+      ap (λ l. xs ++ l) some.2 ∙ sym (append_assoc xs some.0 some.1),
+      some.3,
+      subst IsUnended
+          (ap (λ (x : Notice). notice_after_all x (heard k some.0).steps) same
+          ∙ (sym (notice_then n steps (heard k some.0).steps)
+          ∙ ap (notice_after_all n) (ap (λ l. l ++ (heard k some.0).steps) (sym all) ∙ (append_assoc rest (heard h xs).steps (heard k some.0).steps
+          ∙ ap (λ l. rest ++ l) (sym (both some.0)))))) some.4,
+    ))
+    b
+
 -- a stretch of reading after one that went well
 pub reads_then : (head : Head) (v : ℕ) (rest : List ConnStep) (flagged : Bool) (conn conn' conn'' : Hearing) (p q r : SessionPass) (told told' told'' : Told)
     (left left' left'' : Option (List ℕ)) (f f' f'' : ℕ) (end : SideEnd)
@@ -77,6 +97,9 @@ reads_then head v rest flagged conn conn' conn'' p q r told told' told'' left le
           (handles_then head v (events_in a.steps) (events_in b.steps) p q r told.places.list told'.places.list told''.places.list a.handles b.handles);
       room = b.room;
       notice = b.notice ∙ (ap (λ n. notice_after_all n b.steps) a.notice ∙ sym (notice_then (notice_in told) a.steps b.steps));
+      stops = stops_then rest a.steps conn conn' (notice_in told) (notice_in told') a.fed b.fed (a.front ∙ (ap (λ l. a.steps ++ l) whole.0 ∙ append-nil a.steps)) a.notice
+          (λ before. ap (λ (h : Heard). h.steps) (heard_then conn a.fed before)
+          ∙ ap (λ (h : Hearing). (heard conn a.fed).steps ++ (heard h before).steps) (sym after_is)) a.stops b.stops;
       calm = λ stopped. b.calm stopped ∙ a.calm refl;
       ends = subst (λ (h : Heard). ReadEnd flagged left (a.fed ++ b.fed) h.after (notice_in told'') f f'' end) (sym both)
           (end_then flagged left left' a.fed b.fed (heard conn' b.fed).after (notice_in told'') f f' f'' end
@@ -101,6 +124,7 @@ reads_met head v rest flagged conn conn' p' p a b m told told' left left' f f' e
       (mine ∙ (ap (λ l. a.mine ++ l) none ∙ append-nil a.mine));
   room = h.room;
   notice = h.notice;
+  stops = h.stops;
   calm = h.calm;
   ends = h.ends;
 }

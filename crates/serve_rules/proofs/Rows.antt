@@ -1,5 +1,5 @@
 -- Worked examples of what becomes of a viewer's events: a click that is handled behind its viewer's own Leave has no entry, and up to the Leave it has one.
-use Rattle.std.proofs.Common.{◌≡◌, ℕ, zero, suc, ◌+◌, ◌≤◌, List, [], ◌∷◌, arith, refl}
+use Rattle.std.proofs.Common.{◌≡◌, ℕ, zero, suc, ◌≤◌, List, [], ◌∷◌, arith, refl}
 use Rattle.std.specs.Prelude.{Option, Some, None, codes}
 use Rattle.input_pdu.specs.declared.event.Event.{Event}
 use Rattle.input_pdu.specs.declared.event.Event.TheVariants.{Mouse}

@@ -84,6 +84,7 @@ module _ (head : Head) (v : ℕ) (rest : List ConnStep) (conn : Hearing) (p q : 
     handles = h.handles;
     room = h.room;
     notice = h.notice;
+    stops = h.stops;
     ends = view_end flagged left h.fed (heard conn h.fed).after (notice_in told') f f' w w' end h.ends;
   }
 
@@ -100,6 +101,7 @@ module _ (head : Head) (v : ℕ) (rest : List ConnStep) (conn : Hearing) (p q : 
     handles = h.handles;
     room = h.room;
     notice = h.notice;
+    stops = h.stops;
     ends = cut_end left h.fed (heard conn h.fed).after (notice_in told') f f' w w' end only cause;
   }
 
@@ -116,6 +118,7 @@ unread_to head v rest conn p told left f w w' end room only cause = record {
   handles = handles_nothing head v p told.places.list;
   room = room;
   notice = refl;
+  stops = inl refl;
   ends = cut_end left [] (heard conn []).after (notice_in told) f f w w' end only cause;
 }
 
@@ -133,6 +136,7 @@ sends_stay head s s' p q r told told' f f' end turns h grows found =
     record {
       takes = h.takes;
       last = h.last;
+      up_to = h.up_to;
       follow = h.follow;
       grows = starts_trans r.seen q.seen p.seen grows h.grows;
       within_seen = omega (arith, h.within_seen, length_starts r.seen q.seen grows);
@@ -268,6 +272,7 @@ module _ (head : Head) (v : ℕ) (confirmed : Confirmed) (rest : List ConnStep) 
           handles = handles_more head v (events_in h.steps) p q r told.places.list told'.places.list d.more_found h.handles d.grows d.found mine;
           room = h.room;
           notice = h.notice;
+          stops = h.stops;
           ends = last_end left h.fed (heard conn h.fed).after (notice_in told') f f' w w'' sent d.only both.cause
               (subst (ViewEnd left h.fed (heard conn h.fed).after (notice_in told') f f' w w') is h.ends);
         };

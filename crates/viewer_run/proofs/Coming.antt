@@ -174,7 +174,7 @@ pub caught_up : (session : SessionModel) (s : SenderModel) → is_suppressed ses
 caught_up session s free e = no_news (is_suppressed session s.v) (s.number == length session.journal) (share_tile session.head.size (asked_by session s.v) all_tiles)
     (not_taken (is_work session (desk_of s)) session s e) free
 
-replaced_here : (v : ℕ) (stop : Bool) (kept : PerViewer Bool) → replaced_for v stop kept v ≡ stop
+pub replaced_here : (v : ℕ) (stop : Bool) (kept : PerViewer Bool) → replaced_for v stop kept v ≡ stop
 replaced_here v stop kept = ap (λ (b : Bool). if b then stop else kept v) (eq-eqb v v refl)
 
 pub up_to_date : (session mid : SessionModel) (s : SenderModel) (v : ℕ) (result : Result Taken OutOfMemory) → s.v ≡ v

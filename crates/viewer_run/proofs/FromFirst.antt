@@ -51,6 +51,7 @@ first_sent head j v confirmed s t u take told told' f f' end fresh h fr =
           ∙ (sym (ap₂ (λ (z : Size) (d : Confirmed). frame_bytes z d e.registers e.uses (frame_at e.held)) h.size conf) ∙ x.1);
       told = fr.told;
       all = x.2;
+      up_to = fr.number ∙ ap (λ (x : SenderModel). x.number) h.sender;
       after_is = λ stopped. let n = (fr.after stopped).1 in (
         ap (λ (x : SenderModel). x.v) n.rest ∙ (ap (λ (x : SenderModel). x.v) h.sender ∙ fresh.viewer),
         ap (λ (x : SenderModel). x.confirmed) n.rest ∙ (conf ∙ fresh.confirms),
@@ -80,6 +81,7 @@ module _ (head : Head) (v : ℕ) (confirmed : Confirmed) where
     asked = a.asked;
     later = [];
     last = length p.seen;
+    up_to = a.up_to;
     follow = (refl, omega arith, refl);
     grows = starts_itself p.seen;
     within_seen = omega arith;
@@ -121,6 +123,7 @@ module _ (head : Head) (v : ℕ) (confirmed : Confirmed) where
         asked = a.asked;
         later = b.takes;
         last = b.last;
+        up_to = b.up_to;
         follow = (refl, omega arith, subst (λ (n : ℕ). TakesFollow n b.takes b.last) w.2 b.follow);
         grows = b.grows;
         within_seen = b.within_seen;
@@ -169,6 +172,7 @@ module _ (head : Head) (v : ℕ) (confirmed : Confirmed) where
         asked = a.asked;
         later = a.later ++ b.takes;
         last = b.last;
+        up_to = b.up_to;
         follow = follow_then 0 takes b.takes a.last b.last a.follow (subst (λ (n : ℕ). TakesFollow n b.takes b.last) w.2 b.follow);
         grows = starts_trans r.seen q.seen p.seen b.grows a.grows;
         within_seen = b.within_seen;

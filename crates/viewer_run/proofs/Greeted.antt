@@ -37,11 +37,11 @@ greeting_then n m (step.Packet ∷ xs) ys e = greeting_then n m xs ys e
 end_then : (left left' : Option (List ℕ)) (xs ys unwritten : List ℕ) (g : Greeting) (after new : Hearing) (name : List ℕ) (rf rf' rf'' wf wf' wf'' : ℕ)
     (r : Result (Option Guest) ConnEnd) → (IsWhole left' ys → IsWhole left (xs ++ ys)) → rf' ≡ rf → wf' ≡ wf
     → GreetEnd left' ys unwritten g after new name rf' rf'' wf' wf'' r → GreetEnd left (xs ++ ys) unwritten g after new name rf rf'' wf wf'' r
-end_then left left' xs ys unwritten g after new name rf rf' rf'' wf wf' wf'' (Ok None) whole a b e = (e.0, e.1, e.2, e.3 ∙ a, e.4 ∙ b)
+end_then left left' xs ys unwritten g after new name rf rf' rf'' wf wf' wf'' (Ok None) whole a b e = (e.0, e.1, e.2, e.3 ∙ a, e.4 ∙ b, e.5)
 end_then left left' xs ys unwritten g after new name rf rf' rf'' wf wf' wf'' (Ok (Some guest)) whole a b e = (e.0, e.1, e.2, e.3 ∙ a, e.4 ∙ b)
 end_then left left' xs ys unwritten g after new name rf rf' rf'' wf wf' wf'' (Err Left) whole a b e = (e.0, e.1, e.2 ∙ b)
 end_then left left' xs ys unwritten g after new name rf rf' rf'' wf wf' wf'' (Err (Refused k at)) whole a b e = (e.0, e.1, e.2, e.3 ∙ b)
-end_then left left' xs ys unwritten g after new name rf rf' rf'' wf wf' wf'' (Err Truncated) whole a b e = (e.0, e.1, whole e.2, e.3 ∙ b)
+end_then left left' xs ys unwritten g after new name rf rf' rf'' wf wf' wf'' (Err Truncated) whole a b e = (e.0, e.1, whole e.2, e.3 ∙ b, e.4)
 end_then left left' xs ys unwritten g after new name rf rf' rf'' wf wf' wf'' (Err NotInvited) whole a b e = e
 end_then left left' xs ys unwritten g after new name rf rf' rf'' wf wf' wf'' (Err RoomFull) whole a b e = e
 end_then left left' xs ys unwritten g after new name rf rf' rf'' wf wf' wf'' (Err JoinsSpent) whole a b e = e

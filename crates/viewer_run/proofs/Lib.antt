@@ -7,6 +7,7 @@ pub mod TakesOn
 pub mod OneTake
 pub mod SendOn
 pub mod Coming
+pub mod Asked
 pub mod Greeted
 pub mod FromFirst
 pub mod Attending

@@ -20,6 +20,8 @@ use Rattle.frame_plan.specs.Plans.{is_work, taken_at, taken_if, desk_if}
 use Rattle.frame_plan.specs.declared.taken.Taken.{Taken}
 use Rattle.frame_plan.specs.declared.taken.Taken.TheVariants.{Frame, Nothing}
 use Rattle.viewer_sender.specs.Senders.{SenderModel, StandsFor, IsIdle, Follows, desk_of, with_desk}
+use Rattle.viewer_sender.specs.declared.fault.SendFault.{SendFault}
+use Rattle.viewer_sender.specs.declared.fault.SendFault.TheVariants as fault
 use Rattle.viewer_sender.specs.OwnTakes.{IsOwn, IsOwnTake}
 use Rattle.grow_lock.proofs.Lists.{length_starts}
 use Rattle.serve_rules.specs.Turns.{SessionPass, IsTurn}
@@ -91,16 +93,23 @@ pub stopped_is_no_fault : Stopped ≡ Done WriteFault → ⊥
 stopped_is_no_fault e = not_stopped WriteFault (sym e)
 
 -- a frame that wasn't encoded
-pub unsent : (s s' : SenderModel) (take : TakeModel) (told : Option (List ℕ)) (f : ℕ) → SendsFrame s s' take told told f f (Done OutOfMemory)
-unsent s s' take told f = record {
+pub unsent : (s s' : SenderModel) (take : TakeModel) (told : Option (List ℕ)) (f : ℕ) → s'.number ≡ s.number → SendsFrame s s' take told told f f (Done OutOfMemory)
+unsent s s' take told f number = record {
   written = [];
   told = Appends-nil told;
   bytes = λ e frame stands is. (_, refl, λ stopped. absurd (not_stopped OutOfMemory stopped));
   after = λ stopped. absurd (not_stopped OutOfMemory stopped);
+  number = number;
   only = tt;
   cause = λ is. absurd (memory_is_no_fault is);
   calm = λ stopped. absurd (not_stopped OutOfMemory stopped);
 }
+
+-- a sender that has no frame for a take keeps its number
+pub number_stays : (why : SendFault) (s s' : SenderModel) → (why ≡ fault.Spent → (s.spent ≡ true) × (s' ≡ s))
+    → (why ≡ fault.OutOfMemory → s' ≡ record s { spent = true; registers = s'.registers; caches = s'.caches }) → s'.number ≡ s.number
+number_stays fault.Spent s s' spent lost = ap (λ (x : SenderModel). x.number) (spent refl).1
+number_stays fault.OutOfMemory s s' spent lost = ap (λ (x : SenderModel). x.number) (lost refl)
 
 -- a frame that was encoded, and whose bytes were written
 pub sent : (s s' : SenderModel) (take : TakeModel) (bytes : List ℕ) (told told' : Option (List ℕ)) (f f' : ℕ) (end : SideEnd) → Encodes s s' take bytes
@@ -110,6 +119,7 @@ sent s s' take bytes told told' f f' end n w = record {
   told = w.told;
   bytes = λ e frame stands is. (w.unwritten, sym (n.bytes_are e frame stands is) ∙ w.whole, w.all);
   after = λ stopped. (bytes, n);
+  number = ap (λ (x : SenderModel). x.number) n.rest;
   only = w.only;
   cause = w.cause;
   calm = w.calm;
@@ -145,6 +155,7 @@ module _ (head : Head) (p q : SessionPass) (s t u : SenderModel) (told told' : O
   nothing_sent turn seen idle kept same only no_fault calm = record {
     takes = [];
     last = s.number;
+    up_to = ap (λ (x : SenderModel). x.number) same;
     follow = refl;
     grows = turn.goes_on;
     within_seen = omega (arith, seen, length_starts q.seen p.seen turn.goes_on);
@@ -184,6 +195,7 @@ module _ (head : Head) (p q : SessionPass) (s t u : SenderModel) (told told' : O
       record {
         takes = found ∷ [];
         last = length q.seen;
+        up_to = fr.number ∙ ap (λ (x : SenderModel). x.number) h.sender;
         follow = (refl, omega (arith, seen, longer), refl);
         grows = turn.goes_on;
         within_seen = omega arith;

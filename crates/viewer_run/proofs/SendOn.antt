@@ -27,6 +27,7 @@ pub sends_none : (head : Head) (s : SenderModel) (p : SessionPass) (told : Optio
 sends_none head s p told f idle seen = record {
   takes = [];
   last = s.number;
+  up_to = refl;
   follow = refl;
   grows = starts_itself p.seen;
   within_seen = seen;
@@ -66,6 +67,7 @@ module _ (head : Head) where
       record {
         takes = a.takes ++ b.takes;
         last = b.last;
+        up_to = b.up_to;
         follow = follow_then s.number a.takes b.takes a.last b.last a.follow (subst (λ (n : ℕ). TakesFollow n b.takes b.last) w.2 b.follow);
         grows = starts_trans r.seen q.seen p.seen b.grows a.grows;
         within_seen = b.within_seen;
@@ -124,6 +126,7 @@ module _ (head : Head) where
       record {
         takes = h.takes;
         last = h.last;
+        up_to = h.up_to;
         follow = h.follow;
         grows = starts_trans m.seen b.seen p.seen grows (subst (λ (l : List Entry). StartsWith b.seen l) same h.grows);
         within_seen = omega (arith, h.within_seen, length_starts m.seen b.seen grows);

@@ -1,5 +1,5 @@
 -- Stretches of reading.
-use Rattle.std.proofs.Common.{◌≡◌, ℕ, zero, suc, ◌<◌, List, [], ◌++◌, length, sym, refl, ap, ap₂, ◌∙◌, subst, append_assoc, append-nil}
+use Rattle.std.proofs.Common.{◌≡◌, ℕ, zero, suc, ◌<◌, ◌≤◌, List, [], ◌++◌, length, sym, refl, ap, ap₂, ◌∙◌, subst, append_assoc, append-nil, ⊎_elim, inl, inr}
 use Rattle.std.specs.Prelude.{Bool, true, false, ◌||◌, ⊤, Result, Ok, Err, is_err}
 use Rattle.std.specs.declared.option.Option.{Option}
 use Rattle.std.specs.declared.option.Option.TheVariants.{Some, None}
@@ -17,7 +17,7 @@ use Rattle.conn_rules.proofs.Near.{heard_near}
 use Rattle.serve_rules.specs.Turns.{SessionPass}
 use Rattle.serve_rules.specs.Events.{Handles}
 use Rattle.serve_rules.specs.Notices.{Notice, events_in, notice_after_all, notice_in}
-use Rattle.serve_rules.specs.Reading.{ReadsOn, ReadEnd, IsUnended, IsWhole}
+use Rattle.serve_rules.specs.Reading.{ReadsOn, ReadEnd, IsUnended, IsWhole, StopsReading, one_read}
 use Rattle.serve_rules.specs.declared.ends.ConnEnd.TheVariants.{Left, Refused, Truncated, NotInvited, RoomFull, JoinsSpent, ReadFault, WriteFault, OutOfMemory}
 use Rattle.serve_rules.specs.declared.ends.SideEnd.{SideEnd}
 use Rattle.serve_rules.specs.declared.ends.SideEnd.TheVariants.{Done, Stopped}
@@ -110,9 +110,9 @@ module _ (head : Head) (v : ℕ) where
   pub piece_read : (h new : Hearing) (bytes replies : List ℕ) (steps undone : List ConnStep) (p q : SessionPass) (t u : Told) (end out : SideEnd)
       (done : Result (Unit {0}) NoMemory) (left less : Option (List ℕ)) (f : ℕ)
       → IsFed (heard h bytes) new replies steps end → StepsFront head v steps undone p q t u → WholeIfOk done undone → EndOfPiece done end (notice_in u) out
-      → 0 < u.places.room → Consumes left less bytes
+      → 0 < u.places.room → Consumes left less bytes → StopsReading [] h (notice_in t) bytes
       → ReadsOn head v [] true h new p q t u left less f f out
-  piece_read h new bytes replies steps undone p q t u end out (Ok done) left less f x d whole e room taken = record {
+  piece_read h new bytes replies steps undone p q t u end out (Ok done) left less f x d whole e room taken stops = record {
     fed = bytes;
     taken = taken;
     steps = d.front;
@@ -122,11 +122,12 @@ module _ (head : Head) (v : ℕ) where
     handles = d.handles;
     room = room;
     notice = d.notice;
+    stops = stops;
     calm = λ stopped. refl;
     ends = subst (ReadEnd true left bytes (heard h bytes).after (notice_in u) f f) (sym e)
         (ended_with end (heard h bytes).after (notice_in u) left bytes f ((notice_in u).bye || (notice_in u).shutdown) refl x.refused);
   }
-  piece_read h new bytes replies steps undone p q t u end out (Err refusal) left less f x d whole e room taken = record {
+  piece_read h new bytes replies steps undone p q t u end out (Err refusal) left less f x d whole e room taken stops = record {
     fed = bytes;
     taken = taken;
     steps = d.front;
@@ -136,14 +137,15 @@ module _ (head : Head) (v : ℕ) where
     handles = d.handles;
     room = room;
     notice = d.notice;
+    stops = stops;
     calm = λ stopped. refl;
     ends = subst (ReadEnd true left bytes (heard h bytes).after (notice_in u) f f) (sym e) tt;
   }
 
   -- nothing was done of a piece for want of memory
-  pub piece_lost : (h new : Hearing) (bytes : List ℕ) (p : SessionPass) (t : Told) (left less : Option (List ℕ)) (f : ℕ) → 0 < t.places.room → Consumes left less bytes
+  pub piece_lost : (h new : Hearing) (bytes : List ℕ) (p : SessionPass) (t : Told) (left less : Option (List ℕ)) (f : ℕ) → 0 < t.places.room → Consumes left less bytes → StopsReading [] h (notice_in t) bytes
       → ReadsOn head v [] true h new p p t t left less f f (Done OutOfMemory)
-  piece_lost h new bytes p t left less f room taken = record {
+  piece_lost h new bytes p t left less f room taken stops = record {
     fed = bytes;
     taken = taken;
     steps = [];
@@ -153,9 +155,27 @@ module _ (head : Head) (v : ℕ) where
     handles = handles_nothing head v p t.places.list;
     room = room;
     notice = refl;
+    stops = stops;
     calm = λ stopped. refl;
     ends = tt;
   }
+
+  -- where the steps before were done
+  rest_stops : (rest steps : List ConnStep) (h : Hearing) (n m : Notice) (bytes : List ℕ) → rest ≡ steps → m ≡ notice_after_all n steps → StopsReading [] h m bytes
+      → StopsReading rest h n bytes
+  rest_stops rest steps h n m bytes all same s = ⊎_elim
+      (λ (none : bytes ≡ []). inl none)
+      (λ (some : (before : List ℕ) × (last : List ℕ) × (bytes ≡ before ++ last) × (length last ≤ one_read) × IsUnended (notice_after_all m ([] ++ (heard h before).steps))).
+      inr (
+        some.0,
+        some.1,
+        some.2,
+        some.3,
+        subst IsUnended
+            (ap (λ (x : Notice). notice_after_all x (heard h some.0).steps) same
+            ∙ (sym (notice_then n steps (heard h some.0).steps) ∙ ap (λ (l : List ConnStep). notice_after_all n (l ++ (heard h some.0).steps)) (sym all))) some.4,
+      ))
+      s
 
   -- the steps that the connection gave before were done, and then a piece
   pub rest_then : (rest undone : List ConnStep) (h new : Hearing) (p q r : SessionPass) (t u w : Told) (left less : Option (List ℕ))
@@ -175,6 +195,7 @@ module _ (head : Head) (v : ℕ) where
             (handles_then head v (events_in d.front) (events_in x.steps) p q r t.places.list u.places.list w.places.list d.handles x.handles);
         room = x.room;
         notice = x.notice ∙ (ap (λ n. notice_after_all n x.steps) d.notice ∙ sym (notice_then (notice_in t) d.front x.steps));
+        stops = rest_stops rest d.front h (notice_in t) (notice_in u) x.fed all d.notice x.stops;
         calm = x.calm;
         ends = x.ends;
       }
@@ -192,6 +213,7 @@ module _ (head : Head) (v : ℕ) where
     handles = d.handles;
     room = room;
     notice = d.notice;
+    stops = inl refl;
     calm = λ stopped. refl;
     ends = tt;
   }
@@ -211,6 +233,7 @@ module _ (head : Head) (v : ℕ) where
     handles = handles_nothing head v p t.places.list;
     room = room;
     notice = refl;
+    stops = inl refl;
     calm = calm;
     ends = subst (λ (x : Hearing). ReadEnd true left [] x (notice_in t) f f' end) (sym (silent_after h led)) e;
   }
@@ -242,6 +265,7 @@ module _ (head : Head) (v : ℕ) where
     handles = x.handles;
     room = x.room;
     notice = x.notice;
+    stops = x.stops;
     calm = x.calm;
     ends = unstopped flagged end left x.fed (heard h x.fed).after (notice_in u) f f' d x.ends;
   }
@@ -259,6 +283,7 @@ module _ (head : Head) (v : ℕ) where
     handles = x.handles;
     room = x.room;
     notice = x.notice;
+    stops = x.stops;
     calm = λ stopped. absurd (not_stopped OutOfMemory stopped);
     ends = tt;
   }
@@ -315,3 +340,8 @@ kept_none (Some xs) (Some ys) k = sym k
 pub same_none : (left : Option (List ℕ)) → Consumes left left []
 same_none None = tt
 same_none (Some xs) = refl
+
+-- a read at a stream that goes on
+pub one_read_stops : (h : Hearing) (n : Notice) (bytes : List ℕ) → IsOpen h n → length bytes ≤ one_read → StopsReading [] h n bytes
+one_read_stops h n bytes o few =
+    inr ([], bytes, refl, few, subst (λ (steps : List ConnStep). IsUnended (notice_after_all n steps)) (sym (silent_steps h o.led)) o.unended)

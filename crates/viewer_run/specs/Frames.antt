@@ -23,7 +23,8 @@ use Rattle.viewer_run.specs.Sending.{AtLeast, IsPresentAtEach, IsSendEnd}
 abbrev pub first_take : List Entry → Tiles → TakeOf
 first_take j asked = record { before = 0; number = length j; asked = asked }
 
--- the frame of a viewer's first take was written, or a front of it where memory or the output failed; after it the sender follows the encoder
+-- the frame of a viewer's first take was written, or a front of it where memory or the output failed; after it the sender follows the encoder, and its number is the
+-- take's in any case
 pub record FirstSent (head : Head) (v : ℕ) (confirmed : Confirmed) (j : List Entry) (sender : SenderModel) (told_old told_new : Option (List ℕ)) (faults_old faults_new : ℕ)
     (end : SideEnd) : Type 0 where
   pub asked : Tiles
@@ -32,6 +33,7 @@ pub record FirstSent (head : Head) (v : ℕ) (confirmed : Confirmed) (j : List E
   pub bytes : take_bytes head.size confirmed j first_encoder (first_take j asked) ≡ written ++ unwritten
   pub told : Appends told_old told_new written
   pub all : end ≡ Stopped → unwritten ≡ []
+  pub up_to : sender.number ≡ length j
   pub after_is : end ≡ Stopped → (sender.v ≡ v) × (sender.confirmed ≡ confirmed) × (sender.number ≡ length j) × IsIdle sender
       × Follows sender (encoder_after head.size confirmed j first_encoder (first_take j asked))
   pub only : IsSendEnd end
@@ -39,12 +41,13 @@ pub record FirstSent (head : Head) (v : ℕ) (confirmed : Confirmed) (j : List E
   pub calm : end ≡ Stopped → faults_new ≡ faults_old
 
 -- a viewer's frames from the first on, between its Join's turn and another state of the pass: each later take in a turn of its own behind it that found the viewer
--- present; a front of the bytes of all, in order, was written, and at `Stopped` all of them
+-- present; a front of the bytes of all, in order, was written, and at `Stopped` all of them; the sender's number is the last take's in any case
 pub record FramesSent (head : Head) (v : ℕ) (confirmed : Confirmed) (sender : SenderModel) (joined after : SessionPass) (told_old told_new : Option (List ℕ))
     (faults_old faults_new : ℕ) (end : SideEnd) : Type 0 where
   pub asked : Tiles
   pub later : List TakeOf
   pub last : ℕ
+  pub up_to : sender.number ≡ last
   pub follow : TakesFollow 0 (first_take joined.seen asked ∷ later) last
   pub grows : StartsWith after.seen joined.seen
   pub within_seen : last ≤ length after.seen

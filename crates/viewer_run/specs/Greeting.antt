@@ -9,7 +9,7 @@ use Rattle.conn_rules.specs.declared.conn_step.ConnStep.TheVariants as step
 use Rattle.conn_rules.specs.Hearing.{Hearing, heard, end_of}
 use Rattle.conn_rules.specs.Hearing.StreamEnd.{RefusedAt}
 use Rattle.conn_rules.specs.Placed.{ArePlaced}
-use Rattle.serve_rules.specs.Reading.{IsWhole}
+use Rattle.serve_rules.specs.Reading.{IsWhole, IsNoRefusal}
 use Rattle.serve_rules.specs.declared.ends.ConnEnd.{ConnEnd}
 use Rattle.serve_rules.specs.declared.ends.ConnEnd.TheVariants.{Left, Refused, Truncated, NotInvited, RoomFull, JoinsSpent, ReadFault, WriteFault, OutOfMemory}
 use Rattle.serve_rules.specs.declared.ends.SideEnd.{SideEnd}
@@ -38,15 +38,15 @@ greeting name (step.Packet ∷ xs) = greeting name xs
 abbrev pub StillConnects : Greeting → Type 0
 StillConnects g = (name : List ℕ) × (g ≡ Connects name)
 
--- when a client's connection sequence comes to this: by what was left of its stream and what of it was read, which of the replies weren't written, what its steps
+-- when a client's connection sequence comes to this, which goes on, and ends in the midst, only where its stream isn't refused: by what was left of its stream and what of it was read, which of the replies weren't written, what its steps
 -- came to, where the stream stands and where the connection does, and the counts of faults of the input and the output
 abbrev pub GreetEnd : Option (List ℕ) → List ℕ → List ℕ → Greeting → Hearing → Hearing → List ℕ → ℕ → ℕ → ℕ → ℕ → Result (Option Guest) ConnEnd → Type 0
-GreetEnd left fed unwritten g after new name rf rf' wf wf' (Ok None) = (unwritten ≡ []) × (new ≡ after) × (g ≡ Connects name) × (rf' ≡ rf) × (wf' ≡ wf)
+GreetEnd left fed unwritten g after new name rf rf' wf wf' (Ok None) = (unwritten ≡ []) × (new ≡ after) × (g ≡ Connects name) × (rf' ≡ rf) × (wf' ≡ wf) × IsNoRefusal (end_of after)
 GreetEnd left fed unwritten g after new name rf rf' wf wf' (Ok (Some guest)) =
     (unwritten ≡ []) × (new ≡ after) × (g ≡ IsReady guest.name guest.confirmed guest.rest.items) × (rf' ≡ rf) × (wf' ≡ wf)
 GreetEnd left fed unwritten g after new name rf rf' wf wf' (Err Left) = (unwritten ≡ []) × (g ≡ HasLeft) × (wf' ≡ wf)
 GreetEnd left fed unwritten g after new name rf rf' wf wf' (Err (Refused k at)) = (unwritten ≡ []) × StillConnects g × (end_of after ≡ RefusedAt k at) × (wf' ≡ wf)
-GreetEnd left fed unwritten g after new name rf rf' wf wf' (Err Truncated) = (unwritten ≡ []) × StillConnects g × IsWhole left fed × (wf' ≡ wf)
+GreetEnd left fed unwritten g after new name rf rf' wf wf' (Err Truncated) = (unwritten ≡ []) × StillConnects g × IsWhole left fed × (wf' ≡ wf) × IsNoRefusal (end_of after)
 GreetEnd left fed unwritten g after new name rf rf' wf wf' (Err NotInvited) = ⊥
 GreetEnd left fed unwritten g after new name rf rf' wf wf' (Err RoomFull) = ⊥
 GreetEnd left fed unwritten g after new name rf rf' wf wf' (Err JoinsSpent) = ⊥

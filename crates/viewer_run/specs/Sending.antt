@@ -81,13 +81,14 @@ pub record WritesFrame (bytes : List ℕ) (told_old told_new : Option (List ℕ)
   pub cause : end ≡ Done WriteFault → Rose faults_old faults_new
   pub calm : end ≡ Stopped → faults_new ≡ faults_old
 
--- a take's frame was written, or a front of it where memory or the output failed
+-- a take's frame was written, or a front of it where memory or the output failed; the sender's number stays that of the take in any case
 pub record SendsFrame (s s' : SenderModel) (take : TakeModel) (told_old told_new : Option (List ℕ)) (faults_old faults_new : ℕ) (end : SideEnd) : Type 0 where
   pub written : List ℕ
   pub told : Appends told_old told_new written
   pub bytes : (e : Encoder) (f : FrameOf) → StandsFor s e → take.frame ≡ taken_as take.size f
       → (unwritten : List ℕ) × (frame_bytes take.size s.confirmed e.registers e.uses f ≡ written ++ unwritten) × (end ≡ Stopped → unwritten ≡ [])
   pub after : end ≡ Stopped → (bytes : List ℕ) × Encodes s s' take bytes
+  pub number : s'.number ≡ s.number
   pub only : IsSendEnd end
   pub cause : end ≡ Done WriteFault → Rose faults_old faults_new
   pub calm : end ≡ Stopped → faults_new ≡ faults_old
@@ -117,11 +118,13 @@ IsPresentAtEach head v j [] = ⊤
 IsPresentAtEach head v j (t ∷ ts) = (is_present v (reached_at head.size j t.number).viewers ≡ true) × IsPresentAtEach head v j ts
 
 -- what a send side did between two states of its pass, its sender and its output: the takes that it had frames of, each in a turn of its own that found its viewer
--- present, and a front of their bytes, or all of them at `Stopped`, from each encoder that the sender follows
+-- present, and a front of their bytes, or all of them at `Stopped`, from each encoder that the sender follows; the sender's number is that of the last of them in any
+-- case, so no take that found a frame is left out
 pub record SendsOn (head : Head) (before after : SenderModel) (pass_before pass_after : SessionPass) (told_old told_new : Option (List ℕ)) (faults_old faults_new : ℕ)
     (end : SideEnd) : Type 0 where
   pub takes : List TakeOf
   pub last : ℕ
+  pub up_to : after.number ≡ last
   pub follow : TakesFollow before.number takes last
   pub grows : StartsWith pass_after.seen pass_before.seen
   pub within_seen : last ≤ length pass_after.seen

@@ -11,7 +11,7 @@ use Rattle.viewer_sender.specs.Senders.{SenderModel}
 use Rattle.serve_rules.specs.Turns.{SessionPass}
 use Rattle.serve_rules.specs.Events.{Handles}
 use Rattle.serve_rules.specs.Notices.{Notice, events_in, notice_after_all, notice_in}
-use Rattle.serve_rules.specs.Reading.{ReadEnd}
+use Rattle.serve_rules.specs.Reading.{ReadEnd, StopsReading}
 use Rattle.serve_rules.specs.declared.ends.ConnEnd.{ConnEnd}
 use Rattle.serve_rules.specs.declared.ends.ConnEnd.TheVariants.{Left, Refused, Truncated, NotInvited, RoomFull, JoinsSpent, ReadFault, WriteFault, OutOfMemory}
 use Rattle.serve_rules.specs.declared.ends.SideEnd.{SideEnd}
@@ -33,7 +33,7 @@ ViewEnd left fed h notice rf rf' wf wf' WriteFault = Rose wf wf'
 ViewEnd left fed h notice rf rf' wf wf' OutOfMemory = ⊤
 
 -- a client's stream was read until its connection ended: the events of the steps before it and of those that were heard were handled in order, all of them unless
--- a write failed or memory was wanted
+-- a write failed or memory was wanted; nothing was read behind a Bye or a Shutdown
 pub record ReadsTo (head : Head) (v : ℕ) (rest : List ConnStep) (conn : Hearing) (before after : SessionPass) (told_old told_new : Told) (left_old left_new : Option (List ℕ))
     (rf rf' wf wf' : ℕ) (end : ConnEnd) : Type 0 where
   pub fed : List ℕ
@@ -45,6 +45,7 @@ pub record ReadsTo (head : Head) (v : ℕ) (rest : List ConnStep) (conn : Hearin
   pub handles : Handles head v (events_in steps) before after told_old.places.list told_new.places.list
   pub room : 0 < told_new.places.room
   pub notice : notice_in told_new ≡ notice_after_all (notice_in told_old) steps
+  pub stops : StopsReading rest conn (notice_in told_old) fed
   pub ends : ViewEnd left_old fed (heard conn fed).after (notice_in told_new) rf rf' wf wf' end
 
 -- the end of the sending is that of the connection, unless it was stopped

@@ -1,7 +1,9 @@
 //! A client's connection sequence, until it is ready.
 ghost use Rattle.std.specs.Prelude.{◌≡◌, ◌<◌, ℕ, [], List, Option, IfOk, IsOk, length};
 ghost use Rattle.std.specs.Io.KnownBytes.{Consumes};
+ghost use Rattle.conn_rules.specs.Hearing.{end_of};
 ghost use Rattle.conn_rules.specs.Placed.{AreBytes, ArePlaced};
+ghost use Rattle.serve_rules.specs.Reading.{IsNoRefusal};
 ghost use Rattle.viewer_run.specs.Feeding.{IsHeard};
 ghost use Rattle.viewer_run.specs.Greeting.{greeting, Greets, with_guest, Replies, GuestOf, IsRestPlaced, refusal_of};
 
@@ -22,7 +24,8 @@ pub struct Guest {
     pub rest: Vec<ConnStep>,
 }
 
-/// Answers a client's connection sequence until it is ready. An `Err` says how the connection ends instead.
+/// Answers a client's connection sequence until it is ready. An `Err` says how the connection ends instead; nothing is read behind a
+/// refusal.
 pub fn greet<S: Source, K: Sink>(
     alloc: Global,
     conn: &mut Conn,
@@ -30,6 +33,7 @@ pub fn greet<S: Source, K: Sink>(
     output: &mut K,
 ) -> Result<Guest, ConnEnd>
     requires heard { IsHeard conn.old.hearing }
+    requires unrefused { IsNoRefusal (end_of conn.old.hearing) }
     requires part { AreBytes conn.old.hearing.part }
     ensures greets { (name : List ℕ) × Greets conn.old.hearing conn.new.hearing [] name (S.left input.old) (S.left input.new) (K.told output.old) (K.told output.new)
         (S.faults input.old) (S.faults input.new) (K.faults output.old) (K.faults output.new) (with_guest result) }
@@ -60,6 +64,7 @@ fn greet_next<S: Source, K: Sink>(
     output: &mut K,
 ) -> Result<Option<Guest>, ConnEnd>
     requires heard { IsHeard conn.old.hearing }
+    requires unrefused { IsNoRefusal (end_of conn.old.hearing) }
     requires part { AreBytes conn.old.hearing.part }
     requires buffer { 0 < length buffer.old }
     ensures buffer { length buffer.new ≡ length buffer.old }

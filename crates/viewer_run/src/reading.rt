@@ -1,11 +1,11 @@
 //! The read side of a viewer: what the client sends is done, each event in a turn of its own.
-ghost use Rattle.std.specs.Prelude.{◌≡◌, ◌<◌, ℕ, true, [], List, Option, length, is_some, vec_len, IfOk};
+ghost use Rattle.std.specs.Prelude.{◌≡◌, ◌<◌, ◌≤◌, ℕ, true, [], List, Option, length, is_some, vec_len, IfOk};
 ghost use Rattle.std.specs.Io.KnownBytes.{Consumes};
 ghost use Rattle.conn_rules.specs.Hearing.{heard};
 ghost use Rattle.conn_rules.specs.Placed.{AreBytes, ArePlaced};
 ghost use Rattle.grow_lock.specs.Passes.{IsPassOf};
 ghost use Rattle.serve_rules.specs.Notices.{notice_in};
-ghost use Rattle.serve_rules.specs.Reading.{ReadsOn};
+ghost use Rattle.serve_rules.specs.Reading.{ReadsOn, StopsReading, one_read};
 ghost use Rattle.serve_rules.specs.declared.ends.SideEnd.TheVariants.{Stopped};
 ghost use Rattle.viewer_run.specs.Feeding.{EndOfPiece, EndsAs, IsFed, IsOpen, is_done, end_by_part};
 
@@ -94,7 +94,8 @@ fn is_set(flag: Option<&AtomicBool>) -> bool
 
 /// A buffer to read into.
 pub(crate) fn new_buffer(alloc: Global) -> Result<Vec<u8>, OutOfMemory>
-    ensures { IfOk result (λ buffer. 0 < vec_len buffer) }
+    ensures some { IfOk result (λ buffer. 0 < vec_len buffer) }
+    ensures one { IfOk result (λ buffer. vec_len buffer ≤ one_read) }
 {
     let buffer = vec![in alloc; 0; ROOM]?;
     Ok(buffer)
@@ -142,6 +143,7 @@ fn read_next<R: Wait, S: Source>(
     requires lock { IsPassOf lock.now pass }
     requires going { IsOpen conn.old.hearing (notice_in told.old) }
     requires buffer { 0 < length buffer.old }
+    requires one { length buffer.old ≤ one_read }
     requires room { 0 < told.old.places.room }
     ensures lock { IsPassOf lock.now result.0 }
     ensures buffer { length buffer.new ≡ length buffer.old }
@@ -188,6 +190,7 @@ fn read_piece<R: Wait>(
     requires lock { IsPassOf lock.now pass }
     requires part { AreBytes conn.old.hearing.part }
     requires room { 0 < told.old.places.room }
+    requires stops { StopsReading [] conn.old.hearing (notice_in told.old) bytes.now }
     ensures lock { IsPassOf lock.now result.0 }
     ensures reads { (left less : Option (List ℕ)) (f : ℕ) → Consumes left less bytes.now
         → ReadsOn lock.now.head v [] true conn.old.hearing conn.new.hearing pass result.0 told.old told.new left less f f result.1 }

@@ -1,9 +1,12 @@
 //! The send side of a viewer: frames are taken, each in a turn of its own, and encoded and written outside it.
-ghost use Rattle.std.specs.Prelude.{◌≡◌, ◌≤◌, length, Ok};
+ghost use Rattle.std.specs.Prelude.{◌≡◌, ◌≤◌, length, Ok, IfOk, OnOk, OnErr};
+ghost use Rattle.session_core.specs.SessionModel.{asked_by};
+ghost use Rattle.frame_plan.specs.Plans.{taken_if, asked_if};
 ghost use Rattle.frame_plan.specs.declared.taken.Taken.TheVariants.{Nothing};
-ghost use Rattle.viewer_sender.specs.Senders.{IsIdle};
+ghost use Rattle.viewer_sender.specs.Senders.{IsIdle, desk_of};
 ghost use Rattle.viewer_sender.specs.OwnTakes.{IsOwnTake};
 ghost use Rattle.grow_lock.specs.Passes.{IsPassOf};
+ghost use Rattle.viewer_run.specs.Asking.{finds_frame};
 ghost use Rattle.viewer_run.specs.Visiting.{IsAbsent};
 ghost use Rattle.viewer_run.specs.Sending.{TakesAs, TakesIn, IsNext, SendsTaken, SendsFrame, WritesFrame, SendsOn};
 
@@ -98,7 +101,7 @@ pub fn take_once<R: Wait>(
     (pass, taken)
 }
 
-/// Takes at a session.
+/// Takes at a session: just the tiles that the viewer has asked for, which are served then, and nothing while output to it is stopped.
 fn take_here(
     alloc: Global,
     session: &mut Session,
@@ -110,6 +113,10 @@ fn take_here(
     ensures head { session.new.head ≡ session.old.head }
     ensures journal { session.new.journal ≡ session.old.journal }
     ensures taken { TakesAs session.old.head session.old.journal sender.old sender.new result }
+    ensures work { IfOk result (λ taken. taken ≡ taken_if (finds_frame session.old sender.old) session.old (desk_of sender.old)) }
+    ensures asked { OnOk result (asked_by session.new ≡ asked_if (finds_frame session.old sender.old) v (asked_by session.old)) }
+    ensures suppressed { session.new.suppressed ≡ session.old.suppressed }
+    ensures unchanged { OnErr result (session.new ≡ session.old) }
     ensures absent { IsAbsent session.old.head v session.old.journal → result ≡ Ok Nothing }
 {
     if !session.present(v) {

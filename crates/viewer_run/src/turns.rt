@@ -3,10 +3,11 @@ ghost use Rattle.std.specs.Prelude.{◌≡◌, length, MatchResult};
 ghost use Rattle.px_core.specs.Rectangle.{IsPlaced};
 ghost use Rattle.session_rules.specs.Journal.{reached_at};
 ghost use Rattle.session_rules.specs.Entering.{entry_of_event};
-ghost use Rattle.session_core.specs.SessionModel.{reached_by};
+ghost use Rattle.session_core.specs.SessionModel.{reached_by, is_here, asked_by, is_suppressed};
 ghost use Rattle.grow_lock.specs.Journal.{StartsWith};
 ghost use Rattle.grow_lock.specs.Passes.{IsPassOf};
 ghost use Rattle.serve_rules.specs.Turns.{IsHandled, Idles};
+ghost use Rattle.viewer_run.specs.Asking.{asked_with, suppressed_with};
 ghost use Rattle.viewer_run.specs.Handling.{HandledHere, SettledAs, place_between};
 
 use crate::OutOfMemory;
@@ -91,11 +92,13 @@ pub fn refresh<R: Wait>(
     pass
 }
 
-/// Asks for tiles at a session.
+/// Asks for the tiles of an area at a session, for a viewer who is present.
 fn refresh_here(session: &mut Session, v: u32, area: Rect)
     requires { IsPlaced area }
     ensures head { session.new.head ≡ session.old.head }
     ensures journal { session.new.journal ≡ session.old.journal }
+    ensures asked { asked_by session.new ≡ asked_with (is_here session.old v) session.old v area }
+    ensures suppressed { session.new.suppressed ≡ session.old.suppressed }
 {
     if session.present(v) {
         session.refresh(v, area);
@@ -121,10 +124,12 @@ pub fn suppress<R: Wait>(
     pass
 }
 
-/// Stops or allows output at a session.
+/// Stops or allows output at a session, to a viewer who is present.
 fn suppress_here(session: &mut Session, v: u32, stop: bool)
     ensures head { session.new.head ≡ session.old.head }
     ensures journal { session.new.journal ≡ session.old.journal }
+    ensures asked { session.new.asked ≡ session.old.asked }
+    ensures suppressed { is_suppressed session.new ≡ suppressed_with (is_here session.old v) session.old v stop }
 {
     if session.present(v) {
         session.suppress(v, stop);

@@ -1,10 +1,13 @@
 //! The turns with which a viewer comes and goes: its Join with its first take, its last take, and its Leave.
-ghost use Rattle.std.specs.Prelude.{◌≡◌, ◌≤◌, ◌<◌, false, length, MatchResult, IsTrue, Ok};
+ghost use Rattle.std.specs.Prelude.{◌≡◌, ◌≤◌, ◌<◌, false, length, MatchResult, IsTrue, Ok, IfOk, OnOk, OnErr};
+ghost use Rattle.frame_plan.specs.Plans.{taken_if, asked_if};
 ghost use Rattle.frame_plan.specs.declared.taken.Taken.TheVariants.{Nothing};
 ghost use Rattle.session_rules.specs.Journal.{IsLegalJournal};
-ghost use Rattle.session_core.specs.SessionModel.{is_here, is_suppressed};
+ghost use Rattle.session_core.specs.SessionModel.{is_here, asked_by, is_suppressed};
+ghost use Rattle.viewer_sender.specs.Senders.{desk_of};
 ghost use Rattle.grow_lock.specs.Journal.{StartsWith};
 ghost use Rattle.grow_lock.specs.Passes.{IsPassOf};
+ghost use Rattle.viewer_run.specs.Asking.{suppressed_with, finds_last};
 ghost use Rattle.viewer_run.specs.Sending.{TakesAs, TakesIn};
 ghost use Rattle.viewer_run.specs.Visiting.{Arrives, ArrivesIn, IsTurnedAway, IsTurnedAwayIn, IsFirst, IsUpToDate, IsAbsent, LeavesHere, LeavesIn};
 
@@ -149,6 +152,10 @@ fn take_last_here(
     ensures head { session.new.head ≡ session.old.head }
     ensures journal { session.new.journal ≡ session.old.journal }
     ensures taken { TakesAs session.old.head session.old.journal sender.old sender.new result }
+    ensures work { IfOk result (λ taken. taken ≡ taken_if (finds_last session.old sender.old) session.old (desk_of sender.old)) }
+    ensures asked { OnOk result (asked_by session.new ≡ asked_if (finds_last session.old sender.old) v (asked_by session.old)) }
+    ensures kept { OnErr result (asked_by session.new ≡ asked_by session.old) }
+    ensures suppressed { is_suppressed session.new ≡ suppressed_with (is_here session.old v) session.old v false }
     ensures whole { IsUpToDate session.old.head v session.old.journal sender.old.number result }
     ensures absent { IsAbsent session.old.head v session.old.journal → result ≡ Ok Nothing }
 {

@@ -1,9 +1,10 @@
-use Rattle.std.proofs.Common.{◌≡◌, ◌∙◌, [], true, ap, subst, Ok, Err}
+use Rattle.std.proofs.Common.{◌≡◌, ◌∙◌, [], true, sym, ap, subst, Ok, Err}
 use Rattle.std.specs.Prelude.{Some}
 use Rattle.px_core.specs.declared.surface.Size.{Size}
 use Rattle.px_core.specs.Rectangle.{is_session_size}
 use Rattle.conn_core.specs.Kept.{ConnOf}
-use Rattle.conn_rules.specs.Hearing.{Hearing, first_hearing}
+use Rattle.conn_rules.specs.Hearing.{Hearing, first_hearing, end_of}
+use Rattle.serve_rules.specs.Reading.{IsNoRefusal}
 use Rattle.viewer_run.specs.Greeting.{Greets}
 use Rattle.viewer_run.proofs.Streams.{silent_replies}
 use Rattle.link_run.proofs.Streams.{heard_first}
@@ -23,6 +24,9 @@ pub greet-requires-clause-heard : goal.greet-requires-clause-heard
 greet-requires-clause-heard g c =
     let at : c.in-Ok.conn.hearing ≡ first_hearing c.size_of-pass.result.1 = ap (λ (k : ConnOf). k.hearing) c.in-Ok.ensures in
     (first_hearing c.size_of-pass.result.1, [], at ∙ heard_first c.size_of-pass.result.1)
+
+pub greet-requires-clause-unrefused : goal.greet-requires-clause-unrefused
+greet-requires-clause-unrefused g c = subst (λ (h : Hearing). IsNoRefusal (end_of h)) (sym (ap (λ (k : ConnOf). k.hearing) c.in-Ok.ensures)) tt
 
 pub returns-in-Ok-greet-clause-served : goal.returns-in-Ok-greet-clause-served
 returns-in-Ok-greet-clause-served g c =

@@ -1,7 +1,9 @@
 use Rattle.std.proofs.Common.{[], List, ℕ, refl, sym, ap, subst, Ok}
 use Rattle.std.specs.Prelude.{Option}
 use Rattle.viewer_run.specs.declared.guest.Guest.{Guest}
+use Rattle.conn_rules.specs.Hearing.{Hearing, end_of}
 use Rattle.conn_rules.specs.Placed.{AreBytes}
+use Rattle.serve_rules.specs.Reading.{IsNoRefusal}
 use Rattle.viewer_run.specs.Greeting.{greeting, Greets, IsRestPlaced}
 use Rattle.viewer_run.proofs.Stretches.{same_none}
 use Rattle.viewer_run.proofs.Streams.{silent_steps, silent_after, silent_replies}
@@ -17,11 +19,18 @@ loop-init g c =
     let wf = g.K.Sink.faults c.args.output.now in
     record {
       heard = c.requires.heard;
+      unrefused = c.requires.unrefused;
       part = c.requires.part;
-      buffer = c.in-Ok.ensures;
+      buffer = c.in-Ok.ensures.some;
       greets = subst (λ (name : List ℕ). Greets h h [] name left left told told rf rf wf wf _) (sym c.new-name.ensures)
-          (greets_none h [] left left told rf rf wf _ (same_none left) (silent_replies h c.requires.heard)
-          (refl, sym (silent_after h c.requires.heard), ap (greeting []) (silent_steps h c.requires.heard), refl, refl));
+          (greets_none h [] left left told rf rf wf _ (same_none left) (silent_replies h c.requires.heard) (
+            refl,
+            sym (silent_after h c.requires.heard),
+            ap (greeting []) (silent_steps h c.requires.heard),
+            refl,
+            refl,
+            subst (λ (x : Hearing). IsNoRefusal (end_of x)) (sym (silent_after h c.requires.heard)) c.requires.unrefused,
+          ));
     }
 
 pub returns-in-Ok-Some-clause-greets : goal.returns-in-Ok-Some-clause-greets
@@ -42,7 +51,7 @@ loop-preserved g c =
     (subst (λ (came : Option Guest). Greets c.loop.conn.hearing c.greet_next.new.conn.hearing c.loop.name c.greet_next.new.name (g.S.Source.left c.loop.input)
     (g.S.Source.left c.greet_next.new.input) (g.K.Sink.told c.loop.output) (g.K.Sink.told c.greet_next.new.output) (g.S.Source.faults c.loop.input)
     (g.S.Source.faults c.greet_next.new.input) (g.K.Sink.faults c.loop.output) (g.K.Sink.faults c.greet_next.new.output) (Ok came)) c.in-Ok-None.field-0-is c.in-Ok-None.ensures.greets) in
-    record { heard = (c.args.conn.now.hearing, all.fed, all.came.1); part = c.in-Ok-None.ensures.placed.0; buffer = c.loop.invariant.buffer; greets = all }
+    record { heard = (c.args.conn.now.hearing, all.fed, all.came.1); unrefused = subst (λ (x : Hearing). IsNoRefusal (end_of x)) (sym all.came.1) all.came.5; part = c.in-Ok-None.ensures.placed.0; buffer = c.loop.invariant.buffer; greets = all }
 
 pub returns-in-Ok-Some-clause-placed : goal.returns-in-Ok-Some-clause-placed
 returns-in-Ok-Some-clause-placed g c = subst (λ (came : Option Guest). AreBytes c.greet_next.new.conn.hearing.part × IsRestPlaced came) c.in-Ok-Some.field-0-is c.in-Ok-Some.ensures.placed

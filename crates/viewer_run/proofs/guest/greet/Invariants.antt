@@ -1,5 +1,7 @@
 use Rattle.std.proofs.Common.{◌<◌, [], vec_len, Ok, None}
+use Rattle.conn_rules.specs.Hearing.{end_of}
 use Rattle.conn_rules.specs.Placed.{AreBytes}
+use Rattle.serve_rules.specs.Reading.{IsNoRefusal}
 use Rattle.viewer_run.specs.Feeding.{IsHeard}
 use Rattle.viewer_run.specs.Greeting.{Greets}
 use Rattle.viewer_run.proofs.guest.greet.Given as goal
@@ -8,6 +10,7 @@ use Rattle.viewer_run.proofs.guest.greet.Given as goal
 abbrev pub invariant-loop : goal.invariant-loop
 invariant-loop g l = record {
   heard : IsHeard l.conn.hearing;
+  unrefused : IsNoRefusal (end_of l.conn.hearing);
   part : AreBytes l.conn.hearing.part;
   buffer : 0 < vec_len l.buffer;
   greets : Greets l.fn.conn.hearing l.conn.hearing [] l.name (g.S.Source.left l.fn.input) (g.S.Source.left l.input) (g.K.Sink.told l.fn.output) (g.K.Sink.told l.output)

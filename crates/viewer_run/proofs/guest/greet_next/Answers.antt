@@ -1,7 +1,9 @@
-use Rattle.std.proofs.Common.{refl, ap}
+use Rattle.std.proofs.Common.{refl, ap, sym, subst}
+use Rattle.conn_rules.specs.Hearing.{Hearing, end_of}
+use Rattle.serve_rules.specs.Reading.{IsNoRefusal}
 use Rattle.viewer_run.specs.Greeting.{greeting}
 use Rattle.viewer_run.proofs.Stretches.{at_end, kept_none}
-use Rattle.viewer_run.proofs.Streams.{silent_steps, silent_replies}
+use Rattle.viewer_run.proofs.Streams.{silent_steps, silent_after, silent_replies}
 use Rattle.viewer_run.proofs.Greeted.{greets_none}
 use Rattle.viewer_run.proofs.guest.greet_next.Goals as goal
 
@@ -11,7 +13,13 @@ returns-in-End-clause-greets g c =
     let left = g.S.Source.left c.args.input.now in
     greets_none h c.args.name.now left (g.S.Source.left c.read.new.self) (g.K.Sink.told c.args.output.now) (g.S.Source.faults c.args.input.now)
     (g.S.Source.faults c.read.new.self) (g.K.Sink.faults c.args.output.now) _ (kept_none left (g.S.Source.left c.read.new.self) c.in-End.ensures.bytes.1)
-    (silent_replies h c.requires.heard) (refl, (c.args.name.now, ap (greeting c.args.name.now) (silent_steps h c.requires.heard)), at_end left c.in-End.ensures.bytes.0, refl)
+    (silent_replies h c.requires.heard) (
+      refl,
+      (c.args.name.now, ap (greeting c.args.name.now) (silent_steps h c.requires.heard)),
+      at_end left c.in-End.ensures.bytes.0,
+      refl,
+      subst (λ (x : Hearing). IsNoRefusal (end_of x)) (sym (silent_after h c.requires.heard)) c.requires.unrefused,
+    )
 
 pub returns-in-Failed-clause-greets : goal.returns-in-Failed-clause-greets
 returns-in-Failed-clause-greets g c =

@@ -27,7 +27,7 @@ returns-in-Ok-clause-reads g c = λ left less f taken.
     piece_read c.args.lock.now.head c.args.v c.args.conn.now.hearing c.feed.new.conn.hearing c.args.bytes.now _ c.feed.new.steps.items done.0 c.args.pass c.do_steps-pass.result.0
     c.args.told.now c.do_steps-pass.new.told c.in-Ok.end c.end_of_piece-end.result c.do_steps-pass.result.1 left less f c.in-Ok.ensures
     (subst (λ (steps : List ConnStep). StepsFront c.args.lock.now.head c.args.v steps done.0 c.args.pass c.do_steps-pass.result.0 c.args.told.now c.do_steps-pass.new.told) c.deref.ensures.value done.1)
-    done.2 c.end_of_piece-end.ensures c.do_steps-pass.ensures.room taken
+    done.2 c.end_of_piece-end.ensures c.do_steps-pass.ensures.room taken c.requires.stops
 
 pub returns-clause-reads : goal.returns-clause-reads
-returns-clause-reads g c = λ left less f taken. piece_lost c.args.lock.now.head c.args.v c.args.conn.now.hearing c.feed.new.conn.hearing c.args.bytes.now c.args.pass c.args.told.now left less f c.requires.room taken
+returns-clause-reads g c = λ left less f taken. piece_lost c.args.lock.now.head c.args.v c.args.conn.now.hearing c.feed.new.conn.hearing c.args.bytes.now c.args.pass c.args.told.now left less f c.requires.room taken c.requires.stops

@@ -40,7 +40,8 @@ loop-init g c =
     record {
       lock = r.ensures.lock;
       room = (r.ensures.reads left f).room;
-      buffer = c.in-Ok.ensures;
+      buffer = c.in-Ok.ensures.some;
+      one = c.in-Ok.ensures.one;
       going = r.ensures.going stopped;
       reads = subst (ReadsOn c.args.lock.now.head c.args.v c.args.rest.now true c.args.conn.now.hearing r.new.conn.hearing c.args.pass r.result.0 c.args.told.now r.new.told left left f f)
           stopped (r.ensures.reads left f);
@@ -74,6 +75,7 @@ loop-preserved g c =
       lock = r.ensures.lock;
       room = r.ensures.reads.room;
       buffer = c.loop.invariant.buffer;
+      one = c.loop.invariant.one;
       going = r.ensures.going stopped;
       reads = subst (ReadsOn c.args.lock.now.head c.args.v c.args.rest.now true c.args.conn.now.hearing r.new.conn.hearing c.args.pass r.result.0 c.args.told.now r.new.told left least f f'')
           stopped

@@ -1,6 +1,6 @@
-use Rattle.std.proofs.Common.{List, ℕ, subst}
+use Rattle.std.proofs.Common.{List, ℕ, ap, ◌∙◌, subst, Err}
 use Rattle.viewer_run.specs.Sending.{WritesFrame}
-use Rattle.viewer_run.proofs.OneTake.{unsent, sent}
+use Rattle.viewer_run.proofs.OneTake.{unsent, number_stays, sent}
 use Rattle.viewer_run.proofs.sends.send_frame.Goals as goal
 
 pub returns-in-Ok : goal.returns-in-Ok
@@ -11,4 +11,5 @@ returns-in-Ok g c =
     (g.K.Sink.faults c.args.output.now) (g.K.Sink.faults c.write_frame.new.output) c.write_frame.result) c.deref.ensures.value c.write_frame.ensures)
 
 pub returns-in-Err : goal.returns-in-Err
-returns-in-Err g c = unsent _ _ _ _ _
+returns-in-Err g c = unsent _ _ _ _ _ (number_stays c.in-Err.field-0 c.args.sender.now c.encode.new.self (λ e. c.encode.ensures.only_spent (c.in-Err.is ∙ ap Err e))
+    (λ e. c.encode.ensures.memory (c.in-Err.is ∙ ap Err e)))

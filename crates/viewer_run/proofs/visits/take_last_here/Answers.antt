@@ -1,6 +1,12 @@
-use Rattle.std.proofs.Common.{sym, ◌∙◌}
+use Rattle.std.proofs.Common.{sym, ap, ◌∙◌}
+use Rattle.std.specs.Prelude.{Bool, false}
+use Rattle.frame_plan.specs.Plans.{taken_if, asked_if}
+use Rattle.session_core.specs.SessionModel.{asked_by}
+use Rattle.viewer_sender.specs.Senders.{desk_of}
+use Rattle.viewer_run.specs.Asking.{suppressed_with}
 use Rattle.viewer_run.proofs.OneTake.{took}
 use Rattle.viewer_run.proofs.Coming.{up_to_date, here_stays, taken_stays}
+use Rattle.viewer_run.proofs.Asked.{away_finds_last, same_but_stopped, last_took, last_served, last_kept, last_allowed}
 use Rattle.viewer_run.proofs.visits.take_last_here.Goals as goal
 
 pub take-requires-clause-present : goal.take-requires-clause-present
@@ -14,3 +20,34 @@ returns-clause-taken c = taken_stays c.args.session.now c.suppress.new.self c.ar
 pub returns-clause-whole : goal.returns-clause-whole
 returns-clause-whole c = λ here none. up_to_date c.args.session.now c.suppress.new.self c.args.sender.now c.args.v c.take.result c.requires.viewer c.suppress.ensures.suppressed
     c.suppress.ensures.journal c.take.ensures.taken none
+
+pub returns-clause-work : goal.returns-clause-work
+returns-clause-work c = last_took c.args.session.now c.args.sender.now c.args.v c.requires.viewer c.suppress.new.self
+    (same_but_stopped c.args.session.now c.suppress.new.self c.suppress.ensures.head c.suppress.ensures.journal c.suppress.ensures.asked) c.suppress.ensures.suppressed
+    (sym c.present.ensures ∙ c.if-not-present.false) c.take.result c.take.ensures.taken
+
+pub returns-clause-asked : goal.returns-clause-asked
+returns-clause-asked c = last_served c.args.session.now c.args.sender.now c.args.v c.requires.viewer c.suppress.new.self
+    (same_but_stopped c.args.session.now c.suppress.new.self c.suppress.ensures.head c.suppress.ensures.journal c.suppress.ensures.asked) c.suppress.ensures.suppressed
+    (sym c.present.ensures ∙ c.if-not-present.false) c.take.new.session c.take.result c.take.ensures.asked
+
+pub returns-clause-kept : goal.returns-clause-kept
+returns-clause-kept c = last_kept c.args.session.now c.args.sender.now c.args.v c.requires.viewer c.suppress.new.self
+    (same_but_stopped c.args.session.now c.suppress.new.self c.suppress.ensures.head c.suppress.ensures.journal c.suppress.ensures.asked) c.suppress.ensures.suppressed
+    (sym c.present.ensures ∙ c.if-not-present.false) c.take.new.session c.take.new.self c.take.result c.take.ensures.unchanged
+
+pub returns-clause-suppressed : goal.returns-clause-suppressed
+returns-clause-suppressed c = last_allowed c.args.session.now c.args.sender.now c.args.v c.requires.viewer c.suppress.new.self
+    (same_but_stopped c.args.session.now c.suppress.new.self c.suppress.ensures.head c.suppress.ensures.journal c.suppress.ensures.asked) c.suppress.ensures.suppressed
+    (sym c.present.ensures ∙ c.if-not-present.false) c.take.new.session c.take.ensures.suppressed
+
+pub returns-then-not-present-clause-work : goal.returns-then-not-present-clause-work
+returns-then-not-present-clause-work c =
+    ap (λ (b : Bool). taken_if b c.args.session.now (desk_of c.args.sender.now)) (sym (away_finds_last c.args.session.now c.args.sender.now c.args.v c.requires.viewer (sym c.present.ensures ∙ c.if-not-present.true)))
+
+pub returns-then-not-present-clause-asked : goal.returns-then-not-present-clause-asked
+returns-then-not-present-clause-asked c =
+    ap (λ (b : Bool). asked_if b c.args.v (asked_by c.args.session.now)) (sym (away_finds_last c.args.session.now c.args.sender.now c.args.v c.requires.viewer (sym c.present.ensures ∙ c.if-not-present.true)))
+
+pub returns-then-not-present-clause-suppressed : goal.returns-then-not-present-clause-suppressed
+returns-then-not-present-clause-suppressed c = ap (λ (b : Bool). suppressed_with b c.args.session.now c.args.v false) (sym (sym c.present.ensures ∙ c.if-not-present.true))
