@@ -1,3 +1,4 @@
+pub mod Changed
 pub mod Names
 pub mod Modes
 pub mod Invited

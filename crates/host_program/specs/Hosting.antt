@@ -13,6 +13,7 @@ use Rattle.gate_run.specs.Gates.{GateState, ServesGate}
 use Rattle.script_run.specs.Run.{WritesCause}
 use Rattle.script_run.specs.Steps.{IsWriteFault}
 use Rattle.script_run.specs.declared.fault.ScriptFault.{ScriptFault}
+use Rattle.host_program.specs.Changes.{ChangedByHolders}
 use Rattle.host_program.specs.Statuses.{script_status}
 use Rattle.host_program.specs.Serving.{HostingOf}
 use Rattle.host_program.specs.Links.{served_text}
@@ -34,7 +35,8 @@ pub record WritesLinks (answer : Result (Unit {0}) ScriptFault) (reports : List 
   pub fault : IfErr answer IsWriteFault
   pub write_cause : WritesCause answer writes wrote
 
--- the links' lines were written, but nothing where the gate can't be opened
+-- the links' lines were written, also where the gate failed: all of them unless the output's count of faults rose or memory was wanted, and else a front; but nothing
+-- where the gate can't be opened
 abbrev pub WritesIfOpened : GateEnd → Result (Unit {0}) ScriptFault → List ConnReport → (told telling : Option (List ℕ)) → (writes wrote : ℕ) → Type 0
 WritesIfOpened Ended answer reports told telling writes wrote = WritesLinks answer reports told telling writes wrote
 WritesIfOpened Failed answer reports told telling writes wrote = WritesLinks answer reports told telling writes wrote
@@ -46,13 +48,14 @@ pub record PrintsLinks (status : ℕ) (end : GateEnd) (reports : List ConnReport
   pub status_is : status ≡ served_status end answer
   pub writes_links : WritesIfOpened end answer reports told telling writes wrote
 
--- the links of the gate were served, over one session whose journal is legal, and the line of each one's report was written: 0 is that the gate ended and all of them
+-- the links of the gate were served, over one session whose journal is legal, with each change made by the holder of control, and the line of each one's report was written: 0 is that the gate ended and all of them
 -- stand there, 5 and 6 are a fault of the sink and want of memory behind a front of them, and 7 is a fault of the gate, whose count rose
 pub record HostsLinks (status : ℕ) (hosting : HostingOf) (before now : GateState) (told telling : Option (List ℕ)) (writes wrote : ℕ) : Type 0 where
   pub j : List Entry
   pub reports : List ConnReport
   pub end : GateEnd
   pub serves : ServesGate (head_of hosting) hosting.port hosting.links before now j reports end
+  pub changes : ChangedByHolders (head_of hosting) j
   pub prints : PrintsLinks status end reports told telling writes wrote
 
 -- memory was wanted before the gate was opened: nothing was done

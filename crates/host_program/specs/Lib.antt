@@ -1,4 +1,5 @@
 pub mod Outside
+pub mod Changes
 pub mod Statuses
 pub mod Loading
 pub mod Answering

@@ -10,8 +10,11 @@ use Rattle.command_words.specs.HostWords.{RequestOf}
 use Rattle.script_run.specs.Run.{WritesCause}
 use Rattle.script_run.specs.Steps.{IsWriteFault}
 use Rattle.script_run.specs.declared.fault.ScriptFault.{ScriptFault}
+use Rattle.demo_run.specs.Scene.{demo_head}
+use Rattle.demo_run.specs.Load.{demo_asked}
 use Rattle.demo_run.specs.Counts.{demo_line}
 use Rattle.host_program.specs.declared.loading.Load.{Load}
+use Rattle.host_program.specs.Changes.{StepsByHolders}
 use Rattle.host_program.specs.Statuses.{script_status}
 
 -- the greatest seed, and the most steps (profile)
@@ -39,10 +42,11 @@ abbrev pub load_of : RequestOf → Option Load
 load_of request = if is_same_word request.mode (codes "demo") then load_of_args request.args else None
 
 -- a load was run: 0 is that the line which counts its run was written; 5 and 6 are a fault of the sink, whose count rose, and want of memory, behind a
--- front of it
+-- front of it; each change of the load's journal was made by the holder of control
 pub record RunsDemo (status : ℕ) (load : Load) (told telling : Option (List ℕ)) (writes wrote : ℕ) : Type 0 where
   pub answer : Result (Unit {0}) ScriptFault
   pub status_is : status ≡ script_status answer
+  pub changes : StepsByHolders demo_head (demo_asked load.seed load.steps)
   pub written : OnOk answer (Appends told telling (demo_line load.seed load.steps))
   pub front : OnErr answer (WritesFront told telling (demo_line load.seed load.steps))
   pub fault : IfErr answer IsWriteFault

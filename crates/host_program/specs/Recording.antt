@@ -11,6 +11,7 @@ use Rattle.record_run.specs.Run.{RecordsScript}
 use Rattle.replay_run.specs.Replays.{ReplaysRecord}
 use Rattle.host_program.specs.Statuses.{script_status}
 use Rattle.host_program.specs.Outside.{Outside}
+use Rattle.host_program.specs.Changes.{ScriptByHolders}
 
 -- whether a request is the mode record, which has no argument
 abbrev pub is_record : RequestOf → Bool
@@ -42,6 +43,7 @@ pub record RunsRecord (status : ℕ) (before now : Outside) : Type 0 where
   pub answer : Result (Unit {0}) ScriptFault
   pub status_is : status ≡ script_status answer
   pub record_is : RecordsScript answer before.left now.left before.told now.told
+  pub changes : ScriptByHolders before.left
   pub read_cause : ReadsCause answer before.reads now.reads
   pub write_cause : WritesCause answer before.writes now.writes
 

@@ -16,6 +16,7 @@ use Rattle.host_program.specs.Serving.{HostingOf, hosting_of}
 use Rattle.host_program.specs.Recording.{is_record, stop_of}
 use Rattle.host_program.specs.Statuses.{script_status}
 use Rattle.host_program.specs.Outside.{Outside}
+use Rattle.host_program.specs.Changes.{ScriptByHolders}
 use Rattle.script_run.specs.Run.{RunsScript, ReadsCause, WritesCause}
 use Rattle.script_run.specs.Steps.{IsWriteFault}
 use Rattle.script_run.specs.declared.fault.ScriptFault.{ScriptFault}
@@ -97,11 +98,13 @@ usage_status (Err OutOfMemory) = 6
 
 -- a script was run: 0 is its end, 3 the first line that breaks a rule, with the capture written that each viewer reads whole, and in
 -- which each mark shows the picture after exactly the journal entries that the frame's take found; 4, 5 and 6 are faults of the
--- source and of the sink, whose counts rose, and want of memory, behind the capture of the lines that were done
+-- source and of the sink, whose counts rose, and want of memory, behind the capture of the lines that were done; each change of the
+-- journal was made by the holder of control, also after a fault
 pub record RunsMode (status : ℕ) (before now : Outside) : Type 0 where
   pub answer : Result (Unit {0}) ScriptFault
   pub status_is : status ≡ script_status answer
   pub capture : RunsScript answer before.left now.left before.told now.told
+  pub changes : ScriptByHolders before.left
   pub read_cause : ReadsCause answer before.reads now.reads
   pub write_cause : WritesCause answer before.writes now.writes
 

@@ -3,13 +3,14 @@
 ghost use Rattle.std.specs.Prelude.{◌≡◌, [], false};
 ghost use Rattle.gate_run.specs.Gates.{gate_state};
 ghost use Rattle.host_program.specs.Serving.{IsHostable};
-ghost use Rattle.host_program.specs.Hosting.{PrintsLinks, RunsServe};
+ghost use Rattle.host_program.specs.Hosting.{PrintsLinks, RunsServe, served_status};
 
 use crate::host::{GATE_FAULT, OUT_OF_MEMORY, status};
 use crate::links::put_links;
 use crate::serving::Hosting;
 use edge_io::{Gate, Sink};
 use gate_run::{GateEnd, serve_gate};
+use script_run::ScriptFault;
 use serve_rules::ConnReport;
 use session_core::Session;
 use std::alloc::Global;
@@ -17,6 +18,7 @@ use std::sync::Wait;
 use std::thread::Threads;
 
 /// Serves what the words ask for, and answers the exit status.
+#[tactic(auto, using(crate::proofs::Changed::changed))]
 pub(crate) fn host_links<R: Threads + Wait + Sync, K: Sink, G: Gate>(
     rt: &R,
     alloc: Global,
@@ -45,11 +47,17 @@ fn print_links<K: Sink>(alloc: Global, output: &mut K, reports: &[ConnReport], e
     ensures { PrintsLinks result end reports.now (K.told output.old) (K.told output.new) (K.faults output.old) (K.faults output.new) }
 {
     match end {
-        GateEnd::Ended => status(put_links(alloc, output, reports)),
-        GateEnd::Failed => {
-            let _written = put_links(alloc, output, reports);
-            GATE_FAULT
-        }
+        GateEnd::Ended | GateEnd::Failed => served_status(end, put_links(alloc, output, reports)),
         GateEnd::NoListen => GATE_FAULT,
+    }
+}
+
+/// The exit status, by how the gate ended and by the answer of writing the links' lines.
+fn served_status(end: GateEnd, answer: Result<(), ScriptFault>) -> u8
+    ensures { result ≡ served_status end answer }
+{
+    match end {
+        GateEnd::Ended => status(answer),
+        GateEnd::NoListen | GateEnd::Failed => GATE_FAULT,
     }
 }

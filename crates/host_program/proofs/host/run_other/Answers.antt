@@ -7,6 +7,7 @@ use Rattle.host_program.specs.Outside.{outside}
 use Rattle.gate_run.specs.Gates.{gate_state}
 use Rattle.host_program.specs.Serving.{HostingOf}
 use Rattle.host_program.specs.Hosting.{RunsServe}
+use Rattle.host_program.proofs.Changed.{steps_changed}
 use Rattle.host_program.proofs.Modes.{client_or_load, client_or_record, client_or_stop, client_or_hosting, load_or_record, load_or_stop, load_or_hosting}
 use Rattle.host_program.proofs.host.run_other.Goals as goal
 
@@ -19,7 +20,7 @@ pub returns-in-Some-load_of-clause-demo : goal.returns-in-Some-load_of-clause-de
 returns-in-Some-load_of-clause-demo g c = subst (λ (load : Option Load). IfSome load (λ l. RunsDemo c.status.result l (g.K.Sink.told c.args.output.now) (g.K.Sink.told c.run_demo.new.output)
     (g.K.Sink.faults c.args.output.now) (g.K.Sink.faults c.run_demo.new.output)))
     (sym (sym c.load_of.ensures.form ∙ c.in-Some-load_of.is))
-    (record { answer = c.run_demo.result; status_is = c.status.ensures; written = c.run_demo.ensures.written; front = c.run_demo.ensures.front; fault = c.run_demo.ensures.fault; write_cause = c.run_demo.ensures.cause })
+    (record { answer = c.run_demo.result; status_is = c.status.ensures; changes = steps_changed _ _; written = c.run_demo.ensures.written; front = c.run_demo.ensures.front; fault = c.run_demo.ensures.fault; write_cause = c.run_demo.ensures.cause })
 
 pub returns-in-Some-clause-serve : goal.returns-in-Some-clause-serve
 returns-in-Some-clause-serve g c = subst (λ (hosting : Option HostingOf). IfSome hosting (λ h. RunsServe c.answer_status.result h

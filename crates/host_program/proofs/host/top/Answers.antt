@@ -2,7 +2,10 @@ use Rattle.std.proofs.Common.{rules, refl, [], map, string_bytes}
 use Rattle.script_run.proofs.Whole.{nothing_written}
 use Rattle.record_run.proofs.Whole.{nothing_written as nothing_recorded}
 use Rattle.std.proofs.KnownBytes.{Appends-nil}
+use Rattle.demo_run.specs.Scene.{demo_head}
+use Rattle.demo_run.specs.Load.{demo_asked}
 use Rattle.demo_run.specs.Counts.{demo_line}
+use Rattle.host_program.proofs.Changed.{script_changed, steps_changed}
 use Rattle.replay_run.specs.Shown.{shown, text_of}
 use Rattle.script_run.proofs.Continued.{tells_of_all}
 use Rattle.edge_io.specs.Sink.{WritesFront}
@@ -17,7 +20,7 @@ use Rattle.host_program.proofs.host.top.Goals as goal
 
 -- the words weren't read for want of memory: nothing was read or written
 pub returns-in-Err-clause-script : goal.returns-in-Err-clause-script
-returns-in-Err-clause-script g c = λ asks. record { answer = Err OutOfMemory; status_is = refl; capture = nothing_written _ _; read_cause = refl; write_cause = refl }
+returns-in-Err-clause-script g c = λ asks. record { answer = Err OutOfMemory; status_is = refl; capture = nothing_written _ _; changes = script_changed _; read_cause = refl; write_cause = refl }
 
 pub returns-in-Err-clause-usage : goal.returns-in-Err-clause-usage
 returns-in-Err-clause-usage g c = λ asks. record { answer = Err OutOfMemory; status_is = refl; written = search rules; front = record { front = []; rest = usage; whole = refl; written = Appends-nil _ }; fault = search rules; write_cause = refl }
@@ -26,10 +29,10 @@ pub returns-in-Err-clause-answer : goal.returns-in-Err-clause-answer
 returns-in-Err-clause-answer g c = λ client asks. record { answer = Err fault.OutOfMemory; status_is = refl; number = tt; serves = nothing_done client.size client.owner _ _; read_cause = refl; write_cause = refl }
 
 pub returns-in-Err-clause-demo : goal.returns-in-Err-clause-demo
-returns-in-Err-clause-demo g c = λ load asks. record { answer = Err OutOfMemory; status_is = refl; written = search rules; front = record { front = []; rest = demo_line load.seed load.steps; whole = refl; written = Appends-nil _ }; fault = search rules; write_cause = refl }
+returns-in-Err-clause-demo g c = λ load asks. record { answer = Err OutOfMemory; status_is = refl; changes = steps_changed demo_head (demo_asked load.seed load.steps); written = search rules; front = record { front = []; rest = demo_line load.seed load.steps; whole = refl; written = Appends-nil _ }; fault = search rules; write_cause = refl }
 
 pub returns-in-Err-clause-record : goal.returns-in-Err-clause-record
-returns-in-Err-clause-record g c = λ asks. record { answer = Err OutOfMemory; status_is = refl; record_is = nothing_recorded _ _; read_cause = refl; write_cause = refl }
+returns-in-Err-clause-record g c = λ asks. record { answer = Err OutOfMemory; status_is = refl; record_is = nothing_recorded _ _; changes = script_changed _; read_cause = refl; write_cause = refl }
 
 pub returns-in-Err-clause-replay : goal.returns-in-Err-clause-replay
 returns-in-Err-clause-replay g c = λ stop asks. record {
