@@ -17,17 +17,16 @@ HEAD = '''# Index of the public calls
 
 Every call that can be reached from outside of its crate: functions that a crate exports, methods of types and calls of traits that it exports (a type that has the trait answers by the same clauses), and the copies (`clone`) of `edge_io`. `python3 docs/index.py` writes this page from the sources; `--check` says whether it is up to date.
 
-A call's clauses stand in its contract in the source, by the labels given here; *one* is an only clause, which has no label. The last column is what the call's own comment says of what stands after a refusal or want of memory; where it is empty the call only borrows what it is given, or makes a value, which an `Err` doesn't have, or its clauses say it. `docs/errors.md` says what a place is, and lists what no clause tells.
-
 ## Answers
 
-What calls may answer instead of what was asked for, and other answers of at most four kinds, in the words of the source.
+What calls may answer instead of what was asked for, and other answers of at most four kinds, in the words of the source. Where `OutOfMemory` stands behind a type, that is one of its answers: no memory was left.
 '''
 
 BELOW = '''
 ## Calls
 
-By crates, the lowest first. Calls of one type that may answer the same and have clauses of the same labels stand in one row.
+By crates, the lowest first, with what runs them. A line has calls of one type that may answer the same (`→`; `None` is that of an `Option`) and have clauses of the same labels. The clauses stand in a call's contract in the source; *one* is an only clause, which has no label, and a dash is none. What follows the labels is the call's own comment on what stands after a refusal or want of memory. Where nothing follows, the call only borrows what it is given, or makes a value, which an `Err` doesn't have, or its clauses say it. `docs/errors.md` says what a place is, and lists what no clause tells.
+
 '''
 
 ENUM = re.compile(r'\bpub\s+enum\s+(\w+)[^{;]*\{')
@@ -36,6 +35,8 @@ VARIANT = re.compile(r'\s*(\w+)')
 FIELD = re.compile(r'\b(\w+):(?!:)')
 LEAVES = re.compile(r'`Err`|`ReadFault`|want of memory|A refusal leaves|the refusal is at')
 MOST_KINDS = 4
+ONE = '*one*'
+NO_MEMORY = 'No memory was left.'
 WHERE = {(True, True): 'both programs', (True, False): '`rdp_host`', (False, True): '`rdp_look`', (False, False): 'no program'}
 
 
@@ -93,12 +94,12 @@ def types_of(crates):
     return found
 
 
-def part_of(text, depth_signs, sign):
-    """The parts of a text between a sign that stands outside of brackets."""
+def parts_of(text):
+    """The parts of a text between the commas that stand outside of brackets."""
     parts, depth, last = [], 0, 0
-    for place, found in enumerate(text):
-        depth += (found in depth_signs[0]) - (found in depth_signs[1] and text[place - 1:place] != '-')
-        if found == sign and depth == 0:
+    for place, sign in enumerate(text):
+        depth += (sign in '<([') - (sign in '>)]')
+        if sign == ',' and depth == 0:
             parts.append(text[last:place])
             last = place + 1
     return parts + [text[last:]]
@@ -107,7 +108,7 @@ def part_of(text, depth_signs, sign):
 def errors_in(gives):
     """The names of the types that stand second in the `Result`s of what a call gives."""
     for result in re.finditer(r'\bResult<', gives):
-        yield part_of(gives[result.end():], ('<([', '>)]'), ',')[1].strip().rstrip('>) ')
+        yield parts_of(gives[result.end():])[1].strip().rstrip('>) ')
 
 
 def answers_in(gives, crate, types, below, errors):
@@ -116,7 +117,7 @@ def answers_in(gives, crate, types, below, errors):
     gives = gives.strip()
     outer = re.match(r'(\w+)<(.*)>$', gives, re.S)
     if outer and outer.group(1) in ('Result', 'Option'):
-        parts = part_of(outer.group(2), ('<([', '>)]'), ',')
+        parts = parts_of(outer.group(2))
         inner, none = answers_in(parts[0], crate, types, below, errors)
         if outer.group(1) == 'Option':
             return inner, True
@@ -125,7 +126,7 @@ def answers_in(gives, crate, types, below, errors):
             found.append((type_named(error, crate, types, below), error))
         return found + [answer for answer in inner if answer not in found], none
     if gives.startswith('('):
-        for part in part_of(gives[1:-1], ('<([', '>)]'), ','):
+        for part in parts_of(gives[1:-1]):
             inner, maybe = answers_in(part, crate, types, below, errors)
             found, none = found + [answer for answer in inner if answer not in found], none or maybe
         return found, none
@@ -156,18 +157,29 @@ def leaves(call):
 
 
 def labels_of(call):
-    return ', '.join(label or '*one*' for label in dict.fromkeys(call.labels)) if call.labels else '–'
+    return ', '.join(label or ONE for label in dict.fromkeys(call.labels)) if call.labels else '–'
 
 
-def rows_of(calls, answers):
-    """The rows of a crate's calls: of one type, with the same answers and labels."""
-    rows = {}
+def names_of(owner, names):
+    """The names of calls of one type, the first with the type."""
+    return ', '.join(f'`{owner}::{name}`' if owner and place == 0 else f'`{name}`' for place, name in enumerate(names))
+
+
+def lists_of(calls, answers):
+    """A crate's calls: a line for those of one type with the same answers and labels, and one for all that refuse nothing and have one
+    clause."""
+    rows, plain = {}, {}
     for call in calls:
-        key = (call.owner or '', answers[call.path()], labels_of(call), leaves(call) if answers[call.path()] else '')
-        rows.setdefault(key, []).append(call.name)
-    for (owner, answer, labels, left), names in rows.items():
-        names[0] = f'{owner}::{names[0]}' if owner else names[0]
-        yield f'| {", ".join(f"`{name}`" for name in names)} | {answer} | {labels} | {cell(left)} |'
+        owner, answer, labels = call.owner or '', answers[call.path()], labels_of(call)
+        if not answer and labels == ONE:
+            plain.setdefault(owner, []).append(call.name)
+        else:
+            rows.setdefault((owner, answer, labels, leaves(call) if answer else ''), []).append(call.name)
+    if rows:
+        yield ''.join(f'- {names_of(owner, names)}{f" → {answer}" if answer else ""}: {labels}{f". {left}" if left else ""}\n'
+                      for (owner, answer, labels, left), names in rows.items())
+    if plain:
+        yield 'One clause each, and no refusal: ' + '; '.join(names_of(owner, names) for owner, names in plain.items()) + '.\n'
 
 
 def page():
@@ -183,9 +195,9 @@ def page():
     for crate, calls in calls_of.items():
         if not calls:
             continue
-        parts.append(f'### `{crate}` ({WHERE[crate in runs[0], crate in runs[1]]})\n')
         laws = [call for call in calls.values() if call.is_law]
         others = sorted((call for call in calls.values() if not call.is_law), key=lambda call: (call.owner is not None, call.owner or ''))
+        parts.append(f'### `{crate}` ({WHERE[crate in runs[0], crate in runs[1]] if others else "laws alone"})\n')
         answers = {}
         for call in others:
             found, none = answers_in(call.gives, crate, types, below, errors)
@@ -194,17 +206,19 @@ def page():
                     used[kind.crate, kind.name] = kind
             names = list(dict.fromkeys(name for _, name in found)) + ['None'] * none
             answers[call.path()] = ', '.join(names)
-        if others:
-            parts.append('| call | may answer | clauses | then |\n|---|---|---|---|\n' + '\n'.join(rows_of(others, answers)) + '\n')
+        parts.extend(lists_of(others, answers))
         if laws:
-            parts.append('Laws: ' + '; '.join(f'`{law.name}` ({labels_of(law)})' for law in laws) + '.\n')
+            told = {law: labels_of(law) for law in laws}
+            parts.append('Laws: ' + '; '.join(f'`{law.name}`' + (f' ({told[law]})' if told[law] != ONE else '') for law in laws) + '.\n')
     lines = ['| type | answer | where |', '|---|---|---|']
     for key in sorted(used, key=lambda key: (order.index(key[0]), key[1])):
         kind = used[key]
         if kind.variants is None:
             lines.append(f'| `{kind.crate}::{kind.name}` | | {cell(kind.comment)} |')
-        for place, (name, comment) in enumerate(kind.variants or []):
-            lines.append(f'| {f"`{kind.crate}::{kind.name}`" if place == 0 else ""} | `{name}` | {cell(comment)} |')
+        told = [(name, comment) for name, comment in kind.variants or [] if comment != NO_MEMORY]
+        for place, (name, comment) in enumerate(told):
+            also = ', `OutOfMemory`' if place == 0 and len(told) < len(kind.variants) else ''
+            lines.append(f'| {f"`{kind.crate}::{kind.name}`{also}" if place == 0 else ""} | `{name}` | {cell(comment)} |')
     return HEAD + '\n' + '\n'.join(lines) + '\n' + BELOW + '\n'.join(parts)
 
 
