@@ -1,17 +1,13 @@
 #!/usr/bin/env python3
-"""Checks that docs/errors.md has each public call of each crate of crates.txt just once, and that what it names is there.
+"""Checks that docs/index.md is up to date, and that what other pages of docs/ cite is there. Its reader of contracts is that of index.py, too.
 
 Public calls are the functions that a crate exports, the methods of the types and the calls of the traits that it exports, and of what
 those types have of the standard's traits `clone` alone, since nothing else of it may refuse. A function that does nothing and has a
 contract is a law.
 
-It reads the tables below 'Public calls'. Names stand in backticks: `crate::call` or `crate::Type::call`; a call behind it is of the same
-type, or of the crate where there was none, and `Type::call` is of the same crate. In the table of calls that answer no error the crate is
-the first column, its calls are the second and its laws the third; there no call may give a `Result`. In the other tables the calls are the
-first column, and the last one has labels of their clauses.
-
-Of docs/faults.md it checks that each `crate::call` is a public call of a crate that one of the programs stands on, that a law is called so, and
-that labels behind it are those of its clauses.
+Names stand in backticks: `crate::call` or `crate::Type::call`. Each that a page cites must be a public call, and labels behind it those of
+its clauses. What docs/faults.md cites is of a crate that one of the programs stands on, and a law is called so. The laws that docs/claims.md
+names by crates must be theirs.
 
 python3 docs/check_calls.py
 """
@@ -20,22 +16,24 @@ import re
 import sys
 
 TOP = pathlib.Path(__file__).resolve().parent.parent
-HEAD = '## Public calls'
-NO_ERROR = '### Calls that answer no error'
 PROGRAMS = ['rdp_host', 'rdp_look']
+FAULTS = 'faults.md'
+LAWS = '## Of the definitions alone'
+CITING = [FAULTS, 'claims.md', 'errors.md', 'protocol.md', 'threads.md']
 
 START = re.compile(r'\bghost\b|\b(?P<trait>(?:pub\s+)?trait)\s+(?P<named>\w+)|\bimpl\b|\bmod\s+\w+\s*\{'
                    r'|(?P<pub>\bpub(?P<within>\([^)]*\))?\s+)?(?:\bconst\s+)?(?:\bunsafe\s+)?\bfn\s+(?P<call>\w+)')
-CLAUSE = re.compile(r'\s*(requires|ensures)\s*(\w*)\s*\{')
+CLAUSE = re.compile(r'\s*(requires|ensures)\*?\s*(\w*)\s*\{')
 CITED = re.compile(r'`([a-z_0-9]+)::([\w:]+)`(?:(?:(?: and|,) `\w+`)?, clauses? ((?:`\w+`(?:, | and )?)+))?')
 LAW = re.compile(r'\blaws? (`[\w:]+`(,| and) )*$')
 QUOTED = re.compile(r"b?'(\\.[^']*|[^'\\])'")
 
 
 class Call:
-    """A call of a source file: its type or trait, or None; the trait that it is of, or None; what it gives; labels of its clauses."""
-    def __init__(self, file, owner, kind, of, name, public, gives, labels, is_law):
-        self.file, self.owner, self.kind, self.of, self.name = file, owner, kind, of, name
+    """A call of a source file: where its name stands; its type or trait, or None; the trait that it is of, or None; what it gives; labels
+    of its clauses."""
+    def __init__(self, file, place, owner, kind, of, name, public, gives, labels, is_law):
+        self.file, self.place, self.owner, self.kind, self.of, self.name = file, place, owner, kind, of, name
         self.public, self.gives, self.labels, self.is_law = public, gives, labels, is_law
 
     def path(self):
@@ -130,7 +128,7 @@ def calls_in(file, text, low, high, owner=None, kind='function', of=None):
             gives, labels, body, low = function(text, found.end())
             public = bool(found.group('pub')) and not found.group('within')
             is_law = body is not None and not body.strip() and bool(labels) and owner is None
-            yield Call(file, owner, kind, of, found.group('call'), public, gives, labels, is_law)
+            yield Call(file, found.start('call'), owner, kind, of, found.group('call'), public, gives, labels, is_law)
             continue
         stop = found.end() - 1
         while text[stop] not in '{;':
@@ -179,33 +177,9 @@ def public_calls(crate):
     return found
 
 
-def rows():
-    """The rows below the head: the line's number, whether it is of the table without errors, and its cells."""
-    inside, free = False, False
-    for number, line in enumerate((TOP / 'docs' / 'errors.md').read_text().splitlines(), 1):
-        if line.startswith('## '):
-            inside, free = line == HEAD, False
-        elif line.startswith('### '):
-            free = line == NO_ERROR
-        elif inside and line.startswith('|') and not line.startswith('|---') and not line.startswith(('| call |', '| crate |')):
-            yield number, free, [cell.strip() for cell in line.strip('|').split('|')]
-
-
-def named(cell, crates, crate=None):
-    """The calls that a cell names, each with its crate."""
-    owner = None
-    for token in re.findall(r'`([^`]+)`', cell):
-        parts = token.split('::')
-        if parts[0] in crates:
-            crate, owner, parts = parts[0], None, parts[1:]
-        if len(parts) == 2:
-            owner = parts[0]
-        yield crate, '::'.join(parts if len(parts) == 2 or owner is None else [owner] + parts)
-
-
-def stood_on(crates):
-    """The crates that the programs stand on, with them."""
-    found, left = set(), list(PROGRAMS)
+def stood_on(crates, tops=PROGRAMS):
+    """The crates that these stand on, with them; the programs where none are named."""
+    found, left = set(), list(tops)
     while left:
         crate = left.pop()
         if crate not in found:
@@ -214,73 +188,68 @@ def stood_on(crates):
     return found
 
 
-def citations(calls, run):
-    """What is wrong with the calls that docs/faults.md names."""
-    for number, line in enumerate((TOP / 'docs' / 'faults.md').read_text().splitlines(), 1):
+def citations(page, calls, run):
+    """What is wrong with the calls that a page of docs/ names."""
+    for number, line in enumerate((TOP / 'docs' / page).read_text().splitlines(), 1):
         for found in CITED.finditer(line):
             crate, path, labels = found.groups()
             call = calls.get(crate, {}).get(path)
-            where = f'docs/faults.md, line {number}: {crate}::{path}'
-            if crate in calls and crate not in run:
+            where = f'docs/{page}, line {number}: {crate}::{path}'
+            if page == FAULTS and crate in calls and crate not in run:
                 yield f'{where} is run by no program'
             if call is None:
                 if not any(other.startswith(path + '::') for other in calls.get(crate, {})):
                     yield f'{where} is no public call and no type that has one'
                 continue
-            if call.is_law and not LAW.search(line[:found.start()]):
+            if page == FAULTS and call.is_law and not LAW.search(line[:found.start()]):
                 yield f"{where} is a law, and isn't called so"
             for label in re.findall(r'`(\w+)`', labels or ''):
                 if label not in call.labels:
                     yield f'{where} has no clause {label}'
 
 
-def main():
-    crates = {line.split(':')[0].split()[0]: line.split(':')[1].split() for line in (TOP / 'crates.txt').read_text().splitlines()
-              if line.strip() and not line.startswith('#')}
-    calls = {crate: public_calls(crate) for crate in crates}
-    faults, seen, labels = list(citations(calls, stood_on(crates))), {}, []
-
-    def see(number, crate, path, is_free, is_law):
-        call = calls.get(crate, {}).get(path)
-        if call is None:
-            faults.append(f'line {number}: {crate}::{path} is no public call')
-            return
-        if (crate, path) in seen:
-            faults.append(f'line {number}: {crate}::{path} stands in line {seen[crate, path]} too')
-        seen[crate, path] = number
-        if is_free and 'Result<' in call.gives and not call.gives.startswith('fmt::'):
-            faults.append(f'line {number}: {crate}::{path} gives a Result')
-        if call.is_law != is_law:
-            faults.append(f'line {number}: {crate}::{path} is {"a" if call.is_law else "no"} law')
-        labels.extend(call.labels)
-
-    for number, is_free, cells in rows():
-        if is_free:
-            crate = cells[0].strip('`')
-            for place, cell in enumerate(cells[1:]):
-                for _, path in named(cell, crates, crate):
-                    see(number, crate, path, True, place == 1)
+def laws_named(calls):
+    """What is wrong with the laws that docs/claims.md names below 'Of the definitions alone': behind each crate's name those of its laws,
+    and behind the word 'clause' labels of the last one."""
+    inside, page = False, 'claims.md'
+    for number, line in enumerate((TOP / 'docs' / page).read_text().splitlines(), 1):
+        if line.startswith('## '):
+            inside = line == LAWS
+        if not inside or not line.startswith('| ') or line.startswith('| claim |'):
             continue
-        if cells[0]:
-            labels.clear()
-            for crate, path in named(cells[0], crates):
-                see(number, crate, path, False, False)
-        for label in re.findall(r'`(\w+)`', cells[-1]):
-            if label not in labels:
-                faults.append(f'line {number}: no call of the row has a clause {label}')
-        if '(one)' in cells[-1] and '' not in labels:
-            faults.append(f'line {number}: no call of the row has a clause without a label')
-        for crate, path in re.findall(r'\bthe law `(\w+)::(\w+)`', ' '.join(cells)):
-            if path not in calls.get(crate, {}):
-                faults.append(f'line {number}: {crate}::{path} is no law')
+        crate, law, of_clause = None, None, False
+        for found in re.finditer(r'`(\w+)`|\b(clauses?)\b|;', line.strip('| ').rsplit(' | ', 1)[1]):
+            name = found.group(1)
+            if name is None:
+                of_clause = bool(found.group(2))
+            elif name in calls:
+                crate, of_clause = name, False
+            elif of_clause:
+                if law is not None and name not in law.labels:
+                    yield f'docs/{page}, line {number}: {crate}::{law.name} has no clause {name}'
+            else:
+                law = calls.get(crate, {}).get(name)
+                if law is None or not law.is_law:
+                    yield f'docs/{page}, line {number}: {crate}::{name} is no law'
 
-    for crate in crates:
-        for path, call in calls[crate].items():
-            if (crate, path) not in seen:
-                faults.append(f'no row: {crate}::{path} ({call.file.relative_to(TOP)})')
+
+def listed_crates():
+    """The crates of crates.txt in their order, each with what it stands on."""
+    return {line.split(':')[0].split()[0]: line.split(':')[1].split() for line in (TOP / 'crates.txt').read_text().splitlines()
+            if line.strip() and not line.startswith('#')}
+
+
+def main():
+    import index
+    crates = listed_crates()
+    calls = {crate: public_calls(crate) for crate in crates}
+    run = stood_on(crates)
+    faults = [fault for page in CITING for fault in citations(page, calls, run)] + list(laws_named(calls))
+    if not index.is_written():
+        faults.append("docs/index.md isn't up to date: python3 docs/index.py")
     for fault in faults:
         print(fault)
-    print(f'{sum(map(len, calls.values()))} public calls, {len(seen)} in docs/errors.md, {len(faults)} faults')
+    print(f'{sum(map(len, calls.values()))} public calls, {len(faults)} faults')
     return 1 if faults else 0
 
 

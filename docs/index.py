@@ -1,0 +1,239 @@
+#!/usr/bin/env python3
+"""Writes docs/index.md: each public call of each crate of crates.txt, what it may answer and the labels of its clauses, and each type of
+answer with what its own comment says of it. Everything in it comes from the sources, by the reader of contracts in check_calls.py.
+
+python3 docs/index.py            writes it
+python3 docs/index.py --check    says whether the written one is up to date, and ends with 1 where it isn't
+"""
+import re
+import sys
+
+import check_calls
+from check_calls import TOP, blanked, closing
+
+WRITTEN = TOP / 'docs' / 'index.md'
+
+HEAD = '''# Index of the public calls
+
+Every call that can be reached from outside of its crate: functions that a crate exports, methods of types and calls of traits that it exports (a type that has the trait answers by the same clauses), and the copies (`clone`) of `edge_io`. `python3 docs/index.py` writes this page from the sources; `--check` says whether it is up to date.
+
+## Answers
+
+What calls may answer instead of what was asked for, and other answers of at most four kinds, in the words of the source. Where `OutOfMemory` stands behind a type, that is one of its answers: no memory was left.
+'''
+
+BELOW = '''
+## Calls
+
+By crates, the lowest first, with what runs them. A line has calls of one type that may answer the same (`→`; `None` is that of an `Option`) and have clauses of the same labels. The clauses stand in a call's contract in the source; *one* is an only clause, which has no label, and a dash is none. What follows the labels is the call's own comment on what stands after a refusal or want of memory. Where nothing follows, the call only borrows what it is given, or makes a value, which an `Err` doesn't have, or its clauses say it. `docs/errors.md` says what a place is, and lists what no clause tells.
+
+'''
+
+ENUM = re.compile(r'\bpub\s+enum\s+(\w+)[^{;]*\{')
+UNIT = re.compile(r'\bpub\s+struct\s+(\w+)(?:\s*;|\s*\{)')
+VARIANT = re.compile(r'\s*(\w+)')
+FIELD = re.compile(r'\b(\w+):(?!:)')
+LEAVES = re.compile(r'`Err`|`ReadFault`|want of memory|A refusal leaves|the refusal is at')
+MOST_KINDS = 4
+ONE = '*one*'
+NO_MEMORY = 'No memory was left.'
+WHERE = {(True, True): 'both programs', (True, False): '`rdp_host`', (False, True): '`rdp_look`', (False, False): 'no program'}
+
+
+class Type:
+    """An enumeration, or a type that is one answer: its crate, its comment, and its variants, each with its comment."""
+    def __init__(self, crate, name, comment, variants):
+        self.crate, self.name, self.comment, self.variants = crate, name, comment, variants
+
+
+def comment_above(text, place):
+    """The comment right above the line of a place, as one line."""
+    lines = text[:place].split('\n')[:-1]
+    found = []
+    while lines and lines[-1].strip().startswith(('///', '#[')):
+        line = lines.pop().strip()
+        if line.startswith('///'):
+            found.append(line[3:].strip())
+    return ' '.join(part for part in reversed(found) if part)
+
+
+def variants_of(text, blank, start, end):
+    """The variants between two braces, each with its comment."""
+    found, place = [], start
+    while True:
+        while place < end and (blank[place].isspace() or blank[place] == ','):
+            place += 1
+        if blank.startswith('#[', place):
+            place = blank.index(']', place) + 1
+            continue
+        name = VARIANT.match(blank, place)
+        if place >= end or name is None:
+            return found
+        stop, depth = name.end(), 0
+        while stop < end and (depth or blank[stop] != ','):
+            depth += (blank[stop] in '({[') - (blank[stop] in ')}]')
+            stop += 1
+        fields = FIELD.findall(blank, name.end(), stop) if blank[name.end():stop].lstrip().startswith('{') else []
+        found.append((f'{name.group(1)} {{ {", ".join(fields)} }}' if fields else name.group(1), comment_above(text, name.start(1))))
+        place = stop
+
+
+def types_of(crates):
+    """The enumerations of all crates and the types that may be the second one of a `Result`, by crate and name."""
+    found = {}
+    for crate in crates:
+        for path in sorted((TOP / 'crates' / crate / 'src').rglob('*.rt')):
+            text = path.read_text()
+            blank = blanked(text)
+            for enum in ENUM.finditer(blank):
+                end = closing(blank, enum.end() - 1)
+                variants = variants_of(text, blank, enum.end(), end)
+                found[crate, enum.group(1)] = Type(crate, enum.group(1), comment_above(text, enum.start()), variants)
+            for unit in UNIT.finditer(blank):
+                found.setdefault((crate, unit.group(1)), Type(crate, unit.group(1), comment_above(text, unit.start()), None))
+    return found
+
+
+def parts_of(text):
+    """The parts of a text between the commas that stand outside of brackets."""
+    parts, depth, last = [], 0, 0
+    for place, sign in enumerate(text):
+        depth += (sign in '<([') - (sign in '>)]')
+        if sign == ',' and depth == 0:
+            parts.append(text[last:place])
+            last = place + 1
+    return parts + [text[last:]]
+
+
+def errors_in(gives):
+    """The names of the types that stand second in the `Result`s of what a call gives."""
+    for result in re.finditer(r'\bResult<', gives):
+        yield parts_of(gives[result.end():])[1].strip().rstrip('>) ')
+
+
+def answers_in(gives, crate, types, below, errors):
+    """The types of answers in what a call gives, and whether it may give `None`."""
+    found, none = [], False
+    gives = gives.strip()
+    outer = re.match(r'(\w+)<(.*)>$', gives, re.S)
+    if outer and outer.group(1) in ('Result', 'Option'):
+        parts = parts_of(outer.group(2))
+        inner, none = answers_in(parts[0], crate, types, below, errors)
+        if outer.group(1) == 'Option':
+            return inner, True
+        error = parts[1].strip()
+        if not error.startswith('fmt::'):
+            found.append((type_named(error, crate, types, below), error))
+        return found + [answer for answer in inner if answer not in found], none
+    if gives.startswith('('):
+        for part in parts_of(gives[1:-1]):
+            inner, maybe = answers_in(part, crate, types, below, errors)
+            found, none = found + [answer for answer in inner if answer not in found], none or maybe
+        return found, none
+    name = re.match(r"&?(?:'\w+ )?(\w+)", gives)
+    kind = type_named(name.group(1), crate, types, below) if name else None
+    if kind is not None and kind.variants and (kind in errors or len(kind.variants) <= MOST_KINDS and kind.variants[0][1]):
+        found.append((kind, kind.name))
+    return found, none
+
+
+def type_named(name, crate, types, below):
+    """The type of a name in a crate: its own, or that of the highest crate below that has one."""
+    name = name.split('::')[-1].split('<')[0]
+    for other in [crate] + below[crate]:
+        if (other, name) in types:
+            return types[other, name]
+    return None
+
+
+def cell(text):
+    return text.replace('|', '\\|')
+
+
+def leaves(call):
+    """What the call's comment says of what stands after a refusal."""
+    comment = comment_above(call.file.read_text(), call.place)
+    return ' '.join(sentence for sentence in re.split(r'(?<=[.])\s+', comment) if LEAVES.search(sentence))
+
+
+def labels_of(call):
+    return ', '.join(label or ONE for label in dict.fromkeys(call.labels)) if call.labels else '–'
+
+
+def names_of(owner, names):
+    """The names of calls of one type, the first with the type."""
+    return ', '.join(f'`{owner}::{name}`' if owner and place == 0 else f'`{name}`' for place, name in enumerate(names))
+
+
+def lists_of(calls, answers):
+    """A crate's calls: a line for those of one type with the same answers and labels, and one for all that refuse nothing and have one
+    clause."""
+    rows, plain = {}, {}
+    for call in calls:
+        owner, answer, labels = call.owner or '', answers[call.path()], labels_of(call)
+        if not answer and labels == ONE:
+            plain.setdefault(owner, []).append(call.name)
+        else:
+            rows.setdefault((owner, answer, labels, leaves(call) if answer else ''), []).append(call.name)
+    if rows:
+        yield ''.join(f'- {names_of(owner, names)}{f" → {answer}" if answer else ""}: {labels}{f". {left}" if left else ""}\n'
+                      for (owner, answer, labels, left), names in rows.items())
+    if plain:
+        yield 'One clause each, and no refusal: ' + '; '.join(names_of(owner, names) for owner, names in plain.items()) + '.\n'
+
+
+def page():
+    """The page, from the sources."""
+    crates = check_calls.listed_crates()
+    order = list(crates)
+    runs = [check_calls.stood_on(crates, [program]) for program in check_calls.PROGRAMS]
+    below = {crate: sorted(check_calls.stood_on(crates, [crate]) - {crate}, key=order.index, reverse=True) for crate in crates}
+    types = types_of(crates)
+    calls_of = {crate: check_calls.public_calls(crate) for crate in order}
+    errors = {type_named(name, crate, types, below) for crate, calls in calls_of.items() for call in calls.values() for name in errors_in(call.gives)}
+    used, parts = {}, []
+    for crate, calls in calls_of.items():
+        if not calls:
+            continue
+        laws = [call for call in calls.values() if call.is_law]
+        others = sorted((call for call in calls.values() if not call.is_law), key=lambda call: (call.owner is not None, call.owner or ''))
+        parts.append(f'### `{crate}` ({WHERE[crate in runs[0], crate in runs[1]] if others else "laws alone"})\n')
+        answers = {}
+        for call in others:
+            found, none = answers_in(call.gives, crate, types, below, errors)
+            for kind, name in found:
+                if kind is not None:
+                    used[kind.crate, kind.name] = kind
+            names = list(dict.fromkeys(name for _, name in found)) + ['None'] * none
+            answers[call.path()] = ', '.join(names)
+        parts.extend(lists_of(others, answers))
+        if laws:
+            told = {law: labels_of(law) for law in laws}
+            parts.append('Laws: ' + '; '.join(f'`{law.name}`' + (f' ({told[law]})' if told[law] != ONE else '') for law in laws) + '.\n')
+    lines = ['| type | answer | where |', '|---|---|---|']
+    for key in sorted(used, key=lambda key: (order.index(key[0]), key[1])):
+        kind = used[key]
+        if kind.variants is None:
+            lines.append(f'| `{kind.crate}::{kind.name}` | | {cell(kind.comment)} |')
+        told = [(name, comment) for name, comment in kind.variants or [] if comment != NO_MEMORY]
+        for place, (name, comment) in enumerate(told):
+            also = ', `OutOfMemory`' if place == 0 and len(told) < len(kind.variants) else ''
+            lines.append(f'| {f"`{kind.crate}::{kind.name}`{also}" if place == 0 else ""} | `{name}` | {cell(comment)} |')
+    return HEAD + '\n' + '\n'.join(lines) + '\n' + BELOW + '\n'.join(parts)
+
+
+def is_written():
+    return WRITTEN.exists() and WRITTEN.read_text() == page()
+
+
+def main():
+    if sys.argv[1:] == ['--check']:
+        written = is_written()
+        print('docs/index.md is up to date' if written else "docs/index.md isn't up to date: python3 docs/index.py")
+        return 0 if written else 1
+    WRITTEN.write_text(page())
+    return 0
+
+
+if __name__ == '__main__':
+    sys.exit(main())
