@@ -1,0 +1,113 @@
+-- Worked turns of a viewer: where the entries of its events stand, what its steps announce, and how its read side ends.
+use Rattle.std.proofs.Common.{◌≡◌, ◌∷◌, [], ℕ, List, refl, sym, subst, true, false, arith, inl, ⊎_elim}
+use Rattle.std.specs.Prelude.{codes}
+use Rattle.input_pdu.specs.declared.event.Event.{Event}
+use Rattle.input_pdu.specs.declared.event.Event.TheVariants.{Scan, Mouse}
+use Rattle.session_rules.specs.declared.entry.Role.TheVariants.{Owner}
+use Rattle.session_rules.specs.declared.entry.Entry.{Entry}
+use Rattle.session_rules.specs.declared.entry.Entry.TheVariants.{Join, Leave, Input}
+use Rattle.edge_io.specs.Faults.{Rose, last_count}
+use Rattle.session_rules.specs.Journal.{Head}
+use Rattle.conn_rules.specs.Hearing.{Hearing}
+use Rattle.serve_rules.specs.Events.{Act, HappenFrom, places_of, Ascend, IsWithin, AreOfEvents}
+use Rattle.serve_rules.specs.Notices.{Notice, events_in, notice_after_all}
+use Rattle.serve_rules.specs.Reading.{ReadEnd}
+use Rattle.serve_rules.specs.declared.ends.SideEnd.TheVariants.{Done}
+use Rattle.session_rules.specs.Entering.{IsOfEvent}
+use Rattle.serve_rules.specs.declared.ends.ConnEnd.TheVariants as end
+use Rattle.conn_rules.specs.declared.conn_step.ConnStep.TheVariants as step
+use Rattle.conn_rules.specs.declared.stage.Stage.TheVariants as stage
+use Rattle.std.specs.declared.option.Option.TheVariants as left
+
+-- ann, who owns a session of 64 by 48
+abbrev ann : Head
+ann = record { size = record { w = 64; h = 48 }; rows = record { name = codes "ann"; role = Owner } ∷ [] }
+
+abbrev click : Event
+click = Mouse 0x9000 20 20
+
+abbrev clicked : List Entry
+clicked = Join 1 Owner ∷ Input 1 click ∷ Leave 1 ∷ []
+
+abbrev unclicked : List Entry
+unclicked = Join 1 Owner ∷ Leave 1 ∷ []
+
+abbrev at : ℕ → Act
+at n = record { event = click; at = n }
+
+a_click_stands_where_its_turn_found_the_end : HappenFrom ann 1 clicked 1 (at 1 ∷ []) 2
+a_click_stands_where_its_turn_found_the_end = (omega arith, refl, omega arith)
+
+its_place_is_reported : places_of ann 1 clicked (at 1 ∷ []) ≡ 1 ∷ []
+its_place_is_reported = refl
+
+a_click_that_was_dropped_stands_nowhere : HappenFrom ann 1 unclicked 1 (at 1 ∷ []) 2 → ⊥
+a_click_that_was_dropped_stands_nowhere h = absurd (cc h.1)
+
+-- two clicks aren't one entry
+one_entry_is_of_one_click : HappenFrom ann 1 clicked 1 (at 1 ∷ at 1 ∷ []) 2 → ⊥
+one_entry_is_of_one_click h = omega (arith, h.2.0)
+
+an_event_before_the_join_is_none_of_it : HappenFrom ann 1 clicked 1 (at 0 ∷ []) 2 → ⊥
+an_event_before_the_join_is_none_of_it h = omega (arith, h.0)
+
+each_event_has_a_turn_of_its_own : IsWithin (1 ∷ 1 ∷ []) (1 ∷ []) → ⊥
+each_event_has_a_turn_of_its_own h = ⊎_elim (λ (a : (1 ≡ 1) × ⊥). a.1) (λ (b : ⊥). b) h
+
+two_turns_may_find_the_same : IsWithin (1 ∷ 1 ∷ []) (1 ∷ 1 ∷ [])
+two_turns_may_find_the_same = inl (refl, inl (refl, tt))
+
+turns_stay_in_order : IsWithin (2 ∷ 1 ∷ []) (1 ∷ 2 ∷ []) → ⊥
+turns_stay_in_order h = ⊎_elim (λ (a : (2 ≡ 1) × IsWithin (1 ∷ []) (2 ∷ [])). absurd (cc a.0))
+    (λ (b : ((2 ≡ 2) × ⊥) ⊎ ⊥). ⊎_elim (λ (c : (2 ≡ 2) × ⊥). c.1) (λ (d : ⊥). d) b) h
+
+no_place_stands_twice : Ascend 0 (1 ∷ 1 ∷ []) 2 → ⊥
+no_place_stands_twice h = omega (arith, h.1.0)
+
+-- a place where another viewer's click stands isn't hers
+another_ones_click_is_none_of_hers : AreOfEvents 2 clicked (1 ∷ []) → ⊥
+another_ones_click_is_none_of_hers h = absurd (cc (subst (IsOfEvent 2) (sym (cc h.0.1)) h.0.2))
+
+abbrev nothing : Notice
+nothing = record { bye = false; shutdown = false; quiet = false }
+
+events_among_steps : events_in (step.Packet ∷ step.Event click ∷ step.Event (Scan 0x3B false) ∷ step.Suppress true ∷ step.Bye ∷ [])
+    ≡ click ∷ Scan 0x3B false ∷ []
+events_among_steps = refl
+
+the_last_suppress_counts : notice_after_all nothing (step.Suppress true ∷ step.Suppress false ∷ []) ≡ nothing
+the_last_suppress_counts = refl
+
+a_stop_after_it_counts : notice_after_all nothing (step.Suppress false ∷ step.Suppress true ∷ step.Packet ∷ []) ≡ record nothing { quiet = true }
+a_stop_after_it_counts = refl
+
+a_shutdown_is_no_bye : notice_after_all nothing (step.Shutdown ∷ []) ≡ record nothing { shutdown = true }
+a_shutdown_is_no_bye = refl
+
+a_bye_is_no_shutdown : notice_after_all nothing (step.Bye ∷ []) ≡ record nothing { bye = true }
+a_bye_is_no_shutdown = refl
+
+-- where a stream stands, with these bytes there of a packet
+abbrev with_part : List ℕ → Hearing
+with_part part = record { size = ann.size; stage = stage.Request; place = 0; part = part }
+
+nobody_leaves_within_a_packet : ReadEnd false (left.Some (3 ∷ [])) (3 ∷ []) (with_part (3 ∷ [])) nothing 0 0 (Done end.Left) → ⊥
+nobody_leaves_within_a_packet e = absurd (cc (e (λ over. cc over)).1)
+
+nobody_leaves_with_bytes_ahead : ReadEnd false (left.Some (3 ∷ [])) [] (with_part []) nothing 0 0 (Done end.Left) → ⊥
+nobody_leaves_with_bytes_ahead e = absurd (cc (e (λ over. cc over)).0)
+
+a_bye_leaves_whatever_is_ahead : ReadEnd false (left.Some (3 ∷ [])) [] (with_part []) (record nothing { bye = true }) 0 0 (Done end.Left)
+a_bye_leaves_whatever_is_ahead unended = absurd (unended refl)
+
+nothing_is_truncated_between_packets : ReadEnd false (left.Some []) [] (with_part []) nothing 0 0 (Done end.Truncated) → ⊥
+nothing_is_truncated_between_packets e = e.2 refl
+
+nothing_is_truncated_behind_a_shutdown : ReadEnd false (left.Some []) [] (with_part (3 ∷ [])) (record nothing { shutdown = true }) 0 0 (Done end.Truncated) → ⊥
+nothing_is_truncated_behind_a_shutdown e = e.0 refl
+
+nothing_fails_while_the_count_stands : ReadEnd false left.None [] (with_part []) nothing 4 4 (Done end.ReadFault) → ⊥
+nothing_fails_while_the_count_stands e = omega (arith, e.1)
+
+a_count_at_its_last_value_may_have_risen : Rose last_count last_count
+a_count_at_its_last_value_may_have_risen = (omega arith, omega arith)

@@ -1,0 +1,13 @@
+mod EventRows
+mod EndRows
+mod LinkRows
+mod GateRows
+mod LineRows
+mod PassRows
+mod EntryRows
+mod RefusedRows
+mod ShownRows
+mod WrittenRows
+mod MarkRows
+mod TileRows
+mod LaneRows

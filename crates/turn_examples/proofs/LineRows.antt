@@ -1,0 +1,73 @@
+-- Worked lines of links, and words of the mode serve.
+use Rattle.std.proofs.Common.{◌≡◌, ◌∷◌, ◌++◌, [], ℕ, List, refl, Some, None, Err}
+use Rattle.std.specs.Prelude.{codes}
+use Rattle.std.specs.Fmt.{digits}
+use Rattle.session_rules.specs.declared.entry.Role.TheVariants.{Owner, Control, View}
+use Rattle.serve_rules.specs.declared.ends.ConnEnd.{ConnEnd}
+use Rattle.serve_rules.specs.declared.told.ConnReport.{ConnReport}
+use Rattle.gate_run.specs.declared.served.GateEnd.TheVariants.{Ended, Failed}
+use Rattle.host_program.specs.Links.{served_text}
+use Rattle.host_program.specs.Hosting.{served_status}
+use Rattle.host_program.specs.Serving.{guest_row, rows_of_words, hosting_of_args}
+use Rattle.serve_rules.specs.declared.ends.ConnEnd.TheVariants as end
+use Rattle.script_run.specs.declared.fault.ScriptFault.TheVariants as fault
+
+abbrev line : List ℕ → List ℕ
+line text = text ++ 10 ∷ []
+
+abbrev of : ℕ → ConnEnd → ConnReport
+of v end = record { viewer = v; end = end; places = record { list = []; room = 0 } }
+
+-- each end has its code, and a refusal its place
+a_line_for_each_end : served_text (of 1 end.Left ∷ of 0 (end.Refused 14 952) ∷ of 2 end.Truncated ∷ of 0 end.NotInvited ∷ of 0 end.RoomFull ∷ of 0 end.JoinsSpent
+    ∷ of 3 end.ReadFault ∷ of 4 end.WriteFault ∷ of 5 end.OutOfMemory ∷ [])
+    ≡ line (codes "1 1 0 0") ++ line (codes "2 0 34 952") ++ line (codes "3 2 35 0") ++ line (codes "4 0 36 0") ++ line (codes "5 0 37 0") ++ line (codes "6 0 38 0")
+    ++ line (codes "7 3 4 0") ++ line (codes "8 4 5 0") ++ line (codes "9 5 6 0")
+unfolding digits
+a_line_for_each_end = refl
+
+a_gate_that_failed_is_7_whatever_the_output_does : served_status Failed (Err fault.WriteFault) ≡ 7
+a_gate_that_failed_is_7_whatever_the_output_does = refl
+
+an_output_that_failed_is_5 : served_status Ended (Err fault.WriteFault) ≡ 5
+an_output_that_failed_is_5 = refl
+
+who_has_a_plus_may_hold_control : guest_row (codes "cy+") ≡ Some (record { name = codes "cy"; role = Control })
+who_has_a_plus_may_hold_control = refl
+
+who_has_none_may_view : guest_row (codes "bob") ≡ Some (record { name = codes "bob"; role = View })
+who_has_none_may_view = refl
+
+two_pluses_are_no_name : guest_row (codes "cy++") ≡ None
+two_pluses_are_no_name = refl
+
+a_plus_alone_is_no_name : guest_row (codes "+") ≡ None
+a_plus_alone_is_no_name = refl
+
+an_owner_has_no_plus : rows_of_words (codes "ann+") [] ≡ None
+an_owner_has_no_plus = refl
+
+one_name_stands_once : rows_of_words (codes "ann") (codes "cy" ∷ codes "cy+" ∷ []) ≡ None
+one_name_stands_once = refl
+
+a_session_to_be_served : hosting_of_args (codes "3389" ∷ codes "64" ∷ codes "48" ∷ codes "2" ∷ codes "ann" ∷ codes "cy+" ∷ [])
+    ≡ Some (record {
+      port = 3389;
+      links = 2;
+      size = record { w = 64; h = 48 };
+      rows = record { name = codes "ann"; role = Owner } ∷ record { name = codes "cy"; role = Control } ∷ [];
+    })
+a_session_to_be_served = refl
+
+no_link_is_none_to_serve : hosting_of_args (codes "3389" ∷ codes "64" ∷ codes "48" ∷ codes "0" ∷ codes "ann" ∷ []) ≡ None
+no_link_is_none_to_serve = refl
+
+no_port_is_0 : hosting_of_args (codes "0" ∷ codes "64" ∷ codes "48" ∷ codes "1" ∷ codes "ann" ∷ []) ≡ None
+no_port_is_0 = refl
+
+no_port_is_65536 : hosting_of_args (codes "65536" ∷ codes "64" ∷ codes "48" ∷ codes "1" ∷ codes "ann" ∷ []) ≡ None
+no_port_is_65536 = refl
+
+the_most_links : hosting_of_args (codes "65535" ∷ codes "4" ∷ codes "1" ∷ codes "65535" ∷ codes "a" ∷ [])
+    ≡ Some (record { port = 65535; links = 65535; size = record { w = 4; h = 1 }; rows = record { name = codes "a"; role = Owner } ∷ [] })
+the_most_links = refl
