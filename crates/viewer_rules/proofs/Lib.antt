@@ -1,0 +1,6 @@
+pub mod Pieces
+pub mod ConfirmedBack
+pub mod Presets
+pub mod Answered
+pub mod Farewell
+pub mod Shown
