@@ -10,7 +10,8 @@
 # the owner drew. Wanted there: what the host does to a client as docs/operating.md says, memory that stays bounded, and viewers who don't notice.
 #
 # usage: sh bench/serve.sh [PART ..]      (idle clicks rate stuck links; there are hostile, and same, which needs rdp_look, as do the parts of
-#                                          clients that mean no good: silent halves unread resets crowd full asks.
+#                                          clients that mean no good: silent halves unread resets passers crowd full asks. The part crowd
+#                                          takes eight minutes: it comes once more, as scarce, to a host that has 64 descriptors.
 #                                          It needs python3 and Linux's /proc. MANY=N: the part links has N links, 10,000; DRAWS=N: the
 #                                          owner draws N times, 100,000, beside a client that reads nothing)
 bench=serve
@@ -25,7 +26,7 @@ load() { RDP_LOOK=$rdp_look python3 "$here/bench/serve_load.py" "$@"; }
 # The clients of a part.
 clients() {
     case $part in
-    silent | halves | unread | resets | crowd | full | asks)
+    silent | halves | unread | resets | passers | crowd | scarce | full | asks)
         needs "$rdp_look"
         RDP_LOOK=$rdp_look python3 "$here/bench/serve_hostile.py" "$@"
         ;;
@@ -33,8 +34,15 @@ clients() {
     esac
 }
 
-# Whether the program's lines are those that the clients expect; else the first that isn't.
+# Whether the program's lines are those that the clients expect; else the first that isn't. Where clients are many at once the numbers of
+# their links aren't known, and the lines are looked at in the order of viewers.
 are_lines_right() {
+    case $part in
+    crowd | scarce)
+        sort -k 2,2n -k 3,3n "$work/lines" >"$work/sorted"
+        mv "$work/sorted" "$work/lines"
+        ;;
+    esac
     awk 'NR == FNR { want[++wanted] = $0; next }
         $0 !~ want[++seen] { printf "line %s, and not %s\n", $0, want[seen]; wrong = 1; exit }
         END { if (wrong) exit 1; if (seen != wanted) { printf "%d lines, and not %d\n", seen, wanted; exit 1 } }' "$work/wanted" "$work/lines"
@@ -49,7 +57,11 @@ part() {
         needs "$rdp_look"
         size='256 192'
     fi
-    "$rdp_host" serve "$port" $size "$(clients links "$1")" ann bob cy+ </dev/null >"$work/lines" &
+    links=$(clients links "$1")
+    (
+        [ "$1" != scarce ] || ulimit -n 64
+        exec "$rdp_host" serve "$port" $size "$links" ann bob cy+ </dev/null >"$work/lines"
+    ) &
     host=$!
     clients "$1" "$port" "$host" "$work/wanted"
     ended=0
@@ -64,4 +76,5 @@ echo '| what | seen | wanted |'
 echo '|---|---:|---:|'
 for name in "$@"; do
     part "$name"
+    [ "$name" != crowd ] || part scarce
 done

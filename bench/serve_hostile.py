@@ -11,16 +11,20 @@ longer than ten minutes, or makes more connections than its links and a spare on
 """
 import multiprocessing
 import os
+import resource
+import select
 import signal
 import socket
 import struct
 import subprocess
 import sys
 import tempfile
+import threading
 import time
 
+import serve_load
 from sample_answers import packets, sharedata
-from serve_load import (ANSWERS, BAD_PACKET, BYE, HIGH, INVERT, MOST, NOT_INVITED, PATIENCE, READ_FAULT, REFUSED, ROOM_FULL, TRUNCATED,
+from serve_load import (ANSWERS, BAD_PACKET, BYE, HIGH, INVERT, LEFT, MOST, NOT_INVITED, PATIENCE, READ_FAULT, REFUSED, ROOM_FULL, TRUNCATED,
                         WIDE, WRITE_FAULT, GivenUp, Link, Room, click, milliseconds, quiet, row, spread)
 
 # How long a part may take, in seconds.
@@ -30,8 +34,19 @@ LIMIT = 600
 DRAWS = int(os.environ.get('DRAWS', '100000'))
 DRAWS_A_SECOND = 2500
 
-# How many connections at once send a byte each.
-CROWD = 64
+# How many connections at once send a byte each and go, and how many of them stay.
+PASSERS = 64
+CROWD = 1000
+
+# The most links that the host serves at a time, and how many descriptors each takes.
+MOST_SERVED = 256
+EACH = 2
+
+# How long a client has for its connection sequence, in seconds.
+SEQUENCE = 60
+
+# How many descriptors the host has in the part `scarce`: bench/serve.sh sees to that.
+SCARCE = 64
 
 # A Refresh Rect packet: the whole picture ([MS-RDPBCGR] 2.2.11.2).
 REFRESH_ALL = sharedata(0x21, struct.pack('<IHHHH', 1, 0, 0, WIDE - 1, HIGH - 1))
@@ -234,11 +249,11 @@ def resets(room):
     room.close()
 
 
-def crowd(room):
+def passers(room):
     """Many connections at once, each of which sends one byte of the sample client and goes."""
-    room.open(f'{CROWD} at once that send a byte and go')
+    room.open(f'{PASSERS} at once that send a byte and go')
     whole = b''.join(packets('bob'))
-    links = [room.connect() for _ in range(CROWD)]
+    links = [room.connect() for _ in range(PASSERS)]
     for i, link in enumerate(links):
         byte = whole[i:i+1]
         link.send(byte)
@@ -248,6 +263,133 @@ def crowd(room):
     for link in links: link.socket.close()
     room.seen('after them')
     room.close()
+
+
+class Crowd:
+    """Connections that each say a byte, as soon as the system lets them, and stay."""
+
+    def __init__(self, port, count):
+        self.ready = select.epoll()
+        self.links = {}
+        # when the host ended each that it ended
+        self.ended = []
+        self.began = time.perf_counter()
+        self.have_said = self.gave_up = 0
+        for _ in range(count):
+            link = socket.socket()
+            link.setblocking(False)
+            link.connect_ex(('127.0.0.1', port))
+            self.links[link.fileno()] = link
+            self.ready.register(link, select.EPOLLOUT)
+
+    def look(self):
+        """Says what is to be said, and sees who was ended."""
+        for number, events in self.ready.poll(0):
+            link = self.links[number]
+            if events & select.EPOLLOUT and not events & (select.EPOLLERR | select.EPOLLHUP):
+                link.send(b'\x03')
+                self.have_said += 1
+                self.ready.modify(number, select.EPOLLIN)
+                continue
+            try:
+                if link.recv(64): raise ValueError('who only said a byte was answered')
+                self.ended.append(time.perf_counter() - self.began)
+            except OSError:
+                # the system gave up connecting
+                self.gave_up += 1
+            del self.links[number]
+            link.close()
+
+    def look_for(self, seconds):
+        begin = time.perf_counter()
+        while time.perf_counter() - begin < seconds:
+            self.look()
+            time.sleep(0.1)
+
+    def leave(self):
+        for link in self.links.values(): link.close()
+        self.links = {}
+
+
+class Late(threading.Thread):
+    """One who joins, however long that takes."""
+
+    def __init__(self, room):
+        super().__init__()
+        self.room, self.began = room, time.perf_counter()
+        self.start()
+
+    def run(self):
+        self.link = self.room.greet('bob')
+        self.link.until(lambda: self.link.marks)
+        self.took = time.perf_counter() - self.began
+
+
+def stay(room, what, most=None):
+    """A crowd that says a byte and stays, one viewer beside the owner who draws, and one more who comes when the first of the crowd are
+    ended. The host has so many descriptors, if that is said, and else as many as it may use."""
+    room.open(what, 1)
+    alone = room.descriptors()
+    most = most or alone + EACH * (MOST_SERVED - len(room.viewers))
+    crowd = Crowd(room.port, CROWD)
+    crowd.look_for(5)
+    spent, took = room.processor(), 10
+    crowd.look_for(took)
+    spent = room.processor() - spent
+    row(f'{what}: processor time of the host over {took} s beside them', f'{100 * spent / took:.2f}% of a processor', 'below 1%')
+    descriptors, clicks = 0, []
+
+    def draw():
+        nonlocal descriptors
+        crowd.look()
+        descriptors = max(descriptors, room.descriptors())
+        clicks.extend(room.times_of_clicks(5))
+        time.sleep(0.2)
+
+    while not crowd.ended: draw()
+    row(f'{what}: until the first of them was ended', f'{crowd.ended[0]:.1f} s', f'{SEQUENCE} s')
+    if crowd.ended[0] < SEQUENCE: raise ValueError('somebody was ended too early')
+    late = Late(room)
+    while late.is_alive(): draw()
+    link = late.link
+    room.joins += 1
+    link.viewer = room.joins
+    quiet(room)
+    room.viewers.append(link)
+    room.by_number[link.socket.fileno()] = link
+    room.ready.register(link.socket, select.EPOLLIN)
+    row(f'{what}: until one who came then was let in', f'{late.took:.1f} s')
+    crowd.look()
+    row(f'{what}: the host had ended by then; had said their byte', f'{len(crowd.ended)}; {crowd.have_said}')
+    row(f'{what}: descriptors of the host with two viewers; at most', f'{alone}; {descriptors}', f'at most {most}')
+    if descriptors > most: raise ValueError('too many links at a time')
+    row(f'{what}: from a click to the last mark, meanwhile: median, 19 of 20', spread(clicks), 'median below 5 ms')
+    crowd.leave()
+    room.seen('when the crowd has gone')
+    room.close()
+    use_up(room)
+
+
+def use_up(room):
+    """Connects until the port is closed. Which number each link had isn't known: the lines are wanted by their viewers."""
+    begin = time.perf_counter()
+    while True:
+        try:
+            with socket.create_connection(('127.0.0.1', room.port), PATIENCE) as link: link.send(b'\x03')
+        except OSError: break
+        if time.perf_counter() - begin > PATIENCE: raise TimeoutError('the port is never closed')
+    others = PARTS[room.name][1] - room.joins
+    room.lines = [f'[0-9]+ 0 ({READ_FAULT}|{TRUNCATED}) 0'] * others + [f'[0-9]+ {viewer} {LEFT} 0' for viewer in range(1, room.joins + 1)]
+
+
+def crowd(room):
+    """The host takes as many as it may."""
+    stay(room, f'{CROWD} that say a byte and stay')
+
+
+def scarce(room):
+    """The host takes as many as it has descriptors for."""
+    stay(room, f'{CROWD} that stay, with {SCARCE} descriptors', SCARCE)
 
 
 def refused(room, name, code):
@@ -319,8 +461,8 @@ def asks(room):
 
 # The parts, with the links that each makes: the owner, two viewers, those that mean no good, and a viewer at the end.
 PARTS = {
-    'silent': (silent, 4 + 4), 'halves': (halves, 4 + 5), 'unread': (unread, 4 + 1), 'resets': (resets, 4 + 8), 'crowd': (crowd, 4 + CROWD),
-    'full': (full, MOST + 3), 'asks': (asks, 4 + 1),
+    'silent': (silent, 4 + 4), 'halves': (halves, 4 + 5), 'unread': (unread, 4 + 1), 'resets': (resets, 4 + 8), 'passers': (passers, 4 + PASSERS),
+    'crowd': (crowd, 4 + CROWD), 'scarce': (scarce, 4 + CROWD), 'full': (full, MOST + 3), 'asks': (asks, 4 + 1),
 }
 
 
@@ -329,8 +471,12 @@ def main():
     else:
         part, port, pid, file = sys.argv[1:]
         signal.alarm(LIMIT)
+        serve_load.PATIENCE = LIMIT
+        least = CROWD + 100
+        resource.setrlimit(resource.RLIMIT_NOFILE, (least, max(least, resource.getrlimit(resource.RLIMIT_NOFILE)[1])))
         with tempfile.TemporaryDirectory() as folder:
             room = Hall(int(port), int(pid), folder)
+            room.name = part
             PARTS[part][0](room)
         with open(file, 'w') as it:
             for line in room.lines: it.write(f'^{line}$\n')

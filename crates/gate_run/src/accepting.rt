@@ -16,6 +16,9 @@ use std::sync::Wait;
 use std::thread;
 use std::thread::{Scope, Threads};
 
+/// The most links that are served at a time (profile).
+const MOST_SERVED: usize = 256;
+
 /// Starts a job for each link that an open gate gives until it gives no more, and returns when each job's thread has ended.
 pub fn accept_links<R: Threads + Wait + Sync, G: Gate>(
     rt: &R,
@@ -68,8 +71,8 @@ fn accept_in_scope<'g, R: Threads + Wait + Sync, G: Gate>(
     )
 }
 
-/// Starts a job for each link that an open gate gives until it gives no more. Before it waits for the next one it collects
-/// the jobs whose threads have ended.
+/// Starts a job for each link that an open gate gives until it gives no more. Before it waits for the next one it waits for
+/// one that is served to end, where the most are, and collects the jobs whose threads have ended.
 fn accept_all<'s, 'g, E, R: Threads + Wait + Sync, G: Gate>(
     rt: &'s R,
     alloc: Global,
@@ -92,6 +95,7 @@ where
     let mut pass = pass;
     let mut jobs = jobs;
     for _ in 0..u32::from(links) + 1 {
+        wait_for_room(rt, ended, jobs.len(), links);
         collect_ended(rt, &mut jobs, ended);
         match gate.next() {
             Next::Link(link) => {
@@ -105,6 +109,13 @@ where
         }
     }
     unreachable!()
+}
+
+/// Waits while the most links are served, of those that were given, unless there are to be no more.
+fn wait_for_room<R: Wait>(rt: &R, ended: &Ended, given: usize, links: u16) {
+    if given < usize::from(links) {
+        ended.wait_for(rt, given.saturating_sub(MOST_SERVED - 1));
+    }
 }
 
 /// Collects the jobs whose work has ended since the last look. A thread that has ended keeps its stack until it is joined.

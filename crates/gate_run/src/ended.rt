@@ -5,16 +5,19 @@ use crate::OutOfMemory;
 use std::alloc::Global;
 use std::sync::Wait;
 use std::sync::atomic::{AtomicUsize, Ordering};
+use std::thread::Parker;
 
 /// No number, behind the last one of a chain.
 const NONE: usize = usize::MAX;
 
-/// The chain of numbers that weren't looked at yet: its first, and behind each number the one that was put there before it. No clause knows what
-/// it holds.
+/// The chain of numbers that weren't looked at yet: its first, and behind each number the one that was put there before it; and how many were
+/// ever put there. No clause knows what it holds.
 #[derive(Drop)]
 pub struct Ended {
     first: AtomicUsize,
     behind: Vec<AtomicUsize>,
+    count: AtomicUsize,
+    news: Parker,
 }
 
 impl Ended {
@@ -29,6 +32,8 @@ impl Ended {
         Ok(Ended {
             first: AtomicUsize::new(NONE),
             behind,
+            count: AtomicUsize::new(0),
+            news: Parker::new(),
         })
     }
 
@@ -44,8 +49,21 @@ impl Ended {
                 .compare_exchange(first, number, Ordering::SeqCst, Ordering::SeqCst)
                 .is_ok()
             {
+                self.count.fetch_add(1, Ordering::SeqCst);
+                self.news.unpark();
                 return;
             }
+        }
+        unreachable!()
+    }
+
+    /// Sleeps until so many numbers were ever put on the chain. One thread at a time may wait.
+    pub fn wait_for<R: Wait>(&self, rt: &R, count: usize) {
+        for _ in rt.forever() {
+            if self.count.load(Ordering::SeqCst) >= count {
+                return;
+            }
+            self.news.park(rt);
         }
         unreachable!()
     }

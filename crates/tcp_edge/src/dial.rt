@@ -33,13 +33,17 @@ impl<'a, R: Net<Stream = TcpStream>> Model for TcpDial<'a, R> {
 }
 
 impl<'a, R: Net<Stream = TcpStream>> TcpDial<'a, R> {
-    /// Before any call, with the limits `LIMITS`, and room for what is left of one link.
+    /// Before any call, with the limits `LIMITS` but none for the connection sequence, which the other side has, and room for what is
+    /// left of one link.
     pub fn new(rt: &'a R, alloc: Global) -> Result<TcpDial<'a, R>, OutOfMemory>
         ensures { IfOk result (λ d. d ≡ new_dial) }
     {
         Ok(TcpDial {
             rt,
-            limits: LIMITS,
+            limits: Limits {
+                sequence: None,
+                ..LIMITS
+            },
             asked: None,
             given: 0,
             finished: Vec::with_capacity(alloc, 1)?,
@@ -99,5 +103,5 @@ fn link_to<R: Net<Stream = TcpStream>>(rt: &R, port: u16, limits: &Limits) -> Op
     let address = SocketAddr::V4(SocketAddrV4::new(Ipv4Addr::LOCALHOST, port));
     let stream = TcpStream::connect(rt, address).ok()?;
     let other = stream.try_clone().ok()?;
-    Some(TcpLink::new(stream, other, limits))
+    Some(TcpLink::new(stream, other, limits, None))
 }

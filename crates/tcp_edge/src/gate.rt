@@ -4,6 +4,7 @@ ghost use Rattle.tcp_edge.specs.Counts.{fresh, closed_gate};
 
 use crate::limits::{LIMITS, Limits};
 use crate::link::{TcpLink, TcpSpent};
+use crate::open::Open;
 use crate::refusal::{Patience, Refusal};
 use edge_io::{Gate, Next, OutOfMemory};
 use std::alloc::Global;
@@ -22,6 +23,7 @@ pub struct TcpGate<'a, R: Net<Listener = TcpListener, Stream = TcpStream> + Cloc
     listener: Option<TcpListener>,
     asked: Option<(u16, u16)>,
     given: u16,
+    open: Open,
     // With room for each link.
     finished: Vec<TcpSpent>,
     ended: bool,
@@ -62,6 +64,7 @@ impl<'a, R: Net<Listener = TcpListener, Stream = TcpStream> + Clock> TcpGate<'a,
             listener: None,
             asked: None,
             given: 0,
+            open: Open::new(alloc)?,
             finished: Vec::with_capacity(alloc, MOST_LINKS)?,
             ended: false,
             faults: 0,
@@ -105,20 +108,21 @@ impl<'a, R: Net<Listener = TcpListener, Stream = TcpStream> + Clock> Gate for Tc
         }
     }
 
+    /// Where no link comes the port is closed: who connects from now on is refused, and doesn't wait for ever.
     fn next(&mut self) -> Next<TcpLink> {
         if self.ended || !has_room(&self.asked, self.given) {
             self.ended = true;
-            // Who connects from now on is refused, and doesn't wait for ever.
             self.listener = None;
             return Next::End;
         }
-        match next_link(self.rt, &self.listener, &self.limits) {
+        match next_link(self.rt, &self.listener, &self.limits, &self.open) {
             Some(link) => {
                 self.given += 1;
                 Next::Link(link)
             }
             None => {
                 self.faults = self.faults.saturating_add(1);
+                self.listener = None;
                 Next::Failed
             }
         }
@@ -139,29 +143,32 @@ fn has_room(asked: &Option<(u16, u16)>, given: u16) -> bool
     }
 }
 
-/// The link of the next client that connects; None where the port is of no use, or the system gives no handle for a minute.
-fn next_link<R: Clock>(rt: &R, listener: &Option<TcpListener>, limits: &Limits) -> Option<TcpLink>
+/// The link of the next client that connects; None where the port is of no use, or the system gives no handle for a minute
+/// in which no link is open.
+fn next_link<R: Clock>(
+    rt: &R,
+    listener: &Option<TcpListener>,
+    limits: &Limits,
+    open: &Open,
+) -> Option<TcpLink>
     ensures { IfSome result (λ l. l ≡ fresh) }
 {
     let listener = listener.as_ref()?;
-    let mut patience = Patience::new();
-    let stream = accepted(rt, listener, &mut patience)?;
-    let other = second_handle(rt, &stream, &mut patience)?;
-    Some(TcpLink::new(stream, other, limits))
+    let mut patience = Patience::new(rt, open);
+    let stream = accepted(listener, &mut patience)?;
+    let other = second_handle(&stream, &mut patience)?;
+    let share = open.another()?;
+    Some(TcpLink::new(stream, other, limits, Some(share)))
 }
 
 /// The next connection. Clients that have given up are passed over.
-fn accepted<R: Clock>(
-    rt: &R,
-    listener: &TcpListener,
-    patience: &mut Patience,
-) -> Option<TcpStream> {
+fn accepted<R: Clock>(listener: &TcpListener, patience: &mut Patience<'_, R>) -> Option<TcpStream> {
     for _ in 0..u64::MAX {
         match listener.accept() {
             Ok((stream, _)) => return Some(stream),
             Err(e) => match Refusal::of(&e) {
                 Refusal::Gone => {}
-                Refusal::Wanting if patience.wait(rt) => {}
+                Refusal::Wanting if patience.wait() => {}
                 Refusal::Wanting | Refusal::Broken => return None,
             },
         }
@@ -171,14 +178,13 @@ fn accepted<R: Clock>(
 
 /// A further handle of a connection, which is kept while the system has no descriptor for one.
 fn second_handle<R: Clock>(
-    rt: &R,
     stream: &TcpStream,
-    patience: &mut Patience,
+    patience: &mut Patience<'_, R>,
 ) -> Option<TcpStream> {
     for _ in 0..u64::MAX {
         match stream.try_clone() {
             Ok(other) => return Some(other),
-            Err(_) if patience.wait(rt) => {}
+            Err(_) if patience.wait() => {}
             Err(_) => return None,
         }
     }

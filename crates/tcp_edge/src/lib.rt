@@ -5,9 +5,11 @@ mod dial;
 mod gate;
 mod limits;
 mod link;
+mod open;
 mod options;
 mod reader;
 mod refusal;
+mod stage;
 mod writer;
 
 pub use dial::TcpDial;

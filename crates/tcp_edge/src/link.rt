@@ -3,8 +3,10 @@ ghost use Rattle.std.specs.declared.option.Option.TheVariants.{None};
 ghost use Rattle.tcp_edge.specs.Counts.{fresh};
 
 use crate::limits::Limits;
+use crate::open::Open;
 use crate::options;
 use crate::reader::TcpReader;
+use crate::stage::Stage;
 use crate::writer::TcpWriter;
 use edge_io::Link;
 use std::io::Read;
@@ -50,7 +52,12 @@ impl Model for TcpSpent {
 
 impl TcpLink {
     /// A link of two handles of one stream. A limit or an option that the system doesn't take is left out.
-    pub(crate) fn new(stream: TcpStream, other: TcpStream, limits: &Limits) -> TcpLink
+    pub(crate) fn new(
+        stream: TcpStream,
+        other: TcpStream,
+        limits: &Limits,
+        open: Option<Open>,
+    ) -> TcpLink
         ensures { result ≡ fresh }
     {
         let _ = stream.set_nodelay(true);
@@ -60,7 +67,10 @@ impl TcpLink {
         TcpLink {
             reader: TcpReader {
                 stream,
-                is_silent: true,
+                stage: Stage::Silent {
+                    sequence: limits.sequence,
+                },
+                open,
                 faults: 0,
             },
             writer: TcpWriter {
@@ -102,7 +112,8 @@ impl Link for TcpLink {
     fn close(reader: TcpReader, writer: TcpWriter) -> TcpSpent {
         let TcpReader {
             stream: mut rest,
-            is_silent: _,
+            stage: _,
+            open: _,
             faults: read_faults,
         } = reader;
         let TcpWriter {

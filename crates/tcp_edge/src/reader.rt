@@ -2,6 +2,8 @@ ghost use Rattle.std.specs.Prelude.{◌≡◌};
 ghost use Rattle.std.specs.Io.{ReadsAtMost};
 ghost use Rattle.std.specs.declared.option.Option.TheVariants.{None};
 
+use crate::open::Open;
+use crate::stage::Stage;
 use edge_io::{Got, Source};
 use std::io;
 use std::io::{ErrorKind, Read};
@@ -11,8 +13,9 @@ use std::net::TcpStream;
 #[derive(Drop)]
 pub struct TcpReader {
     pub(crate) stream: TcpStream,
-    // No byte has come yet: until then a read waits for so long only.
-    pub(crate) is_silent: bool,
+    pub(crate) stage: Stage,
+    // That of the gate that gave the connection, if one did.
+    pub(crate) open: Option<Open>,
     pub(crate) faults: u64,
 }
 
@@ -22,20 +25,35 @@ impl Source for TcpReader {
     ghost faults = { λ s. s.faults };
 
     fn read(&mut self, buf: &mut [u8]) -> Got {
-        match read_some(&mut self.stream, buf) {
+        match self.read_in_time(buf) {
             Ok(0) => Got::End,
-            Ok(count) => {
-                if self.is_silent {
-                    self.is_silent = false;
-                    let _ = self.stream.set_read_timeout(None);
-                }
-                Got::Bytes(count)
-            }
+            Ok(count) => Got::Bytes(count),
             Err(_) => {
                 self.faults = self.faults.saturating_add(1);
                 Got::Failed
             }
         }
+    }
+
+    fn lift_limit(&mut self) {
+        self.stage = Stage::free(&self.stream);
+    }
+}
+
+impl TcpReader {
+    /// Reads within the time that the client has.
+    fn read_in_time(&mut self, buf: &mut [u8]) -> io::Result<usize>
+        ensures count { ReadsAtMost result buf.new }
+        ensures faults { self.new.faults ≡ self.old.faults }
+    {
+        if !self.stage.limit(&self.stream) {
+            return Err(io::Error::from(ErrorKind::TimedOut));
+        }
+        let got = read_some(&mut self.stream, buf);
+        if let Ok(1..) = got {
+            self.stage = self.stage.after_bytes(&self.stream);
+        }
+        got
     }
 }
 

@@ -4,8 +4,9 @@
 //! |---|---|---|---|
 //! | `ENONET`, `EPROTO`, `ENOPROTOOPT`, `EOPNOTSUPP`, `ENETDOWN`, `ENETUNREACH`, `EHOSTDOWN`, `EHOSTUNREACH` | 64, 71, 92, 95, 100, 101, 112, 113 | an error of the network that waited for the new connection | the next is accepted |
 //! | `ECONNABORTED`, `ETIMEDOUT` | 103, 110 | the client gave up before it was accepted | the next is accepted |
-//! | `ENOMEM`, `ENFILE`, `EMFILE`, `ENOBUFS` | 12, 23, 24, 105 | the system has no descriptor or memory left | it is tried again after a while |
+//! | `ENOMEM`, `ENFILE`, `EMFILE`, `ENOBUFS` | 12, 23, 24, 105 | the system has no descriptor or memory left | it is tried again after a while, as long as links are open |
 //! | all others | | the port is of no use any more | a fault of the gate |
+use crate::open::Open;
 use libc::{ECONNABORTED, EMFILE, ENOMEM, ETIMEDOUT};
 use std::time::{Clock, Duration};
 use std::{io, thread};
@@ -30,7 +31,7 @@ const EHOSTDOWN: i32 = 112;
 
 const EHOSTUNREACH: i32 = 113;
 
-/// How often a gate waits for descriptors or memory before that is a fault (profile),
+/// How often a gate that has no open link waits for descriptors or memory before that is a fault (profile),
 const MOST_WAITS: u32 = 600;
 
 /// and how many milliseconds each time.
@@ -67,24 +68,30 @@ impl Refusal {
     }
 }
 
-/// How often a gate has waited for one connection.
+/// How often a gate has waited for one connection since it had an open link.
 #[derive(Drop)]
-pub struct Patience {
+pub struct Patience<'a, R: Clock> {
+    rt: &'a R,
+    open: &'a Open,
     waits: u32,
 }
 
-impl Patience {
-    pub fn new() -> Patience {
-        Patience { waits: 0 }
+impl<'a, R: Clock> Patience<'a, R> {
+    pub fn new(rt: &'a R, open: &'a Open) -> Patience<'a, R> {
+        Patience { rt, open, waits: 0 }
     }
 
-    /// Waits a while, unless it has waited long enough; whether it has waited.
-    pub fn wait<R: Clock>(&mut self, rt: &R) -> bool {
-        if self.waits >= MOST_WAITS {
+    /// Waits a while: a link that is open gives its descriptors back when it ends. Without any it doesn't wait where it has
+    /// waited long enough. Whether it has waited.
+    pub fn wait(&mut self) -> bool {
+        if self.open.has_others() {
+            self.waits = 0;
+        } else if self.waits >= MOST_WAITS {
             return false;
+        } else {
+            self.waits += 1;
         }
-        self.waits += 1;
-        thread::sleep(rt, Duration::from_millis(WAIT));
+        thread::sleep(self.rt, Duration::from_millis(WAIT));
         true
     }
 }

@@ -14,11 +14,18 @@ use tcp_edge::{Limits, TcpDial, TcpGate, TcpLink};
 /// Limits that a test can wait for.
 const SHORT: Limits = Limits {
     first_read: 300,
+    sequence: Some(600),
     write: 300,
 };
 
-/// How many milliseconds a client waits before it reads.
+/// How many milliseconds a client waits before it reads,
 const A_WHILE: u64 = 200;
+
+/// before it says another byte,
+const A_MOMENT: u64 = 50;
+
+/// and before it says something when it needs no longer hurry.
+const LONG: u64 = 1_000;
 
 /// The port that lets the system choose one.
 const ANY_PORT: u16 = 0;
@@ -70,7 +77,55 @@ fn who_says_nothing_at_first_is_a_fault(rt: HostRuntime) -> Result<(), Fail> {
     Ok(())
 }
 
-/// The reader waits in a thread of its own, for a client that has said something and takes nothing.
+/// A client says a byte, and another, and isn't ready.
+#[test]
+fn who_says_a_byte_now_and_then_is_a_fault(rt: HostRuntime) -> Result<(), Fail> {
+    let mut gate = open(&rt);
+    let mut client = connected(&rt, gate.port());
+    let (mut reader, _writer) = next_link(&rt, &mut gate).split();
+    let mut buf = [0u8; 8];
+    let mut got = Got::Bytes(1);
+    for _ in 0..100u32 {
+        if got != Got::Bytes(1) {
+            break;
+        }
+        client.write_all(b"a")?;
+        thread::sleep(&rt, Duration::from_millis(A_MOMENT));
+        got = reader.read(&mut buf);
+    }
+    assert_eq!(rt; got, Got::Failed);
+    drop(client);
+    Ok(())
+}
+
+/// A client that is ready says nothing for longer than a client has that isn't.
+#[test]
+fn who_is_ready_may_be_silent(rt: HostRuntime) -> Result<(), Fail> {
+    let mut gate = open(&rt);
+    let mut client = connected(&rt, gate.port());
+    let (mut reader, _writer) = next_link(&rt, &mut gate).split();
+    client.write_all(b"hello")?;
+    let mut buf = [0u8; 8];
+    assert_eq!(rt; reader.read(&mut buf), Got::Bytes(5));
+    reader.lift_limit();
+    let (got, said) = thread::join(
+        &rt,
+        || {
+            let mut buf = [0u8; 8];
+            reader.read(&mut buf)
+        },
+        || {
+            thread::sleep(&rt, Duration::from_millis(LONG));
+            client.write_all(b"a")
+        },
+    );
+    said?;
+    assert_eq!(rt; got, Got::Bytes(1));
+    drop(client);
+    Ok(())
+}
+
+/// The reader waits in a thread of its own, for a client that is ready and takes nothing.
 #[test]
 fn who_takes_nothing_is_a_fault_that_ends_the_reads(rt: HostRuntime) -> Result<(), Fail> {
     let mut gate = open(&rt);
@@ -79,6 +134,7 @@ fn who_takes_nothing_is_a_fault_that_ends_the_reads(rt: HostRuntime) -> Result<(
     client.write_all(b"hello")?;
     let mut buf = [0u8; 8];
     assert_eq!(rt; reader.read(&mut buf), Got::Bytes(5));
+    reader.lift_limit();
     let frame = vec![in rt.alloc(); 0u8; 1_048_576]?;
     let (got, wrote) = thread::join(
         &rt,
@@ -181,10 +237,10 @@ fn a_dialled_link_reaches_the_gate_and_comes_back(rt: HostRuntime) -> Result<(),
 fn a_port_that_nobody_has_is_a_fault_and_the_next_may_be_dialled(
     rt: HostRuntime,
 ) -> Result<(), Fail> {
+    let gate = open(&rt);
     let gone = open(&rt);
     let port = gone.port();
     drop(gone);
-    let gate = open(&rt);
     let mut dial = TcpDial::new(&rt, rt.alloc())?;
     assert!(rt; dial.dial(port).is_none());
     assert!(rt; dial.dial(gate.port()).is_some());

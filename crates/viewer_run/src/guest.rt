@@ -24,8 +24,8 @@ pub struct Guest {
     pub rest: Vec<ConnStep>,
 }
 
-/// Answers a client's connection sequence until it is ready. An `Err` says how the connection ends instead; nothing is read behind a
-/// refusal.
+/// Answers a client's connection sequence until it is ready; from then on it may be silent. An `Err` says how the connection ends
+/// instead; nothing is read behind a refusal.
 pub fn greet<S: Source, K: Sink>(
     alloc: Global,
     conn: &mut Conn,
@@ -46,7 +46,10 @@ pub fn greet<S: Source, K: Sink>(
     for _ in 0..u64::MAX {
         match greet_next(alloc, conn, &mut name, &mut buffer, input, output) {
             Ok(None) => {}
-            Ok(Some(guest)) => return Ok(guest),
+            Ok(Some(guest)) => {
+                input.lift_limit();
+                return Ok(guest);
+            }
             Err(end) => return Err(end),
         }
     }

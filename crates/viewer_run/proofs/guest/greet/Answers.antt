@@ -36,10 +36,11 @@ loop-init g c =
 pub returns-in-Ok-Some-clause-greets : goal.returns-in-Ok-Some-clause-greets
 returns-in-Ok-Some-clause-greets g c = (
   c.greet_next.new.name,
-  greets_then _ _ _ _ _ _ _ _ _ _ _ _ _ _ _ _ _ _ (Ok _) c.loop.invariant.greets
+  rw (c.lift_limit.ensures.left, c.lift_limit.ensures.faults)
+      (greets_then _ _ _ _ _ _ _ _ _ _ _ _ _ _ _ _ _ _ (Ok _) c.loop.invariant.greets
       (subst (λ (came : Option Guest). Greets c.loop.conn.hearing c.greet_next.new.conn.hearing c.loop.name c.greet_next.new.name (g.S.Source.left c.loop.input)
       (g.S.Source.left c.greet_next.new.input) (g.K.Sink.told c.loop.output) (g.K.Sink.told c.greet_next.new.output) (g.S.Source.faults c.loop.input)
-      (g.S.Source.faults c.greet_next.new.input) (g.K.Sink.faults c.loop.output) (g.K.Sink.faults c.greet_next.new.output) (Ok came)) c.in-Ok-Some.field-0-is c.in-Ok-Some.ensures.greets),
+      (g.S.Source.faults c.greet_next.new.input) (g.K.Sink.faults c.loop.output) (g.K.Sink.faults c.greet_next.new.output) (Ok came)) c.in-Ok-Some.field-0-is c.in-Ok-Some.ensures.greets)),
 )
 
 pub returns-in-Err-clause-greets : goal.returns-in-Err-clause-greets
