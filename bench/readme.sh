@@ -125,7 +125,7 @@ stop() {
     seen 'a client of bench/serve_load.py, as ann' 'joined, drew, saw it and left'
     kill -TERM "$host"
     ended=0
-    wait "$host" || ended=$?
+    wait "$host" 2>/dev/null || ended=$?
     host=
     [ "$ended" -eq 143 ] || fail "a host that is told to end ends with $ended"
     [ ! -s "$work/lines" ] || fail "it writes $(cat "$work/lines")"
