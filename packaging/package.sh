@@ -90,8 +90,8 @@ put usr/lib/systemd/system "$here/packaging/rdp-host@.service"
 put usr/share/doc/pelzsukan "$here/docs/operating.md" "$here/docs/session.md" "$here/docs/errors.md" "$here/docs/signs.png" "$here/packaging/copyright"
 changelog >"$work/changelog"
 pack "$work/changelog" "$doc/changelog.gz"
-put usr/share/doc/pelzsukan/examples "$here"/examples/*.script
-put usr/share/doc/pelzsukan/examples/centre "$here"/examples/centre/*
+put usr/share/doc/pelzsukan/examples "$here/examples/"*.script
+put usr/share/doc/pelzsukan/examples/centre "$here/examples/centre/"*
 
 depends=$(depends)
 [ -n "$depends" ] || fail "dpkg-shlibdeps doesn't say what the programs want of the system"

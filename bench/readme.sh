@@ -1,0 +1,221 @@
+#!/bin/sh
+# Runs each command that README.md shows behind a `$`, in a fresh clone of the commit that is checked out, in which nothing is proved; and once
+# more with the proved programs, where they are there. What a command gives is compared with what README says that it gives: text line by
+# line, pictures pixel by pixel with the one that stands below the command. A command that this script doesn't know ends it.
+#
+# A host is started as README says, on its port; where xfreerdp, rdesktop and Xvfb are there they show its session as README says, black windows,
+# and the same pixels when `ann` has drawn; and a client of bench/serve_load.py joins it as `ann`. Not run here: `./run build`, which
+# proves the repository, unless the word `build` is given (then its programs are the proved ones), and `rt ci`, the gate.
+#
+# usage: sh bench/readme.sh [build]      (it needs the kit, python3 and pngtopnm of netpbm; xvfb, freerdp2-x11, rdesktop, xdotool and imagemagick
+#                                         for the clients. Without proof each program is built anew, which takes a minute or two each time)
+bench=readme
+. "$(dirname "$0")/programs.sh"
+clone=$work/clone
+host=
+screen=
+trap '[ -z "$host$screen" ] || kill $host $screen 2>/dev/null || true; rm -rf "$work"' EXIT
+
+fail() {
+    echo "$bench: $*" >&2
+    exit 1
+}
+
+for tool in python3 pngtopnm rt; do
+    command -v "$tool" >/dev/null || fail "no $tool here"
+done
+
+seen() { printf '| %s | %s | %s |\n' "$how" "$1" "$2"; }
+
+# The commands of README, one a line, each with the number of its line.
+commands() { sed -n '/^\$ /{=;p;}' "$clone/README.md" | paste -d ' ' - - | sed 's/ \$ / /'; }
+
+# What README shows below a command: the lines up to the end of its block, and the first picture behind it.
+shown_below() { sed -n "$(($1 + 1)),\$p" "$clone/README.md" | sed '/^```$/,$d'; }
+picture_below() { sed -n "$1,\$p" "$clone/README.md" | sed -n 's/^!\[[^]]*\](\(.*\))$/\1/p' | head -n 1; }
+
+# Runs a command in the clone, as a reader types it; what ./run says is kept.
+typed() { (cd "$clone" && sh -c "$1") </dev/null >"$work/output" 2>"$work/voice" || { tail -n 5 "$work/voice" >&2; fail "it ends with $?: $1"; }; }
+
+# ./run must say that a run isn't proved, and only of one that isn't.
+must_be_told() {
+    told=$(grep -c "isn't proved" "$work/voice" || true)
+    case $how in
+    unproved) [ "$told" -gt 0 ] || fail "nothing says that this isn't proved: $1" ;;
+    proved) [ "$told" -eq 0 ] || fail "it isn't proved: $1" ;;
+    esac
+}
+
+# A command whose output README shows, up to a line of dots.
+text() {
+    shown_below "$1" >"$work/wanted"
+    typed "$2"
+    must_be_told "$2"
+    if [ "$(tail -n 1 "$work/wanted")" = ... ]; then
+        lines=$(($(wc -l <"$work/wanted") - 1))
+        [ "$(wc -l <"$work/output")" -gt "$lines" ] || fail "it gives no more lines: $2"
+        head -n "$lines" "$work/wanted" >"$work/front" && mv "$work/front" "$work/wanted"
+        head -n "$lines" "$work/output" >"$work/front" && mv "$work/front" "$work/output"
+    fi
+    cmp "$work/wanted" "$work/output" || fail "README shows something else: $2"
+    seen "$2" "the $(wc -l <"$work/wanted") lines"
+}
+
+# A command whose picture README shows below it.
+picture() {
+    shown=$(picture_below "$1")
+    typed "$2"
+    must_be_told "$2"
+    pngtopnm "$clone/$shown" | ppm_pixels >"$work/wanted"
+    ppm_pixels <"$clone/picture.ppm" >"$work/pixels"
+    cmp "$work/wanted" "$work/pixels" || fail "$shown is another picture: $2"
+    rm "$clone/picture.ppm"
+    seen "$2" "$shown, $(head -n 1 "$work/wanted" | tr ' ' x) pixels"
+}
+
+# The size of a picture in portable pixel format, and its pixels, without remarks.
+ppm_pixels() {
+    python3 -c '
+import re, sys
+head = re.compile(rb"P6\s+(?:#[^\n]*\n\s*)*(\d+)\s+(\d+)\s+255\s")
+text = sys.stdin.buffer.read()
+found = head.match(text) or sys.exit(f"no picture: {text[:80]}")
+sys.stdout.buffer.write(b"%s %s\n" % found.groups() + text[found.end():])'
+}
+
+# A client that joins at a port by the name ann, draws, sees it and leaves.
+visit() {
+    (cd "$here/bench" && python3 - "$1") <<'END'
+import sys
+from serve_load import BYE, Room, click
+room = Room(int(sys.argv[1]), 0)
+viewer = room.join('ann')
+for i in range(20): room.follow(click(i))
+room.end(viewer, lambda link: link.send(BYE))
+END
+}
+
+# Waits until something is so, for five minutes.
+wait_until() {
+    patience=3000
+    until "$@" >/dev/null 2>&1; do
+        patience=$((patience - 1))
+        [ "$patience" -gt 0 ] || fail "in vain: $*"
+        sleep 0.1
+    done
+}
+
+# Starts the host of README's first command.
+start() {
+    port=$(echo "$1" | cut -d ' ' -f 3)
+    ! is_served || fail "port $port is in use"
+    # shellcheck disable=SC2086 # they are words
+    (cd "$clone" && exec $1) </dev/null >"$work/lines" 2>"$work/voice" &
+    host=$!
+    wait_until has_said "serving port $port"
+    must_be_told "$1"
+    seen "$1" "$(grep -o 'serving port.*' "$work/voice")"
+}
+
+has_said() { grep -q "$1" "$work/voice" || ! kill -0 "$host"; }
+
+# Ends it, when one more client was there: nothing is written, and nothing is left.
+stop() {
+    visit "$port"
+    seen 'a client of bench/serve_load.py, as ann' 'joined, drew, saw it and left'
+    kill -TERM "$host"
+    ended=0
+    wait "$host" 2>/dev/null || ended=$?
+    host=
+    [ "$ended" -eq 143 ] || fail "a host that is told to end ends with $ended"
+    [ ! -s "$work/lines" ] || fail "it writes $(cat "$work/lines")"
+    ! is_served || fail 'a host is left'
+    seen 'the host, told to end' 'status 143, no lines, and its port is closed'
+}
+
+# Whether a socket listens at the port.
+is_served() { awk -v port="$(printf ':%04X' "$port")" '$4 == "0A" && substr($2, length($2) - 4) == port { found = 1 } END { exit !found }' /proc/net/tcp; }
+
+# What the window of a client on a screen shows, in a file of its name.
+window() {
+    shot=$(DISPLAY=:$1 xdotool search --onlyvisible --name 127.0.0.1 | head -n 1)
+    DISPLAY=:$1 import -window "$shot" -depth 8 "ppm:$work/shot" && ppm_pixels <"$work/shot" >"$work/window$1"
+}
+windows() { window 91 && window 92 && cmp -s "$work/window91" "$work/window92"; }
+coloured() { tail -n +2 "$work/window91" | tr -d '\000' | wc -c; }
+are_black() { windows && [ "$(coloured)" -eq 0 ]; }
+are_drawn() { windows && [ "$(coloured)" -gt 0 ]; }
+
+# The two clients, by README's own commands, each on a screen of its own: their windows are black, and when the left button was pressed in
+# the first of them both show what that drew.
+clients() {
+    for tool in Xvfb xfreerdp rdesktop xdotool import; do
+        command -v "$tool" >/dev/null || { seen "$1; $2" "not run: no $tool here"; return; }
+    done
+    for display in 91 92; do
+        Xvfb ":$display" -screen 0 1024x768x24 >"$work/screen" 2>&1 &
+        screen="$screen $!"
+        wait_until env "DISPLAY=:$display" xdotool getmouselocation
+    done
+    DISPLAY=:91 sh -c "exec $1" >"$work/client91" 2>&1 </dev/null &
+    screen="$screen $!"
+    wait_until env DISPLAY=:91 xdotool search --onlyvisible --name 127.0.0.1
+    DISPLAY=:92 sh -c "exec $2" >"$work/client92" 2>&1 </dev/null &
+    screen="$screen $!"
+    wait_until env DISPLAY=:92 xdotool search --onlyvisible --name 127.0.0.1
+    wait_until are_black
+    seen "$1; $2" "two windows of $(head -n 1 "$work/window91" | tr ' ' x), both black"
+    for place in '300 200' '500 400' '700 300'; do
+        # shellcheck disable=SC2086 # it is two numbers
+        DISPLAY=:91 xdotool mousemove $place click 1
+    done
+    wait_until are_drawn
+    seen 'clicks in the first window' "the same pixels in both, $(coloured) bytes of them not black"
+    # shellcheck disable=SC2086 # they are numbers
+    kill $screen
+    # shellcheck disable=SC2086 # they are numbers
+    wait $screen 2>/dev/null || true
+    screen=
+}
+
+# All commands, as they stand in README.
+run_all() {
+    commands >"$work/commands"
+    client=
+    while read -r at command <&4; do
+        case $command in
+        './run serve '*) start "$command" ;;
+        'xfreerdp '*) client=$command ;;
+        'rdesktop '*)
+            clients "$client" "$command"
+            stop
+            ;;
+        './run script '*' | cut '*) text "$at" "$command" ;;
+        './run script '*picture.ppm | './run record '*picture.ppm) picture "$at" "$command" ;;
+        './run build') seen "$command" "$built" ;;
+        'rt ci') seen "$command" 'not run: the gate' ;;
+        *) fail "README has a command that this bench doesn't know: $command" ;;
+        esac
+    done 4<"$work/commands"
+}
+
+git clone -q "$here" "$clone"
+echo '| how | command | seen |'
+echo '|---|---|---|'
+how=unproved
+built='not run here: below'
+run_all
+how=proved
+if [ "${1-}" = build ]; then
+    (cd "$clone" && ./run build) >"$work/built" 2>&1 || { tail -n 5 "$work/built" >&2; fail './run build proves nothing'; }
+    built='run'
+elif [ -x "$rdp_host" ] && [ -x "$rdp_look" ]; then
+    mkdir -p "$clone/crates/rdp_host/out" "$clone/crates/rdp_look/out"
+    cp "$rdp_host" "$clone/crates/rdp_host/out/rdp_host"
+    cp "$rdp_look" "$clone/crates/rdp_look/out/rdp_look"
+    built='not run: the programs are those that it left here'
+else
+    seen 'all of them' "not run: no proved programs here; './run build' makes them"
+    exit 0
+fi
+run_all
