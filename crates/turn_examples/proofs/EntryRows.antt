@@ -71,8 +71,8 @@ a_blit3_has_its_brush_last : entry_bytes (drawn (Blit3 r 0xCA 9 (pos 5) (pos 6) 
 a_blit3_has_its_brush_last = refl
 
 -- x, y, colour, font, how many pairs, and code and delta of each
-a_text_of_two_signs : entry_bytes (drawn (Text (pos 4) (negsuc 4) 0x123456 2 ((65, 0) ∷ (66, 8) ∷ [])))
-    ≡ unclipped 0x14 (0x06 ∷ 0x04 ∷ 0x00 ∷ 0xFB ∷ 0xFF ∷ 0x12 ∷ 0x34 ∷ 0x56 ∷ 0x02 ∷ 0x02 ∷ 0x41 ∷ 0x00 ∷ 0x42 ∷ 0x08 ∷ [])
+a_text_of_two_signs : entry_bytes (drawn (Text (pos 4) (negsuc 4) 0x123456 1 ((65, 0) ∷ (66, 8) ∷ [])))
+    ≡ unclipped 0x14 (0x06 ∷ 0x04 ∷ 0x00 ∷ 0xFB ∷ 0xFF ∷ 0x12 ∷ 0x34 ∷ 0x56 ∷ 0x01 ∷ 0x02 ∷ 0x41 ∷ 0x00 ∷ 0x42 ∷ 0x08 ∷ [])
 a_text_of_two_signs = refl
 
 a_line_has_its_beginning_first : entry_bytes (drawn (Line (pos 0) (pos 1) (pos 2) (pos 3) 0x00FF00))

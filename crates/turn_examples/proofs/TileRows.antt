@@ -56,8 +56,8 @@ a_clip_spares_the_tiles_past_it = record { own = spared }
   where
     spared : (x y : ℕ) → x < 1 → y < 1 → IsTrue (both (in_clip (Some beside)) (in_rect (boxed (pos 0) (pos 0) 2 1)) (pos x) (pos y)) → IsOwnAt (Blank ∷ []) x y
     spared zero zero h k inside = absurd (cc inside)
-    spared zero (suc y) h k inside = omega (arith, k)
-    spared (suc x) y h k inside = omega (arith, h)
+    spared zero (suc y) h k inside = absurd (omega (arith, k))
+    spared (suc x) y h k inside = absurd (omega (arith, h))
 
 a_save_writes_into_no_tile : OwnsLater size (Blank ∷ []) None (Save 3 last)
 a_save_writes_into_no_tile = tt
