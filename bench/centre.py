@@ -205,7 +205,8 @@ class Centre:
             (' crt host.pem ca-file clients.pem ', f' crt {self.folder}/host.pem ca-file {self.folder}/clients.pem '),
         ]
         # only root can change who it is
-        if os.getuid(): changes += [(line, '') for line in ('    chroot /var/lib/haproxy\n', '    user haproxy\n', '    group haproxy\n')]
+        if os.getuid():
+            text = ''.join(line for line in text.splitlines(True) if line.split()[:1] not in (['chroot'], ['user'], ['group']))
         changes += [(f'server {room.name} 127.0.0.1:{room.words[0]} ', f'server {room.name} 127.0.0.1:{room.port} ') for room in self.rooms.values()]
         for old, new in changes:
             must(text.count(old) == 1, f'haproxy.cfg has {old!r} once')
