@@ -1,12 +1,12 @@
 -- Each place of a pass that met all others is in just one report.
-use Rattle.std.proofs.Common.{◌≡◌, ◌⊎◌, ℕ, zero, suc, ◌<◌, ◌≤◌, List, [], ◌∷◌, ◌++◌, length, get_or, sym, refl, ap, ◌∙◌, inl, inr, ⊎_elim, subst, arith, Option, Some, None}
+use Rattle.std.proofs.Common.{◌≡◌, ℕ, zero, suc, ◌<◌, ◌≤◌, List, [], ◌∷◌, length, get_or, sym, refl, ⊎_elim, subst, arith, Some}
 use Rattle.std.specs.Prelude.{Contains, AllPairs, flat_map, slice_get}
 use Rattle.std.proofs.lemmas.List.Elements.{Contains-append_cases}
 use Rattle.session_rules.specs.declared.entry.Entry.{Entry}
 use Rattle.grow_lock.specs.Journal.{StartsWith}
 use Rattle.grow_lock.proofs.Lists.{none_has}
 use Rattle.serve_rules.specs.declared.told.ConnReport.{ConnReport}
-use Rattle.gate_run.specs.Gates.{StandsIn, IsInJustOne, IsAllReported}
+use Rattle.gate_run.specs.Gates.{StandsIn, IsAllReported}
 use Rattle.gate_run.specs.OpenGate.{HaveNoPlaceInCommon}
 use Rattle.gate_run.proofs.Ending.{places_of}
 
@@ -14,7 +14,7 @@ use Rattle.gate_run.proofs.Ending.{places_of}
 stands : (reports : List ConnReport) (n : ℕ) → Contains (flat_map places_of reports) n → (k : ℕ) × StandsIn reports n k
 stands [] n has = absurd (none_has n has)
 stands (r ∷ rs) n has = ⊎_elim
-    (λ (here : Contains (places_of r) n). (0, r, refl, here))
+    (λ (here : Contains (places_of r) n). (0, (r, refl, here)))
     (λ (there : Contains (flat_map places_of rs) n). let s = stands rs n there in (suc s.0, s.1))
     (Contains-append_cases (places_of r) (flat_map places_of rs) n has)
 

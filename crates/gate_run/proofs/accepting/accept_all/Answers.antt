@@ -5,7 +5,7 @@ use Rattle.edge_io.specs.Gate.{IsBelow}
 use Rattle.edge_io.specs.Faults.{Rose}
 use Rattle.gate_run.specs.Working.{IsWork}
 use Rattle.serve_rules.specs.Turns.{SessionPass}
-use Rattle.gate_run.proofs.Dealing.{dealt_none, dealt_more, kept_lock, kept_as}
+use Rattle.gate_run.proofs.Dealing.{dealt_more, kept_lock, kept_as}
 use Rattle.gate_run.proofs.accepting.accept_all.Goals as goal
 
 pub returns-in-End-clause-taken : goal.returns-in-End-clause-taken
