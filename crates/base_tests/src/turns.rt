@@ -2,6 +2,7 @@
 ghost use Rattle.std.specs.Prelude.{◌≡◌, [], ◌∷◌, ◌++◌, Some, IfSome, slice_get};
 ghost use Rattle.grow_lock.specs.Journal.{StartsWith};
 ghost use Rattle.grow_lock.specs.Passes.{IsPassOf};
+ghost use Rattle.grow_lock.specs.Shares.{HoldsShare};
 
 use grow_lock::{GrowLock, Grows, Pass};
 use std::process::Abort;
@@ -43,6 +44,7 @@ fn append<R: Wait>(
 ) -> (Pass<Log>, Option<u64>)
     requires { IsPassOf lock.now pass }
     ensures lock { IsPassOf lock.now result.0 }
+    ensures share { result.0.share ≡ pass.share }
     ensures grows { StartsWith result.0.seen pass.seen }
     ensures place { IfSome result.1 (λ place. (slice_get result.0.seen place ≡ Some line) × (result.0.found ≡ pass.found ++ place ∷ []) × (result.0.mine ≡ pass.mine ++ place ∷ [])) }
 {
@@ -62,7 +64,7 @@ fn append_in_turns<R: Wait>(
     turns: u64,
 ) -> Pass<Log>
     requires { IsPassOf lock.now pass }
-    ensures { IsPassOf lock.now result }
+    ensures { IsPassOf lock.now result × (result.share ≡ pass.share) }
 {
     for line in 0..turns {
         (pass, _) = append(rt, lock, pass, line);
@@ -82,11 +84,11 @@ fn two_threads_append_a_thousand_entries_each(rt: HostRuntime) -> Result<(), Fai
         &rt,
         || -> Pass<Log>
             requires { IsPassOf lock first }
-            ensures { IsPassOf lock result }
+            ensures { IsPassOf lock result × (result.share ≡ first.share) }
         { append_in_turns(&rt, &lock, first, TURNS) },
         || -> Pass<Log>
             requires { IsPassOf lock second }
-            ensures { IsPassOf lock result }
+            ensures { IsPassOf lock result × (result.share ≡ second.share) }
         { append_in_turns(&rt, &lock, second, TURNS) },
     );
     let both = lock.meet(second, first);
@@ -105,7 +107,7 @@ fn has_seen(rt: &impl Abort, pass: &Pass<Log>, wanted: u64) {
 /// Enters, and asserts that there is an entry.
 fn find_an_entry<R: Abort + Wait>(rt: &R, lock: &GrowLock<Log>, pass: Pass<Log>) -> Pass<Log>
     requires { IsPassOf lock.now pass }
-    ensures { IsPassOf lock.now result }
+    ensures { IsPassOf lock.now result × (result.share ≡ pass.share) }
 {
     let mut turn = lock.enter(rt, pass);
     assert!(rt; turn.value().lines.len() >= 1);
@@ -119,7 +121,7 @@ fn append_find_and_meet<R: Abort + Wait>(
     mut first: Pass<Log>,
 ) -> Pass<Log>
     requires { IsPassOf lock.now first }
-    ensures { IsPassOf lock.now result }
+    ensures { IsPassOf lock.now result × HoldsShare result.share first.share }
 {
     let second = lock.split(&mut first);
     has_seen(rt, &first, 0);

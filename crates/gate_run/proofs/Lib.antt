@@ -1,3 +1,5 @@
+pub mod Dealing
 pub mod Ending
 pub mod Numbers
 pub mod Opened
+pub mod Reported

@@ -19,14 +19,14 @@ abbrev pub HasJoined : List Entry → ConnReport → Type 0
 HasJoined j report = (report.viewer ≡ 0 → ⊥) → JoinsFirst report.viewer report.places.list j
 
 -- so has each report of links that were served
-pub each_has_joined : (head : Head) (j : List Entry) (links : List LinkState) (reports : List ConnReport) (spents : List LinkState) → EachServed head j links reports spents
+pub each_has_joined : (head : Head) (first j : List Entry) (links : List LinkState) (reports : List ConnReport) (spents : List LinkState) → EachServed head first j links reports spents
     → All (HasJoined j) reports
-each_has_joined head j [] [] [] e = All-nil (HasJoined j)
-each_has_joined head j [] [] (s ∷ ss) e = absurd e
-each_has_joined head j [] (r ∷ rs) ss e = absurd e
-each_has_joined head j (l ∷ ls) [] ss e = absurd e
-each_has_joined head j (l ∷ ls) (r ∷ rs) [] e = absurd e
-each_has_joined head j (l ∷ ls) (r ∷ rs) (s ∷ ss) e =
+each_has_joined head first j [] [] [] e = All-nil (HasJoined j)
+each_has_joined head first j [] [] (s ∷ ss) e = absurd e
+each_has_joined head first j [] (r ∷ rs) ss e = absurd e
+each_has_joined head first j (l ∷ ls) [] ss e = absurd e
+each_has_joined head first j (l ∷ ls) (r ∷ rs) [] e = absurd e
+each_has_joined head first j (l ∷ ls) (r ∷ rs) (s ∷ ss) e =
     All-cons (HasJoined j) r rs (λ some.
     let f = viewers_first_place head e.0.before e.0.after r l s e.0.serves some in
     record {
@@ -36,7 +36,7 @@ each_has_joined head j (l ∷ ls) (r ∷ rs) (s ∷ ss) e =
       first = f.first;
       entry = subst (λ l. slice_get l f.join ≡ Some (Join r.viewer f.role)) (sym e.0.within.1) (got_more e.0.after.seen e.0.within.0 f.join (Join r.viewer f.role) f.entry);
     })
-    (each_has_joined head j ls rs ss e.1)
+    (each_has_joined head first j ls rs ss e.1)
 
 -- the first place of a list
 pub contains_first : (places : List ℕ) (n : ℕ) (rest : List ℕ) → places ≡ n ∷ rest → Contains places n

@@ -1,14 +1,16 @@
 -- A gate that was opened, or couldn't be.
-use Rattle.std.proofs.Common.{◌≡◌, ℕ, false, List, [], ◌++◌, sym, refl, ap, ◌∙◌, subst, arith, append-nil, Some}
-use Rattle.std.specs.Prelude.{AllPairs}
+use Rattle.std.proofs.Common.{◌≡◌, ℕ, ◌<◌, ◌≤◌, length, false, List, [], ◌++◌, sym, refl, ap, ◌∙◌, subst, arith, append-nil, Some}
+use Rattle.std.specs.Prelude.{Contains, AllPairs}
 use Rattle.edge_io.specs.Faults.{Rose}
 use Rattle.session_rules.specs.declared.entry.Entry.{Entry}
 use Rattle.session_rules.specs.Journal.{Head, IsLegalJournal}
+use Rattle.grow_lock.specs.Journal.{StartsWith}
+use Rattle.grow_lock.proofs.Lists.{none_has}
 use Rattle.serve_rules.specs.declared.told.ConnReport.{ConnReport}
 use Rattle.link_run.specs.Links.{LinkState}
 use Rattle.gate_run.specs.declared.served.GateEnd.{GateEnd}
 use Rattle.gate_run.specs.declared.served.GateEnd.TheVariants.{Ended, Failed, NoListen}
-use Rattle.gate_run.specs.Gates.{GateState, EachServed, AreApart, AskedFor, EndCause, ServesGate}
+use Rattle.gate_run.specs.Gates.{GateState, EachServed, AreApart, IsAllReported, AskedFor, EndCause, ServesGate}
 use Rattle.gate_run.specs.OpenGate.{GivesNoMore, ServesLinks}
 
 -- a gate was opened for so many links, and else is as before
@@ -32,9 +34,9 @@ end_cause Failed port links joined before opened after new o cause = (cause.0 �
 end_cause NoListen port links joined before opened after new o cause = absurd cause
 
 -- a gate was opened and its links were served
-pub serves_opened : (head : Head) (port links : ℕ) (before opened after : GateState) (j : List Entry) (reports : List ConnReport) (end : GateEnd) → before.ended ≡ false
-    → Opens port links before opened → ServesLinks head opened after j reports end → ServesGate head port links before after j reports end
-serves_opened head port links before opened after j reports end new o s =
+pub serves_opened : (head : Head) (first : List Entry) (port links : ℕ) (before opened after : GateState) (j : List Entry) (reports : List ConnReport) (end : GateEnd) → before.ended ≡ false
+    → Opens port links before opened → ServesLinks head first opened after j reports end → ServesGate head first port links before after j reports end
+serves_opened head first port links before opened after j reports end new o s =
     record {
       joined = s.joined;
       spent = s.spent;
@@ -43,6 +45,7 @@ serves_opened head port links before opened after j reports end new o s =
       served = s.served;
       legal = s.legal;
       apart = s.apart;
+      whole = s.whole;
       asked = asked_for end port links before opened after o s.asked s.cause;
       cause = end_cause end port links s.joined before opened after new o s.cause;
     }
@@ -55,16 +58,18 @@ pub record StaysShut (before after : GateState) : Type 0 where
   pub ended : after.ended ≡ before.ended
   pub faults : Rose before.faults after.faults
 
-pub serves_none : (head : Head) (port links : ℕ) (before after : GateState) (j : List Entry) (reports : List ConnReport) → StaysShut before after → IsLegalJournal head j → reports ≡ []
-    → ServesGate head port links before after j reports NoListen
-serves_none head port links before after j reports s legal none =
+pub serves_none : (head : Head) (first : List Entry) (port links : ℕ) (before after : GateState) (j : List Entry) (reports : List ConnReport) → StaysShut before after → IsLegalJournal head j → reports ≡ []
+    → StartsWith j first → (mine : List ℕ) → ((n : ℕ) → length first ≤ n → n < length j → Contains mine n) → mine ≡ []
+    → ServesGate head first port links before after j reports NoListen
+serves_none head first port links before after j reports s legal none begins mine all empty =
     record {
       joined = [];
       spent = [];
       given = s.given ∙ sym (append-nil before.given);
       finished = s.finished ∙ sym (append-nil before.finished);
-      served = subst (λ rs. EachServed head j [] rs []) (sym none) tt;
+      served = subst (λ rs. EachServed head first j [] rs []) (sym none) tt;
       legal = legal;
+      whole = subst (IsAllReported first j) (sym none) record { begins = begins; reported = λ n low lt. absurd (none_has n (subst (λ (l : List ℕ). Contains l n) empty (all n low lt))) };
       apart = subst (AllPairs AreApart) (sym none) (λ i k d lt within. absurd (omega (arith, within)));
       asked = s.asked;
       cause = (refl, s.ended, s.faults);

@@ -1,5 +1,5 @@
 -- What serving a gate comes to.
-use Rattle.std.specs.Prelude.{◌≡◌, ℕ, ⊤, Bool, true, false, List, [], ◌∷◌, ◌++◌, map, AllPairs}
+use Rattle.std.specs.Prelude.{◌≡◌, ℕ, ◌<◌, ◌≤◌, ⊤, Bool, true, false, List, [], ◌∷◌, ◌++◌, length, map, slice_get, Contains, AllPairs}
 use Rattle.std.specs.declared.option.Option.{Option}
 use Rattle.std.specs.declared.option.Option.TheVariants.{Some}
 use Rattle.edge_io.specs.Faults.{Rose}
@@ -42,28 +42,46 @@ gate_state gate link x =
 
 -- ---- its links
 
--- a link was served by a pass of its own, which had no turn before, and what it saw is the front of a journal
-pub record IsServed (head : Head) (j : List Entry) (link : LinkState) (report : ConnReport) (spent : LinkState) : Type 0 where
+-- a link was served by a pass of its own, which had no turn before and has seen a first journal, and what it saw is the front of another one
+pub record IsServed (head : Head) (first j : List Entry) (link : LinkState) (report : ConnReport) (spent : LinkState) : Type 0 where
   pub before : SessionPass
   pub after : SessionPass
   pub no_turn : before.found ≡ []
   pub no_place : before.mine ≡ []
+  pub since : StartsWith before.seen first
   pub serves : ServesViewer head before after report link spent
   pub within : StartsWith j after.seen
 
 -- links were served, each with its report and as it came back
-abbrev pub EachServed : Head → List Entry → List LinkState → List ConnReport → List LinkState → Type 0
-EachServed head j [] [] [] = ⊤
-EachServed head j [] [] (spent ∷ spents) = ⊥
-EachServed head j [] (report ∷ reports) spents = ⊥
-EachServed head j (link ∷ links) [] spents = ⊥
-EachServed head j (link ∷ links) (report ∷ reports) [] = ⊥
-EachServed head j (link ∷ links) (report ∷ reports) (spent ∷ spents) = IsServed head j link report spent × EachServed head j links reports spents
+abbrev pub EachServed : Head → List Entry → List Entry → List LinkState → List ConnReport → List LinkState → Type 0
+EachServed head first j [] [] [] = ⊤
+EachServed head first j [] [] (spent ∷ spents) = ⊥
+EachServed head first j [] (report ∷ reports) spents = ⊥
+EachServed head first j (link ∷ links) [] spents = ⊥
+EachServed head first j (link ∷ links) (report ∷ reports) [] = ⊥
+EachServed head first j (link ∷ links) (report ∷ reports) (spent ∷ spents) = IsServed head first j link report spent × EachServed head first j links reports spents
 
 -- two reports are of two viewers, if of any, and no place is in both
 pub record AreApart (report other : ConnReport) : Type 0 where
   pub viewers : (report.viewer ≡ 0 → ⊥) → report.viewer ≡ other.viewer → ⊥
   pub places : IsDisjoint report.places.list other.places.list
+
+-- ---- whose entries they are
+
+-- a place is among those of the report with this index
+abbrev pub StandsIn : List ConnReport → ℕ → ℕ → Type 0
+StandsIn reports place index = (report : ConnReport) × (slice_get reports index ≡ Some report) × Contains report.places.list place
+
+-- a place is among those of just one report
+pub record IsInJustOne (reports : List ConnReport) (place : ℕ) : Type 0 where
+  pub index : ℕ
+  pub stands : StandsIn reports place index
+  pub only : (other : ℕ) → StandsIn reports place other → other ≡ index
+
+-- a journal goes on from a first one, and each further place is among those of just one report
+pub record IsAllReported (first j : List Entry) (reports : List ConnReport) : Type 0 where
+  pub begins : StartsWith j first
+  pub reported : (place : ℕ) → length first ≤ place → place < length j → IsInJustOne reports place
 
 -- ---- all of it
 
@@ -79,15 +97,16 @@ EndCause Ended joined before after = (before.ended ≡ false) × (after.ended �
 EndCause Failed joined before after = (after.ended ≡ before.ended) × Rose before.faults after.faults
 EndCause NoListen joined before after = (joined ≡ []) × (after.ended ≡ before.ended) × Rose before.faults after.faults
 
--- a gate was opened and its links were served, over a session that ends with this journal: the links that were given and those that came back, in one order with
--- the reports
-pub record ServesGate (head : Head) (port links : ℕ) (before after : GateState) (j : List Entry) (reports : List ConnReport) (end : GateEnd) : Type 0 where
+-- a gate was opened and its links were served, over a session that had a first journal and ends with another one: the links that were given and those that came
+-- back, in one order with the reports, which have all that was appended
+pub record ServesGate (head : Head) (first : List Entry) (port links : ℕ) (before after : GateState) (j : List Entry) (reports : List ConnReport) (end : GateEnd) : Type 0 where
   pub joined : List LinkState
   pub spent : List LinkState
   pub given : after.given ≡ before.given ++ joined
   pub finished : after.finished ≡ before.finished ++ spent
-  pub served : EachServed head j joined reports spent
+  pub served : EachServed head first j joined reports spent
   pub legal : IsLegalJournal head j
   pub apart : AllPairs AreApart reports
+  pub whole : IsAllReported first j reports
   pub asked : AskedFor end port links before.asked after.asked
   pub cause : EndCause end joined before after

@@ -12,7 +12,7 @@ use Rattle.serve_rules.specs.declared.told.ConnReport.{ConnReport}
 use Rattle.link_run.specs.Links.{LinkState}
 use Rattle.gate_run.specs.declared.served.GateEnd.{GateEnd}
 use Rattle.gate_run.specs.declared.served.GateEnd.TheVariants.{Ended, Failed, NoListen}
-use Rattle.gate_run.specs.Gates.{GateState, given_state, spent_state, EachServed, AreApart}
+use Rattle.gate_run.specs.Gates.{GateState, given_state, spent_state, EachServed, AreApart, IsAllReported}
 
 -- a gate is open for so many links
 abbrev pub IsOpenFor : ℕ → Option Asked → Type 0
@@ -30,20 +30,21 @@ HaveNoPlaceInCommon report other = IsDisjoint report.places.list other.places.li
 
 module _ {L Reader Writer Spent : Type 0} (link : links.Ghosts L Reader Writer Spent) where
   -- the work for these links was ended, and each went back
-  pub record EndsAll (head : Head) (j : List Entry) (given : List L) (reports : List ConnReport) (finished_old finished_new : List Spent) : Type 0 where
+  pub record EndsAll (head : Head) (first j : List Entry) (given : List L) (reports : List ConnReport) (finished_old finished_new : List Spent) : Type 0 where
     pub spents : List Spent
     pub finished : finished_new ≡ finished_old ++ spents
-    pub served : EachServed head j (map (given_state link) given) reports (map (spent_state link) spents)
+    pub served : EachServed head first j (map (given_state link) given) reports (map (spent_state link) spents)
     pub places : AllPairs HaveNoPlaceInCommon reports
 
--- the links of an open gate were served, over a session that ends with this journal
-pub record ServesLinks (head : Head) (before after : GateState) (j : List Entry) (reports : List ConnReport) (end : GateEnd) : Type 0 where
+-- the links of an open gate were served, over a session that had a first journal and ends with another one
+pub record ServesLinks (head : Head) (first : List Entry) (before after : GateState) (j : List Entry) (reports : List ConnReport) (end : GateEnd) : Type 0 where
   pub joined : List LinkState
   pub spent : List LinkState
   pub given : after.given ≡ before.given ++ joined
   pub finished : after.finished ≡ before.finished ++ spent
-  pub served : EachServed head j joined reports spent
+  pub served : EachServed head first j joined reports spent
   pub legal : IsLegalJournal head j
   pub apart : AllPairs AreApart reports
+  pub whole : IsAllReported first j reports
   pub asked : after.asked ≡ before.asked
   pub cause : GivesNoMore end before.ended after.ended before.faults after.faults

@@ -2,6 +2,7 @@
 use Rattle.std.specs.Prelude.{◌≡◌, ℕ, ◌≤◌, List, [], length, map, All}
 use Rattle.edge_io.specs.declared.gate.Gate as gates
 use Rattle.edge_io.specs.declared.link.Link as links
+use Rattle.session_rules.specs.declared.entry.Entry.{Entry}
 use Rattle.session_rules.specs.Journal.{Head}
 use Rattle.grow_lock.specs.Passes.{LockModel}
 use Rattle.gate_run.specs.declared.jobs.Job.{Job}
@@ -19,7 +20,7 @@ module _ {G L Reader Writer Spent : Type 0} (gate : gates.Ghosts G L Reader Writ
     pub each : numbers ≡ links
 
   -- each link that a gate gave until it gave no more has its job
-  pub record HasTaken (link : links.Ghosts L Reader Writer Spent) (lock : LockModel Head) (links : ℕ) (opened after : G) (jobs : List (Job L Reader Writer Spent)) (end : GateEnd) : Type 0 where
+  pub record HasTaken (link : links.Ghosts L Reader Writer Spent) (lock : LockModel Head Entry) (links : ℕ) (opened after : G) (jobs : List (Job L Reader Writer Spent)) (end : GateEnd) : Type 0 where
     pub few : length jobs ≤ links
     pub given : gate.given after ≡ map (λ j. j.given.link.value) jobs
     pub work : All (IsWork link lock) jobs

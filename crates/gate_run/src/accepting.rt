@@ -1,9 +1,11 @@
 //! A gate's links, each of which is served in a thread of its own while the next one is waited for.
 ghost use Rattle.std.specs.Prelude.{◌≡◌, [], ◌++◌, ◌≤◌, map, All, vec_len, vec_capacity};
+ghost use Rattle.session_rules.specs.declared.entry.Entry.{Entry};
 ghost use Rattle.session_rules.specs.Journal.{Head};
+ghost use Rattle.grow_lock.specs.Journal.{StartsWith};
 ghost use Rattle.grow_lock.specs.Passes.{LockModel, IsPassOf};
 ghost use Rattle.gate_run.specs.Taking.{CanTake, HasTaken};
-ghost use Rattle.gate_run.specs.Working.{IsFresh, IsWork};
+ghost use Rattle.gate_run.specs.Working.{IsFresh, IsWork, IsDealtOut};
 
 use crate::GateEnd;
 use crate::ended::Ended;
@@ -31,8 +33,10 @@ pub fn accept_links<R: Threads + Wait + Sync, G: Gate>(
     jobs: Vec<Job<G::Link>>,
 ) -> (Pass<Session>, Vec<Job<G::Link>>, GateEnd)
     requires lock { IsPassOf lock.now pass }
+    requires since { StartsWith pass.seen lock.now.first }
     requires gate { CanTake G.Gate links gate.old jobs.items (vec_capacity jobs) (vec_len ended.now.behind) }
-    ensures pass { result.0 ≡ pass }
+    ensures pass { result.0 ≡ record pass { share = result.0.share } }
+    ensures dealt { IsDealtOut pass.share result.0.share (map (λ j. j.given.pass.value.share) result.1.items) }
     ensures taken { HasTaken G.Gate G.Link.Link lock.now links gate.old gate.new result.1.items result.2 }
 {
     let (pass, jobs, gate, end) = accept_in_scope(rt, alloc, lock, ended, pass, links, gate, jobs);
@@ -56,8 +60,10 @@ fn accept_in_scope<'g, R: Threads + Wait + Sync, G: Gate>(
     jobs: Vec<Job<G::Link>>,
 ) -> (Pass<Session>, Vec<Job<G::Link>>, &'g mut G, GateEnd)
     requires lock { IsPassOf lock.now pass }
+    requires since { StartsWith pass.seen lock.now.first }
     requires gate { CanTake G.Gate links gate.old jobs.items (vec_capacity jobs) (vec_len ended.now.behind) }
-    ensures pass { result.0 ≡ pass }
+    ensures pass { result.0 ≡ record pass { share = result.0.share } }
+    ensures dealt { IsDealtOut pass.share result.0.share (map (λ j. j.given.pass.value.share) result.1.items) }
     ensures same { result.2.ghost_name ≡ gate.entry.ghost_name }
     ensures taken { HasTaken G.Gate G.Link.Link lock.now links gate.entry.now result.2.now result.1.items result.3 }
 {
@@ -65,8 +71,8 @@ fn accept_in_scope<'g, R: Threads + Wait + Sync, G: Gate>(
         thread::scope_env(),
         rt,
         move |scope| -> (Pass<Session>, Vec<Job<G::Link>>, &mut G, GateEnd)
-            requires { IsPassOf lock.now pass × CanTake G.Gate links gate.now jobs.items (vec_capacity jobs) (vec_len ended.now.behind) }
-            ensures { (result.0 ≡ pass) × (result.2.ghost_name ≡ gate.entry.ghost_name) × HasTaken G.Gate G.Link.Link lock.entry.now links gate.entry.now result.2.now result.1.items result.3 }
+            requires { IsPassOf lock.now pass × StartsWith pass.seen lock.now.first × CanTake G.Gate links gate.now jobs.items (vec_capacity jobs) (vec_len ended.now.behind) }
+            ensures { (result.0 ≡ record pass { share = result.0.share }) × IsDealtOut pass.share result.0.share (map (λ j. j.given.pass.value.share) result.1.items) × (result.2.ghost_name ≡ gate.entry.ghost_name) × HasTaken G.Gate G.Link.Link lock.entry.now links gate.entry.now result.2.now result.1.items result.3 }
         { accept_all(rt, alloc, scope, lock, ended, pass, links, gate, jobs) },
     )
 }
@@ -87,8 +93,10 @@ fn accept_all<'s, 'g, E, R: Threads + Wait + Sync, G: Gate>(
 where
     G::Link: 's,
     requires lock { IsPassOf lock.now pass }
+    requires since { StartsWith pass.seen lock.now.first }
     requires gate { CanTake G.Gate links gate.old jobs.items (vec_capacity jobs) (vec_len ended.now.behind) }
-    ensures pass { result.0 ≡ pass }
+    ensures pass { result.0 ≡ record pass { share = result.0.share } }
+    ensures dealt { IsDealtOut pass.share result.0.share (map (λ j. j.given.pass.value.share) result.1.items) }
     ensures same { result.2.ghost_name ≡ gate.entry.ghost_name }
     ensures taken { HasTaken G.Gate G.Link.Link lock.now links gate.entry.now result.2.now result.1.items result.3 }
 {
@@ -122,7 +130,8 @@ fn wait_for_room<R: Wait>(rt: &R, ended: &Ended, given: usize, links: u16) {
 fn collect_ended<R: Threads, L: Link>(rt: &R, jobs: &mut Vec<Job<L>>, ended: &Ended)
     requires { vec_len jobs.old ≤ vec_len ended.now.behind }
     ensures links { map (λ j. j.given.link.value) jobs.new.items ≡ map (λ j. j.given.link.value) jobs.old.items }
-    ensures work { (lock : LockModel Head) → All (IsWork L.Link lock) jobs.old.items → All (IsWork L.Link lock) jobs.new.items }
+    ensures shares { map (λ j. j.given.pass.value.share) jobs.new.items ≡ map (λ j. j.given.pass.value.share) jobs.old.items }
+    ensures work { (lock : LockModel Head Entry) → All (IsWork L.Link lock) jobs.old.items → All (IsWork L.Link lock) jobs.new.items }
     ensures len { vec_len jobs.new ≡ vec_len jobs.old }
     ensures capacity { vec_capacity jobs.new ≡ vec_capacity jobs.old }
 {

@@ -1,7 +1,8 @@
 //! The end of a gate's work: each pass meets the first one, and each link goes back.
-ghost use Rattle.std.specs.Prelude.{◌≡◌, [], ◌++◌, ◌+◌, ◌<◌, ◌≤◌, List, length, map, All, AllPairs, vec_len, vec_capacity};
+ghost use Rattle.std.specs.Prelude.{◌≡◌, [], ◌++◌, ◌+◌, ◌<◌, ◌≤◌, List, length, map, flat_map, All, AllPairs, vec_len, vec_capacity};
 ghost use Rattle.grow_lock.specs.Passes.{IsPassOf};
-ghost use Rattle.gate_run.specs.Working.{IsWork, EndsWork};
+ghost use Rattle.grow_lock.specs.Shares.{Share, both, HoldsShare};
+ghost use Rattle.gate_run.specs.Working.{IsWork, IsDealtOut, EndsWork};
 ghost use Rattle.gate_run.specs.OpenGate.{EndsAll};
 
 use crate::jobs::{Job, Outcome};
@@ -28,7 +29,9 @@ pub fn finish_all<R: Threads, G: Gate>(
     requires none { reports.old.items ≡ [] }
     requires room { vec_len reports.old + length jobs.items ≤ vec_capacity reports.old }
     ensures lock { IsPassOf lock.now result }
-    ensures all { EndsAll G.Link.Link lock.now.head result.seen (map (λ j. j.given.link.value) jobs.items) reports.new.items (G.finished gate.old) (G.finished gate.new) }
+    ensures mine { result.mine ≡ flat_map (λ r. r.places.list) reports.new.items }
+    ensures share { (share : Share) → IsDealtOut share pass.share (map (λ j. j.given.pass.value.share) jobs.items) → HoldsShare result.share share }
+    ensures all { EndsAll G.Link.Link lock.now.head lock.now.first result.seen (map (λ j. j.given.link.value) jobs.items) reports.new.items (G.finished gate.old) (G.finished gate.new) }
     ensures given { G.given gate.new ≡ G.given gate.old }
     ensures asked { G.asked gate.new ≡ G.asked gate.old }
     ensures ended { G.ended gate.new ≡ G.ended gate.old }
@@ -56,7 +59,8 @@ fn finish_next<R: Threads, G: Gate>(
     requires given { length (G.finished gate.old) < length (G.given gate.old) }
     requires room { vec_len reports.old < vec_capacity reports.old }
     ensures lock { IsPassOf lock.now result }
-    ensures ends { EndsWork G.Link.Link lock.now.head job.given.link.value pass result reports.old.items reports.new.items (G.finished gate.old) (G.finished gate.new) }
+    ensures share { HoldsShare result.share (both pass.share job.given.pass.value.share) }
+    ensures ends { EndsWork G.Link.Link lock.now.head lock.now.first job.given.link.value pass result reports.old.items reports.new.items (G.finished gate.old) (G.finished gate.new) }
     ensures len { vec_len reports.new ≡ vec_len reports.old + 1 }
     ensures capacity { vec_capacity reports.new ≡ vec_capacity reports.old }
     ensures given { G.given gate.new ≡ G.given gate.old }

@@ -1,7 +1,9 @@
 //! The work for one link: in a thread, or done.
 ghost use Rattle.std.specs.Prelude.{◌≡◌, ◌<◌, [], ◌||◌, true, is_some, IfSome, vec_len};
 ghost use Rattle.std.specs.Thread.{IsSync};
+ghost use Rattle.session_rules.specs.declared.entry.Entry.{Entry};
 ghost use Rattle.session_rules.specs.Journal.{Head};
+ghost use Rattle.grow_lock.specs.Journal.{StartsWith};
 ghost use Rattle.grow_lock.specs.Passes.{LockModel, IsPassOf};
 ghost use Rattle.gate_run.specs.Gates.{given_state, spent_state};
 ghost use Rattle.gate_run.specs.Working.{IsFresh, IsDone, IsWork};
@@ -49,7 +51,7 @@ impl<L: Link> Job<L> {
     /// Waits for the work's thread, if it has one that wasn't waited for, and keeps what it came to.
     pub fn collect<R: Threads>(&mut self, rt: &R)
         ensures given { self.new.given ≡ self.old.given }
-        ensures work { (lock : LockModel Head) → IsWork L.Link lock self.old → IsWork L.Link lock self.new }
+        ensures work { (lock : LockModel Head Entry) → IsWork L.Link lock self.old → IsWork L.Link lock self.new }
     {
         if let Some(handle) = self.handle.take() {
             self.outcome = Some(handle.join(rt));
@@ -111,8 +113,10 @@ where
     L: 's,
     requires lock { IsPassOf lock.now pass }
     requires fresh { IsFresh pass }
+    requires since { StartsWith pass.seen lock.now.first }
     requires number { number < vec_len ended.now.behind }
     ensures link { result.given.link.value ≡ link }
+    ensures pass { result.given.pass.value ≡ pass }
     ensures work { IsWork L.Link lock.now result }
 {
     let given = Given {

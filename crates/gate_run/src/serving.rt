@@ -1,8 +1,9 @@
 //! A gate, from its opening to its end.
-ghost use Rattle.std.specs.Prelude.{◌≡◌, [], ◌+◌, ◌≤◌, false, length, IfOk, OnErr, vec_len, vec_capacity};
+ghost use Rattle.std.specs.Prelude.{◌≡◌, ℕ, [], ◌+◌, ◌<◌, ◌≤◌, false, length, Contains, IfOk, OnErr, vec_len, vec_capacity};
 ghost use Rattle.session_rules.specs.Journal.{IsLegalJournal};
 ghost use Rattle.grow_lock.specs.Journal.{StartsWith};
 ghost use Rattle.grow_lock.specs.Passes.{IsPassOf};
+ghost use Rattle.grow_lock.specs.Shares.{IsWhole};
 ghost use Rattle.gate_run.specs.OpenGate.{ServesLinks};
 ghost use Rattle.gate_run.specs.Taking.{CanTake};
 ghost use Rattle.gate_run.specs.Gates.{gate_state, ServesGate};
@@ -60,7 +61,7 @@ pub fn serve_gate<R: Threads + Wait + Sync, G: Gate>(
     requires given { G.given gate.old ≡ [] }
     requires ended { G.ended gate.old ≡ false }
     ensures head { IfOk result (λ served. served.session.head ≡ session.head) }
-    ensures gate { IfOk result (λ served. ServesGate session.head port links (gate_state G.Gate G.Link.Link gate.old) (gate_state G.Gate G.Link.Link gate.new)
+    ensures gate { IfOk result (λ served. ServesGate session.head session.journal port links (gate_state G.Gate G.Link.Link gate.old) (gate_state G.Gate G.Link.Link gate.new)
         served.session.journal served.reports.items served.end) }
     ensures memory { OnErr result (gate.new ≡ gate.old) }
 {
@@ -88,11 +89,13 @@ fn serve_links<R: Threads + Wait + Sync, G: Gate>(
 ) -> Served
     requires lock { IsPassOf lock pass }
     requires mine { pass.mine ≡ [] }
+    requires since { StartsWith pass.seen lock.first }
+    requires whole { IsWhole pass.share }
     requires gate { CanTake G.Gate links gate.old room.jobs.items (vec_capacity room.jobs) (vec_len room.ended.behind) }
     requires finished { G.finished gate.old ≡ [] }
     requires reports { (room.reports.items ≡ []) × (vec_len room.reports + links ≤ vec_capacity room.reports) }
     ensures head { result.session.head ≡ lock.head }
-    ensures links { ServesLinks lock.head (gate_state G.Gate G.Link.Link gate.old) (gate_state G.Gate G.Link.Link gate.new) result.session.journal result.reports.items result.end }
+    ensures links { ServesLinks lock.head lock.first (gate_state G.Gate G.Link.Link gate.old) (gate_state G.Gate G.Link.Link gate.new) result.session.journal result.reports.items result.end }
 {
     let Room {
         jobs,
@@ -109,12 +112,15 @@ fn serve_links<R: Threads + Wait + Sync, G: Gate>(
     }
 }
 
-/// The value of the lock, when all passes have met.
+/// The value of the lock, when all passes have met: this one has the whole lock, so it has all places that were added.
 fn close<R: Wait>(rt: &R, lock: GrowLock<Session>, pass: Pass<Session>) -> Session
-    requires { IsPassOf lock pass }
+    requires lock { IsPassOf lock pass }
+    requires whole { IsWhole pass.share }
     ensures head { result.head ≡ lock.head }
     ensures legal { IsLegalJournal lock.head result.journal }
     ensures seen { StartsWith result.journal pass.seen }
+    ensures begins { StartsWith result.journal lock.first }
+    ensures all { (n : ℕ) → length lock.first ≤ n → n < length result.journal → Contains pass.mine n }
 {
     let session = lock.close(rt, pass);
     session.recall_legal();

@@ -1,5 +1,5 @@
 -- The mode serve: what a run of it comes to.
-use Rattle.std.specs.Prelude.{◌≡◌, ℕ, List, OnOk, OnErr, IfErr}
+use Rattle.std.specs.Prelude.{◌≡◌, ℕ, List, [], OnOk, OnErr, IfErr}
 use Rattle.std.specs.Io.KnownBytes.{Appends}
 use Rattle.std.specs.declared.option.Option.{Option}
 use Rattle.std.specs.declared.result.Result.{Result}
@@ -54,7 +54,7 @@ pub record HostsLinks (status : ℕ) (hosting : HostingOf) (before now : GateSta
   pub j : List Entry
   pub reports : List ConnReport
   pub end : GateEnd
-  pub serves : ServesGate (head_of hosting) hosting.port hosting.links before now j reports end
+  pub serves : ServesGate (head_of hosting) [] hosting.port hosting.links before now j reports end
   pub changes : ChangedByHolders (head_of hosting) j
   pub prints : PrintsLinks status end reports told telling writes wrote
 

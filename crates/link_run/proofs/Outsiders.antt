@@ -18,6 +18,7 @@ use Rattle.session_core.specs.declared.faults.JoinFault.{JoinFault}
 use Rattle.session_core.specs.declared.faults.JoinFault.TheVariants as join
 use Rattle.grow_lock.specs.Journal.{StartsWith}
 use Rattle.grow_lock.proofs.Lists.{starts_trans, starts_itself}
+use Rattle.grow_lock.proofs.Shares.{holds_same}
 use Rattle.serve_rules.specs.Turns.{SessionPass, IsTurn, Idles}
 use Rattle.serve_rules.specs.Events.{IsWithin}
 use Rattle.serve_rules.proofs.Lists.{within_front}
@@ -138,6 +139,7 @@ module _ (head : Head) (p q : SessionPass) (report : ConnReport) where
     grows = idle_grows p q idle;
     legal = legal;
     mine = idle_mine p q idle ∙ (sym (append-nil p.mine) ∙ ap (λ l. p.mine ++ l) (sym o.none));
+    share = holds_same q.share p.share idle.1.share;
     came = inl o;
   }
 
@@ -203,6 +205,10 @@ module _ (head : Head) (p q r : SessionPass) where
   away_mine name end d = ⊎_elim (λ (t : (fault : JoinFault) × IsTurnedAwayIn head name q r fault × (end ≡ end_of_join fault)). t.1.turn.mine ∙ append-nil q.mine)
       (λ (m : (r ≡ q) × (end ≡ OutOfMemory)). ap (λ (x : SessionPass). x.mine) m.0) d
 
+  away_share : (name : List ℕ) (end : ConnEnd) → DoesNotJoin head name q r end → r.share ≡ q.share
+  away_share name end d = ⊎_elim (λ (t : (fault : JoinFault) × IsTurnedAwayIn head name q r fault × (end ≡ end_of_join fault)). t.1.turn.share)
+      (λ (m : (r ≡ q) × (end ≡ OutOfMemory)). ap (λ (x : SessionPass). x.share) m.0) d
+
   pub not_let_in : (report : ConnReport) (size : Size) (new : Hearing) (name : List ℕ) (guest : Guest) (left left1 left2 out out1 mid out2 : Option (List ℕ))
       (rf rf1 rf2 wf wf1 wm wf2 : ℕ) (end : ConnEnd) → size ≡ head.size → Idles p q → IsLegalJournal head r.seen
       → Greets (first_hearing size) new [] name left left1 out out1 rf rf1 wf wf1 (Ok (Some guest)) → DoesNotJoin head guest.name q r end
@@ -222,6 +228,7 @@ module _ (head : Head) (p q r : SessionPass) where
         taken = subst (λ (x : Option (List ℕ)). Consumes left x a.fed) (sym still.0) a.taken;
         grows = starts_trans r.seen q.seen p.seen (away_grows guest.name end d) (idle_grows p q idle);
         legal = legal;
+        share = holds_same r.share p.share (away_share guest.name end d ∙ idle.1.share);
         mine = away_mine guest.name end d ∙ (idle_mine p q idle ∙ (sym (append-nil p.mine) ∙ ap (λ l. p.mine ++ l) (sym o.none)));
         came = inl o;
       }

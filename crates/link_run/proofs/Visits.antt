@@ -28,6 +28,7 @@ use Rattle.headline.proofs.Takes.{takes_see}
 use Rattle.headline.proofs.CaptureFronts.{front_sees}
 use Rattle.grow_lock.specs.Journal.{StartsWith}
 use Rattle.grow_lock.proofs.Lists.{starts_trans, length_starts}
+use Rattle.grow_lock.proofs.Shares.{holds_itself, holds_same, holds_trans}
 use Rattle.serve_rules.specs.Turns.{SessionPass, IsTurn, Idles}
 use Rattle.serve_rules.specs.Events.{Act, Handles, HappenFrom, places_of, Ascend, AreOfEvents, IsWithin}
 use Rattle.serve_rules.specs.Notices.{Notice, events_in, notice_after_all, notice_in}
@@ -191,9 +192,9 @@ module _ (head : Head) (p p1 r : SessionPass) (size : Size) (conn : Hearing) (na
       -- the events, over the whole journal
       let last_pass : SessionPass = record u { seen = r.seen; found = r.found } in
       let done : Handles head v (events_in view.steps) q last_pass n0.places.list t1.places.list
-      = handles_more head v (events_in view.steps) q u last_pass n0.places.list t1.places.list (length c ∷ []) view.handles on_r turn.found refl in
+      = handles_more head v (events_in view.steps) q u last_pass n0.places.list t1.places.list (length c ∷ []) view.handles on_r turn.found refl (holds_itself u.share) in
       let same_high : done.high ≡ view.handles.high
-      = high_stays head v (events_in view.steps) q u last_pass n0.places.list t1.places.list (length c ∷ []) view.handles on_r turn.found refl in
+      = high_stays head v (events_in view.steps) q u last_pass n0.places.list t1.places.list (length c ∷ []) view.handles on_r turn.found refl (holds_itself u.share) in
       let ns : List ℕ = places_of head v r.seen done.acts in
       let same_places : places_of head v u.seen view.handles.acts ≡ places_of head v r.seen done.acts
       = append_cancel_left n0.places.list (places_of head v u.seen view.handles.acts) (places_of head v r.seen done.acts) (sym view.handles.places ∙ done.places) in
@@ -248,6 +249,8 @@ module _ (head : Head) (p p1 r : SessionPass) (size : Size) (conn : Hearing) (na
         legal = legal;
         mine = turn.mine ∙ (ap₂ ◌++◌ mine_u (leave_mine v c here place sa.leaves.1.place_is)
             ∙ (append_assoc p.mine (length b ∷ places_of head v r.seen done.acts) (option_to_list place) ∙ ap (λ l. p.mine ++ l) (sym all_places)));
+        share = holds_trans r.share u.share p.share (holds_same r.share u.share turn.share)
+            (holds_trans u.share q.share p.share view.handles.share (holds_same q.share p.share (sa.arrives.turn.share ∙ idle.1.share)));
         came = inr (record {
           name = guest.name;
           confirmed = guest.confirmed;

@@ -23,7 +23,7 @@ use Rattle.frame_rules.specs.Encoder.{first_encoder, bytes_of_takes}
 use Rattle.headline.specs.Headline.{SeesJournal}
 use Rattle.headline.specs.Fronts.{IsFront, SeesFirstOfJournal}
 use Rattle.grow_lock.specs.Journal.{StartsWith}
-use Rattle.serve_rules.specs.Turns.{SessionPass}
+use Rattle.serve_rules.specs.Turns.{SessionPass, KeepsShare}
 use Rattle.serve_rules.specs.Events.{Act, HappenFrom, places_of, Ascend, AreOfEvents, IsWithin}
 use Rattle.serve_rules.specs.Notices.{events_in, notice_after_all}
 use Rattle.serve_rules.specs.Reading.{IsWhole, IsNoRefusal}
@@ -153,13 +153,15 @@ pub record IsVisit (head : Head) (before after : SessionPass) (report : ConnRepo
 
 -- ---- a connection
 
--- a client's connection was served over the session behind a lock: what was read of it is its stream, and the entries of its pass are those that the report has
+-- a client's connection was served over the session behind a lock: what was read of it is its stream, and the entries of its pass are those that the report has;
+-- the pass still has all of the lock that it had, so each pass that was split off from it has come back
 pub record ServesViewer (head : Head) (before after : SessionPass) (report : ConnReport) (link spent : LinkState) : Type 0 where
   pub read : List ℕ
   pub taken : Consumes link.left spent.left read
   pub grows : StartsWith after.seen before.seen
   pub legal : IsLegalJournal head after.seen
   pub mine : after.mine ≡ before.mine ++ report.places.list
+  pub share : KeepsShare before after
   pub came : IsOutside head after report link spent read ⊎ IsVisit head before after report link spent read
 
 -- the first of a viewer's places is that of its Join

@@ -10,7 +10,8 @@ use Rattle.session_rules.specs.Entering.{entry_of_event}
 use Rattle.session_rules.proofs.Journals.{reached_at-append}
 use Rattle.grow_lock.specs.Journal.{StartsWith}
 use Rattle.grow_lock.proofs.Lists.{starts_itself, starts_trans, length_starts}
-use Rattle.serve_rules.specs.Turns.{SessionPass, IsHandled, Idles, place_after}
+use Rattle.grow_lock.proofs.Shares.{holds_itself, holds_same, holds_trans}
+use Rattle.serve_rules.specs.Turns.{SessionPass, KeepsShare, IsHandled, Idles, place_after}
 use Rattle.serve_rules.specs.Events.{entry_at, Act, HasAt, next_low, HappenFrom, place_if, places_of, IsWithin, Handles}
 use Rattle.serve_rules.proofs.Lists.{got_more, got_end, within_back, within_then}
 
@@ -65,8 +66,8 @@ module _ (head : Head) (v : ℕ) where
 
   -- what was handled stays so for a pass that has seen more and was in further turns, in which it appended nothing
   pub handles_more : (es : List Event) (p q r : SessionPass) (P Q : List ℕ) (turns : List ℕ) → Handles head v es p q P Q → StartsWith r.seen q.seen → r.found ≡ q.found ++ turns → r.mine ≡ q.mine
-      → Handles head v es p r P Q
-  handles_more es p q r P Q turns h grows found mine =
+      → KeepsShare q r → Handles head v es p r P Q
+  handles_more es p q r P Q turns h grows found mine keeps =
       let kept : places_of head v r.seen h.acts ≡ places_of head v q.seen h.acts
       = ap (λ j. places_of head v j h.acts) grows.1 ∙ places_more q.seen grows.0 (length p.seen) h.acts h.high h.within_seen h.happen in
       record {
@@ -80,14 +81,15 @@ module _ (head : Head) (v : ℕ) where
         found = found ∙ (ap (λ l. l ++ turns) h.found ∙ append_assoc p.found h.more_found turns);
         in_found = within_back turns (map (λ (a : Act). a.at) h.acts) h.more_found h.in_found;
         mine = mine ∙ (h.mine ∙ ap (λ l. p.mine ++ l) (sym kept));
+        share = holds_trans r.share q.share p.share keeps h.share;
         places = h.places ∙ ap (λ l. P ++ l) (sym kept);
       }
 
   -- and no later turn found less than before
   pub high_stays : (es : List Event) (p q r : SessionPass) (P Q : List ℕ) (turns : List ℕ) (h : Handles head v es p q P Q) (grows : StartsWith r.seen q.seen)
-      (found : r.found ≡ q.found ++ turns) (mine : r.mine ≡ q.mine) → (handles_more es p q r P Q turns h grows found mine).high ≡ h.high
+      (found : r.found ≡ q.found ++ turns) (mine : r.mine ≡ q.mine) (keeps : KeepsShare q r) → (handles_more es p q r P Q turns h grows found mine keeps).high ≡ h.high
   unfolding handles_more
-  high_stays es p q r P Q turns h grows found mine = refl
+  high_stays es p q r P Q turns h grows found mine keeps = refl
 
   -- events after events
   pub handles_then : (es es' : List Event) (p q r : SessionPass) (P Q S : List ℕ) → Handles head v es p q P Q → Handles head v es' q r Q S → Handles head v (es ++ es') p r P S
@@ -108,6 +110,7 @@ module _ (head : Head) (v : ℕ) where
         found = k.found ∙ (ap (λ l. l ++ k.more_found) h.found ∙ append_assoc p.found h.more_found k.more_found);
         in_found = subst (λ l. IsWithin l (h.more_found ++ k.more_found)) (sym (map-append (λ (a : Act). a.at) h.acts k.acts))
             (within_then (map (λ (a : Act). a.at) h.acts) h.more_found (map (λ (a : Act). a.at) k.acts) k.more_found h.in_found k.in_found);
+        share = holds_trans r.share q.share p.share k.share h.share;
         mine = k.mine ∙ (ap (λ l. l ++ places_of head v r.seen k.acts) h.mine ∙ (append_assoc p.mine _ _ ∙ ap (λ l. p.mine ++ l) both));
         places = k.places ∙ (ap (λ l. l ++ places_of head v r.seen k.acts) h.places ∙ (append_assoc P _ _ ∙ ap (λ l. P ++ l) both));
       }
@@ -125,13 +128,14 @@ module _ (head : Head) (v : ℕ) where
     found = sym (append-nil p.found);
     in_found = tt;
     mine = sym (append-nil p.mine);
+    share = holds_itself p.share;
     places = sym (append-nil P);
   }
 
   -- a turn in which nothing was appended
   pub handles_idle : (p q : SessionPass) (P : List ℕ) → Idles p q → Handles head v [] p q P P
   handles_idle p q P t = handles_more [] p p q P P (length t.0 ∷ []) (handles_nothing p P)
-      (starts_trans q.seen t.0 p.seen ([], t.1.seen) t.1.goes_on) t.1.found (t.1.mine ∙ append-nil p.mine)
+      (starts_trans q.seen t.0 p.seen ([], t.1.seen) t.1.goes_on) t.1.found (t.1.mine ∙ append-nil p.mine) (holds_same q.share p.share t.1.share)
 
   has_end : (base : List Entry) (o : Option Entry) → HasAt (base ++ option_to_list o) (length base) o
   has_end base None = tt
@@ -171,6 +175,7 @@ module _ (head : Head) (v : ℕ) where
         more_found = length h.base ∷ [];
         found = t.found;
         in_found = inl (refl, tt);
+        share = holds_same q.share p.share t.share;
         mine = t.mine ∙ ap (λ l. p.mine ++ l) (places_end (length h.base) o ∙ ap (λ x. place_if (length h.base) x ++ []) (sym same));
         places = ap (λ l. P ++ l) (ap option_to_list h.place_is ∙ (place_end h.base o ∙ ap (λ x. place_if (length h.base) x ++ []) (sym same)));
       }

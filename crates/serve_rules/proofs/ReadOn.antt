@@ -5,12 +5,15 @@ use Rattle.std.specs.declared.option.Option.{Option}
 use Rattle.std.specs.declared.option.Option.TheVariants.{Some, None}
 use Rattle.std.specs.Io.KnownBytes.{Consumes}
 use Rattle.edge_io.specs.Faults.{Rose}
+use Rattle.input_pdu.specs.declared.event.Event.{Event}
 use Rattle.session_rules.specs.Journal.{Head}
 use Rattle.grow_lock.specs.Journal.{StartsWith}
+use Rattle.grow_lock.specs.Shares.{Share, left_half, right_half, both, HoldsShare}
+use Rattle.grow_lock.proofs.Shares.{both_first, both_of_halves}
 use Rattle.conn_rules.specs.declared.conn_step.ConnStep.{ConnStep}
 use Rattle.conn_rules.specs.Hearing.{Hearing, Heard, heard, then_heard}
 use Rattle.conn_rules.proofs.Pieces.{heard_then}
-use Rattle.serve_rules.specs.Turns.{SessionPass}
+use Rattle.serve_rules.specs.Turns.{SessionPass, KeepsShare}
 use Rattle.serve_rules.specs.Events.{Handles}
 use Rattle.serve_rules.specs.Notices.{Notice, events_in, notice_after_all, notice_in}
 use Rattle.serve_rules.specs.Reading.{ReadsOn, ReadEnd, IsOrderly, IsWhole, IsUnended, StopsReading, one_read}
@@ -106,25 +109,49 @@ reads_then head v rest flagged conn conn' conn'' p q r told told' told'' left le
           (consumes_then left left' (Some []) a.fed b.fed a.taken) (a.calm refl) b.ends);
     }
 
--- what a read side did stays so for the pass in which it met the other side's, which appended nothing
+-- what was handled from a pass, of which some share was split off, was handled from the pass before
+handles_from : (head : Head) (v : ℕ) (es : List Event) (p a : SessionPass) (share : Share) (P Q : List ℕ) → Handles head v es record p { share = share } a P Q → KeepsShare p a → Handles head v es p a P Q
+handles_from head v es p a share P Q h keeps = record {
+  acts = h.acts;
+  of_events = h.of_events;
+  grows = h.grows;
+  high = h.high;
+  happen = h.happen;
+  within_seen = h.within_seen;
+  more_found = h.more_found;
+  found = h.found;
+  in_found = h.in_found;
+  mine = h.mine;
+  share = keeps;
+  places = h.places;
+}
+
+-- what a read side did stays so for the pass in which it met the other side's, which appended nothing and has come back with its share
 pub reads_met : (head : Head) (v : ℕ) (rest : List ConnStep) (flagged : Bool) (conn conn' : Hearing) (p' p a b m : SessionPass) (told told' : Told)
     (left left' : Option (List ℕ)) (f f' : ℕ) (end : SideEnd)
-    → p' ≡ p → ReadsOn head v rest flagged conn conn' p' a told told' left left' f f' end
+    → p' ≡ record p { share = left_half p.share } → ReadsOn head v rest flagged conn conn' p' a told told' left left' f f' end
     → StartsWith m.seen a.seen → m.found ≡ a.found ++ b.found → m.mine ≡ a.mine ++ b.mine → b.mine ≡ []
-    → ReadsOn head v rest flagged conn conn' p m told told' left left' f f' end
-reads_met head v rest flagged conn conn' p' p a b m told told' left left' f f' end same h grows found mine none = record {
-  fed = h.fed;
-  taken = h.taken;
-  steps = h.steps;
-  undone = h.undone;
-  front = h.front;
-  all = h.all;
-  handles = handles_more head v (events_in h.steps) p a m told.places.list told'.places.list b.found
-      (subst (λ (x : SessionPass). Handles head v (events_in h.steps) x a told.places.list told'.places.list) same h.handles) grows found
-      (mine ∙ (ap (λ l. a.mine ++ l) none ∙ append-nil a.mine));
-  room = h.room;
-  notice = h.notice;
-  stops = h.stops;
-  calm = h.calm;
-  ends = h.ends;
-}
+    → m.share ≡ both a.share b.share → HoldsShare b.share (right_half p.share) → ReadsOn head v rest flagged conn conn' p m told told' left left' f f' end
+reads_met head v rest flagged conn conn' p' p a b m told told' left left' f f' end same h grows found mine none share theirs =
+    let split : SessionPass = record p { share = left_half p.share } in
+    let handled : Handles head v (events_in h.steps) split a told.places.list told'.places.list
+    = subst (λ (x : SessionPass). Handles head v (events_in h.steps) x a told.places.list told'.places.list) same h.handles in
+    let met : (s : Share) → HoldsShare (both a.share b.share) s → HoldsShare m.share s
+    = λ s. subst (λ (x : Share). HoldsShare x s) (sym share) in
+    record {
+      fed = h.fed;
+      taken = h.taken;
+      steps = h.steps;
+      undone = h.undone;
+      front = h.front;
+      all = h.all;
+      handles = handles_from head v (events_in h.steps) p m (left_half p.share) told.places.list told'.places.list
+          (handles_more head v (events_in h.steps) split a m told.places.list told'.places.list b.found handled grows found (mine ∙ (ap (λ l. a.mine ++ l) none ∙ append-nil a.mine))
+          (met a.share (both_first a.share b.share)))
+          (met p.share (both_of_halves p.share a.share b.share handled.share theirs));
+      room = h.room;
+      notice = h.notice;
+      stops = h.stops;
+      calm = h.calm;
+      ends = h.ends;
+    }

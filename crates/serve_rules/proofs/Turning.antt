@@ -10,9 +10,11 @@ pub record TurnFacts (before mid after : SessionPass) (base new : List Entry) : 
   pub goes_on : StartsWith base before.seen
   pub found : mid.found ≡ before.found ++ length base ∷ []
   pub mine : mid.mine ≡ before.mine
+  pub share : mid.share ≡ before.share
   pub seen_after : after.seen ≡ new
   pub found_after : after.found ≡ mid.found
   pub mine_after : after.mine ≡ mid.mine ++ added_places base new
+  pub share_after : after.share ≡ mid.share
 
 -- a turn in which some entries were appended
 pub turned : (before mid after : SessionPass) (base added new : List Entry) → TurnFacts before mid after base new → new ≡ base ++ added → IsTurn before after base added
@@ -23,4 +25,5 @@ turned before mid after base added new f is =
       seen = f.seen_after ∙ is;
       found = f.found_after ∙ f.found;
       mine = f.mine_after ∙ ap₂ ◌++◌ f.mine (ap (λ n. range_with_len (length base) n) gained);
+      share = f.share_after ∙ f.share;
     }

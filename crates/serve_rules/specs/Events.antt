@@ -5,7 +5,7 @@ use Rattle.session_rules.specs.declared.entry.Entry.{Entry}
 use Rattle.session_rules.specs.Journal.{Head, reached_at}
 use Rattle.session_rules.specs.Entering.{entry_of_event, IsOfEvent}
 use Rattle.grow_lock.specs.Journal.{StartsWith}
-use Rattle.serve_rules.specs.Turns.{SessionPass}
+use Rattle.serve_rules.specs.Turns.{SessionPass, KeepsShare}
 
 -- an event, and the length of the journal that its turn found
 pub record Act : Type 0 where
@@ -71,4 +71,5 @@ pub record Handles (head : Head) (v : ℕ) (events : List Event) (before after :
   pub found : after.found ≡ before.found ++ more_found
   pub in_found : IsWithin (map (λ (a : Act). a.at) acts) more_found
   pub mine : after.mine ≡ before.mine ++ places_of head v after.seen acts
+  pub share : KeepsShare before after
   pub places : places_after ≡ places_before ++ places_of head v after.seen acts

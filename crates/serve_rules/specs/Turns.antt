@@ -7,10 +7,15 @@ use Rattle.session_rules.specs.Journal.{Head, reached_at}
 use Rattle.session_rules.specs.Entering.{entry_of_event}
 use Rattle.grow_lock.specs.Journal.{StartsWith}
 use Rattle.grow_lock.specs.Passes.{PassModel}
+use Rattle.grow_lock.specs.Shares.{HoldsShare}
 
 -- a pass of a lock round a session
 abbrev pub SessionPass : Type 0
 SessionPass = PassModel Head Entry
+
+-- a pass that has still all of the lock that it had before: each pass that was split off from it has come back
+abbrev pub KeepsShare : SessionPass → SessionPass → Type 0
+KeepsShare before after = HoldsShare after.share before.share
 
 -- a pass had a turn: it found this journal, and these entries were appended
 pub record IsTurn (before after : SessionPass) (base added : List Entry) : Type 0 where
@@ -18,6 +23,7 @@ pub record IsTurn (before after : SessionPass) (base added : List Entry) : Type 
   pub seen : after.seen ≡ base ++ added
   pub found : after.found ≡ before.found ++ length base ∷ []
   pub mine : after.mine ≡ before.mine ++ range_with_len (length base) (length added)
+  pub share : after.share ≡ before.share
 
 -- a pass had a turn in which nothing was appended
 abbrev pub Idles : SessionPass → SessionPass → Type 0

@@ -5,9 +5,10 @@ ghost use Rattle.input_pdu.specs.declared.event.Event.{Event};
 ghost use Rattle.session_rules.specs.declared.entry.Entry.{Entry};
 ghost use Rattle.session_rules.specs.Journal.{Head};
 ghost use Rattle.grow_lock.specs.Journal.{StartsWith};
+ghost use Rattle.grow_lock.specs.Shares.{left_half, right_half, both, HoldsShare};
 ghost use Rattle.conn_rules.specs.declared.conn_step.ConnStep.{ConnStep};
 ghost use Rattle.conn_rules.specs.Hearing.{Hearing};
-ghost use Rattle.serve_rules.specs.Turns.{SessionPass, IsHandled, Idles};
+ghost use Rattle.serve_rules.specs.Turns.{SessionPass, KeepsShare, IsHandled, Idles};
 ghost use Rattle.serve_rules.specs.Events.{Act, HappenFrom, places_of, Ascend, AreOfEvents, Handles};
 ghost use Rattle.serve_rules.specs.Reading.{ReadsOn};
 ghost use Rattle.serve_rules.specs.declared.ends.SideEnd.{SideEnd};
@@ -24,10 +25,10 @@ pub fn events_are_handled_in_turns()
         → Handles head v (events ++ others) p r a c }
 {}
 
-/// What was handled stays so, for a pass that has seen more of the journal and had further turns, in which it appended nothing.
+/// What was handled stays so, for a pass that has seen more of the journal and had further turns, in which it appended nothing, and that has all of the lock that it had.
 pub fn what_was_handled_stays()
     ensures { (head : Head) (v : ℕ) (events : List Event) (p q r : SessionPass) (a b turns : List ℕ) → Handles head v events p q a b → StartsWith r.seen q.seen
-        → r.found ≡ q.found ++ turns → r.mine ≡ q.mine → Handles head v events p r a b }
+        → r.found ≡ q.found ++ turns → r.mine ≡ q.mine → KeepsShare q r → Handles head v events p r a b }
 {}
 
 /// The places of events' entries ascend, and an Input or a Give by the viewer stands at each.
@@ -38,13 +39,13 @@ pub fn places_of_events_ascend()
         → AreOfEvents v j (places_of head v j acts) }
 {}
 
-/// A read side goes on after a stretch that went well; and what it did stays so for the pass in which it meets that of a side that appended nothing.
+/// A read side goes on after a stretch that went well; and what it did stays so for the pass in which it meets that of a side that appended nothing and has its half of the lock.
 pub fn reading_goes_on()
     ensures after { (head : Head) (v : ℕ) (rest : List ConnStep) (flagged : Bool) (conn mid last : Hearing) (p q r : SessionPass) (told noted written : Told)
         (left less least : Option (List ℕ)) (f f' f'' : ℕ) (end : SideEnd) → ReadsOn head v rest true conn mid p q told noted left less f f' Stopped
         → ReadsOn head v [] flagged mid last q r noted written less least f' f'' end → ReadsOn head v rest flagged conn last p r told written left least f f'' end }
-    ensures met { (head : Head) (v : ℕ) (rest : List ConnStep) (flagged : Bool) (conn last : Hearing) (split p mine theirs both : SessionPass) (told noted : Told)
-        (left less : Option (List ℕ)) (f f' : ℕ) (end : SideEnd) → split ≡ p → ReadsOn head v rest flagged conn last split mine told noted left less f f' end
-        → StartsWith both.seen mine.seen → both.found ≡ mine.found ++ theirs.found → both.mine ≡ mine.mine ++ theirs.mine → theirs.mine ≡ []
-        → ReadsOn head v rest flagged conn last p both told noted left less f f' end }
+    ensures met { (head : Head) (v : ℕ) (rest : List ConnStep) (flagged : Bool) (conn last : Hearing) (split p mine theirs met : SessionPass) (told noted : Told)
+        (left less : Option (List ℕ)) (f f' : ℕ) (end : SideEnd) → split ≡ record p { share = left_half p.share } → ReadsOn head v rest flagged conn last split mine told noted left less f f' end
+        → StartsWith met.seen mine.seen → met.found ≡ mine.found ++ theirs.found → met.mine ≡ mine.mine ++ theirs.mine → theirs.mine ≡ []
+        → met.share ≡ both mine.share theirs.share → HoldsShare theirs.share (right_half p.share) → ReadsOn head v rest flagged conn last p met told noted left less f f' end }
 {}

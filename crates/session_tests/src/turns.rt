@@ -25,7 +25,7 @@ fn click_here(session: &mut Session)
 /// Clicks in a turn of its own.
 fn click<R: Wait>(rt: &R, lock: &GrowLock<Session>, pass: Pass<Session>) -> Pass<Session>
     requires { IsPassOf lock.now pass }
-    ensures { IsPassOf lock.now result }
+    ensures { IsPassOf lock.now result × (result.share ≡ pass.share) }
 {
     let mut turn = lock.enter(rt, pass);
     click_here(turn.value());
@@ -40,7 +40,7 @@ fn click_in_turns<R: Wait>(
     turns: u32,
 ) -> Pass<Session>
     requires { IsPassOf lock.now pass }
-    ensures { IsPassOf lock.now result }
+    ensures { IsPassOf lock.now result × (result.share ≡ pass.share) }
 {
     for _ in 0..turns {
         pass = click(rt, lock, pass);
@@ -57,11 +57,11 @@ fn two_threads_click_in_turns(rt: HostRuntime) -> Result<(), Fail> {
         &rt,
         || -> Pass<Session>
             requires { IsPassOf lock first }
-            ensures { IsPassOf lock result }
+            ensures { IsPassOf lock result × (result.share ≡ first.share) }
         { click_in_turns(&rt, &lock, first, TURNS) },
         || -> Pass<Session>
             requires { IsPassOf lock second }
-            ensures { IsPassOf lock result }
+            ensures { IsPassOf lock result × (result.share ≡ second.share) }
         { click_in_turns(&rt, &lock, second, TURNS) },
     );
     let both = lock.meet(second, first);

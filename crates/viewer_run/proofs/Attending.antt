@@ -22,6 +22,7 @@ use Rattle.serve_rules.specs.declared.ends.ConnEnd.TheVariants.{Left, Refused, T
 use Rattle.serve_rules.specs.declared.ends.SideEnd.{SideEnd}
 use Rattle.serve_rules.specs.declared.ends.SideEnd.TheVariants.{Done, Stopped}
 use Rattle.serve_rules.specs.declared.told.Told.{Told}
+use Rattle.grow_lock.proofs.Shares.{holds_same}
 use Rattle.serve_rules.proofs.Handling.{handles_nothing, handles_more}
 use Rattle.serve_rules.proofs.Lists.{within_back}
 use Rattle.serve_rules.proofs.ReadOn.{reads_then}
@@ -254,9 +255,9 @@ ends_last Stopped = inl refl
 module _ (head : Head) (v : ℕ) (confirmed : Confirmed) (rest : List ConnStep) (conn : Hearing) where
   pub attends_last : (t u : SenderModel) (p q r : SessionPass) (told told' : Told) (left left' : Option (List ℕ)) (f f' : ℕ) (out out' out'' : Option (List ℕ)) (w w' w'' : ℕ)
       (end : ConnEnd) (sent : SideEnd) → Attends head v confirmed rest conn t p q told told' left left' f f' out out' w w' end → end ≡ Left
-      → SendsOn head t u q r out' out'' w' w'' sent → r.mine ≡ q.mine
+      → SendsOn head t u q r out' out'' w' w'' sent → r.mine ≡ q.mine → r.share ≡ q.share
       → Attends head v confirmed rest conn u p r told told' left left' f f' out out'' w w'' (end_of_last sent)
-  attends_last t u p q r told told' left left' f f' out out' out'' w w' w'' end sent a is d mine =
+  attends_last t u p q r told told' left left' f f' out out' out'' w w' w'' end sent a is d mine share =
       let h = a.reads in
       let frames : FramesSent head v confirmed t p q out out' w w' Stopped
       = subst (FramesSent head v confirmed t p q out out' w w') (left_stopped a.sent end a.ended a.frames.only is) a.frames in
@@ -269,7 +270,7 @@ module _ (head : Head) (v : ℕ) (confirmed : Confirmed) (rest : List ConnStep) 
           undone = h.undone;
           front = h.front;
           all = λ no_write no_memory. h.all (λ wrote. absurd (cc (sym is ∙ wrote))) (λ wanted. absurd (cc (sym is ∙ wanted)));
-          handles = handles_more head v (events_in h.steps) p q r told.places.list told'.places.list d.more_found h.handles d.grows d.found mine;
+          handles = handles_more head v (events_in h.steps) p q r told.places.list told'.places.list d.more_found h.handles d.grows d.found mine (holds_same r.share q.share share);
           room = h.room;
           notice = h.notice;
           stops = h.stops;

@@ -37,6 +37,7 @@ pub fn send_side<R: Wait, K: Sink>(
     requires seen { sender.old.number ≤ length pass.seen }
     ensures lock { IsPassOf lock.now result.0 }
     ensures mine { result.0.mine ≡ pass.mine }
+    ensures share { result.0.share ≡ pass.share }
     ensures sends { SendsOn lock.now.head sender.old sender.new pass result.0 (K.told output.old) (K.told output.new) (K.faults output.old) (K.faults output.new) result.1 }
 {
     let mut now = pass;
@@ -72,6 +73,7 @@ fn send_once<R: Wait, K: Sink>(
     requires seen { sender.old.number ≤ length pass.seen }
     ensures lock { IsPassOf lock.now result.0 }
     ensures mine { result.0.mine ≡ pass.mine }
+    ensures share { result.0.share ≡ pass.share }
     ensures sends { SendsOn lock.now.head sender.old sender.new pass result.0 (K.told output.old) (K.told output.new) (K.faults output.old) (K.faults output.new) result.1 }
 {
     let (pass, taken) = take_once(rt, alloc, lock, pass, v, sender);

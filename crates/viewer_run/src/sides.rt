@@ -139,6 +139,7 @@ fn side_by_side<R: Threads + Wait + Sync, S: Source + Send, K: Sink + Send>(
     ensures part { result.1 ≡ Stopped → AreBytes conn.new.hearing.part }
     ensures other { IsPassOf lock.now result.2 }
     ensures mine { result.2.mine ≡ other.mine }
+    ensures share { result.2.share ≡ other.share }
     ensures sends { SendsOn lock.now.head sender.old sender.new other result.2 (K.told output.old) (K.told output.new) (K.faults output.old) (K.faults output.new) result.3 }
 {
     let shared = Shared::new();
@@ -168,7 +169,7 @@ fn side_by_side<R: Threads + Wait + Sync, S: Source + Send, K: Sink + Send>(
         },
         &mut || -> (Pass<Session>, SideEnd)
             requires { IfSome theirs (λ p. IsPassOf lock.now p × (sender.now.number ≤ length p.seen)) × (is_some theirs ≡ true) × (sender.now.v ≡ v) × IsIdle sender.now }
-            ensures { IfSome theirs.entry (λ p. IsPassOf lock.entry.now result.0 × (result.0.mine ≡ p.mine) × SendsOn lock.entry.now.head sender.entry.now sender.exit.now p result.0 (K.told output.entry.now) (K.told output.exit.now) (K.faults output.entry.now) (K.faults output.exit.now) result.1) }
+            ensures { IfSome theirs.entry (λ p. IsPassOf lock.entry.now result.0 × (result.0.mine ≡ p.mine) × (result.0.share ≡ p.share) × SendsOn lock.entry.now.head sender.entry.now sender.exit.now p result.0 (K.told output.entry.now) (K.told output.exit.now) (K.faults output.entry.now) (K.faults output.exit.now) result.1) }
         {
             let ended = send_beside(
                 rt,
@@ -204,6 +205,7 @@ fn send_beside<R: Wait, K: Sink>(
     requires seen { sender.old.number ≤ length pass.seen }
     ensures lock { IsPassOf lock.now result.0 }
     ensures mine { result.0.mine ≡ pass.mine }
+    ensures share { result.0.share ≡ pass.share }
     ensures sends { SendsOn lock.now.head sender.old sender.new pass result.0 (K.told output.old) (K.told output.new) (K.faults output.old) (K.faults output.new) result.1 }
 {
     if shared.has_started(rt) {

@@ -217,6 +217,7 @@ pub fn send_last<R: Wait, K: Sink>(
     requires seen { sender.old.number ≤ length pass.seen }
     ensures lock { IsPassOf lock.now result.0 }
     ensures mine { result.0.mine ≡ pass.mine }
+    ensures share { result.0.share ≡ pass.share }
     ensures sends { SendsOn lock.now.head sender.old sender.new pass result.0 (K.told output.old) (K.told output.new) (K.faults output.old) (K.faults output.new) result.1 }
     ensures whole { IsShownAll lock.now.head v result.0.seen sender.new.number result.1 }
 {

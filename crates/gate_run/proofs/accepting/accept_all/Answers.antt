@@ -1,9 +1,11 @@
-use Rattle.std.proofs.Common.{◌<◌, ◌∷◌, [], ◌++◌, length, map, All, sym, ap, ◌∙◌, subst, arith}
+use Rattle.std.proofs.Common.{◌<◌, ◌∷◌, [], ◌++◌, length, map, All, sym, ap, ap₂, ◌∙◌, subst, arith}
 use Rattle.std.proofs.lemmas.List.{map-append, length-map}
 use Rattle.std.proofs.lemmas.List.Elements.{All-push}
 use Rattle.edge_io.specs.Gate.{IsBelow}
 use Rattle.edge_io.specs.Faults.{Rose}
 use Rattle.gate_run.specs.Working.{IsWork}
+use Rattle.serve_rules.specs.Turns.{SessionPass}
+use Rattle.gate_run.proofs.Dealing.{dealt_more, kept_lock, kept_as}
 use Rattle.gate_run.proofs.accepting.accept_all.Goals as goal
 
 pub returns-in-End-clause-taken : goal.returns-in-End-clause-taken
@@ -37,7 +39,13 @@ loop-preserved g c =
     let below : length given < c.args.links = subst (IsBelow (length given)) (inv.asked ∙ c.requires.gate.asked.1) next.limit.0 in
     let count = ap length inv.given ∙ length-map c.loop.jobs.items (λ j. j.given.link.value) in
     record {
-      passed = c.split-part.ensures.unchanged ∙ inv.passed;
+      of_lock = kept_lock c.args.lock.now c.loop.pass c.split-part.new.pass _ c.split-part.ensures.unchanged inv.of_lock;
+      passed = kept_as c.args.pass c.loop.pass c.split-part.new.pass _ c.split-part.ensures.unchanged inv.passed;
+      dealt = dealt_more c.args.pass.share c.loop.pass.share c.split-part.new.pass.share c.split-part.result.share
+          (map (λ j. j.given.pass.value.share) c.loop.jobs.items) (map (λ j. j.given.pass.value.share) c.push_reserved.new.self.items) inv.dealt
+          (ap (λ (p : SessionPass). p.share) c.split-part.ensures.unchanged) c.split-part.ensures.share
+          (ap (map (λ j. j.given.pass.value.share)) push.items ∙ (map-append (λ j. j.given.pass.value.share) jobs.items (job.result ∷ [])
+          ∙ ap₂ (λ l p. l ++ p ∷ []) kept.shares (ap (λ (p : SessionPass). p.share) job.ensures.pass)));
       made = omega (arith, push.len, kept.len, inv.made);
       few = omega (arith, push.len, kept.len, below, count, c.loop.jobs.ok.0);
       room = omega (arith, push.capacity, kept.capacity, inv.room);

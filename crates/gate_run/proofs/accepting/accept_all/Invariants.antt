@@ -1,10 +1,13 @@
 use Rattle.std.proofs.Common.{◌≡◌, ◌≤◌, map, All, vec_len, vec_capacity}
-use Rattle.gate_run.specs.Working.{IsWork}
+use Rattle.grow_lock.specs.Passes.{IsPassOf}
+use Rattle.gate_run.specs.Working.{IsWork, IsDealtOut}
 use Rattle.gate_run.proofs.accepting.accept_all.Given as goal
 
 abbrev pub invariant-loop : goal.invariant-loop
 invariant-loop g l = record {
-  passed : l.pass ≡ l.fn.pass;
+  of_lock : IsPassOf l.lock l.pass;
+  passed : l.pass ≡ record l.fn.pass { share = l.pass.share };
+  dealt : IsDealtOut l.fn.pass.share l.pass.share (map (λ j. j.given.pass.value.share) l.jobs.items);
   made : vec_len l.jobs ≡ l.counter;
   few : vec_len l.jobs ≤ l.links;
   room : l.links ≤ vec_capacity l.jobs;

@@ -15,7 +15,7 @@ scoped-requires g c =
     let types = c.type_bounds in
     record {
       at = λ a. (
-        (c.requires.lock, c.requires.gate),
+        (c.requires.lock, c.requires.since, c.requires.gate),
         (
           record { owned = types.send-G-Link.owned; leaving = λ k. nothing_left (k (of_param 2)) },
           record { owned = types.send-G-Link-Reader.owned; leaving = λ k. nothing_left (k (of_param 3)) },

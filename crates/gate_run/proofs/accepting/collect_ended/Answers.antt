@@ -10,6 +10,7 @@ loop-preserved g c =
     let after = c.collect.new.self in
     record {
       links = map-set_same (λ j. j.given.link.value) jobs.items number after before (ap (λ x. x.link.value) c.collect.ensures.given ∙ ap (λ j. j.given.link.value) at) ∙ inv.links;
+      shares = map-set_same (λ j. j.given.pass.value.share) jobs.items number after before (ap (λ x. x.pass.value.share) c.collect.ensures.given ∙ ap (λ j. j.given.pass.value.share) at) ∙ inv.shares;
       work = λ lock all.
           let now = inv.work lock all in
           All-set (IsWork g.L.Link lock) jobs.items number after

@@ -1,5 +1,7 @@
-use Rattle.std.proofs.Common.{◌++◌, ◌∙◌, ap, subst}
+use Rattle.std.proofs.Common.{◌++◌, ◌∙◌, ap, sym, subst}
 use Rattle.grow_lock.specs.Journal.{IsDisjoint}
+use Rattle.grow_lock.specs.Shares.{Share, both, HoldsShare}
+use Rattle.gate_run.proofs.Dealing.{both_grows}
 use Rattle.gate_run.proofs.finishing.finish_next.Goals as goal
 
 pub returns-clause-ends : goal.returns-clause-ends
@@ -14,6 +16,7 @@ returns-clause-ends g c =
         after = done.result.pass;
         no_turn = fresh.0;
         no_place = fresh.1;
+        since = c.requires.work.since;
         serves = done.ensures.serves;
         within = meet.seen.2;
       };
@@ -23,3 +26,9 @@ returns-clause-ends g c =
       reports = c.push_reserved.ensures.items;
       finished = c.done.ensures.finished;
     }
+
+pub returns-clause-share : goal.returns-clause-share
+returns-clause-share g c =
+    let own = c.args.job.given.pass.value.share in
+    subst (λ (s : Share). HoldsShare s (both c.args.pass.share own)) (sym c.meet.ensures.share)
+    (both_grows c.args.pass.share own c.finish-theirs.result.pass.share c.finish-theirs.ensures.serves.share)

@@ -14,9 +14,11 @@ returns-clause-idle g c = idled _ c.enter-turn.result.pass _ c.enter-turn.result
       goes_on = c.enter-turn.ensures.list.1;
       found = c.enter-turn.ensures.found;
       mine = c.enter-turn.ensures.mine;
+      share = c.enter-turn.ensures.share;
       seen_after = c.leave-pass.ensures.seen;
       found_after = c.leave-pass.ensures.found;
       mine_after = c.leave-pass.ensures.mine;
+      share_after = c.leave-pass.ensures.share;
     })
     (ap (λ (s : SessionModel). s.journal) (c.size_here-size.ensures.unchanged ∙ c.value.ensures.value) ∙ sym c.enter-turn.ensures.list.0)
 

@@ -9,6 +9,9 @@ returns-clause-sends g c = sends_one _ _ _ _ c.take_once-pass.new.sender _ _ _ _
 pub returns-clause-mine : goal.returns-clause-mine
 returns-clause-mine g c = c.take_once-pass.ensures.taken.turn.mine ∙ append-nil _
 
+pub returns-clause-share : goal.returns-clause-share
+returns-clause-share g c = c.take_once-pass.ensures.taken.turn.share
+
 pub send_taken-end-requires : goal.send_taken-end-requires
 send_taken-end-requires g c =
     next_is c.args.lock.now.head c.take_once-pass.result.0.seen c.args.sender.now c.take_once-pass.new.sender c.take_once-pass.result.1 c.requires.idle

@@ -11,6 +11,7 @@ loop-init g c = record {
   idle = c.requires.idle;
   seen = c.requires.seen;
   mine = refl;
+  share = refl;
   sends = sends_none c.args.lock.now.head c.args.sender.now c.args.pass (g.K.Sink.told c.args.output.now) (g.K.Sink.faults c.args.output.now) c.requires.idle c.requires.seen;
 }
 
@@ -32,6 +33,7 @@ loop-preserved g c =
       idle = after.3;
       seen = omega (arith, within, number);
       mine = r.ensures.mine ∙ c.loop.invariant.mine;
+      share = r.ensures.share ∙ c.loop.invariant.share;
       sends = subst (SendsOn c.args.lock.now.head c.args.sender.now r.new.sender c.args.pass r.result.0 (g.K.Sink.told c.args.output.now) (g.K.Sink.told r.new.output)
           (g.K.Sink.faults c.args.output.now) (g.K.Sink.faults r.new.output)) stopped
           (sends_then c.args.lock.now.head c.args.sender.now c.loop.sender r.new.sender c.args.pass c.loop.now r.result.0 _ _ _ _ _ _ r.result.1 c.loop.invariant.sends r.ensures.sends);

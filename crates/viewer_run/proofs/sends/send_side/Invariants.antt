@@ -13,6 +13,7 @@ invariant-loop g l = record {
   idle : IsIdle l.sender;
   seen : l.sender.number ≤ length l.now.seen;
   mine : l.now.mine ≡ l.fn.pass.mine;
+  share : l.now.share ≡ l.fn.pass.share;
   sends : SendsOn l.lock.head l.fn.sender l.sender l.fn.pass l.now (g.K.Sink.told l.fn.output) (g.K.Sink.told l.output)
       (g.K.Sink.faults l.fn.output) (g.K.Sink.faults l.output) Stopped;
 }

@@ -16,9 +16,11 @@ returns-clause-taken g c = taken_in _ _ c.enter-turn.result.pass _ c.enter-turn.
       goes_on = c.enter-turn.ensures.list.1;
       found = c.enter-turn.ensures.found;
       mine = c.enter-turn.ensures.mine;
+      share = c.enter-turn.ensures.share;
       seen_after = c.leave-pass.ensures.seen;
       found_after = c.leave-pass.ensures.found;
       mine_after = c.leave-pass.ensures.mine;
+      share_after = c.leave-pass.ensures.share;
     })
     c.take_here-taken.ensures.journal c.take_here-taken.ensures.taken
 

@@ -16,4 +16,4 @@ returns-then-wants_last-clause-attends g c =
     c.args.told.now a.new.told (g.S.Source.left c.args.input.now) (g.S.Source.left a.new.input) (g.S.Source.faults c.args.input.now) (g.S.Source.faults a.new.input)
     (g.K.Sink.told c.args.output.now) (g.K.Sink.told a.new.output) (g.K.Sink.told d.new.output) (g.K.Sink.faults c.args.output.now) (g.K.Sink.faults a.new.output)
     (g.K.Sink.faults d.new.output) a.result.2 d.result.1 a.ensures.attends (wants_left a.result.2 (notice_in a.new.told) (sym c.wants_last.ensures ∙ c.if-wants_last.true))
-    d.ensures.sends d.ensures.mine)
+    d.ensures.sends d.ensures.mine d.ensures.share)

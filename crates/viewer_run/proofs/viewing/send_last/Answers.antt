@@ -11,6 +11,9 @@ returns-clause-sends g c = sends_one _ _ _ _ c.take_last-pass.new.sender _ _ _ _
 pub returns-clause-mine : goal.returns-clause-mine
 returns-clause-mine g c = c.take_last-pass.ensures.taken.turn.mine ∙ append-nil _
 
+pub returns-clause-share : goal.returns-clause-share
+returns-clause-share g c = c.take_last-pass.ensures.taken.turn.share
+
 pub returns-clause-whole : goal.returns-clause-whole
 returns-clause-whole g c = λ here stopped.
     shown_all c.args.lock.now.head c.take_last-pass.result.0.seen c.args.sender.now c.take_last-pass.new.sender c.send_last_taken-end.new.sender c.take_last-pass.result.1

@@ -13,9 +13,11 @@ returns-clause-came g c =
       goes_on = c.enter-turn.ensures.list.1;
       found = c.enter-turn.ensures.found;
       mine = c.enter-turn.ensures.mine;
+      share = c.enter-turn.ensures.share;
       seen_after = c.leave-pass.ensures.seen;
       found_after = c.leave-pass.ensures.found;
       mine_after = c.leave-pass.ensures.mine;
+      share_after = c.leave-pass.ensures.share;
     })
     c.arrive_here-came.ensures.came
 
