@@ -1,6 +1,6 @@
 -- The values of the host's command line, as a request.
 use Rattle.std.specs.Prelude.{ℕ, ◌≡◌, List, [], ◌++◌}
-use Rattle.std.proofs.Common.{refl, ap, ◌∙◌}
+use Rattle.std.proofs.Common.{ap, ◌∙◌}
 use Rattle.command_words.specs.HostWords.{RequestOf}
 
 -- one member more of nothing

@@ -3,3 +3,5 @@ pub mod Found
 pub mod HostFound
 pub mod SpacedWords
 pub mod Names
+pub mod ViewFound
+pub mod Rows

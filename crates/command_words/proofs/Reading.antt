@@ -1,5 +1,5 @@
 -- What a run of clap gives, as what a command reads of the words.
-use Rattle.std.specs.Prelude.{ℕ, ◌≡◌, true, List, [], ◌∷◌, Option, Some, None, Result, Ok, Err, IfOk, OnOk}
+use Rattle.std.specs.Prelude.{◌≡◌, true, List, [], ◌∷◌, Option, None, Result, Ok, Err, IfOk, OnOk}
 use Rattle.std.proofs.Common.{refl, sym, ap, subst, inl, inr, ◌∙◌}
 use Rattle.clap.specs.Words.{App, Row, Text, HasKind, Kinds, kind_of, fault_of, matches_of, is_simple, is_simple_and_free}
 use Rattle.clap.specs.declared.error.Error.{Error}
@@ -34,3 +34,8 @@ pub accepted_is : {T X : Type 0} (command : App) (read : List Row → Option T) 
 accepted_is {X = X} command read simple free a same words rows none has =
     ap read (subst (λ x. is_simple x ≡ true → (rows ≡ matches_of x words) × X) same has simple).0
     ∙ faultless read (fault_of command words) (matches_of command words) (subst (λ x. is_simple_and_free x ≡ true → fault_of x words ≡ []) same none free)
+
+-- what was read of the values, where there was memory for it
+pub found_is : {T : Type 0} (r : Result (Option T) OutOfMemory) (read meant : Option T) → IfOk r (λ v. v ≡ read) → read ≡ meant → IfOk r (λ v. v ≡ meant)
+found_is (Ok v) read meant is same = is ∙ same
+found_is (Err fault) read meant is same = tt

@@ -1,7 +1,9 @@
 -- Words that are put together with spaces, and cut at them again.
-use Rattle.std.specs.Prelude.{ℕ, ◌≡◌, ◌==◌, Bool, true, false, ◌||◌, List, [], ◌∷◌, ◌++◌, Option, None}
-use Rattle.std.proofs.Common.{refl, sym, ap, ◌∙◌, append-nil, append_assoc}
+use Rattle.std.specs.Prelude.{ℕ, ◌≡◌, ◌==◌, Bool, true, false, ◌||◌, List, [], ◌∷◌, ◌++◌, ◌≤◌, ◌-◌, length, take, drop}
+use Rattle.std.proofs.Common.{refl, ap, ◌∙◌, append-nil, arith}
+use Rattle.std.proofs.lemmas.List.{take_all, length-drop}
 use Rattle.std.specs.List.{list_any}
+use Rattle.caps_sets.specs.Presets.{presets, confirmed_by}
 use Rattle.line_text.specs.Words.{words_of}
 use Rattle.script_rules.specs.Capture.{spaced}
 use Rattle.command_words.specs.ViewWords.{has_space}
@@ -25,8 +27,13 @@ words_again word (next ∷ words) h =
     let parts = or_false (has_space word) (list_any has_space (next ∷ words)) h in
     first_word word (next ++ spaced words) parts.0 ∙ ap (λ ws. word ∷ ws) (words_again next words parts.1)
 
--- one word more
-pub spaced_more : (words : List (List ℕ)) (word : List ℕ) → spaced (words ++ word ∷ []) ≡ spaced words ++ 32 ∷ word
-spaced_more [] word = ap (λ w. 32 ∷ w) (append-nil word)
-spaced_more (first ∷ words) word =
-    ap (λ t. 32 ∷ first ++ t) (spaced_more words word) ∙ ap (λ t. 32 ∷ t) (sym (append_assoc first (spaced words) (32 ∷ word)))
+rest_whole : (text : List ℕ) → take (length text - 1) (drop 1 text) ≡ drop 1 text
+rest_whole text = take_all (length text - 1) (drop 1 text) (omega (arith, length-drop 1 text))
+
+-- the text of words, read as preset words
+pub confirmed_again : (text : List ℕ) (words : List (List ℕ)) → 1 ≤ length text → list_any has_space words ≡ false → text ≡ spaced words
+    → confirmed_by presets (words_of (take (length text - 1) (drop 1 text))) ≡ confirmed_by presets words
+confirmed_again text [] some h is = let none : length text ≡ 0 = ap (λ (t : List ℕ). length t) is in absurd (omega (arith, none, some))
+confirmed_again text (word ∷ words) some h is =
+    ap (λ (t : List ℕ). confirmed_by presets (words_of t)) (rest_whole text)
+    ∙ ap (λ (t : List ℕ). confirmed_by presets (words_of (drop 1 t))) is ∙ ap (confirmed_by presets) (words_again word words h)

@@ -1,5 +1,5 @@
 -- The host's command line: one simple command with a mode and arguments, as clap reads it.
-use Rattle.std.specs.Prelude.{ℕ, List, [], ◌∷◌, Option, Some, codes, true, unwrap_or}
+use Rattle.std.specs.Prelude.{ℕ, List, [], Option, Some, codes, true, unwrap_or}
 use Rattle.clap.specs.Words.{App, Rule, new_app, new_rule, with_rule, first_of, all_of, Row}
 use Rattle.clap.specs.declared.builder.action.ArgAction.TheVariants.{Set}
 use Rattle.command_words.specs.Reading.{read_by}

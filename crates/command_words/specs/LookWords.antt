@@ -1,5 +1,5 @@
 -- The viewer's command line: one simple command with the number of a viewer, as clap reads it.
-use Rattle.std.specs.Prelude.{ℕ, List, [], ◌∷◌, Option, codes, true, unwrap_or}
+use Rattle.std.specs.Prelude.{ℕ, List, [], Option, codes, true, unwrap_or}
 use Rattle.clap.specs.Words.{App, Rule, new_app, new_rule, with_rule, first_of, Row}
 use Rattle.script_rules.specs.Capture.{viewer_word}
 use Rattle.command_words.specs.Reading.{read_by}

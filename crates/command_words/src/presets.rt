@@ -1,11 +1,11 @@
 //! Preset words, each one word of a command line.
-ghost use Rattle.std.specs.Prelude.{◌≡◌, ◌++◌, ◌∷◌, map, IfOk, OnOk};
+ghost use Rattle.std.specs.Prelude.{◌≡◌, ◌++◌, ◌∷◌, ℕ, List, false, map, IfOk, OnOk};
 ghost use Rattle.std.specs.List.{list_any};
+ghost use Rattle.caps_sets.specs.Presets.{presets, confirmed_by};
 ghost use Rattle.script_rules.specs.Capture.{spaced};
 ghost use Rattle.command_words.specs.ViewWords.{has_space, preset_of};
 
 use caps_sets::{Confirmed, preset};
-use line_text::find_byte;
 use std::alloc::Global;
 use wire_num::OutOfMemory;
 
@@ -27,7 +27,9 @@ pub(crate) fn confirmed_by_words(
 }
 
 /// What preset words confirm, with a space before each of them.
-fn confirmed_by_text(text: &[u8]) -> Option<Confirmed> {
+fn confirmed_by_text(text: &[u8]) -> Option<Confirmed>
+    ensures { (words : List (List ℕ)) → list_any has_space words ≡ false → text.now ≡ spaced words → result ≡ confirmed_by presets words }
+{
     match text {
         [_, words @ ..] => preset(words),
         [] => None,
@@ -50,7 +52,7 @@ fn one_has_space(words: &[&str]) -> bool
 fn has_space(word: &[u8]) -> bool
     ensures { result ≡ has_space word.now }
 {
-    find_byte(word, SPACE).is_some()
+    word.contains(&SPACE)
 }
 
 /// The words, with a space before each of them.

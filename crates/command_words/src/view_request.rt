@@ -6,7 +6,7 @@
 //! | `NAME` | the name to join by |
 //! | `MARKS` | how many marks are watched, 1 to 65,535 |
 //! | `PRESET ..` | what is confirmed: a preset, and then overrides |
-ghost use Rattle.std.specs.Prelude.{◌≡◌, false, map, codes, string_bytes, unwrap_or, [], IfOk};
+ghost use Rattle.std.specs.Prelude.{◌≡◌, false, map, codes, string_bytes, unwrap_or, [], ◌<◌, IfOk, IfSome};
 ghost use Rattle.std.specs.Bool.{then_some};
 ghost use Rattle.script_rules.specs.Script.{is_name};
 ghost use Rattle.clap.specs.Words.{app_of, rule_of, rows_of, found_of, first_of};
@@ -61,7 +61,8 @@ impl Model for Viewing {
 
 /// What the words ask the network viewer for, the program's name first; `None` where they are no command line of it.
 pub fn view_of_words(alloc: Global, words: &[String]) -> Result<Option<Viewing>, OutOfMemory>
-    ensures { IfOk result (λ viewing. viewing ≡ view_of_words (map string_bytes words.now)) }
+    ensures words { IfOk result (λ viewing. viewing ≡ view_of_words (map string_bytes words.now)) }
+    ensures some { IfOk result (λ viewing. IfSome viewing (λ v. 0 < v.marks)) }
 {
     match command(alloc)?.try_get_matches_from(words) {
         Ok(matches) => found(alloc, &matches),
@@ -100,7 +101,8 @@ fn command<'a>(alloc: Global) -> Result<Command<'a>, OutOfMemory>
 
 /// What the values that were found ask for.
 fn found(alloc: Global, matches: &ArgMatches<'_>) -> Result<Option<Viewing>, OutOfMemory>
-    ensures { IfOk result (λ viewing. viewing ≡ viewing_in (rows_of (found_of matches.now))) }
+    ensures words { IfOk result (λ viewing. viewing ≡ viewing_in (rows_of (found_of matches.now))) }
+    ensures some { IfOk result (λ viewing. IfSome viewing (λ v. 0 < v.marks)) }
 {
     let port = word(matches, PORT);
     let name = word(matches, NAME);
@@ -126,7 +128,8 @@ fn viewing_of_words(
     marks: &str,
     preset: &[&str],
 ) -> Result<Option<Viewing>, OutOfMemory>
-    ensures { IfOk result (λ viewing. viewing ≡ viewing_of_words port.now name.now marks.now (map (λ s. s.now) preset.now)) }
+    ensures some { IfOk result (λ viewing. IfSome viewing (λ v. 0 < v.marks)) }
+    ensures words { IfOk result (λ viewing. viewing ≡ viewing_of_words port.now name.now marks.now (map (λ s. s.now) preset.now)) }
 {
     let Some(port) = read_count(port.as_bytes()) else {
         return Ok(None);
@@ -150,7 +153,8 @@ fn viewing_of_words(
 
 /// A port, or a number of marks.
 fn read_count(word: &[u8]) -> Option<u16>
-    ensures { result ≡ count_of_word word.now }
+    ensures value { result ≡ count_of_word word.now }
+    ensures some { IfSome result (λ count. 0 < count) }
 {
     match read_number(word, MOST)? {
         0 => None,
