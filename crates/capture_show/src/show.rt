@@ -1,6 +1,8 @@
-ghost use Rattle.std.specs.Prelude.{◌≡◌, ◌<◌, IfErr};
+ghost use Rattle.std.specs.Prelude.{◌≡◌, ◌<◌, ℕ, IfErr};
 ghost use Rattle.std.specs.Bool.{MatchBool};
+ghost use Rattle.client_view.specs.Views.{capped};
 ghost use Rattle.capture_show.specs.Shown.{Shown, text_of, is_accepted};
+ghost use Rattle.capture_show.specs.Shown.Shown.{RefusedAt, Unmarked};
 ghost use Rattle.capture_show.specs.Stages.{Shows, ShowsReading};
 ghost use Rattle.capture_show.specs.Answers.{ShowsCapture, Writes, WritesShown, ReadCause, WriteCause, IsWriteFault};
 
@@ -72,13 +74,26 @@ fn write_text<K: Sink>(alloc: Global, stage: &Stage, output: &mut K) -> Result<(
     match stage {
         Stage::NotJoined => put(output, NOBODY),
         Stage::Reads(client) => write_client(alloc, client, output),
-        Stage::Refused { at } => put_made(output, number_line(alloc, b"refused ", *at)),
+        Stage::Refused { at } => write_refused(alloc, *at, output),
         Stage::Broken { line } => put_made(output, number_line(alloc, b"line ", *line)),
     }
 }
 
-/// Writes the text of a client that has read all: the picture of its last mark. An `Err` leaves a front of it there.
-fn write_client<K: Sink>(alloc: Global, client: &Client, output: &mut K) -> Result<(), ShowFault>
+/// Writes the line that says at which place a viewer's bytes are refused. An `Err` leaves a front of it there.
+pub fn write_refused<K: Sink>(alloc: Global, at: u64, output: &mut K) -> Result<(), ShowFault>
+    ensures written { (place : ℕ) → at ≡ capped place → Writes result (text_of (RefusedAt place)) (K.told output.old) (K.told output.new) }
+    ensures fault { IfErr result IsWriteFault }
+    ensures cause { WriteCause result (K.faults output.old) (K.faults output.new) }
+{
+    put_made(output, number_line(alloc, b"refused ", at))
+}
+
+/// Writes the picture of a client's last mark, with what was counted, or that there was no mark. An `Err` leaves a front of it there.
+pub fn write_client<K: Sink>(
+    alloc: Global,
+    client: &Client,
+    output: &mut K,
+) -> Result<(), ShowFault>
     ensures written { (s : Shown) → ShowsReading client.now s → Writes result (text_of s) (K.told output.old) (K.told output.new) }
     ensures fault { IfErr result IsWriteFault }
     ensures cause { WriteCause result (K.faults output.old) (K.faults output.new) }
@@ -86,8 +101,17 @@ fn write_client<K: Sink>(alloc: Global, client: &Client, output: &mut K) -> Resu
     if has_mark(client) {
         write_picture(alloc, client, output)
     } else {
-        put(output, NO_MARK)
+        write_no_mark(output)
     }
+}
+
+/// Writes the line that says that there was no mark. An `Err` leaves a front of it there.
+pub fn write_no_mark<K: Sink>(output: &mut K) -> Result<(), ShowFault>
+    ensures written { Writes result (text_of Unmarked) (K.told output.old) (K.told output.new) }
+    ensures fault { IfErr result IsWriteFault }
+    ensures cause { WriteCause result (K.faults output.old) (K.faults output.new) }
+{
+    put(output, NO_MARK)
 }
 
 /// Whether a client has met a mark.

@@ -1,4 +1,7 @@
+pub mod Reading
+pub mod Found
 pub mod HostFound
-pub mod HostRead
-pub mod LookFound
-pub mod LookRead
+pub mod SpacedWords
+pub mod Names
+pub mod ViewFound
+pub mod Rows

@@ -1,7 +1,8 @@
 -- The host's command line: one simple command with a mode and arguments, as clap reads it.
-use Rattle.std.specs.Prelude.{ℕ, List, [], ◌∷◌, Option, Some, None, codes, true, unwrap_or}
-use Rattle.clap.specs.Words.{App, Rule, new_app, new_rule, with_rule, matches_of, fault_of, first_of, all_of, Row, Kinds}
+use Rattle.std.specs.Prelude.{ℕ, List, [], Option, Some, codes, true, unwrap_or}
+use Rattle.clap.specs.Words.{App, Rule, new_app, new_rule, with_rule, first_of, all_of, Row}
 use Rattle.clap.specs.declared.builder.action.ArgAction.TheVariants.{Set}
+use Rattle.command_words.specs.Reading.{read_by}
 
 -- the mode, which must be there
 abbrev pub mode_rule : Rule
@@ -23,11 +24,6 @@ pub record RequestOf : Type 0 where
 abbrev pub request_in : List Row → RequestOf
 request_in rows = record { mode = unwrap_or (first_of (codes "MODE") rows) []; args = unwrap_or (all_of (codes "ARGS") rows) [] }
 
--- where clap finds no fault in the words, what it found
-abbrev pub request_if : Kinds → List Row → Option RequestOf
-request_if [] rows = Some (request_in rows)
-request_if (kind ∷ kinds) rows = None
-
 -- what words ask for, the program's name first
 abbrev pub request_of : List (List ℕ) → Option RequestOf
-request_of words = request_if (fault_of host_command words) (matches_of host_command words)
+request_of words = read_by host_command (λ rows. Some (request_in rows)) words

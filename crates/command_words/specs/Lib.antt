@@ -1,2 +1,4 @@
+pub mod Reading
 pub mod HostWords
 pub mod LookWords
+pub mod ViewWords

@@ -1,7 +1,8 @@
 -- The viewer's command line: one simple command with the number of a viewer, as clap reads it.
-use Rattle.std.specs.Prelude.{ℕ, List, [], ◌∷◌, Option, Some, None, codes, true, unwrap_or}
-use Rattle.clap.specs.Words.{App, Rule, new_app, new_rule, with_rule, matches_of, fault_of, first_of, Row, Kinds}
+use Rattle.std.specs.Prelude.{ℕ, List, [], Option, codes, true, unwrap_or}
+use Rattle.clap.specs.Words.{App, Rule, new_app, new_rule, with_rule, first_of, Row}
 use Rattle.script_rules.specs.Capture.{viewer_word}
+use Rattle.command_words.specs.Reading.{read_by}
 
 -- the number, which must be there
 abbrev pub viewer_rule : Rule
@@ -14,11 +15,6 @@ look_command = with_rule (new_app (codes "rdp_look")) viewer_rule
 abbrev pub viewer_in : List Row → Option ℕ
 viewer_in rows = viewer_word (unwrap_or (first_of (codes "V") rows) [])
 
--- where clap finds no fault in the words, what it found
-abbrev pub viewer_if : Kinds → List Row → Option ℕ
-viewer_if [] rows = viewer_in rows
-viewer_if (kind ∷ kinds) rows = None
-
 -- the viewer that words name, the program's name first: a number from 1 to 65,535
 abbrev pub viewer_of_words : List (List ℕ) → Option ℕ
-viewer_of_words words = viewer_if (fault_of look_command words) (matches_of look_command words)
+viewer_of_words words = read_by look_command viewer_in words

@@ -1,9 +1,9 @@
-ghost use Rattle.std.specs.Prelude.{◌≡◌, ◌≢◌, false, [], None, map, codes, string_bytes, unwrap_or, IfOk, OnOk};
-ghost use Rattle.clap.specs.Words.{app_of, rule_of, rows_of, found_of, all_of, kind_of};
+ghost use Rattle.std.specs.Prelude.{◌≡◌, false, [], map, codes, string_bytes, unwrap_or, IfOk};
+ghost use Rattle.clap.specs.Words.{app_of, rule_of, rows_of, found_of, all_of};
 ghost use Rattle.command_words.specs.HostWords.{host_command, mode_rule, args_rule, request_in, request_of};
 
-use clap::error::ErrorKind;
-use clap::{Arg, ArgAction, ArgMatches, Command, Error};
+use crate::refused::refused;
+use clap::{Arg, ArgAction, ArgMatches, Command};
 use std::alloc::Global;
 use std::marker::Model;
 use wire_num::OutOfMemory;
@@ -103,15 +103,4 @@ fn arguments<'a>(alloc: Global, matches: &ArgMatches<'a>) -> Result<Vec<&'a str>
         args.extend_from_slice(values)?;
     }
     Ok(args)
-}
-
-/// No command line, but for want of memory.
-fn refused<'a>(fault: &Error) -> Result<Option<Request<'a>>, OutOfMemory>
-    ensures none { IfOk result (λ request. request ≡ None) }
-    ensures kind { OnOk result (kind_of fault.now ≢ ErrorKind.OutOfMemory) }
-{
-    match fault.kind() {
-        ErrorKind::OutOfMemory => Err(OutOfMemory),
-        _ => Ok(None),
-    }
 }

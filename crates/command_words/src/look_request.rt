@@ -1,10 +1,10 @@
-ghost use Rattle.std.specs.Prelude.{◌≡◌, ◌≢◌, ◌∷◌, [], false, None, map, codes, string_bytes, unwrap_or, IfOk, OnOk};
-ghost use Rattle.clap.specs.Words.{app_of, rule_of, rows_of, found_of, first_of, kind_of};
+ghost use Rattle.std.specs.Prelude.{◌≡◌, false, map, string_bytes, IfOk};
+ghost use Rattle.clap.specs.Words.{app_of, rule_of, rows_of, found_of};
 ghost use Rattle.script_rules.specs.Capture.{viewer_word};
 ghost use Rattle.command_words.specs.LookWords.{look_command, viewer_rule, viewer_in, viewer_of_words};
 
-use clap::error::ErrorKind;
-use clap::{Arg, ArgMatches, Command, Error};
+use crate::refused::refused;
+use clap::{Arg, ArgMatches, Command};
 use line_text::read_number;
 use std::alloc::Global;
 use wire_num::OutOfMemory;
@@ -55,16 +55,5 @@ fn read_viewer(word: &[u8]) -> Option<u16>
     match read_number(word, VIEWER_LIMIT)? {
         0 => None,
         viewer => Some(viewer as u16),
-    }
-}
-
-/// No command line, but for want of memory.
-fn refused(fault: &Error) -> Result<Option<u16>, OutOfMemory>
-    ensures none { IfOk result (λ viewer. viewer ≡ None) }
-    ensures kind { OnOk result (kind_of fault.now ≢ ErrorKind.OutOfMemory) }
-{
-    match fault.kind() {
-        ErrorKind::OutOfMemory => Err(OutOfMemory),
-        _ => Ok(None),
     }
 }

@@ -1,6 +1,7 @@
 use Rattle.std.proofs.Common.{ap, ◌∙◌, codes, map}
 use Rattle.clap.specs.Words.{found_of}
-use Rattle.command_words.proofs.HostFound.{values_are, no_values, onto_none}
+use Rattle.command_words.proofs.Found.{values_are, no_values}
+use Rattle.command_words.proofs.HostFound.{onto_none}
 use Rattle.command_words.proofs.host_request.arguments.Goals.{in-Some+in_ok-extend_from_slice, in_default}
 use Rattle.command_words.proofs.host_request.arguments.Goals as goal
 

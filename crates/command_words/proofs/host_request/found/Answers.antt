@@ -1,6 +1,7 @@
 use Rattle.std.proofs.Common.{refl, ap, ◌∙◌, codes}
 use Rattle.clap.specs.Words.{found_of}
-use Rattle.command_words.proofs.HostFound.{first_is, parts_are}
+use Rattle.command_words.proofs.Found.{first_is}
+use Rattle.command_words.proofs.HostFound.{parts_are}
 use Rattle.command_words.proofs.host_request.found.Goals as goal
 
 pub returns : goal.returns

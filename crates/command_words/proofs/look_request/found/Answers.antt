@@ -1,7 +1,7 @@
 use Rattle.std.proofs.Common.{refl, ap, ◌∙◌, codes}
 use Rattle.clap.specs.Words.{found_of}
 use Rattle.script_rules.specs.Capture.{viewer_word}
-use Rattle.command_words.proofs.LookFound.{first_is}
+use Rattle.command_words.proofs.Found.{first_is}
 use Rattle.command_words.proofs.look_request.found.Goals as goal
 
 pub returns : goal.returns
