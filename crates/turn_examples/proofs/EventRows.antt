@@ -1,6 +1,6 @@
 -- Worked turns of a viewer: where the entries of its events stand, what its steps announce, and how its read side ends.
-use Rattle.std.proofs.Common.{◌≡◌, ◌∷◌, [], ℕ, List, refl, sym, subst, true, false, arith, inl, ⊎_elim}
-use Rattle.std.specs.Prelude.{codes}
+use Rattle.std.proofs.Common.{◌≡◌, ◌∷◌, [], ◌||◌, ℕ, List, refl, ap, sym, subst, true, false, arith, inl, inr, ⊎_elim}
+use Rattle.std.specs.Prelude.{codes, Bool}
 use Rattle.input_pdu.specs.declared.event.Event.{Event}
 use Rattle.input_pdu.specs.declared.event.Event.TheVariants.{Scan, Mouse}
 use Rattle.session_rules.specs.declared.entry.Role.TheVariants.{Owner}
@@ -8,10 +8,11 @@ use Rattle.session_rules.specs.declared.entry.Entry.{Entry}
 use Rattle.session_rules.specs.declared.entry.Entry.TheVariants.{Join, Leave, Input}
 use Rattle.edge_io.specs.Faults.{Rose, last_count}
 use Rattle.session_rules.specs.Journal.{Head}
-use Rattle.conn_rules.specs.Hearing.{Hearing}
+use Rattle.conn_rules.specs.Hearing.{Hearing, heard}
+use Rattle.conn_rules.specs.declared.conn_step.ConnStep.{ConnStep}
 use Rattle.serve_rules.specs.Events.{Act, HappenFrom, places_of, Ascend, IsWithin, AreOfEvents}
 use Rattle.serve_rules.specs.Notices.{Notice, events_in, notice_after_all}
-use Rattle.serve_rules.specs.Reading.{ReadEnd}
+use Rattle.serve_rules.specs.Reading.{ReadEnd, StopsReading}
 use Rattle.serve_rules.specs.declared.ends.SideEnd.TheVariants.{Done}
 use Rattle.session_rules.specs.Entering.{IsOfEvent}
 use Rattle.serve_rules.specs.declared.ends.ConnEnd.TheVariants as end
@@ -101,13 +102,41 @@ a_bye_leaves_whatever_is_ahead : ReadEnd false (left.Some (3 ∷ [])) [] (with_p
 a_bye_leaves_whatever_is_ahead unended = absurd (unended refl)
 
 nothing_is_truncated_between_packets : ReadEnd false (left.Some []) [] (with_part []) nothing 0 0 (Done end.Truncated) → ⊥
-nothing_is_truncated_between_packets e = e.2 refl
+nothing_is_truncated_between_packets e = e.2
 
 nothing_is_truncated_behind_a_shutdown : ReadEnd false (left.Some []) [] (with_part (3 ∷ [])) (record nothing { shutdown = true }) 0 0 (Done end.Truncated) → ⊥
 nothing_is_truncated_behind_a_shutdown e = e.0 refl
 
+-- a stream whose first byte is refused
+abbrev refused : Hearing
+refused = record (with_part []) { stage = stage.Refused 1 0 }
+
+who_is_refused_is_not_truncated : ReadEnd false (left.Some []) [] refused nothing 0 0 (Done end.Truncated) → ⊥
+who_is_refused_is_not_truncated e = e.2
+
+who_is_refused_has_not_left : ReadEnd false (left.Some []) [] refused nothing 0 0 (Done end.Left) → ⊥
+who_is_refused_has_not_left e = absurd (cc (e (λ over. cc over)).1)
+
 nothing_fails_while_the_count_stands : ReadEnd false left.None [] (with_part []) nothing 4 4 (Done end.ReadFault) → ⊥
 nothing_fails_while_the_count_stands e = omega (arith, e.1)
+
+-- whatever follows a Bye, there was one
+bye_stays : (xs : List ConnStep) (n : Notice) → n.bye ≡ true → (notice_after_all n xs).bye ≡ true
+bye_stays [] n e = e
+bye_stays (step.Named name ∷ xs) n e = bye_stays xs n e
+bye_stays (step.Ready confirmed ∷ xs) n e = bye_stays xs n e
+bye_stays (step.Event event ∷ xs) n e = bye_stays xs n e
+bye_stays (step.Refresh area ∷ xs) n e = bye_stays xs n e
+bye_stays (step.Suppress stop ∷ xs) n e = bye_stays xs (record n { quiet = stop }) e
+bye_stays (step.Shutdown ∷ xs) n e = bye_stays xs (record n { shutdown = true }) e
+bye_stays (step.Bye ∷ xs) n e = bye_stays xs (record n { bye = true }) refl
+bye_stays (step.Packet ∷ xs) n e = bye_stays xs n e
+
+-- a Bye was there, and a byte was read
+nothing_is_read_behind_a_bye : StopsReading (step.Bye ∷ []) (with_part []) nothing (3 ∷ []) → ⊥
+nothing_is_read_behind_a_bye (inl none) = absurd (cc none)
+nothing_is_read_behind_a_bye (inr more) = more.4 (ap (λ (b : Bool). b || (notice_after_all nothing (step.Bye ∷ (heard (with_part []) more.0).steps)).shutdown)
+    (bye_stays (heard (with_part []) more.0).steps (record nothing { bye = true }) refl))
 
 a_count_at_its_last_value_may_have_risen : Rose last_count last_count
 a_count_at_its_last_value_may_have_risen = (omega arith, omega arith)
