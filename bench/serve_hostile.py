@@ -341,10 +341,9 @@ def stay(room, what):
 
     def draw():
         nonlocal descriptors
-        crowd.look()
         descriptors = max(descriptors, room.descriptors())
         clicks.extend(room.times_of_clicks(5))
-        time.sleep(0.2)
+        crowd.look_for(0.5)
 
     while not crowd.ended: draw()
     row(f'{what}: until the first of them was ended', f'{crowd.ended[0]:.1f} s', f'{SEQUENCE} s')
