@@ -325,12 +325,12 @@ class Late(threading.Thread):
         self.took = time.perf_counter() - self.began
 
 
-def stay(room, what, most=None):
+def stay(room, what):
     """A crowd that says a byte and stays, one viewer beside the owner who draws, and one more who comes when the first of the crowd are
-    ended. The host has so many descriptors, if that is said, and else as many as it may use."""
+    ended."""
     room.open(what, 1)
     alone = room.descriptors()
-    most = most or alone + EACH * (MOST_SERVED - len(room.viewers))
+    most = alone + EACH * (MOST_SERVED - len(room.viewers))
     crowd = Crowd(room.port, CROWD)
     crowd.look_for(5)
     spent, took = room.processor(), 10
@@ -341,10 +341,9 @@ def stay(room, what, most=None):
 
     def draw():
         nonlocal descriptors
-        crowd.look()
         descriptors = max(descriptors, room.descriptors())
         clicks.extend(room.times_of_clicks(5))
-        time.sleep(0.2)
+        crowd.look_for(0.5)
 
     while not crowd.ended: draw()
     row(f'{what}: until the first of them was ended', f'{crowd.ended[0]:.1f} s', f'{SEQUENCE} s')
@@ -389,7 +388,7 @@ def crowd(room):
 
 def scarce(room):
     """The host takes as many as it has descriptors for."""
-    stay(room, f'{CROWD} that stay, with {SCARCE} descriptors', SCARCE)
+    stay(room, f'{CROWD} that stay, with {SCARCE} descriptors')
 
 
 def refused(room, name, code):
