@@ -20,7 +20,7 @@ import sys
 import time
 
 from sample_answers import packets
-from serve_load import ANSWERS, BYE, LEFT, MOST, REFUSED, Link, click, row, spread
+from serve_load import ANSWERS, BYE, LEFT, MOST, REFUSED, Link, click, milliseconds, row, spread
 
 # How many scanners come, from how many addresses, and how many are there at a time.
 MANY = int(os.environ.get('MANY', '10000'))
@@ -143,8 +143,17 @@ def wait_until(done, what):
 
 
 def memory_of(pid):
-    """The memory of a process that is its own or shared with nobody else now, in KiB."""
+    """The memory of a process, in KiB."""
     with open(f'/proc/{pid}/status') as it: return next(int(line.split()[1]) for line in it if line.startswith('VmRSS:'))
+
+
+def processor_of(pids):
+    """The processor time of the threads that these processes have now, in seconds."""
+    spent = 0
+    for pid in pids:
+        for thread in os.listdir(f'/proc/{pid}/task'):
+            with open(f'/proc/{pid}/task/{thread}/schedstat') as it: spent += int(it.read().split()[0])
+    return spent / 1e9
 
 
 class Host:
@@ -489,18 +498,18 @@ def log_lines(centre):
 
 def many_rooms(centre):
     """Many rooms of sixteen viewers each."""
-    before = memory_of(centre.proxy.pid)
     for room in centre.more: room.start()
-    viewers = {}
-    for room in centre.more:
-        viewers[room] = Viewers(centre, [room.names[0]] + [room.names[1]] * (MOST - 1))
+    viewers = {room: Viewers(centre, [room.names[0]] + [room.names[1]] * (MOST - 1)) for room in centre.more}
     hosts = [memory_of(room.process.pid) for room in centre.more]
-    proxy = memory_of(centre.proxy.pid)
     row(f'{len(hosts)} rooms of 1,024 by 768, {MOST} viewers each: memory of a room; of all of them', f'{statistics.median(hosts):.0f} KiB; {sum(hosts) / 1024:.0f} MiB')
     count = len(hosts) * MOST
-    row(f'HAProxy with these {count} connections: memory; for each of them', f'{proxy / 1024:.0f} MiB; {max(0, proxy - before) / count:.0f} KiB')
-    times = [them.follow() for _ in range(5) for them in viewers.values()]
+    row(f'memory of HAProxy with these {count} connections', f'{memory_of(centre.proxy.pid) / 1024:.0f} MiB')
+    pids = [room.process.pid for room in centre.more]
+    before = processor_of(pids), processor_of([centre.proxy.pid])
+    times = [them.follow() for _ in range(10) for them in viewers.values()]
+    spent = (processor_of(pids) - before[0]) / len(times), (processor_of([centre.proxy.pid]) - before[1]) / len(times)
     row('from a click to the last mark of the sixteen of its room: median, 19 of 20', spread(times), 'median below 5 ms')
+    row('processor time for such a click: of the host, of HAProxy', f'{milliseconds(spent[0])}, {milliseconds(spent[1])}')
     for them in viewers.values(): them.leave()
 
 
