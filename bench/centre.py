@@ -11,6 +11,7 @@ wanted, the program ends with 1 and says what.
 import os
 import re
 import resource
+import shutil
 import signal
 import socket
 import ssl
@@ -367,10 +368,28 @@ def over_tls(centre, maths):
             raise Wrong('somebody without a known certificate is let in')
         except (ssl.SSLError, ConnectionError, ValueError): pass
     row('cy by TLS, with another certificate, and with none: not let in', 'so', 'so')
+    through_stunnel(centre, maths)
 
 
-# The links of `maths` up to here: three viewers, the streams, two of whom one isn't let in, and one by TLS.
-LINKS_AT_FIRST = 3 + len(STREAMS) + 2 + 1
+def through_stunnel(centre, maths):
+    """By stunnel on the client's side, with the file that docs/operating.md tells, where it is there. It makes its link of `maths` either way."""
+    heard = maths.hear(2)
+    port = centre.port
+    if shutil.which('stunnel'):
+        port = next(PORTS)
+        with open(f'{centre.folder}/stunnel.conf', 'w') as it:
+            it.write(f'foreground = yes\npid =\n[rdp]\nclient = yes\naccept = 127.0.0.1:{port}\nconnect = 127.0.0.1:{centre.tls_port}\n'
+                     f'cert = {centre.folder}/client.pem\nCAfile = {centre.folder}/host.crt\nverifyPeer = yes\n')
+        quiet = {'stdin': subprocess.DEVNULL, 'stdout': subprocess.DEVNULL, 'stderr': subprocess.DEVNULL}
+        centre.started.append(subprocess.Popen(['stunnel', f'{centre.folder}/stunnel.conf'], **quiet))
+        wait_until(lambda: is_listening(port), 'stunnel opens no port')
+    Client(port).join('cy').leave()
+    heard()
+    row('cy through stunnel, by its own file of docs/operating.md: in the room maths', 'so' if port != centre.port else 'not run: no stunnel here', 'so')
+
+
+# The links of `maths` up to here: three viewers, the streams, two of whom one isn't let in, one by TLS, and one through stunnel.
+LINKS_AT_FIRST = 3 + len(STREAMS) + 2 + 2
 
 
 def used_up(centre, maths, history):
@@ -474,17 +493,18 @@ def scanners(centre, maths, history):
 
 def flood(centre):
     """One address that connects again and again: behind the fiftieth within ten seconds it is closed at once, without a line."""
-    had, count = len(centre.lines()), 500
+    had, count, begin = len(centre.lines()), 500, time.perf_counter()
     for _ in range(count):
         try:
             client = centre.client(address='127.4.0.1')
             client.send(request(b'dan'))
             client.socket.close()
         except ConnectionError: pass
+    most = MOST_IN_TEN * (1 + int((time.perf_counter() - begin) / 10))
     time.sleep(1)
     lines = [line for line in centre.logged(had) if line['address'] == '127.4.0.1']
-    must(len(lines) <= MOST_IN_TEN, f'{len(lines)} lines of one address')
-    row(f'{count} links of one address, one after another: lines in the log', len(lines), f'at most {MOST_IN_TEN}')
+    must(len(lines) <= most, f'{len(lines)} lines of one address')
+    row(f'{count} links of one address, one after another: lines in the log', len(lines), f'at most {most}')
 
 
 def log_lines(centre):
