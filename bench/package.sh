@@ -39,7 +39,7 @@ quietly() { "$@" >"$work/said" 2>&1 || { tail -n 20 "$work/said" >&2; fail "it f
 # A command in the scratch Debian, which has /proc for as long as it runs.
 in_root() {
     # shellcheck disable=SC2016 # the words are those of the inner shell
-    unshare --mount sh -c 'mount -t proc proc "$0/proc" && exec chroot "$0" env -i PATH=/usr/sbin:/usr/bin:/sbin:/bin LC_ALL=C.UTF-8 MANWIDTH=100 "$@"' "$root" "$@"
+    unshare --mount sh -c 'mount -t proc proc "$0/proc" && exec chroot "$0" env -i PATH=/usr/sbin:/usr/bin:/sbin:/bin LC_ALL=C MANWIDTH=120 "$@"' "$root" "$@"
 }
 
 make_package() { sh "$here/packaging/package.sh" "$rdp_host" "$rdp_look" "$1" 2>"$work/said" || { cat "$work/said" >&2; exit 1; }; }
@@ -97,7 +97,7 @@ serve_one() {
 # The calls of the traced program, and those of them that the filter of its unit refuses, by systemd's own lists.
 traced_calls() { sed -n '/execve("[^"]*rdp_host"/,$p' "$work/trace" | sed -n 's/^[0-9]* *\([a-z0-9_]*\)(.*$/\1/p' | sort -u; }
 refused_calls() {
-    in_root systemd-analyze syscall-filter --no-pager >"$work/filters"
+    in_root systemd-analyze syscall-filter --no-pager >"$work/filters" 2>"$work/said"
     python3 - "$work/filters" "$work/calls" "$(field SystemCallFilter | tr '\n' ' ')" <<'END'
 import sys
 groups = {}
@@ -136,7 +136,7 @@ in_root sh -c 'rdp_host script < /usr/share/doc/pelzsukan/examples/training_room
 cmp "$work/there.ppm" "$work/here.ppm"
 seen 'there, the training room as viewer 1 is shown it, as here' "$(wc -c <"$work/there.ppm") bytes"
 for page in rdp_host rdp_look; do
-    in_root man "$page" >"$work/page"
+    in_root man --no-justification "$page" >"$work/page"
     seen "there, man $page" "$(wc -l <"$work/page") lines, of $(sed -n "s/^ *\($page - .*\)/\1/p" "$work/page")"
     grep -q "^ *$page - " "$work/page" || fail "man $page shows another page"
 done

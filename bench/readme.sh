@@ -95,9 +95,9 @@ room.end(viewer, lambda link: link.send(BYE))
 END
 }
 
-# Waits until something is so, for five minutes.
+# Waits until something is so, for half an hour: a machine that is busy builds long.
 wait_until() {
-    patience=3000
+    patience=18000
     until "$@" >/dev/null 2>&1; do
         patience=$((patience - 1))
         [ "$patience" -gt 0 ] || fail "in vain: $*"
