@@ -4,10 +4,12 @@ ghost use Rattle.std.specs.Prelude.{◌≡◌, IfSome, IfErr};
 ghost use Rattle.answer_run.specs.Serves.{IsNumberedFault};
 ghost use Rattle.host_program.specs.Answering.{client_of, client_of_words, answer_status, IsServable};
 
-use crate::host::{DONE, OUT_OF_MEMORY, READ_FAULT, WRITE_FAULT};
 use crate::size::size_of_words;
 use answer_run::AnswerFault;
 use command_words::Request;
+use command_words::status::{
+    DONE, ENDED_EARLY, NOT_INVITED, OUT_OF_MEMORY, READ_FAULT, WRITE_FAULT,
+};
 use info_lic::Name;
 use line_text::is_same_word;
 use px_core::Size;
@@ -21,12 +23,6 @@ const ARGS: usize = 3;
 
 /// What the number of a refusal, 1 to 14, is added to.
 const REFUSED: u8 = 20;
-
-/// The exit status where the stream ended within a packet, or before the client was ready.
-const TRUNCATED: u8 = 35;
-
-/// The exit status where the user's name has no row.
-const NOT_INVITED: u8 = 36;
 
 /// Whom the words of the mode ask to serve: the owner of a session with a picture of this size.
 #[derive(Clone, Copy, Drop)]
@@ -75,7 +71,7 @@ pub(crate) fn answer_status(answer: Result<(), AnswerFault>) -> u8
     match answer {
         Ok(()) => DONE,
         Err(AnswerFault::Refused { k, .. }) => REFUSED + k,
-        Err(AnswerFault::Truncated) => TRUNCATED,
+        Err(AnswerFault::Truncated) => ENDED_EARLY,
         Err(AnswerFault::NotInvited) => NOT_INVITED,
         Err(AnswerFault::ReadFault) => READ_FAULT,
         Err(AnswerFault::WriteFault) => WRITE_FAULT,

@@ -13,7 +13,8 @@ ghost use Rattle.host_program.specs.Hosting.{RunsServe};
 ghost use Rattle.host_program.specs.Outside.{outside};
 ghost use Rattle.host_program.specs.Top.{asks_for_script, asks_for_record, stop_asked, asks_for_mode, client_asked, load_asked, hosting_asked, RunsMode, WritesUsage};
 
-use crate::host::{OUT_OF_MEMORY, top};
+use crate::host::top;
+use command_words::status::OUT_OF_MEMORY;
 use edge_io::{Gate, Sink, Source};
 use std::alloc::Global;
 use std::io::Eprint;

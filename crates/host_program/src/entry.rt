@@ -1,7 +1,7 @@
 //! The program over its own words, standard input, standard output and a port.
 
 use crate::ending::Ending;
-use crate::words::words;
+use command_words::words_given;
 use edge_io::{FileIn, FileOut, OutOfMemory};
 use std::alloc::Global;
 use std::env::Env;
@@ -24,7 +24,7 @@ pub fn run_host<
         + Clock,
 >(rt: &R) -> Ending {
     let alloc = rt.alloc();
-    let words = words(rt, alloc);
+    let words = words_given(rt, alloc);
     let mut input = FileIn::new(rt);
     let mut output = FileOut::new(rt);
     match TcpGate::new(rt, alloc) {

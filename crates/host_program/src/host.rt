@@ -17,6 +17,7 @@ use crate::loading::load_of;
 use crate::recording::{is_record, replay_status, stop_of};
 use crate::serving::hosting_of;
 use answer_run::run_answer;
+use command_words::status::{BAD_WORDS, DONE, OUT_OF_MEMORY, READ_FAULT, REFUSED, WRITE_FAULT};
 use command_words::{OutOfMemory, Request};
 use demo_run::run_demo;
 use edge_io::{Gate, Sink, Source};
@@ -33,27 +34,6 @@ const SCRIPT: &str = "script";
 
 /// What is printed where the words ask for no mode.
 const USAGE: &[u8] = b"usage: rdp_host MODE ARGS\n";
-
-/// The exit status of a script that was done up to its end.
-pub(crate) const DONE: u8 = 0;
-
-/// The exit status where the words ask for no mode.
-const BAD_WORDS: u8 = 2;
-
-/// The exit status where a line of a script breaks a rule, or where a record has no such picture.
-pub(crate) const BAD_LINE: u8 = 3;
-
-/// The exit status where the input couldn't be read.
-pub(crate) const READ_FAULT: u8 = 4;
-
-/// The exit status where the output couldn't be written.
-pub(crate) const WRITE_FAULT: u8 = 5;
-
-/// The exit status where no memory was left.
-pub(crate) const OUT_OF_MEMORY: u8 = 6;
-
-/// The exit status where the gate couldn't be opened, or failed to give a link.
-pub(crate) const GATE_FAULT: u8 = 7;
 
 /// The whole program, over any input, output and gate; the answer is its exit status. The words begin with the program's name.
 ///
@@ -226,7 +206,7 @@ pub(crate) fn status(answer: Result<(), ScriptFault>) -> u8
 {
     match answer {
         Ok(()) => DONE,
-        Err(ScriptFault::Line { .. }) => BAD_LINE,
+        Err(ScriptFault::Line { .. }) => REFUSED,
         Err(ScriptFault::ReadFault) => READ_FAULT,
         Err(ScriptFault::WriteFault) => WRITE_FAULT,
         Err(ScriptFault::OutOfMemory) => OUT_OF_MEMORY,

@@ -5,9 +5,10 @@ ghost use Rattle.gate_run.specs.Gates.{gate_state};
 ghost use Rattle.host_program.specs.Serving.{IsHostable};
 ghost use Rattle.host_program.specs.Hosting.{PrintsLinks, RunsServe, served_status};
 
-use crate::host::{GATE_FAULT, OUT_OF_MEMORY, status};
+use crate::host::status;
 use crate::links::put_links;
 use crate::serving::Hosting;
+use command_words::status::{OUT_OF_MEMORY, PORT_FAULT};
 use edge_io::{Gate, Sink};
 use gate_run::{GateEnd, serve_gate};
 use script_run::ScriptFault;
@@ -48,7 +49,7 @@ fn print_links<K: Sink>(alloc: Global, output: &mut K, reports: &[ConnReport], e
 {
     match end {
         GateEnd::Ended | GateEnd::Failed => served_status(end, put_links(alloc, output, reports)),
-        GateEnd::NoListen => GATE_FAULT,
+        GateEnd::NoListen => PORT_FAULT,
     }
 }
 
@@ -58,6 +59,6 @@ fn served_status(end: GateEnd, answer: Result<(), ScriptFault>) -> u8
 {
     match end {
         GateEnd::Ended => status(answer),
-        GateEnd::NoListen | GateEnd::Failed => GATE_FAULT,
+        GateEnd::NoListen | GateEnd::Failed => PORT_FAULT,
     }
 }

@@ -12,7 +12,6 @@ mod loading;
 mod recording;
 mod serving;
 mod size;
-mod words;
 
 pub use answer_run::{AnswerFault, run_answer};
 pub use demo_run::run_demo;

@@ -3,8 +3,9 @@
 ghost use Rattle.std.specs.Prelude.{◌≡◌};
 ghost use Rattle.host_program.specs.Recording.{is_record, stop_of, replay_status};
 
-use crate::host::{BAD_LINE, DONE, status};
+use crate::host::status;
 use command_words::Request;
+use command_words::status::{DONE, REFUSED};
 use line_text::{is_same_word, read_number};
 use script_run::ScriptFault;
 
@@ -47,7 +48,7 @@ pub(crate) fn replay_status(answer: Result<bool, ScriptFault>) -> u8
 {
     match answer {
         Ok(true) => DONE,
-        Ok(false) => BAD_LINE,
+        Ok(false) => REFUSED,
         Err(fault) => status(Err(fault)),
     }
 }

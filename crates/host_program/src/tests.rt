@@ -3,7 +3,7 @@
 ghost use Rattle.std.specs.Io.{WritesAtMost};
 
 use crate::top;
-use crate::words::words as words_given;
+use command_words::words_given;
 use edge_io::{Bytes, Keep, MemLink, PlanGate, PlanSink, PlanSource};
 use std::alloc::Global;
 use std::env::{Env, FillError};

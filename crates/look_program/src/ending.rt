@@ -5,7 +5,8 @@ ghost use Rattle.std.specs.Process.{exit_status};
 ghost use Rattle.command_words.specs.LookWords.{viewer_of_words};
 ghost use Rattle.look_program.specs.Look.{outside, LooksAt, WritesUsage};
 
-use crate::top::{OUT_OF_MEMORY, look_top};
+use crate::top::look_top;
+use command_words::status::OUT_OF_MEMORY;
 use edge_io::{Sink, Source};
 use std::alloc::Global;
 use std::io::Eprint;

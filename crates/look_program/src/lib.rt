@@ -4,7 +4,6 @@
 mod ending;
 mod entry;
 mod top;
-mod words;
 
 pub use capture_show::{ShowFault, show_capture};
 pub use ending::Ending;

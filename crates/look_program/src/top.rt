@@ -3,6 +3,7 @@ ghost use Rattle.command_words.specs.LookWords.{viewer_of_words};
 ghost use Rattle.look_program.specs.Look.{outside, fault_status, look_status, LooksAt, WritesUsage};
 
 use capture_show::{ShowFault, put, show_capture};
+use command_words::status::{BAD_WORDS, DONE, OUT_OF_MEMORY, READ_FAULT, REFUSED, WRITE_FAULT};
 use command_words::{OutOfMemory, viewer_of_words};
 use edge_io::{Sink, Source};
 use std::alloc::Global;
@@ -10,24 +11,6 @@ use std::sync::Wait;
 
 /// What is printed where the words name no viewer.
 const USAGE: &[u8] = b"usage: rdp_look V\n";
-
-/// The exit status of a capture that was read to its end and accepted, as were the viewer's bytes in it.
-const SHOWN: u8 = 0;
-
-/// The exit status where the words name no viewer.
-const BAD_WORDS: u8 = 2;
-
-/// The exit status where a line of the capture breaks a rule, none joins the viewer, or the viewer's bytes are refused.
-const REFUSED: u8 = 3;
-
-/// The exit status where the input couldn't be read.
-const READ_FAULT: u8 = 4;
-
-/// The exit status where the output couldn't be written.
-const WRITE_FAULT: u8 = 5;
-
-/// The exit status where no memory was left.
-pub(crate) const OUT_OF_MEMORY: u8 = 6;
 
 /// The whole program, over any input and output; the answer is its exit status. The words begin with the program's name.
 ///
@@ -60,7 +43,7 @@ fn look_status(answer: Result<bool, ShowFault>) -> u8
     ensures { result ≡ look_status answer }
 {
     match answer {
-        Ok(true) => SHOWN,
+        Ok(true) => DONE,
         Ok(false) => REFUSED,
         Err(fault) => fault_status(fault),
     }
