@@ -11,7 +11,7 @@
 #
 # usage: sh bench/serve.sh [PART ..]      (idle clicks rate stuck links; there are hostile, and same, which needs rdp_look, as do the parts of
 #                                          clients that mean no good: silent halves unread resets passers crowd full asks. The part crowd
-#                                          takes eight minutes: it comes once more, as scarce, to a host that has 64 descriptors.
+#                                          takes ten minutes: it comes once more, as scarce, to a host that has 64 descriptors.
 #                                          It needs python3 and Linux's /proc. MANY=N: the part links has N links, 10,000; DRAWS=N: the
 #                                          owner draws N times, 100,000, beside a client that reads nothing)
 bench=serve

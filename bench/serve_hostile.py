@@ -7,7 +7,7 @@ python3 bench/serve_hostile.py PART PORT PID FILE
 python3 bench/serve_hostile.py links PART
 
 The words are those of bench/serve_load.py, on which it stands; RDP_LOOK in the environment names the program that looks. No part takes
-longer than ten minutes, or makes more connections than its links and a spare one. `bench/serve.sh` runs the parts.
+longer than a quarter of an hour, and but for a crowd none makes more connections than its links and a spare one. `bench/serve.sh` runs the parts.
 """
 import multiprocessing
 import os
@@ -28,7 +28,7 @@ from serve_load import (ANSWERS, BAD_PACKET, BYE, HIGH, INVERT, LEFT, MOST, NOT_
                         WIDE, WRITE_FAULT, GivenUp, Link, Room, click, milliseconds, quiet, row, spread)
 
 # How long a part may take, in seconds.
-LIMIT = 600
+LIMIT = 900
 
 # How often the owner draws while one reads nothing, and how many of these in a second.
 DRAWS = int(os.environ.get('DRAWS', '100000'))
