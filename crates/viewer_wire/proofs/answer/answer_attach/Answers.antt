@@ -1,0 +1,18 @@
+use Rattle.std.proofs.Common.{[], ◌∷◌, ◌++◌, ◌+◌, ap, sym, ◌∙◌, List, ℕ}
+use Rattle.std.specs.Prelude.{slice_index}
+use Rattle.wire_num.specs.Layout.{fields_at}
+use Rattle.mcs_dom.specs.User.{first_user}
+use Rattle.viewer_rules.specs.declared.stage.Channel.TheVariants as channel
+use Rattle.viewer_rules.specs.declared.stage.Stage.TheVariants as stage
+use Rattle.viewer_rules.specs.ClientPackets.{depth_of, connect_initial, erect_domain, attach_user}
+use Rattle.viewer_rules.specs.HostAnswers.{connection_confirm, connect_response_answer, attach_answer, join_answer, indicated, licence_answer, demand_answer, final_answer}
+use Rattle.viewer_rules.specs.ViewerHandshake.{answering, channel_of, joins, after_join, after_final, welcomed}
+use Rattle.viewer_wire.specs.Reads.{sides}
+use Rattle.viewer_wire.proofs.Answering.{answered_ok, answered_err}
+use Rattle.viewer_wire.proofs.answer.answer_attach.Goals as goal
+
+pub returns-in-Ok : goal.returns-in-Ok
+returns-in-Ok c = λ name k. answered_ok c.args.packet.now (fields_at attach_answer c.args.packet.now) (λ values. joins (first_user + slice_index values 0) channel.User) (c.in-Ok.above ∷ []) _ _ c.in-Ok.ensures.read c.send_join.ensures
+
+pub returns-in-Err : goal.returns-in-Err
+returns-in-Err c = λ name k. answered_err c.args.packet.now (fields_at attach_answer c.args.packet.now) (λ values. joins (first_user + slice_index values 0) channel.User) _ [] c.in-Err.ensures.read

@@ -1,0 +1,4 @@
+use Rattle.viewer_wire.proofs.demand.read_demand_rows.Goals as goal
+
+pub returns : goal.returns
+returns c = c.expect_each.ensures
