@@ -1,5 +1,7 @@
 use Rattle.std.proofs.Common.{ℕ, IfSome, subst, sym, ◌∙◌}
 use Rattle.std.specs.declared.option.Option.{Option}
+use Rattle.demo_run.specs.Scene.{demo_head}
+use Rattle.demo_run.specs.Load.{demo_asked}
 use Rattle.host_program.specs.declared.loading.Load.{Load}
 use Rattle.host_program.specs.Loading.{RunsDemo}
 use Rattle.host_program.specs.Recording.{RunsReplay}
@@ -20,7 +22,7 @@ pub returns-in-Some-load_of-clause-demo : goal.returns-in-Some-load_of-clause-de
 returns-in-Some-load_of-clause-demo g c = subst (λ (load : Option Load). IfSome load (λ l. RunsDemo c.status.result l (g.K.Sink.told c.args.output.now) (g.K.Sink.told c.run_demo.new.output)
     (g.K.Sink.faults c.args.output.now) (g.K.Sink.faults c.run_demo.new.output)))
     (sym (sym c.load_of.ensures.form ∙ c.in-Some-load_of.is))
-    (record { answer = c.run_demo.result; status_is = c.status.ensures; changes = steps_changed _ _; written = c.run_demo.ensures.written; front = c.run_demo.ensures.front; fault = c.run_demo.ensures.fault; write_cause = c.run_demo.ensures.cause })
+    (record { answer = c.run_demo.result; status_is = c.status.ensures; changes = steps_changed demo_head (demo_asked c.in-Some-load_of.load.seed c.in-Some-load_of.load.steps); written = c.run_demo.ensures.written; front = c.run_demo.ensures.front; fault = c.run_demo.ensures.fault; write_cause = c.run_demo.ensures.cause })
 
 pub returns-in-Some-clause-serve : goal.returns-in-Some-clause-serve
 returns-in-Some-clause-serve g c = subst (λ (hosting : Option HostingOf). IfSome hosting (λ h. RunsServe c.answer_status.result h

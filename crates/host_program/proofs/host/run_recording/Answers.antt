@@ -10,7 +10,7 @@ use Rattle.host_program.proofs.Modes.{record_or_stop, record_or_hosting, stop_or
 use Rattle.host_program.proofs.host.run_recording.Goals as goal
 
 pub returns-then-is_record-clause-record : goal.returns-then-is_record-clause-record
-returns-then-is_record-clause-record g c = λ asks. record { answer = c.record_script.result; status_is = c.status.ensures; record_is = c.record_script.ensures.record; changes = script_changed _; read_cause = c.record_script.ensures.read; write_cause = c.record_script.ensures.write }
+returns-then-is_record-clause-record g c = λ asks. record { answer = c.record_script.result; status_is = c.status.ensures; record_is = c.record_script.ensures.record; changes = script_changed (g.S.Source.left c.args.input.now); read_cause = c.record_script.ensures.read; write_cause = c.record_script.ensures.write }
 
 pub returns-then-is_record-clause-replay : goal.returns-then-is_record-clause-replay
 returns-then-is_record-clause-replay g c = subst (λ (stop : Option ℕ). IfSome stop (λ n. RunsReplay c.status.result n

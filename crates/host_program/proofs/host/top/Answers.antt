@@ -20,7 +20,7 @@ use Rattle.host_program.proofs.host.top.Goals as goal
 
 -- the words weren't read for want of memory: nothing was read or written
 pub returns-in-Err-clause-script : goal.returns-in-Err-clause-script
-returns-in-Err-clause-script g c = λ asks. record { answer = Err OutOfMemory; status_is = refl; capture = nothing_written _ _; changes = script_changed _; read_cause = refl; write_cause = refl }
+returns-in-Err-clause-script g c = λ asks. record { answer = Err OutOfMemory; status_is = refl; capture = nothing_written _ _; changes = script_changed (g.S.Source.left c.args.input.now); read_cause = refl; write_cause = refl }
 
 pub returns-in-Err-clause-usage : goal.returns-in-Err-clause-usage
 returns-in-Err-clause-usage g c = λ asks. record { answer = Err OutOfMemory; status_is = refl; written = search rules; front = record { front = []; rest = usage; whole = refl; written = Appends-nil _ }; fault = search rules; write_cause = refl }
@@ -32,7 +32,7 @@ pub returns-in-Err-clause-demo : goal.returns-in-Err-clause-demo
 returns-in-Err-clause-demo g c = λ load asks. record { answer = Err OutOfMemory; status_is = refl; changes = steps_changed demo_head (demo_asked load.seed load.steps); written = search rules; front = record { front = []; rest = demo_line load.seed load.steps; whole = refl; written = Appends-nil _ }; fault = search rules; write_cause = refl }
 
 pub returns-in-Err-clause-record : goal.returns-in-Err-clause-record
-returns-in-Err-clause-record g c = λ asks. record { answer = Err OutOfMemory; status_is = refl; record_is = nothing_recorded _ _; changes = script_changed _; read_cause = refl; write_cause = refl }
+returns-in-Err-clause-record g c = λ asks. record { answer = Err OutOfMemory; status_is = refl; record_is = nothing_recorded _ _; changes = script_changed (g.S.Source.left c.args.input.now); read_cause = refl; write_cause = refl }
 
 pub returns-in-Err-clause-replay : goal.returns-in-Err-clause-replay
 returns-in-Err-clause-replay g c = λ stop asks. record {
@@ -65,3 +65,13 @@ pub returns-in-Ok-Some-2-clause-input : goal.returns-in-Ok-Some-2-clause-input
 returns-in-Ok-Some-2-clause-input g c = λ asks.
     let none = no_reading (map string_bytes c.args.words.now) c.in-Ok-Some.request (search rules) (search rules) asks in
     c.run_other.ensures.input none.0 none.1 none.2
+
+pub returns-in-Ok-Some-clause-script : goal.returns-in-Ok-Some-clause-script
+returns-in-Ok-Some-clause-script g c = λ asks. record {
+  answer = c.run_script.result;
+  status_is = c.status.ensures;
+  capture = c.run_script.ensures.capture;
+  changes = script_changed (g.S.Source.left c.args.input.now);
+  read_cause = c.run_script.ensures.read;
+  write_cause = c.run_script.ensures.write;
+}
