@@ -3,7 +3,7 @@ use Rattle.std.proofs.lemmas.List.{map-append, length-map}
 use Rattle.std.proofs.lemmas.List.Elements.{All-push}
 use Rattle.edge_io.specs.Gate.{IsBelow}
 use Rattle.edge_io.specs.Faults.{Rose}
-use Rattle.gate_run.specs.Working.{IsWork}
+use Rattle.gate_run.specs.Working.{IsWork, IsDealtOut}
 use Rattle.serve_rules.specs.Turns.{SessionPass}
 use Rattle.gate_run.proofs.Dealing.{dealt_more, kept_lock, kept_as}
 use Rattle.gate_run.proofs.accepting.accept_all.Goals as goal
@@ -31,6 +31,12 @@ returns-in-Failed-clause-taken g c =
       finished = last.finished ∙ inv.finished;
       asked = last.asked ∙ inv.asked;
     }
+
+pub returns-in-End-clause-dealt : goal.returns-in-End-clause-dealt
+returns-in-End-clause-dealt g c = subst (IsDealtOut c.args.pass.share c.loop.pass.share) (sym c.collect_ended.ensures.shares) c.loop.invariant.dealt
+
+pub returns-in-Failed-clause-dealt : goal.returns-in-Failed-clause-dealt
+returns-in-Failed-clause-dealt g c = subst (IsDealtOut c.args.pass.share c.loop.pass.share) (sym c.collect_ended.ensures.shares) c.loop.invariant.dealt
 
 pub loop-preserved : goal.loop-preserved
 loop-preserved g c =
