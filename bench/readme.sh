@@ -4,8 +4,9 @@
 # line, pictures pixel by pixel with the one that stands below the command. A command that this script doesn't know ends it.
 #
 # A host is started as README says, on its port; where xfreerdp, rdesktop and Xvfb are there they show its session as README says, black windows,
-# and the same pixels when `ann` has drawn; and a client of bench/serve_load.py joins it as `ann`. Not run here: `./run build`, which
-# proves the repository, unless the word `build` is given (then its programs are the proved ones), and `rt ci`, the gate.
+# and the same pixels when `ann` has drawn; and a client of bench/serve_load.py joins it as `ann`. Then lists of words, right and wrong, are
+# given to ./run and to the proved program, which must agree. Not run here: `./run build`, which proves the repository, unless the word `build`
+# is given (then its programs are the proved ones), and `rt ci`, the gate.
 #
 # usage: sh bench/readme.sh [build]      (it needs the kit, python3 and pngtopnm of netpbm; xvfb, freerdp2-x11, rdesktop, xdotool and imagemagick
 #                                         for the clients. Without proof each program is built anew, which takes a minute or two each time)
@@ -178,6 +179,102 @@ clients() {
     screen=
 }
 
+# Words for the modes, accepted ones and others, as a shell reads them; a name of 64 signs is $name.
+words() {
+    cat <<'END'
+script
+script x
+script ''
+script --
+-- script
+scripts
+SCRIPT
+record
+record 1
+''
+-x
+-
+replay
+replay 0
+replay 01
+replay 1 2
+replay 18446744073709551615
+replay 18446744073709551616
+replay 99999999999999999999999
+demo 18446744073709551615 0
+demo 18446744073709551616 0
+demo 0 0
+demo 00 0
+demo 1
+demo 1 -1
+demo -1 1
+demo +1 1
+demo '' 1
+demo 1 100001
+demo 1 2 3
+answer 64 48 ann
+answer 64 48 $name
+answer 64 48 a$name
+answer 64 48 _ann
+answer 64 48 .
+answer 64 48 -
+answer 64 48 ann+
+answer 64 48 'a b'
+answer 64 48 ann bob
+answer 66 48 ann
+answer 0 48 ann
+answer 4 1 ann
+answer 2048 2048 ann
+answer 2052 2048 ann
+answer 2048 2049 ann
+answer 064 48 ann
+answer 64 0 ann
+serve
+serve 0 64 48 1 ann
+serve 65536 64 48 1 ann
+serve 99999999999999999999 64 48 1 ann
+serve 3389 1022 768 1 ann
+serve 3389 64 48 0 ann
+serve 3389 64 48 65536 ann
+serve 3389 64 48 1
+serve 3389 64 48 1 ann ann
+serve 3389 64 48 1 ann bob bob+
+serve 3389 64 48 1 ann +
+serve 3389 64 48 1 ann b++
+serve 3389 64 48 1 ann+ b
+serve 3389 64 48 1 ann -b
+serve 3389 64 48 1 ann ''
+serve 3389 64 48 1 ann $(seq 64)
+END
+}
+
+# ./run ends as the program does with these words, writes what it writes, and says that they aren't accepted just where the program refuses
+# them; but with `--` among them, which it leaves to the program.
+agrees() {
+    ended=0
+    "$clone/crates/rdp_host/out/rdp_host" "$@" </dev/null >"$work/wanted" || ended=$?
+    ran=0
+    (cd "$clone" && ./run "$@") </dev/null >"$work/output" 2>"$work/voice" || ran=$?
+    cmp -s "$work/wanted" "$work/output" || return 1
+    said=0
+    ! grep -q '^run: status 2: ' "$work/voice" || said=2
+    case " $* " in
+    *' -- '*) [ "$ran" -eq "$ended" ] ;;
+    *) [ "$ran" -eq "$ended" ] && [ $((said == 2)) -eq $((ended == 2)) ] ;;
+    esac
+}
+
+# All of these lists.
+lists_agree() {
+    words >"$work/words"
+    while IFS= read -r line <&4; do
+        # shellcheck disable=SC2034 # a list has it
+        name=$(printf '%064d' 0)
+        eval "agrees $line" || fail "it doesn't go as the program says: ./run $line"
+    done 4<"$work/words"
+    seen "./run with $(wc -l <"$work/words") lists of words" 'it speaks of just those that the program refuses'
+}
+
 # All commands, as they stand in README.
 run_all() {
     commands >"$work/commands"
@@ -219,3 +316,4 @@ else
     exit 0
 fi
 run_all
+lists_agree
