@@ -1,5 +1,5 @@
 -- Worked turns of a viewer: where the entries of its events stand, what its steps announce, and how its read side ends.
-use Rattle.std.proofs.Common.{◌≡◌, ◌∷◌, [], ◌||◌, ℕ, List, refl, ap, sym, subst, true, false, arith, inl, inr, ⊎_elim}
+use Rattle.std.proofs.Common.{◌≡◌, ◌∷◌, ◌⊎◌, [], ◌||◌, ℕ, List, refl, ap, sym, subst, true, false, arith, inl, inr, ⊎_elim}
 use Rattle.std.specs.Prelude.{codes, Bool}
 use Rattle.input_pdu.specs.declared.event.Event.{Event}
 use Rattle.input_pdu.specs.declared.event.Event.TheVariants.{Scan, Mouse}
