@@ -1,5 +1,5 @@
 -- Worked turns of a viewer: where the entries of its events stand, what its steps announce, and how its read side ends.
-use Rattle.std.proofs.Common.{◌≡◌, ◌∷◌, [], ◌||◌, ℕ, List, refl, ap, sym, subst, true, false, arith, inl, inr, ⊎_elim}
+use Rattle.std.proofs.Common.{◌≡◌, ◌∷◌, ◌⊎◌, [], ◌||◌, ℕ, List, refl, ap, sym, subst, true, false, arith, inl, inr, ⊎_elim}
 use Rattle.std.specs.Prelude.{codes, Bool}
 use Rattle.input_pdu.specs.declared.event.Event.{Event}
 use Rattle.input_pdu.specs.declared.event.Event.TheVariants.{Scan, Mouse}
@@ -67,7 +67,7 @@ no_place_stands_twice h = omega (arith, h.1.0)
 
 -- a place where another viewer's click stands isn't hers
 another_ones_click_is_none_of_hers : AreOfEvents 2 clicked (1 ∷ []) → ⊥
-another_ones_click_is_none_of_hers h = absurd (cc (subst (IsOfEvent 2) (sym (cc h.0.1)) h.0.2))
+another_ones_click_is_none_of_hers h = let is : Input 1 click ≡ h.0.0 = cc h.0.1 in let same : 1 ≡ 2 = subst (IsOfEvent 2) (sym is) h.0.2 in omega (arith, same)
 
 abbrev nothing : Notice
 nothing = record { bye = false; shutdown = false; quiet = false }

@@ -1,5 +1,5 @@
 -- What a gate's end and its reports can't be.
-use Rattle.std.proofs.Common.{◌≡◌, ◌∷◌, [], ℕ, zero, List, refl, ap, true, false, arith}
+use Rattle.std.proofs.Common.{◌≡◌, ◌∷◌, [], ℕ, List, refl, ap, true, false, arith}
 use Rattle.std.specs.Prelude.{Option}
 use Rattle.edge_io.specs.Gate.{Asked}
 use Rattle.serve_rules.specs.declared.told.ConnReport.{ConnReport}
@@ -36,4 +36,4 @@ abbrev of_viewer : ℕ → List ℕ → ConnReport
 of_viewer v places = record { viewer = v; end = end.Left; places = record { list = places; room = 0 } }
 
 no_two_links_are_one_viewers : AreApart (of_viewer 1 (0 ∷ [])) (of_viewer 1 (1 ∷ [])) → ⊥
-no_two_links_are_one_viewers h = h.viewers (λ zero. cc zero) refl
+no_two_links_are_one_viewers h = h.viewers (λ nobody. cc nobody) refl
