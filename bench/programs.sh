@@ -1,11 +1,12 @@
-# What the benches share. To be sourced with the bench's name in `bench`: it has where the two programs stand, the folder $work for what
-# a run reads and writes, and the functions below. A program is that of another place where RDP_HOST or RDP_LOOK names one.
+# What the benches share. To be sourced with the bench's name in `bench`: it has where the programs stand, the folder $work for what
+# a run reads and writes, and the functions below. A program is that of another place where RDP_HOST, RDP_LOOK or RDP_VIEW names one.
 set -eu
 LC_ALL=C
 export LC_ALL
 here=$(CDPATH= cd -- "$(dirname -- "$0")/.." && pwd)
 rdp_host=${RDP_HOST:-$here/crates/rdp_host/out/rdp_host}
 rdp_look=${RDP_LOOK:-$here/crates/rdp_look/out/rdp_look}
+rdp_view=${RDP_VIEW:-$here/crates/rdp_view/out/rdp_view}
 work=$(mktemp -d)
 trap 'rm -rf "$work"' EXIT
 

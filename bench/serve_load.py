@@ -1,7 +1,8 @@
 #!/usr/bin/env python3
 """Clients of `rdp_host serve`, over the loopback interface: an owner who clicks, guests who watch, clients that never read or go without a
 word. They go through the connection sequence as the sample client does, which confirms fills and no cache, and count what they are sent:
-packets, orders, tiles and marks. They don't look at pixels, but in the part `same`, which has rdp_look do it.
+packets, orders, tiles and marks. They don't look at pixels. Who only watches in the parts `idle`, `same` and `links` is `rdp_view`, which
+reads what it is sent as the proof does, and whose status says whether that was right.
 
 python3 bench/serve_load.py PART PORT PID FILE
 python3 bench/serve_load.py links PART
@@ -16,6 +17,7 @@ own.
 import os
 import random
 import select
+import signal
 import socket
 import statistics
 import struct
@@ -39,15 +41,22 @@ REFUSED = pkt([0x20, 0x80])
 # How long anything may take, in seconds, before the load gives up.
 PATIENCE = 240
 
+# The network viewer, a number of marks that it doesn't come to, and what it confirms where several watch, one after the other.
+RDP_VIEW = os.environ.get('RDP_VIEW')
+OUT_OF_REACH = 65535
+PRESETS = ['plain', 'full', 'marked', 'bare']
+
+# The statuses of a viewer that has seen enough, and of one whose host has gone.
+SEEN, GONE, SENT_AWAY = 0, 35, 36
+
 # The codes of the ends of links.
 LEFT, READ_FAULT, WRITE_FAULT, BAD_PACKET, TRUNCATED, NOT_INVITED, ROOM_FULL = 0, 4, 5, 21, 35, 36, 37
 
 # How many links come one after another in the part `links`.
 MANY = int(os.environ.get('MANY', '10000'))
 
-# How many events are sent in the part `same`, and the sides of its picture.
+# How many events are sent in the part `same`.
 EVENTS = 4000
-SMALL = 256, 192
 
 # The most viewers of a session, and the sides of the picture that the clicks lie in.
 MOST = 16
@@ -96,8 +105,6 @@ class Link:
         self.socket.setsockopt(socket.IPPROTO_TCP, socket.TCP_NODELAY, 1)
         self.rest = b''
         self.last = b''
-        # where this is a list, the packets behind the answers are kept in it
-        self.frames = None
         self.packets = self.orders = self.tiles = self.marks = 0
         self.is_over = False
 
@@ -120,7 +127,6 @@ class Link:
     def count(self, packet):
         self.packets += 1
         self.last = packet
-        if self.frames is not None and self.packets > sum(ANSWERS): self.frames.append(packet)
         if packet == MARK: self.marks += 1
         elif len(packet) >= 40 and packet[7] == 0x68:
             # behind the header of the data, whose count has one or two bytes, and of the share
@@ -164,10 +170,21 @@ class GivenUp:
         return self.took
 
 
+class Watcher:
+    """A run of `rdp_view`: it joins by a name, watches until so many marks, and writes the picture."""
+
+    def __init__(self, port, name, marks, preset):
+        self.run = subprocess.Popen([RDP_VIEW, str(port), name, str(marks), preset], stdout=subprocess.PIPE)
+
+    def picture(self, *statuses):
+        """Waits for its end, by one of these statuses; what it wrote behind the head of the picture."""
+        shown = self.run.communicate(timeout=PATIENCE)[0]
+        if self.run.returncode not in statuses: raise ValueError(f'rdp_view ended with status {self.run.returncode}')
+        return shown.split(b'\n255\n', 1)[1]
+
+
 class Room:
     """A host, with the links to it in their order, and what it must say of each at its end."""
-
-    keeps_frames = False
 
     def __init__(self, port, pid):
         self.port, self.pid = port, pid
@@ -179,7 +196,6 @@ class Room:
 
     def connect(self, kept=None):
         link = Link(self.port, kept)
-        if self.keeps_frames: link.frames = []
         self.lines.append(None)
         link.number, link.viewer = len(self.lines), 0
         return link
@@ -210,6 +226,17 @@ class Room:
         self.by_number[link.socket.fileno()] = link
         self.ready.register(link.socket, select.EPOLLIN)
         return link
+
+    def watch(self, name='bob', marks=OUT_OF_REACH, preset='plain'):
+        """A viewer that is `rdp_view`, whom the others have heard of."""
+        due = self.one_more()
+        watcher = Watcher(self.port, name, marks, preset)
+        self.read_until(due)
+        return watcher
+
+    def stop(self):
+        """Ends the host, as a signal does."""
+        os.kill(self.pid, signal.SIGTERM)
 
     def fill(self, count=MOST):
         """Lets viewers in until there are so many."""
@@ -292,19 +319,22 @@ def spread(times):
 
 def idle(room):
     """16 viewers who do nothing: processor time, and memory."""
-    room.join('ann')
+    owner = room.join('ann')
     one = room.memory()
-    room.fill()
+    watchers = [room.watch() for _ in range(MOST - 1)]
+    quiet(room)
     all_of_them = room.memory()
-    packets_before = [link.packets for link in room.viewers]
+    packets_before = owner.packets
     begin, spent = time.perf_counter(), room.processor()
     time.sleep(10)
     spent, took = room.processor() - spent, time.perf_counter() - begin
-    if [link.packets for link in room.viewers] != packets_before: raise ValueError('somebody was sent something')
-    row('processor time of 16 idle viewers over 10 s', f'{100 * spent / took:.2f}% of a processor', 'below 1%')
+    quiet(room)
+    if owner.packets != packets_before: raise ValueError('somebody was sent something')
+    row('processor time of 16 idle viewers over 10 s, 15 of them rdp_view', f'{100 * spent / took:.2f}% of a processor', 'below 1%')
     row('memory with 1 viewer, with 16', f'{one} KiB, {all_of_them} KiB')
     row('memory for each viewer more', f'{(all_of_them - one) / (MOST - 1):.0f} KiB')
-    room.close()
+    room.stop()
+    row('pictures that the viewers saw, when the host had gone', len({watcher.picture(GONE, SENT_AWAY) for watcher in watchers}), 1)
 
 
 def clicks(room):
@@ -390,23 +420,18 @@ def rate(room):
 
 
 def links(room):
-    """Many links, one after another."""
+    """Many links, one after another: each a viewer that takes the first frame and leaves."""
     count = MANY
     looks = {count // 100: None, count // 2: None, count - 1: None}
-    whole = b''.join(packets('ann'))
+    pictures = set()
     begin = time.perf_counter()
     for i in range(1, count + 1):
-        link = room.connect()
-        link.send(whole)
-        link.until(lambda: link.marks)
-        room.joins += 1
-        link.viewer = room.joins
-        room.ends(link, [LEFT])
-        link.send(BYE)
-        link.to_end()
+        pictures.add(Watcher(room.port, 'ann', 1, 'plain').picture(SEEN))
+        room.lines.append(f'{i} {i} {LEFT} 0')
         if i in looks: looks[i] = room.memory(), room.status('Threads')
     took = time.perf_counter() - begin
-    row(f'{count} links one after another: each', milliseconds(took / count))
+    row(f'{count} links one after another, each rdp_view from its start to its end', milliseconds(took / count))
+    row('pictures that they saw', len(pictures), 1)
     for i, (memory, threads) in looks.items(): row(f'after {i} of them: memory, threads', f'{memory} KiB, {threads}', 'flat')
     (first, (little, _)), _, (last, (much, _)) = looks.items()
     row('memory for each link more', f'{1024 * (much - little) / (last - first):.0f} bytes')
@@ -510,33 +535,29 @@ def any_event(chance):
     return sharedata(0x21, struct.pack('<B3x4H', 1, chance.randrange(100), chance.randrange(100), chance.randrange(100, 256), chance.randrange(100, 192)))
 
 
-def picture_of(link):
-    """What rdp_look makes of a viewer's frames: the picture at the last mark."""
-    capture = f'1 joined {SMALL[0]} {SMALL[1]} plain\n1 {b"".join(link.frames).hex()}\n'
-    shown = subprocess.run([os.environ['RDP_LOOK'], '1'], input=capture.encode(), stdout=subprocess.PIPE, check=True).stdout
-    head, picture = shown.split(b'\n255\n', 1)
-    if int(head.split()[3]) != link.marks: raise ValueError('rdp_look counts other marks')
-    return picture
-
-
 def same(room):
-    """16 viewers who all send events, and of whom one leaves and another joins after each hundred: do all see one picture?"""
+    """Two who send events, 12 viewers of each kind who watch from the first picture on, and one more after each hundred events, who
+    stays for three marks: do all see one picture at the end?"""
     chance = random.Random(1)
-    room.keeps_frames = True
     room.join('ann')
-    room.fill()
+    room.join('cy')
+    watchers = [room.watch(preset=PRESETS[i % len(PRESETS)]) for i in range(MOST - 4)]
+    passing = None
     for i in range(1, EVENTS + 1):
         chance.choice(room.viewers).send(any_event(chance))
         for number, _ in room.ready.poll(0): room.by_number[number].read()
-        if i % 100 == 0:
-            room.end(chance.choice(room.viewers), lambda link: link.send(BYE))
-            room.join(chance.choice(['ann', 'bob', 'cy']))
+        if i % 100 == 0 and (passing is None or passing.run.poll() is not None):
+            if passing: passing.picture(SEEN)
+            passing = room.watch(chance.choice(['ann', 'bob', 'cy']), 3, chance.choice(PRESETS))
     quiet(room)
-    pictures = {picture_of(link) for link in room.viewers}
-    row(f'{EVENTS} events of 16 viewers, who come and go: pictures that they see at the end, by rdp_look', len(pictures), 1)
+    watchers.append(room.watch())
+    quiet(room)
+    room.stop()
+    if passing: passing.picture(SEEN, GONE)
+    pictures = {watcher.picture(GONE) for watcher in watchers}
+    row(f'{EVENTS} events of two viewers: pictures that 13 others see at the end, by rdp_view, the last of whom came then', len(pictures), 1)
     picture = min(pictures)
-    row('marks that they had; colours of the picture', f'{sum(link.marks for link in room.viewers)}; {len({picture[i:i+3] for i in range(0, len(picture), 3)})}')
-    room.close()
+    row('colours of the picture', len({picture[i:i+3] for i in range(0, len(picture), 3)}))
 
 
 # The parts, with the links that each makes.

@@ -37,7 +37,7 @@ pub fn run_row<R: Files + AllocGlobal + Wait>(rt: &R, words: &[&str]) -> Result<
 }
 
 /// How the showing ends, and what it writes, by its words.
-fn expected_of<R: Files + AllocGlobal>(
+pub fn expected_of<R: Files + AllocGlobal>(
     rt: &R,
     words: &[&str],
 ) -> Result<(Ending, Expected), Trouble> {

@@ -1,5 +1,5 @@
 //! Runs worked examples and prints a line for each: scripts with their captures, clients' streams with their answers, and with the lines
-//! of the links by which they come, captures with what they show, scripts with their records and these with what they show, loads with their
+//! of the links by which they come, captures with what they show, hosts' streams with what a viewer prints of them, scripts with their records and these with what they show, loads with their
 //! counts, and command lines with what they ask for.
 //!
 //! The words that the program is run with name manifests. A line of a manifest is a kind of row and its words; the row's files lie beside
@@ -22,6 +22,7 @@ mod serves;
 mod streams;
 mod turns;
 mod verdict;
+mod views;
 mod words;
 
 use std::rt::Files;

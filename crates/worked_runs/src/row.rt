@@ -4,7 +4,9 @@ ghost use Rattle.std.specs.Prelude.{◌≤◌, IfOk};
 
 use crate::streams::Known;
 use crate::verdict::Trouble;
-use crate::{demos, faults, handshake, joins, looks, records, scripts, serves, streams, words};
+use crate::{
+    demos, faults, handshake, joins, looks, records, scripts, serves, streams, views, words,
+};
 use line_text::read_number;
 use std::rt::Files;
 use std::sync::Wait;
@@ -28,6 +30,9 @@ pub fn run<R: Files + AllocGlobal + Threads + Wait + Sync>(
         "change" => streams::run_change(rt, words),
         "changes" => handshake::run_row(rt, words),
         "serve" => serves::run_row(rt, words),
+        "view" => views::run_row(rt, words),
+        "view-cut" => views::run_cut(rt, words),
+        "view-lengths" => views::run_lengths(rt, words),
         "look" => looks::run_row(rt, words),
         "fronts" => looks::run_fronts(rt, words),
         "record" => records::run_record(rt, words),
@@ -37,6 +42,7 @@ pub fn run<R: Files + AllocGlobal + Threads + Wait + Sync>(
         "fault-texts" => faults::run_row(rt.alloc(), words),
         "request" => words::run_request(rt.alloc(), words),
         "viewer" => words::run_viewer(rt.alloc(), words),
+        "viewing" => words::run_view(rt.alloc(), words),
         "no-words" => words::run_none(rt.alloc(), words),
         _ => Err(Trouble::NoForm),
     }
@@ -45,8 +51,8 @@ pub fn run<R: Files + AllocGlobal + Threads + Wait + Sync>(
 /// How many words of a row of this kind are its title.
 fn title_words(kind: &str) -> usize {
     match kind {
-        "look" | "demo" | "serve" | "replay" => 3,
-        "request" | "viewer" => usize::MAX,
+        "look" | "demo" | "serve" | "replay" | "view-cut" => 3,
+        "request" | "viewer" | "viewing" => usize::MAX,
         _ => 2,
     }
 }

@@ -182,7 +182,7 @@ fn run_of<R: Wait>(
     match way {
         Way::Read(call) => reads.push(call)?,
         Way::Write(call) => writes.push(call)?,
-        Way::Whole | Way::ByByte | Way::CutAt(_) => {}
+        Way::Whole | Way::ByByte | Way::CutAt(_) | Way::Print(_) | Way::Dial => {}
     }
     let mut source = PlanSource::new(Vec::from_slice(alloc, input)?, pieces, reads);
     let mut sink = PlanSink::new(alloc, writes);

@@ -16,6 +16,10 @@ pub enum Way {
     Read(u32),
     /// The write of this number failed.
     Write(u32),
+    /// The write of the output of this number failed, beside which there is a link.
+    Print(u32),
+    /// The port couldn't be dialled.
+    Dial,
 }
 
 /// What is otherwise than it should be.

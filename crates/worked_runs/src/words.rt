@@ -3,7 +3,7 @@
 use crate::row::number;
 use crate::turns::otherwise;
 use crate::verdict::{Found, Trouble, Way};
-use command_words::{Request, viewer_of_words};
+use command_words::{Request, view_of_words, viewer_of_words};
 use std::alloc::{AllocError, Global};
 
 /// What stands for words that ask for nothing.
@@ -65,7 +65,7 @@ pub fn run_viewer(alloc: Global, words: &[&str]) -> Result<(), Trouble> {
     }
 }
 
-/// The viewer that was found must be this.
+/// The number that was found must be this.
 fn must_name(viewer: u16, wanted: &str) -> Result<(), Trouble> {
     if number(wanted, u16::MAX.into()) == Ok(u64::from(viewer)) {
         Ok(())
@@ -74,7 +74,23 @@ fn must_name(viewer: u16, wanted: &str) -> Result<(), Trouble> {
     }
 }
 
-/// Reads no words at all, which ask neither program for anything.
+/// Reads a command line of `rdp_view`: its port and its number of marks must be the row's, or there must be none.
+pub fn run_view(alloc: Global, words: &[&str]) -> Result<(), Trouble> {
+    let [port, marks, behind @ ..] = words else {
+        return Err(Trouble::NoForm);
+    };
+    let line = command_line(alloc, behind)?;
+    match view_of_words(alloc, &line) {
+        Ok(Some(viewing)) => {
+            must_name(viewing.port, port)?;
+            must_name(viewing.marks, marks)
+        }
+        Ok(None) => must_be_none(port, 0),
+        Err(_) => Err(Trouble::OutOfMemory),
+    }
+}
+
+/// Reads no words at all, which ask no program for anything.
 pub fn run_none(alloc: Global, words: &[&str]) -> Result<(), Trouble> {
     if !words.is_empty() {
         return Err(Trouble::NoForm);
@@ -85,8 +101,13 @@ pub fn run_none(alloc: Global, words: &[&str]) -> Result<(), Trouble> {
         Err(_) => return Err(Trouble::OutOfMemory),
     }
     match viewer_of_words(alloc, &[]) {
+        Ok(None) => {}
+        Ok(Some(_)) => return otherwise(Way::Whole, Found::Number(2)),
+        Err(_) => return Err(Trouble::OutOfMemory),
+    }
+    match view_of_words(alloc, &[]) {
         Ok(None) => Ok(()),
-        Ok(Some(_)) => otherwise(Way::Whole, Found::Number(2)),
+        Ok(Some(_)) => otherwise(Way::Whole, Found::Number(3)),
         Err(_) => Err(Trouble::OutOfMemory),
     }
 }
