@@ -1,2 +1,4 @@
 pub mod Looks
 pub mod Watches
+pub mod Views
+pub mod HostTurns
