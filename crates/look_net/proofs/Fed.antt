@@ -1,6 +1,6 @@
 -- A client is shown more bytes.
-use Rattle.std.proofs.Common.{◌≡◌, ℕ, ◌+◌, ◌-◌, ◌^◌, min, Bool, true, false, List, ◌++◌, refl, ap, sym, ◌∙◌, subst, arith}
-use Rattle.std.specs.Prelude.{Option, Some, Result, Ok, Err}
+use Rattle.std.proofs.Common.{◌≡◌, ℕ, Bool, true, false, List, ◌++◌, ap, sym, ◌∙◌, subst, arith}
+use Rattle.std.specs.Prelude.{Some, Result, Ok, Err}
 use Rattle.px_core.specs.declared.surface.Size.{Size}
 use Rattle.caps_sets.specs.declared.confirmed.Confirmed.{Confirmed}
 use Rattle.wire_num.specs.Field.{bind}
@@ -10,7 +10,7 @@ use Rattle.order_means.proofs.Pieces.{read_joined}
 use Rattle.client_view.specs.declared.client_fault.ClientFault.{ClientFault}
 use Rattle.client_view.specs.declared.client_fault.ClientFault.TheVariants.{Refused, Named}
 use Rattle.client_view.specs.Views.{capped, SameViewer}
-use Rattle.client_view.specs.Refusals.{refusal, RefusesAt}
+use Rattle.client_view.specs.Refusals.{refusal}
 use Rattle.client_view.specs.Clients.{ClientOf, IsReading, Feeds}
 use Rattle.viewer_rules.specs.ViewerHandshake.{place_behind}
 use Rattle.viewer_rules.specs.Shown.{shown_refusal, shown_read}

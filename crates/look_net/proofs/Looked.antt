@@ -1,13 +1,13 @@
 -- What feeding a look says, of what its bytes came to.
-use Rattle.std.proofs.Common.{◌≡◌, ℕ, List, ◌++◌, refl, ap, sym, ◌∙◌}
-use Rattle.std.specs.Prelude.{Option, Some, None, Result, Ok, Err}
+use Rattle.std.proofs.Common.{◌≡◌, ℕ, List, refl}
+use Rattle.std.specs.Prelude.{Option, Some, None, Err}
 use Rattle.caps_sets.specs.declared.confirmed.Confirmed.{Confirmed}
 use Rattle.viewer_rules.specs.ViewerHandshake.{Watching, Watched, watched}
 use Rattle.viewer_rules.specs.Shown.{look_refusal}
 use Rattle.look_net.specs.declared.look_fault.LookFault.{LookFault}
 use Rattle.look_net.specs.declared.look_fault.LookFault.TheVariants.{Refused, OutOfMemory}
 use Rattle.look_net.specs.declared.watcher.Watcher.{Watcher}
-use Rattle.look_net.specs.Looks.{LookOf, IsWatching, FeedsLook, FeedsText, AppendsTexts}
+use Rattle.look_net.specs.Looks.{LookOf, IsWatching, FeedsLook, FeedsText}
 use Rattle.look_net.specs.Watches.{Goes, Stops}
 use Rattle.look_net.proofs.Loop.{refused_whole, none_refused}
 

@@ -12,15 +12,15 @@ use Rattle.std.proofs.Math.Seq.{take-length}
 use Rattle.viewer_rules.proofs.Farewell.{whole_alone}
 use Rattle.viewer_rules.specs.declared.stage.Stage.{Stage}
 use Rattle.viewer_rules.specs.declared.stage.Stage.TheVariants as stage
-use Rattle.viewer_rules.specs.ViewerHandshake.{place_behind, Standing, Told, silent, then_told, packet_told, packets_told, Watching, Watched, with_rest, cut_watched, watched, head_refusal, refusal_by, refusal_in}
+use Rattle.viewer_rules.specs.ViewerHandshake.{place_behind, Standing, Told, packet_told, packets_told, Watching, Watched, with_rest, cut_watched, watched, head_refusal, refusal_by, refusal_in}
 use Rattle.viewer_rules.specs.Shown.{first_refusal, look_refusal, has_ended, standing_at}
 use Rattle.viewer_rules.proofs.Pieces.{then_watched, two_pieces}
 use Rattle.look_net.specs.declared.look_fault.LookFault.{LookFault}
 use Rattle.look_net.specs.declared.look_fault.LookFault.TheVariants.{Refused, OutOfMemory}
 use Rattle.look_net.specs.declared.watcher.Watcher.{Watcher}
-use Rattle.look_net.specs.Looks.{HasClient, IsOpen, Follows, Keeps}
-use Rattle.look_net.specs.Watches.{Stays, WatchesPacket, RefusesPacket, IsRefusedFrom, Goes, GoesOn, Stops, StopsBy, GoesSome, GoesAll}
-use Rattle.look_net.proofs.Refusals.{Shown, client_reads, over_told, open_head, uncut_by, uncut, version_refused, length_refused, packet_stays}
+use Rattle.look_net.specs.Looks.{Keeps}
+use Rattle.look_net.specs.Watches.{Stays, WatchesPacket, IsRefusedFrom, Goes, GoesOn, Stops, StopsBy}
+use Rattle.look_net.proofs.Refusals.{client_reads, over_told, open_head, uncut_by, uncut, version_refused, length_refused, packet_stays}
 
 abbrev watched_as : List ℕ → Standing → List ℕ → Watched
 watched_as text s part = record { text = text; after = record { at = s; part = part } }

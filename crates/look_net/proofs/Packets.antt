@@ -1,20 +1,17 @@
 -- One packet of a host.
-use Rattle.std.proofs.Common.{◌≡◌, ℕ, List, [], ◌∷◌, ◌++◌, length, refl, ap, sym, ◌∙◌, subst, Bool, true, false, append-nil}
-use Rattle.std.specs.Prelude.{Option, Some, None, Result, Ok, Err}
-use Rattle.px_core.specs.declared.surface.Size.{Size}
+use Rattle.std.proofs.Common.{◌≡◌, ℕ, List, [], refl, ap, subst, true, false}
+use Rattle.std.specs.Prelude.{Ok, Err}
 use Rattle.caps_sets.specs.declared.confirmed.Confirmed.{Confirmed}
-use Rattle.wire_num.specs.Field.{Read, bind, map_read}
-use Rattle.wire_num.specs.FieldValue.{placed}
+use Rattle.wire_num.specs.Field.{Read}
 use Rattle.wire_num.specs.Layout.{fields_at}
 use Rattle.share_pdu.specs.declared.finals.Final.{Final}
 use Rattle.share_pdu.specs.declared.finals.Final.TheVariants as final
-use Rattle.mcs_dom.specs.User.{first_user}
 use Rattle.viewer_rules.specs.declared.stage.Channel.{Channel}
 use Rattle.viewer_rules.specs.declared.stage.Channel.TheVariants as channel
 use Rattle.viewer_rules.specs.declared.stage.Stage.{Stage}
 use Rattle.viewer_rules.specs.declared.stage.Stage.TheVariants as stage
 use Rattle.viewer_rules.specs.HostAnswers.{connection_confirm, connect_response_answer, attach_answer, join_answer, indicated, licence_answer, demand_answer, final_answer}
-use Rattle.viewer_rules.specs.ViewerHandshake.{Answered, by, after_join, after_final, packet_answered, Standing, Told, silent, answered, is_farewell, shown_by, packet_told}
+use Rattle.viewer_rules.specs.ViewerHandshake.{Answered, by, after_join, after_final, packet_answered, Standing, silent, answered, is_farewell, shown_by, packet_told}
 use Rattle.viewer_rules.specs.Shown.{has_ended}
 use Rattle.look_net.specs.Looks.{IsOpen}
 use Rattle.look_net.specs.Watches.{is_shown}

@@ -1,12 +1,12 @@
 -- A refusal stays, whatever comes, and no text is due any more.
-use Rattle.std.proofs.Common.{◌≡◌, ℕ, List, [], ◌∷◌, ◌++◌, length, refl, ap, sym, ◌∙◌, subst, Bool, true, false, ◌⊎◌, inl, inr, append_assoc}
+use Rattle.std.proofs.Common.{◌≡◌, ℕ, List, [], ◌∷◌, ◌++◌, length, refl, ap, sym, ◌∙◌, subst, Bool, true, false, ◌⊎◌, inl, inr}
 use Rattle.std.specs.Prelude.{Option, Some, None, Result, Ok, Err}
 use Rattle.px_core.specs.declared.surface.Size.{Size}
 use Rattle.caps_sets.specs.declared.confirmed.Confirmed.{Confirmed}
 use Rattle.wire_num.specs.Field.{bind}
 use Rattle.tpkt_x224.specs.declared.tpkt.Packet.{Packet}
-use Rattle.tpkt_x224.specs.declared.tpkt.Packet.TheVariants.{Whole, Part, NotTpkt, BadLength}
-use Rattle.tpkt_x224.specs.Tpkt.{packet_at, HasWrongVersion, HasBadLength}
+use Rattle.tpkt_x224.specs.declared.tpkt.Packet.TheVariants.{NotTpkt, BadLength}
+use Rattle.tpkt_x224.specs.Tpkt.{packet_at}
 use Rattle.tpkt_x224.specs.Pieces.{Cut, cut_by, cut_from, packets_of}
 use Rattle.tpkt_x224.proofs.Cutting.{once}
 use Rattle.tpkt_x224.proofs.Heads.{version_head, length_head}
@@ -15,7 +15,7 @@ use Rattle.order_means.proofs.Pieces.{read_joined}
 use Rattle.client_view.specs.Clients.{ClientOf}
 use Rattle.viewer_rules.specs.declared.stage.Stage.{Stage}
 use Rattle.viewer_rules.specs.declared.stage.Stage.TheVariants as stage
-use Rattle.viewer_rules.specs.ViewerHandshake.{Standing, Told, silent, then_told, is_farewell, shown_by, packet_told, packets_told, Watching, Watched, with_rest, cut_watched, watched, head_refusal, refusal_by, refusal_in}
+use Rattle.viewer_rules.specs.ViewerHandshake.{Standing, Told, silent, then_told, is_farewell, shown_by, packet_told, packets_told, Watching, cut_watched, watched, head_refusal, refusal_by, refusal_in}
 use Rattle.viewer_rules.specs.Shown.{shown_read, shown_refusal, first_refusal, look_refusal, has_ended}
 use Rattle.look_net.specs.Looks.{HasClient, IsOpen}
 use Rattle.look_net.specs.Watches.{RefusesPacket, IsRefusedFrom}

@@ -1,5 +1,5 @@
 -- A viewer's half in code, and which host's streams it stands for.
-use Rattle.std.specs.Prelude.{◌≡◌, ℕ, Bool, true, false, List, [], ◌++◌, Option, Some, None, Result, Ok, Err}
+use Rattle.std.specs.Prelude.{◌≡◌, ℕ, false, List, [], ◌++◌, Option, Some, None, Result, Ok, Err}
 use Rattle.px_core.specs.declared.surface.Size.{Size}
 use Rattle.caps_sets.specs.declared.confirmed.Confirmed.{Confirmed}
 use Rattle.tpkt_x224.specs.declared.tpkt.Packet.TheVariants.{Part}
@@ -8,7 +8,7 @@ use Rattle.order_means.specs.FrameMarks.{ClientReading, read_stream}
 use Rattle.client_view.specs.Clients.{ClientOf, IsReading}
 use Rattle.viewer_rules.specs.declared.stage.Stage.{Stage}
 use Rattle.viewer_rules.specs.declared.stage.Stage.TheVariants as stage
-use Rattle.viewer_rules.specs.ViewerHandshake.{Standing, Watching, Watched, watched}
+use Rattle.viewer_rules.specs.ViewerHandshake.{Standing, Watching, Watched}
 use Rattle.viewer_rules.specs.Shown.{look_refusal, has_ended}
 use Rattle.look_net.specs.declared.look_fault.LookFault.{LookFault}
 use Rattle.look_net.specs.declared.look_fault.LookFault.TheVariants.{Refused, OutOfMemory}

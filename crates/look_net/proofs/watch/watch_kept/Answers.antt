@@ -1,9 +1,7 @@
-use Rattle.std.proofs.Common.{◌≡◌, [], List, ℕ, ap, sym, ◌∙◌, subst}
-use Rattle.std.specs.Prelude.{Err}
+use Rattle.std.proofs.Common.{[], List, ℕ, ap, sym, ◌∙◌, subst}
 use Rattle.tpkt_x224.specs.Tpkt.{packet_at}
 use Rattle.viewer_rules.specs.ViewerHandshake.{packet_told}
-use Rattle.viewer_rules.specs.Shown.{standing_at}
-use Rattle.look_net.specs.Watches.{WatchesPacket, GoesOn}
+use Rattle.look_net.specs.Watches.{WatchesPacket}
 use Rattle.look_net.proofs.Loop.{whole_is, packet_goes, part_goes, version_goes, length_goes}
 use Rattle.look_net.proofs.watch.watch_kept.Goals as goal
 

@@ -1,4 +1,4 @@
-use Rattle.std.proofs.Common.{◌≡◌, sym, subst}
+use Rattle.std.proofs.Common.{◌≡◌, subst}
 use Rattle.std.specs.Prelude.{None, Some, Err}
 use Rattle.viewer_rules.specs.ViewerHandshake.{watched}
 use Rattle.viewer_rules.specs.Shown.{look_refusal}
