@@ -10,6 +10,7 @@ use Rattle.viewer_rules.specs.declared.stage.Stage.TheVariants.{Joins, Shown, Ov
 use Rattle.viewer_rules.specs.ClientPackets.{channel_join}
 use Rattle.viewer_rules.specs.HostAnswers.{connection_confirm, server_blocks_answer, conference_answer, user_data_answer, response_answer, connect_response_answer, attach_answer, join_answer, indication_start, indicated, licence_answer, behind_height, later_answer, height_and_later, width_and_later, demand_answer, share_data_answer, final_answer, farewell}
 use Rattle.viewer_rules.specs.ViewerHandshake.{Watched, watched, viewer_handshake, refusal_in}
+use Rattle.viewer_rules.specs.Shown.{look_refusal}
 use Rattle.wire_examples.proofs.Sample.{answers}
 
 -- what the viewer `ann`, which confirms what `plain` does, makes of a stream
@@ -125,3 +126,18 @@ another_reason = refl
 what_is_shown : (heard (answers ++ (3 ∷ 0 ∷ 0 ∷ 7 ∷ 1 ∷ 2 ∷ 3 ∷ 3 ∷ []))).after.at.shown ≡ 3 ∷ 0 ∷ 0 ∷ 7 ∷ 1 ∷ 2 ∷ 3 ∷ []
 unfolding heard
 what_is_shown = refl
+
+-- an update that no client reads: X.224 Data should stand behind its header, at 710
+a_bad_update : look_refusal plain (heard (answers ++ (3 ∷ 0 ∷ 0 ∷ 7 ∷ 1 ∷ 2 ∷ 3 ∷ []))).after ≡ Some 710
+unfolding heard
+a_bad_update = refl
+
+-- it is refused there also where an ultimatum, or another version, follows
+a_bad_update_first : look_refusal plain (heard (answers ++ ((3 ∷ 0 ∷ 0 ∷ 7 ∷ 1 ∷ 2 ∷ 3 ∷ []) ++ (ultimatum ++ (4 ∷ []))))).after ≡ Some 710
+unfolding heard
+a_bad_update_first = refl
+
+-- another version behind the Font Map
+a_bad_version : look_refusal plain (heard (answers ++ (4 ∷ []))).after ≡ Some 706
+unfolding heard
+a_bad_version = refl
