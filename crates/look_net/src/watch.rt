@@ -1,6 +1,6 @@
 //! A host's bytes in any pieces: whole packets are gone through where they lie, and what is left waits for the next bytes.
 
-ghost use Rattle.std.specs.Prelude.{◌≡◌, ◌<◌, ◌≤◌, ℕ, [], false, length, IfOk};
+ghost use Rattle.std.specs.Prelude.{◌≡◌, ◌<◌, ◌≤◌, ℕ, false, length, IfOk};
 ghost use Rattle.tpkt_x224.specs.declared.tpkt.Packet.TheVariants.{Whole, Part};
 ghost use Rattle.tpkt_x224.specs.Tpkt.{packet_at};
 ghost use Rattle.viewer_rules.specs.Shown.{has_ended, standing_at};

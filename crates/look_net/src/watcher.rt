@@ -1,6 +1,6 @@
 //! Packet by packet: each is answered, or from the Font Map on shown.
 
-ghost use Rattle.std.specs.Prelude.{◌≡◌, ℕ, true, false, List, [], ◌++◌, Option, Ok, OnOk, OnErr};
+ghost use Rattle.std.specs.Prelude.{◌≡◌, ℕ, true, false, List, [], ◌++◌, Option, Ok, OnOk};
 ghost use Rattle.px_core.specs.declared.surface.Size.{Size};
 ghost use Rattle.caps_sets.specs.declared.confirmed.Confirmed.{Confirmed};
 ghost use Rattle.viewer_rules.specs.Shown.{has_ended};

@@ -1,15 +1,14 @@
 -- The host hears a viewer's packets.
-use Rattle.std.proofs.Common.{◌≡◌, ℕ, zero, suc, ◌+◌, ◌-◌, ◌*◌, ◌/◌, ◌%◌, ◌<◌, ◌≤◌, List, [], ◌∷◌, ◌++◌, length, take, drop, refl, ap, sym, ◌∙◌, subst, arith, Bool, true, false, append_assoc, append-nil, length-append}
-use Rattle.std.specs.Prelude.{Ok, Some, None, nat_lt, flat_map, Result, All}
+use Rattle.std.proofs.Common.{◌≡◌, ℕ, ◌+◌, ◌-◌, ◌*◌, ◌/◌, ◌%◌, ◌<◌, ◌≤◌, List, [], ◌∷◌, ◌++◌, length, take, refl, ap, ◌∙◌, subst, arith, true, false, length-append}
+use Rattle.std.specs.Prelude.{Ok, Some, Result}
 use Rattle.std.specs.List.{AllByRecursion, slice_range}
 use Rattle.std.proofs.Math.Seq.{take-length, drop-append_seam}
 use Rattle.px_core.specs.declared.surface.Size.{Size}
-use Rattle.byteorder.specs.Endian.{big_bytes}
 use Rattle.wire_num.specs.declared.range.Range.{Range}
 use Rattle.wire_num.specs.Field.{Read, bind, then_read, map_read}
 use Rattle.wire_num.specs.FieldValue.{passing_at, at_least, rest_count_at, placed}
 use Rattle.wire_num.specs.Length.{per_len_of}
-use Rattle.wire_num.specs.Layout.{exactly_at, fields_at}
+use Rattle.wire_num.specs.Layout.{exactly_at}
 use Rattle.wire_num.proofs.TextIsRead.{exactly_again}
 use Rattle.tpkt_x224.specs.Tpkt.{IsPacket, packet_of}
 use Rattle.tpkt_x224.specs.Pieces.{Cut}
@@ -35,7 +34,6 @@ use Rattle.info_lic.specs.Licence.{licence}
 use Rattle.info_lic.specs.ClientInfo.{name_of}
 use Rattle.caps_sets.specs.declared.cache_size.CacheSize.{CacheSize}
 use Rattle.caps_sets.specs.declared.confirmed.Confirmed.{Confirmed}
-use Rattle.caps_sets.specs.declared.caps_fault.CapsFault.{CapsFault}
 use Rattle.caps_sets.specs.ConfirmActive.{confirmed_of}
 use Rattle.caps_sets.specs.DemandActive.{demand_active}
 use Rattle.share_pdu.specs.declared.finals.Final.TheVariants as final
@@ -43,7 +41,6 @@ use Rattle.share_pdu.specs.Final.{final_bytes}
 use Rattle.share_pdu.specs.Bodies.{synchronize_body, control_body}
 use Rattle.share_pdu.specs.ClientPdu.{total_length, control_header, data_header, compressed_type_at, data_body_at, data_pdu_at, client_pdu_at}
 use Rattle.share_pdu.proofs.Packet.{per_back, per_short}
-use Rattle.conn_rules.specs.declared.answer.Answer.{Answer}
 use Rattle.conn_rules.specs.declared.answer.Reply.TheVariants as reply
 use Rattle.conn_rules.specs.declared.answer.News.TheVariants as news
 use Rattle.conn_rules.specs.declared.client.Client.{Client}
@@ -57,15 +54,14 @@ use Rattle.conn_rules.specs.Answers.{Judged, goes_to}
 use Rattle.conn_rules.specs.Deeds.{deed_judged}
 use Rattle.conn_rules.specs.Domain.{placed_pdu}
 use Rattle.conn_rules.specs.Headers.{mcs_headers}
-use Rattle.conn_rules.specs.Hearing.{Hearing, Heard, then_heard, packet_heard, packets_heard, judged_heard, before_rest, cut_heard, heard, first_hearing, host_handshake, end_of}
-use Rattle.conn_rules.specs.Hearing.StreamEnd.{Between}
+use Rattle.conn_rules.specs.Hearing.{Hearing, Heard, then_heard, packets_heard, judged_heard, before_rest, cut_heard, heard, first_hearing, host_handshake}
 use Rattle.conn_rules.specs.Info.{info_judged}
 use Rattle.conn_rules.specs.Numbers.{place_behind}
 use Rattle.conn_rules.specs.Packets.{joins_judged, packet_judged}
 use Rattle.conn_rules.specs.Shares.{sets_read}
 use Rattle.conn_rules.proofs.Pieces.{packets_then}
-use Rattle.viewer_rules.specs.ClientPackets.{connection_request, depth_of, connect_initial as viewer_initial, erect_domain, attach_user, channel_join, request_data, send_data, wide, info_body, client_info, confirm_fields, confirm_body, confirm_active, synchronize, cooperate, request_control, font_list, last_five}
-use Rattle.viewer_rules.specs.Rounds.{IsConfirmable, the_user, greeting, answers, joined}
+use Rattle.viewer_rules.specs.ClientPackets.{connection_request, connect_initial as viewer_initial, erect_domain, attach_user, channel_join, request_data, send_data, wide, info_body, client_info, confirm_fields, confirm_body, confirm_active, synchronize, cooperate, request_control, font_list, last_five}
+use Rattle.viewer_rules.specs.Rounds.{IsConfirmable, the_user, greeting, joined}
 use Rattle.viewer_rules.proofs.Answered.{cut_again}
 use Rattle.viewer_rules.proofs.ConfirmedBack.{with_caches, cells, cells_are, confirmed_back}
 use Rattle.viewer_agrees.proofs.Info.{length_wide, info_back}

@@ -1,5 +1,5 @@
 -- Turn by turn, both halves come to the end of what they send.
-use Rattle.std.proofs.Common.{◌≡◌, ℕ, zero, suc, List, [], ◌∷◌, ◌++◌, take, refl, ap, sym, ◌∙◌, append_assoc, append-nil}
+use Rattle.std.proofs.Common.{◌≡◌, ℕ, zero, suc, List, [], ◌∷◌, ◌++◌, take, refl, ap, ◌∙◌}
 use Rattle.std.specs.Prelude.{IsTrue}
 use Rattle.std.specs.List.{AllByRecursion}
 use Rattle.px_core.specs.declared.surface.Size.{Size}
@@ -23,11 +23,11 @@ use Rattle.info_lic.specs.Name.{IsName}
 use Rattle.caps_sets.specs.declared.confirmed.Confirmed.{Confirmed}
 use Rattle.caps_sets.specs.DemandActive.{demand_active, before_bitmap, after_bitmap}
 use Rattle.conn_rules.specs.Headers.{mcs_headers}
-use Rattle.conn_rules.specs.Hearing.{Heard, packets_heard, before_rest, cut_heard, heard, first_hearing, host_handshake}
-use Rattle.viewer_rules.specs.ClientPackets.{connection_request, last_five}
+use Rattle.conn_rules.specs.Hearing.{Heard, packets_heard, cut_heard, heard, first_hearing, host_handshake}
+use Rattle.viewer_rules.specs.ClientPackets.{connection_request}
 use Rattle.viewer_rules.specs.HostAnswers.{connection_confirm, server_blocks_answer, conference_answer, user_data_answer, response_answer, connect_response_answer, attach_answer, join_answer}
 use Rattle.viewer_rules.specs.ViewerHandshake.{Told, packets_told, cut_watched, watched, first_watching, viewer_handshake}
-use Rattle.viewer_rules.specs.Rounds.{IsConfirmable, the_user, greeting, answers, joined}
+use Rattle.viewer_rules.specs.Rounds.{IsConfirmable, greeting, answers, joined}
 use Rattle.viewer_rules.proofs.Answered.{HasSides, sides, ten_told, cut_again, each as each_answer}
 use Rattle.viewer_agrees.specs.Turns.{Exchange, exchange, host_answers, after_turns}
 use Rattle.viewer_agrees.proofs.Heard.{ten_heard, greeting_heard, each as each_packet}

@@ -1,5 +1,5 @@
 -- What preset words confirm can be confirmed.
-use Rattle.std.proofs.Common.{◌≡◌, ℕ, ◌<◌, ◌≤◌, List, [], ◌∷◌, length, set, replicate, refl, ◌∙◌, arith, Bool, true, false, Some, None}
+use Rattle.std.proofs.Common.{◌≡◌, ℕ, ◌<◌, List, [], ◌∷◌, replicate, refl, ◌∙◌, arith, Bool, true, false, Some, None}
 use Rattle.std.specs.Prelude.{Option, IfSome, All, nat_le, ◌&&◌, ◌==◌, ◌-◌, option_map, if◌then◌else◌, codes}
 use Rattle.std.specs.Option.{option_and_then}
 use Rattle.std.specs.Bool.{then_some}
@@ -12,7 +12,7 @@ use Rattle.line_text.specs.Numbers.{number_of, at_most, number_up_to}
 use Rattle.caps_sets.specs.declared.cache_size.CacheSize.{CacheSize}
 use Rattle.caps_sets.specs.declared.confirmed.Confirmed.{Confirmed}
 use Rattle.caps_sets.specs.Confirmed.{sized, plain, full, marked, bare, with_bitmap_cache, with_glyph_cache}
-use Rattle.caps_sets.specs.Presets.{Preset, presets, preset_named, cache_limit, size_by, with_cache, overridden, overridden_word, overridden_by, confirmed_by}
+use Rattle.caps_sets.specs.Presets.{presets, preset_named, cache_limit, size_by, with_cache, overridden, overridden_word, overridden_by, confirmed_by}
 use Rattle.viewer_rules.specs.Rounds.{IsSized, IsConfirmable}
 
 and_found : {A B : Type 0} (P : A → Type 0) (Q : B → Type 0) (f : A → Option B) (o : Option A) → IfSome o P → ((a : A) → P a → IfSome (f a) Q) → IfSome (option_and_then f o) Q

@@ -1,6 +1,6 @@
 -- Packets of updates are shown one by one.
-use Rattle.std.proofs.Common.{◌≡◌, ℕ, ◌+◌, ◌-◌, ◌≤◌, Bool, true, false, cond, List, [], ◌∷◌, ◌++◌, length, take, drop, refl, ap, sym, ◌∙◌, subst, arith, append_assoc, append-nil}
-use Rattle.std.specs.Prelude.{Ok, Err, Result, Some, None, Option, flat_map}
+use Rattle.std.proofs.Common.{◌≡◌, ℕ, ◌+◌, Bool, true, false, List, [], ◌∷◌, ◌++◌, length, drop, refl, ap, sym, ◌∙◌, append_assoc, append-nil}
+use Rattle.std.specs.Prelude.{Ok, Err, Result, None, flat_map}
 use Rattle.std.specs.List.{AllByRecursion}
 use Rattle.std.proofs.Math.Seq.{take-length, drop-length}
 use Rattle.px_core.specs.declared.surface.Size.{Size}
@@ -13,13 +13,13 @@ use Rattle.tpkt_x224.specs.Pieces.{Cut, packets_of, StartsWithPacket}
 use Rattle.tpkt_x224.proofs.Stream.{starts, none_left, stream_joined, each_packet}
 use Rattle.share_pdu.specs.Share.{Within}
 use Rattle.share_pdu.specs.Packet.{indication_at}
-use Rattle.order_means.specs.Updates.{Stage, Cutting, cutting, Updates, updates, before_updates, updates_from, whole_packet, rest_of, refusal_in as refusal_of}
-use Rattle.order_means.specs.Updates.Stage.{Between, Refused}
-use Rattle.order_means.specs.FrameMarks.{View, ClientReading, reading, Refusal, refused, reading_after, read_on, read_stream, first_reading, view_after_bodies, unless_refused_at}
+use Rattle.order_means.specs.Updates.{Cutting, cutting, Updates, updates, before_updates, updates_from, whole_packet}
+use Rattle.order_means.specs.Updates.Stage.{Between}
+use Rattle.order_means.specs.FrameMarks.{View, ClientReading, reading, refused, reading_after, read_on, read_stream, first_reading, view_after_bodies, unless_refused_at}
 use Rattle.order_means.proofs.Pieces.{read_joined}
 use Rattle.order_means.proofs.Cut.{cuts_whole, part_left, version_refused, length_refused}
 use Rattle.viewer_rules.specs.declared.stage.Stage.TheVariants as stage
-use Rattle.viewer_rules.specs.ViewerHandshake.{Standing, Told, then_told, is_farewell, packet_told, packets_told, Watching, watched, refusal_in}
+use Rattle.viewer_rules.specs.ViewerHandshake.{Standing, is_farewell, packet_told, packets_told, Watching, watched, refusal_in}
 use Rattle.viewer_rules.specs.Shown.{IsShown, standing_at}
 use Rattle.viewer_rules.proofs.Farewell.{farewell_is_refused, whole_alone}
 

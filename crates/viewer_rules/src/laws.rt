@@ -9,7 +9,7 @@ ghost use Rattle.caps_sets.specs.Presets.{presets, confirmed_by};
 ghost use Rattle.order_means.specs.FrameMarks.{ClientReading, read_stream};
 ghost use Rattle.viewer_rules.specs.declared.stage.Stage.TheVariants.{Shown};
 ghost use Rattle.viewer_rules.specs.ClientPackets.{confirm_fields};
-ghost use Rattle.viewer_rules.specs.ViewerHandshake.{Standing, Watching, watched, first_watching, viewer_handshake, refusal_in};
+ghost use Rattle.viewer_rules.specs.ViewerHandshake.{Standing, Watching, watched, viewer_handshake, refusal_in};
 ghost use Rattle.viewer_rules.specs.Shown.{IsShown, standing_at};
 ghost use Rattle.viewer_rules.specs.Rounds.{IsConfirmable, greeting, answers, joined};
 

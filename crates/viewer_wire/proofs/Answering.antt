@@ -1,7 +1,7 @@
 -- A packet is answered by what is read of it.
-use Rattle.std.proofs.Common.{◌≡◌, ℕ, List, refl, ap, sym, ◌∙◌, subst}
+use Rattle.std.proofs.Common.{◌≡◌, ℕ, List, ap, sym, subst}
 use Rattle.std.specs.Prelude.{Result, Ok, Err, None, []}
-use Rattle.wire_num.specs.Field.{Read, map_read, place_in}
+use Rattle.wire_num.specs.Field.{Read, place_in}
 use Rattle.wire_num.specs.FieldValue.{placed}
 use Rattle.viewer_rules.specs.declared.stage.Stage.{Stage}
 use Rattle.viewer_rules.specs.ViewerHandshake.{Answered, answering, by}

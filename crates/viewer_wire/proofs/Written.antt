@@ -1,10 +1,10 @@
 -- Writing a viewer's packets in several calls.
-use Rattle.std.proofs.Common.{◌≡◌, ℕ, ◌+◌, ◌*◌, ◌≤◌, List, [], ◌∷◌, ◌++◌, length, replicate, refl, ap, sym, ◌∙◌, arith, append_assoc, length-append}
+use Rattle.std.proofs.Common.{◌≡◌, ℕ, ◌+◌, ◌*◌, ◌≤◌, List, [], ◌∷◌, ◌++◌, length, replicate, refl, ap, ◌∙◌, arith, append_assoc, length-append}
 use Rattle.byteorder.specs.Endian.{little_bytes, big_bytes}
 use Rattle.wire_num.specs.Length.{per_len_of}
 use Rattle.caps_sets.specs.declared.cache_size.CacheSize.{CacheSize}
 use Rattle.caps_sets.specs.declared.confirmed.Confirmed.{Confirmed}
-use Rattle.viewer_rules.specs.ClientPackets.{request_data, send_data, wide, info_body, sizes_bytes, bitmap_caches_of, glyph_caches_of, general_of, order_of, brush_of, no_pointers, sets_of, confirm_body}
+use Rattle.viewer_rules.specs.ClientPackets.{request_data, send_data, wide, info_body, sizes_bytes, bitmap_caches_of, glyph_caches_of, brush_of, no_pointers, confirm_body}
 use Rattle.viewer_wire.specs.Writes.{request_headers}
 
 -- one part, and then what stands behind it

@@ -1,7 +1,7 @@
 //! What a viewer answers Demand Active with: Confirm Active ([MS-RDPBCGR] 2.2.1.13.2), and the PDUs of the finalisation (2.2.1.14 to 2.2.1.18).
 
 ghost use Rattle.std.specs.Prelude.{◌≡◌, ◌≤◌, ◌++◌, length, flat_map, OnOk};
-ghost use Rattle.viewer_rules.specs.ClientPackets.{sets_of, confirm_body, confirm_active, client_data, send_data, synchronize, cooperate, request_control, font_list, last_five};
+ghost use Rattle.viewer_rules.specs.ClientPackets.{confirm_body, confirm_active, client_data, send_data, last_five};
 ghost use Rattle.viewer_wire.specs.Writes.{confirm_start, share_headers};
 
 use crate::data::put_data;

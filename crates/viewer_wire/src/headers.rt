@@ -10,7 +10,7 @@
 //! | 12 | 1 | dataPriority and segmentation | `70` |
 //! | 13 | 1 or 2 | length of the user data | of all that is left |
 
-ghost use Rattle.std.specs.Prelude.{◌≡◌, []};
+ghost use Rattle.std.specs.Prelude.{[]};
 ghost use Rattle.wire_num.specs.Cursor.{ReadsFieldsAs};
 ghost use Rattle.wire_num.specs.Layout.{fields_at};
 ghost use Rattle.viewer_rules.specs.HostAnswers.{indication_start, indicated};

@@ -1,6 +1,6 @@
 //! Rows of a table that have one value each.
 
-ghost use Rattle.std.specs.Prelude.{◌≡◌, map};
+ghost use Rattle.std.specs.Prelude.{map};
 ghost use Rattle.wire_num.specs.Cursor.{ReadsRows};
 ghost use Rattle.viewer_wire.specs.Reads.{rows_of};
 

@@ -24,3 +24,6 @@ mod Handshake
 mod Clients
 mod Changes
 mod Meanings
+mod ViewersHandshake
+mod RefusedHosts
+mod HostsFields

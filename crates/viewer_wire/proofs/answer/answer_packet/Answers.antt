@@ -1,4 +1,4 @@
-use Rattle.std.proofs.Common.{[], sym, subst, List, ℕ}
+use Rattle.std.proofs.Common.{sym, subst, List, ℕ}
 use Rattle.viewer_rules.specs.ViewerHandshake.{packet_answered}
 use Rattle.viewer_rules.specs.declared.stage.Stage.{Stage}
 use Rattle.viewer_rules.specs.declared.stage.Stage.TheVariants as stage
@@ -34,4 +34,3 @@ pub returns-in-Finish : goal.returns-in-Finish
 returns-in-Finish c =
     subst (λ (here : Stage). Answers c.answer_final.result c.clear.new.self.items (packet_answered c.args.name c.args.confirmed.now here c.args.packet.now)) (sym c.in-Finish.is)
     (subst (λ (text : List ℕ). Answers c.answer_final.result text (packet_answered c.args.name c.args.confirmed.now (stage.Finish c.in-Finish.user c.in-Finish.next) c.args.packet.now)) (sym c.clear.ensures.items) (c.answer_final.ensures c.args.name c.args.confirmed.now))
-

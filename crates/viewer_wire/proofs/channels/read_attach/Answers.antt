@@ -1,7 +1,6 @@
 use Rattle.std.proofs.Common.{[], ◌∷◌}
 use Rattle.wire_num.specs.Layout.{fields_at}
-use Rattle.viewer_rules.specs.HostAnswers.{connection_confirm, connect_response_answer, attach_answer, join_answer, indicated, licence_answer, demand_answer, final_answer}
-use Rattle.viewer_wire.specs.Reads.{sides}
+use Rattle.viewer_rules.specs.HostAnswers.{attach_answer}
 use Rattle.viewer_wire.proofs.Counted.{whole_ok, whole_err}
 use Rattle.viewer_wire.proofs.channels.read_attach.Goals as goal
 

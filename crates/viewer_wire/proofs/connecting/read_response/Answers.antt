@@ -1,7 +1,6 @@
-use Rattle.std.proofs.Common.{[], ◌∷◌}
+use Rattle.std.proofs.Common.{[]}
 use Rattle.wire_num.specs.Layout.{fields_at}
-use Rattle.viewer_rules.specs.HostAnswers.{connection_confirm, connect_response_answer, attach_answer, join_answer, indicated, licence_answer, demand_answer, final_answer}
-use Rattle.viewer_wire.specs.Reads.{sides}
+use Rattle.viewer_rules.specs.HostAnswers.{connect_response_answer}
 use Rattle.viewer_wire.proofs.Counted.{whole_ok, whole_err}
 use Rattle.viewer_wire.proofs.connecting.read_response.Goals as goal
 

@@ -1,10 +1,7 @@
 use Rattle.std.proofs.Common.{[]}
-use Rattle.wire_num.specs.FieldValue.{end_at}
 use Rattle.wire_num.specs.Layout.{End, Within, Basic, fields_at}
-use Rattle.mcs_ber.proofs.Within.{at_end, onward}
-use Rattle.viewer_rules.specs.HostAnswers.{user_data_answer, later_answer, width_and_later, response_answer}
-use Rattle.viewer_wire.specs.Reads.{sides}
-use Rattle.viewer_wire.proofs.Counted.{field_alone}
+use Rattle.mcs_ber.proofs.Within.{onward}
+use Rattle.viewer_rules.specs.HostAnswers.{user_data_answer, response_answer}
 use Rattle.viewer_wire.proofs.connecting.read_response_fields.Goals as goal
 
 pub returns-in-Ok-clause-fields : goal.returns-in-Ok-clause-fields

@@ -1,9 +1,8 @@
 use Rattle.std.proofs.Common.{[]}
 use Rattle.wire_num.specs.FieldValue.{end_at}
-use Rattle.wire_num.specs.Layout.{End, Within, Basic, fields_at}
-use Rattle.mcs_ber.proofs.Within.{at_end, onward}
-use Rattle.viewer_rules.specs.HostAnswers.{user_data_answer, later_answer, width_and_later, later_answer}
-use Rattle.viewer_wire.specs.Reads.{sides}
+use Rattle.wire_num.specs.Layout.{End, fields_at}
+use Rattle.mcs_ber.proofs.Within.{onward}
+use Rattle.viewer_rules.specs.HostAnswers.{later_answer, later_answer}
 use Rattle.viewer_wire.proofs.Counted.{field_alone}
 use Rattle.viewer_wire.proofs.demand.read_later.Goals as goal
 

@@ -1,8 +1,7 @@
 use Rattle.std.proofs.Common.{[]}
 use Rattle.wire_num.specs.Layout.{fields_at}
 use Rattle.mcs_ber.proofs.Within.{onward}
-use Rattle.viewer_rules.specs.HostAnswers.{indicated, licence_answer, demand_answer, final_answer}
-use Rattle.viewer_wire.specs.Reads.{sides}
+use Rattle.viewer_rules.specs.HostAnswers.{indicated, final_answer}
 use Rattle.viewer_wire.proofs.share.read_final_packet.Goals as goal
 
 pub returns-in-Ok : goal.returns-in-Ok

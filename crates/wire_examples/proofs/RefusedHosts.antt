@@ -1,0 +1,143 @@
+-- Where a host's stream is refused, on the sample host's 706 bytes; and what isn't refused.
+use Rattle.std.proofs.Common.{◌≡◌, ℕ, List, [], ◌∷◌, ◌++◌, take, drop, refl}
+use Rattle.std.specs.Prelude.{Option, Some, None, slice_set}
+use Rattle.wire_num.specs.FieldValue.{passing_at}
+use Rattle.wire_num.specs.Layout.{exactly_at}
+use Rattle.caps_sets.specs.Confirmed.{plain}
+use Rattle.viewer_rules.specs.declared.stage.Channel.TheVariants as channel
+use Rattle.viewer_rules.specs.declared.stage.Stage.{Stage}
+use Rattle.viewer_rules.specs.declared.stage.Stage.TheVariants.{Joins, Shown, Over}
+use Rattle.viewer_rules.specs.ClientPackets.{channel_join}
+use Rattle.viewer_rules.specs.HostAnswers.{connection_confirm, server_blocks_answer, conference_answer, user_data_answer, response_answer, connect_response_answer, attach_answer, join_answer, indication_start, indicated, licence_answer, behind_height, later_answer, height_and_later, width_and_later, demand_answer, share_data_answer, final_answer, farewell}
+use Rattle.viewer_rules.specs.ViewerHandshake.{Watched, watched, viewer_handshake, refusal_in}
+use Rattle.viewer_rules.specs.Shown.{look_refusal}
+use Rattle.wire_examples.proofs.Sample.{answers}
+
+-- what the viewer `ann`, which confirms what `plain` does, makes of a stream
+heard : List ℕ → Watched
+unfolding passing_at exactly_at connection_confirm server_blocks_answer conference_answer user_data_answer response_answer connect_response_answer attach_answer join_answer indication_start indicated licence_answer behind_height later_answer height_and_later width_and_later demand_answer share_data_answer final_answer farewell watched
+heard bytes = viewer_handshake (97 ∷ 110 ∷ 110 ∷ []) plain bytes
+
+abbrev refused : List ℕ → Option ℕ
+refused bytes = refusal_in (heard bytes).after
+
+-- one byte changed
+abbrev changed : ℕ → ℕ → List ℕ
+changed place byte = slice_set answers place byte
+
+abbrev ultimatum : List ℕ
+ultimatum = 3 ∷ 0 ∷ 0 ∷ 9 ∷ 2 ∷ 0xF0 ∷ 0x80 ∷ 0x21 ∷ 0x80 ∷ []
+
+-- not 3, at once
+another_version : refused (4 ∷ []) ≡ Some 0
+unfolding heard
+another_version = refl
+
+-- a length below 7, once it is there
+a_length_of_six : refused (3 ∷ 0 ∷ 0 ∷ 6 ∷ []) ≡ Some 2
+unfolding heard
+a_length_of_six = refl
+
+-- a part of a packet is none
+a_part : refused (3 ∷ 0 ∷ 0 ∷ 19 ∷ 15 ∷ []) ≡ None
+unfolding heard
+a_part = refl
+
+-- nothing at all
+no_byte : refused [] ≡ None
+unfolding heard
+no_byte = refl
+
+-- in the midst of the handshake
+a_front : refused (take 300 answers) ≡ None
+unfolding heard
+a_front = refl
+
+-- the second byte of a TPKT header isn't looked at
+a_reserved_byte : refused (changed 1 9) ≡ None
+unfolding heard
+a_reserved_byte = refl
+
+-- the second packet begins at 19: the length of the Connect-Response counts one byte less than its content has, and the user data in it are too short
+a_content_short : refused (changed 28 97) ≡ Some 65
+unfolding heard
+a_content_short = refl
+
+-- and one more: the content is too short
+a_content_long : refused (changed 28 99) ≡ Some 29
+unfolding heard
+a_content_long = refl
+
+-- a confirm of another channel than the last join asked for: the field requested
+another_channel : refused (changed 167 0xEC) ≡ Some 166
+unfolding heard
+another_channel = refl
+
+-- the licence is longer than it is counted, at its first byte
+a_body_short : refused (changed 226 19) ≡ Some 227
+unfolding heard
+a_body_short = refl
+
+-- a Demand of 16 bits for each pixel: the Bitmap set
+another_depth : refused (changed 312 16) ≡ Some 308
+unfolding heard
+another_depth = refl
+
+-- a width that is no multiple of four
+a_crooked_width : refused (changed 320 66) ≡ Some 320
+unfolding heard
+a_crooked_width = refl
+
+-- a height of 0
+no_height : refused (changed 322 0) ≡ Some 322
+unfolding heard
+no_height = refl
+
+-- the size is the one that Demand Active tells
+another_height : (heard (changed 322 49)).after.at.size ≡ Some (record { w = 64; h = 49 })
+unfolding heard
+another_height = refl
+
+-- another user channel than is usual is followed: its join is asked for
+another_user : (heard (slice_set (take 138 answers) 137 9)).after.at.stage ≡ Joins 1010 channel.User
+unfolding heard
+another_user = refl
+
+-- an ultimatum before the Font Map is a packet like another
+an_early_end : refused (take 127 answers ++ ultimatum) ≡ Some 134
+unfolding heard
+an_early_end = refl
+
+-- behind it, it is the end, and what follows isn't looked at
+an_end : (heard (answers ++ (ultimatum ++ (4 ∷ [])))).after.at.stage ≡ Over
+unfolding heard
+an_end = refl
+
+nothing_behind : refused (answers ++ (ultimatum ++ (4 ∷ []))) ≡ None
+unfolding heard
+nothing_behind = refl
+
+-- of another reason it is none: the packet is shown
+another_reason : (heard (answers ++ slice_set ultimatum 7 0x22)).after.at.stage ≡ Shown
+unfolding heard
+another_reason = refl
+
+-- the bytes behind the Font Map are the viewer's, from 706 on
+what_is_shown : (heard (answers ++ (3 ∷ 0 ∷ 0 ∷ 7 ∷ 1 ∷ 2 ∷ 3 ∷ 3 ∷ []))).after.at.shown ≡ 3 ∷ 0 ∷ 0 ∷ 7 ∷ 1 ∷ 2 ∷ 3 ∷ []
+unfolding heard
+what_is_shown = refl
+
+-- an update that no client reads: X.224 Data should stand behind its header, at 710
+a_bad_update : look_refusal plain (heard (answers ++ (3 ∷ 0 ∷ 0 ∷ 7 ∷ 1 ∷ 2 ∷ 3 ∷ []))).after ≡ Some 710
+unfolding heard
+a_bad_update = refl
+
+-- it is refused there also where an ultimatum, or another version, follows
+a_bad_update_first : look_refusal plain (heard (answers ++ ((3 ∷ 0 ∷ 0 ∷ 7 ∷ 1 ∷ 2 ∷ 3 ∷ []) ++ (ultimatum ++ (4 ∷ []))))).after ≡ Some 710
+unfolding heard
+a_bad_update_first = refl
+
+-- another version behind the Font Map
+a_bad_version : look_refusal plain (heard (answers ++ (4 ∷ []))).after ≡ Some 706
+unfolding heard
+a_bad_version = refl
