@@ -11,7 +11,7 @@
 # usage: sh bench/package.sh      (as root; it needs git, dpkg-dev, debootstrap, python3 and a mirror of Debian, MIRROR=URL)
 bench=package
 . "$(dirname "$0")/programs.sh"
-needs "$rdp_host" "$rdp_look"
+needs "$rdp_host" "$rdp_look" "$rdp_view"
 mirror=${MIRROR-http://deb.debian.org/debian}
 root=$work/root
 room=maths
@@ -42,7 +42,7 @@ in_root() {
     unshare --mount sh -c 'mount -t proc proc "$0/proc" && exec chroot "$0" env -i PATH=/usr/sbin:/usr/bin:/sbin:/bin LC_ALL=C MANWIDTH=120 "$@"' "$root" "$@"
 }
 
-make_package() { sh "$here/packaging/package.sh" "$rdp_host" "$rdp_look" "$1" 2>"$work/said" || { cat "$work/said" >&2; exit 1; }; }
+make_package() { sh "$here/packaging/package.sh" "$rdp_host" "$rdp_look" "$rdp_view" "$1" 2>"$work/said" || { cat "$work/said" >&2; exit 1; }; }
 
 # The words of a field of the unit.
 field() { sed -n "s/^$1=//p" "$here/packaging/rdp-host@.service"; }
@@ -135,7 +135,7 @@ in_root sh -c 'rdp_host script < /usr/share/doc/pelzsukan/examples/training_room
 "$rdp_host" script <"$here/examples/training_room.script" | "$rdp_look" 1 >"$work/here.ppm"
 cmp "$work/there.ppm" "$work/here.ppm"
 seen 'there, the training room as viewer 1 is shown it, as here' "$(wc -c <"$work/there.ppm") bytes"
-for page in rdp_host rdp_look; do
+for page in rdp_host rdp_look rdp_view; do
     in_root man --no-justification "$page" >"$work/page"
     seen "there, man $page" "$(wc -l <"$work/page") lines, of $(sed -n "s/^ *\($page - .*\)/\1/p" "$work/page")"
     grep -q "^ *$page - " "$work/page" || fail "man $page shows another page"
@@ -168,6 +168,6 @@ fi
 
 rm "$root/etc/pelzsukan/$room.conf"
 quietly dpkg --root="$root" --purge pelzsukan
-left=$(find "$root/usr" "$root/etc" -name '*rdp[-_]host*' -o -name '*rdp_look*' -o -name 'pelzsukan*')
+left=$(find "$root/usr" "$root/etc" -name '*rdp[-_]host*' -o -name '*rdp_look*' -o -name '*rdp_view*' -o -name 'pelzsukan*')
 [ -z "$left" ] || fail "left behind: $left"
 seen 'removed: what is left behind' nothing

@@ -4,7 +4,7 @@
 # line, pictures pixel by pixel with the one that stands below the command. A command that this script doesn't know ends it.
 #
 # A host is started as README says, on its port; where xfreerdp, rdesktop and Xvfb are there they show its session as README says, black windows,
-# and the same pixels when `ann` has drawn; and a client of bench/serve_load.py joins it as `ann`. Then lists of words, right and wrong, are
+# and the same pixels when `ann` has drawn; `./run view` looks in; and a client of bench/serve_load.py joins it as `ann`. Then lists of words, right and wrong, are
 # given to ./run and to the proved program, which must agree. Not run here: `./run build`, which proves the repository, unless the word `build`
 # is given (then its programs are the proved ones), and `rt ci`, the gate.
 #
@@ -74,6 +74,16 @@ picture() {
     seen "$2" "$shown, $(head -n 1 "$work/wanted" | tr ' ' x) pixels"
 }
 
+# The look into the host that runs: a picture of its session's size.
+look_in() {
+    typed "$1"
+    must_be_told "$1"
+    size=$(ppm_pixels <"$clone/picture.ppm" | head -n 1 | tr ' ' x)
+    [ "$size" = "$sides" ] || fail "a session of $sides shows a picture of $size: $1"
+    rm "$clone/picture.ppm"
+    seen "$1" "status 0, and a picture of $size"
+}
+
 # The size of a picture in portable pixel format, and its pixels, without remarks.
 ppm_pixels() {
     python3 -c '
@@ -109,6 +119,7 @@ wait_until() {
 # Starts the host of README's first command.
 start() {
     port=$(echo "$1" | cut -d ' ' -f 3)
+    sides=$(echo "$1" | cut -d ' ' -f 4,5 | tr ' ' x)
     ! is_served || fail "port $port is in use"
     # shellcheck disable=SC2086 # they are words
     (cd "$clone" && exec $1) </dev/null >"$work/lines" 2>"$work/voice" &
@@ -285,6 +296,9 @@ run_all() {
         'xfreerdp '*) client=$command ;;
         'rdesktop '*)
             clients "$client" "$command"
+            ;;
+        './run view '*)
+            look_in "$command"
             stop
             ;;
         './run script '*' | cut '*) text "$at" "$command" ;;
@@ -306,10 +320,11 @@ how=proved
 if [ "${1-}" = build ]; then
     (cd "$clone" && ./run build) >"$work/built" 2>&1 || { tail -n 5 "$work/built" >&2; fail './run build proves nothing'; }
     built='run'
-elif [ -x "$rdp_host" ] && [ -x "$rdp_look" ]; then
-    mkdir -p "$clone/crates/rdp_host/out" "$clone/crates/rdp_look/out"
+elif [ -x "$rdp_host" ] && [ -x "$rdp_look" ] && [ -x "$rdp_view" ]; then
+    mkdir -p "$clone/crates/rdp_host/out" "$clone/crates/rdp_look/out" "$clone/crates/rdp_view/out"
     cp "$rdp_host" "$clone/crates/rdp_host/out/rdp_host"
     cp "$rdp_look" "$clone/crates/rdp_look/out/rdp_look"
+    cp "$rdp_view" "$clone/crates/rdp_view/out/rdp_view"
     built='not run: the programs are those that it left here'
 else
     seen 'all of them' "not run: no proved programs here; './run build' makes them"

@@ -1,21 +1,22 @@
 #!/bin/sh
-# Makes pelzsukan_VERSION_amd64.deb of the two programs: these, their manual pages, the pages for whoever runs a host, the examples and the
+# Makes pelzsukan_VERSION_amd64.deb of the three programs: these, their manual pages, the pages for whoever runs a host, the examples and the
 # unit of a room. VERSION is the date and the hash of the commit that is checked out; a `+changed` behind it says that files differ from it.
 # The same programs and the same commit give the same package, byte for byte: every time in it is that of the commit (or SOURCE_DATE_EPOCH),
 # owners and modes are fixed, and one thread packs it. It prints where the package is.
 #
-# It takes any two programs: `./run package` hands it those of this repository, and only where they are proved.
+# It takes any three programs: `./run package` hands it those of this repository, and only where they are proved.
 #
-# usage: sh packaging/package.sh RDP_HOST RDP_LOOK FOLDER      (it needs git, and dpkg-dev of Debian)
+# usage: sh packaging/package.sh RDP_HOST RDP_LOOK RDP_VIEW FOLDER      (it needs git, and dpkg-dev of Debian)
 set -eu
 LC_ALL=C
 export LC_ALL
 umask 022
 here=$(CDPATH='' cd -- "$(dirname -- "$0")/.." && pwd)
-[ "$#" -eq 3 ] || { echo 'usage: sh packaging/package.sh RDP_HOST RDP_LOOK FOLDER' >&2; exit 2; }
+[ "$#" -eq 4 ] || { echo 'usage: sh packaging/package.sh RDP_HOST RDP_LOOK RDP_VIEW FOLDER' >&2; exit 2; }
 rdp_host=$1
 rdp_look=$2
-folder=$3
+rdp_view=$3
+folder=$4
 
 fail() {
     echo "package: $*" >&2
@@ -25,7 +26,7 @@ fail() {
 for tool in git dpkg-deb dpkg-shlibdeps; do
     command -v "$tool" >/dev/null || fail "no $tool here; Debian has it in ${tool%%-*}-dev or ${tool%%-*}"
 done
-for program in "$rdp_host" "$rdp_look"; do
+for program in "$rdp_host" "$rdp_look" "$rdp_view"; do
     [ -x "$program" ] || fail "no $program"
 done
 work=$(mktemp -d)
@@ -60,7 +61,7 @@ pack() {
 # What the programs want of the system, by the tables of its libraries.
 depends() {
     echo 'Source: pelzsukan' >"$work/debian/control"
-    (cd "$work" && dpkg-shlibdeps -O debian/pelzsukan/usr/bin/rdp_host debian/pelzsukan/usr/bin/rdp_look) | sed -n 's/^shlibs:Depends=//p'
+    (cd "$work" && dpkg-shlibdeps -O debian/pelzsukan/usr/bin/rdp_host debian/pelzsukan/usr/bin/rdp_look debian/pelzsukan/usr/bin/rdp_view) | sed -n 's/^shlibs:Depends=//p'
 }
 
 # The package's own record of changes: the commit that it is of.
@@ -83,7 +84,8 @@ version=$(version)
 mkdir -p "$root/DEBIAN" "$root/usr/bin" "$root/etc/pelzsukan"
 install -m 755 -- "$rdp_host" "$root/usr/bin/rdp_host"
 install -m 755 -- "$rdp_look" "$root/usr/bin/rdp_look"
-for page in rdp_host rdp_look; do
+install -m 755 -- "$rdp_view" "$root/usr/bin/rdp_view"
+for page in rdp_host rdp_look rdp_view; do
     pack "$here/docs/$page.1" "$root/usr/share/man/man1/$page.1.gz"
 done
 put usr/lib/systemd/system "$here/packaging/rdp-host@.service"
