@@ -16,7 +16,7 @@ import re
 import sys
 
 TOP = pathlib.Path(__file__).resolve().parent.parent
-PROGRAMS = ['rdp_host', 'rdp_look']
+PROGRAMS = ['rdp_host', 'rdp_look', 'rdp_view']
 FAULTS = 'faults.md'
 LAWS = '## Of the definitions alone'
 CITING = [FAULTS, 'claims.md', 'errors.md', 'protocol.md', 'threads.md']

@@ -37,7 +37,6 @@ LEAVES = re.compile(r'`Err`|`ReadFault`|want of memory|A refusal leaves|the refu
 MOST_KINDS = 4
 ONE = '*one*'
 NO_MEMORY = 'No memory was left.'
-WHERE = {(True, True): 'both programs', (True, False): '`rdp_host`', (False, True): '`rdp_look`', (False, False): 'no program'}
 
 
 class Type:
@@ -182,6 +181,14 @@ def lists_of(calls, answers):
         yield 'One clause each, and no refusal: ' + '; '.join(names_of(owner, names) for owner, names in plain.items()) + '.\n'
 
 
+def where(crate, runs):
+    """Which programs run a crate, of the crates that each of them stands on."""
+    found = [f'`{program}`' for program, stood_on in zip(check_calls.PROGRAMS, runs) if crate in stood_on]
+    if len(found) == len(runs):
+        return 'each program'
+    return ', '.join(found) or 'no program'
+
+
 def page():
     """The page, from the sources."""
     crates = check_calls.listed_crates()
@@ -197,7 +204,7 @@ def page():
             continue
         laws = [call for call in calls.values() if call.is_law]
         others = sorted((call for call in calls.values() if not call.is_law), key=lambda call: (call.owner is not None, call.owner or ''))
-        parts.append(f'### `{crate}` ({WHERE[crate in runs[0], crate in runs[1]] if others else "laws alone"})\n')
+        parts.append(f'### `{crate}` ({where(crate, runs) if others else "laws alone"})\n')
         answers = {}
         for call in others:
             found, none = answers_in(call.gives, crate, types, below, errors)
