@@ -69,7 +69,7 @@ fn put_data(out: &mut Vec<u8>, data: &Data) -> Result<(), AllocError> {
 }
 
 /// What a viewer of this name says to a host.
-fn said(alloc: Global, name: &Name) -> Result<Said, OutOfMemory> {
+fn viewer_says(alloc: Global, name: &Name) -> Result<Said, OutOfMemory> {
     let mut hello = Vec::new(alloc);
     let mut ready = Vec::new(alloc);
     let Some(confirmed) = preset(b"plain") else {
@@ -100,12 +100,12 @@ fn said(alloc: Global, name: &Name) -> Result<Said, OutOfMemory> {
 
 /// Its packets up to Client Info.
 pub fn hello(alloc: Global, name: &Name) -> Result<Vec<u8>, OutOfMemory> {
-    Ok(said(alloc, name)?.hello)
+    Ok(viewer_says(alloc, name)?.hello)
 }
 
 /// Its packets from Confirm Active to Font List.
 pub fn ready(alloc: Global, name: &Name) -> Result<Vec<u8>, OutOfMemory> {
-    Ok(said(alloc, name)?.ready)
+    Ok(viewer_says(alloc, name)?.ready)
 }
 
 /// All of its packets.
@@ -113,7 +113,7 @@ pub fn whole(alloc: Global, name: &Name) -> Result<Vec<u8>, OutOfMemory> {
     let Said {
         hello: mut whole,
         ready,
-    } = said(alloc, name)?;
+    } = viewer_says(alloc, name)?;
     whole.extend_from_slice(&ready)?;
     Ok(whole)
 }
