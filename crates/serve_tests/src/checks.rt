@@ -10,22 +10,16 @@ use session_core::{Invite, OutOfMemory, Role, Session};
 use std::alloc::Global;
 use std::process::Abort;
 
-/// The picture of the session.
+/// The picture that the sample client asks for.
 pub const SIZE: Size = Size { w: 64, h: 48 };
 
 /// The names of the two who are invited,
-pub fn owner() -> Name {
-    Name::new(b"ann")
-}
+pub const OWNER: [u8; 3] = *b"ann";
 
-pub fn viewer() -> Name {
-    Name::new(b"ben")
-}
+pub const VIEWER: [u8; 3] = *b"ben";
 
 /// and that of somebody else.
-pub fn stranger() -> Name {
-    Name::new(b"eve")
-}
+pub const STRANGER: [u8; 3] = *b"eve";
 
 /// The port that a gate in memory is asked for.
 pub const PORT: u16 = 3389;
@@ -68,7 +62,7 @@ pub fn must_be_reported(rt: &impl Abort, served: &Served, link: usize, viewer: u
     }
 }
 
-/// Where a client presses the mouse, in pixels, and the ink of the board.
+/// Where the sample client presses the mouse, in pixels, and the ink of the board.
 pub const X: u32 = 20;
 
 pub const Y: u32 = 20;
