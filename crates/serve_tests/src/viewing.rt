@@ -25,7 +25,7 @@ const PAUSE: u64 = 10;
 const PORT_FAULT: u8 = 7;
 
 /// The same steps as a script: one viewer is invited, joins and takes.
-const STEPS: &[u8] = b"size 64 48\ninvite ann owner\njoin ann full\n1 take\n";
+const STEPS: &[u8] = b"size 64 48\ninvite ann owner\njoin ann full\ntake\n";
 
 /// The words of a command line, the program's name first.
 fn words(alloc: Global, behind: &[&str]) -> Result<Vec<String>, OutOfMemory> {
