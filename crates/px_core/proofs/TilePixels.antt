@@ -1,6 +1,6 @@
 -- A tile is among those of a rectangle exactly where one of its pixels is.
 use Rattle.std.proofs.Common.{◌≡◌, ℕ, ◌+◌, ◌*◌, ◌/◌, ◌%◌, ◌≤◌, ◌<◌, ap, sym, ◌∙◌, arith}
-use Rattle.std.specs.Prelude.{true, ◌&&◌, ℤ, pos, negsuc, ◌+ℤ◌, ◌-ℤ◌, nat_le}
+use Rattle.std.specs.Prelude.{true, false, ◌&&◌, ℤ, pos, negsuc, ◌+ℤ◌, ◌-ℤ◌, nat_le}
 use Rattle.std.specs.Int.{int_min, int_max}
 use Rattle.std.proofs.lemmas.Int.{ints, clamps}
 use Rattle.std.proofs.lemmas.Bool.{and_from, and_parts}
@@ -54,6 +54,9 @@ pub some_pixel : (r : Rect) (x y : ℤ) → in_rect r x y ≡ true → has_pixel
 some_pixel r x y h = let p = and_parts (within r.x r.w x) (within r.y r.h y) h in
     let xl = within-low r.x r.w x p.0 in let xh = within-high r.x r.w x p.0 in let yl = within-low r.y r.h y p.1 in let yh = within-high r.y r.h y p.1 in
     and_from _ _ (some_side r.w (omega (arith, ints))) (some_side r.h (omega (arith, ints)))
+
+pub no_pixel : (r : Rect) (x y : ℤ) → has_pixel r ≡ false → false ≡ in_rect r x y
+no_pixel r x y none = same_test _ _ (λ h. absurd (cc h)) (λ h. sym none ∙ some_pixel r x y h)
 
 -- the pixels of a whole picture
 pub in_whole : (size : Size) (x y : ℕ) → x < size.w → y < size.h → in_rect (whole size) (pos x) (pos y) ≡ true

@@ -1,5 +1,5 @@
 -- Rectangles as sets of pixels.
-use Rattle.std.specs.Prelude.{ℕ, ◌*◌, ◌/◌, ◌%◌, ◌==◌, nat_le, ◌≤◌, ◌≤ℤ◌, Bool, false, ◌&&◌, ℤ, pos, negsuc, ◌+ℤ◌, ◌-ℤ◌, int_le, int_lt, List, Option, Some, None, if◌then◌else◌}
+use Rattle.std.specs.Prelude.{⊤, ℕ, ◌*◌, ◌/◌, ◌%◌, ◌==◌, nat_le, ◌≤◌, ◌≤ℤ◌, Bool, false, ◌&&◌, ℤ, pos, negsuc, ◌+ℤ◌, ◌-ℤ◌, int_le, int_lt, List, Option, Some, None, if◌then◌else◌}
 use Rattle.std.specs.Int.{int_min, int_max}
 use Rattle.px_core.specs.declared.surface.Size.{Size}
 use Rattle.px_core.specs.declared.rectangle.Rect.{Rect}
@@ -77,21 +77,11 @@ pub record IsPlaced (r : Rect) : Type 0 where
   pub wide : r.w ≤ 65536
   pub high : r.h ≤ 65536
 
+-- a clip that calls may be given
+abbrev pub IsPlacedClip : Option Rect → Type 0
+IsPlacedClip None = ⊤
+IsPlacedClip (Some clip) = IsPlaced clip
+
 -- a size that a session may have: its width is a multiple of four from 4 to 2,048, its height is 1 to 2,048 (profile)
 abbrev pub is_session_size : ℕ → ℕ → Bool
 is_session_size w h = (nat_le 4 w && nat_le w 2048) && ((nat_le 1 h && nat_le h 2048) && (w % 4 == 0))
-
--- a stretch of whole numbers as one side of such a rectangle
-pub record IsShort (from : ℤ) (n : ℕ) : Type 0 where
-  pub low : negsuc 65535 ≤ℤ from
-  pub high : from ≤ℤ pos 65536
-  pub short : n ≤ 65536
-
--- a stretch from a number on where it has a number, else none
-abbrev pub if_numbers : ℤ → ℕ → Option (ℤ × ℕ)
-if_numbers from n = if nat_le 1 n then Some (from, n) else None
-
--- the numbers of a stretch that may be missing
-abbrev pub in_optional_stretch : Option (ℤ × ℕ) → ℤ → Bool
-in_optional_stretch None z = false
-in_optional_stretch (Some s) z = within s.0 s.1 z

@@ -5,7 +5,10 @@ ghost use Rattle.std.specs.List.{concat};
 ghost use Rattle.px_core.specs.declared.surface.Size.{Size};
 ghost use Rattle.px_core.specs.declared.rectangle.Rect.{Rect};
 ghost use Rattle.px_core.specs.Colors.{are_colors};
+ghost use Rattle.px_core.specs.declared.depth.Depth.{Depth};
+ghost use Rattle.px_core.specs.Depth.{bits_in, cut_color, wide_color, shown};
 ghost use Rattle.px_core.specs.Picture.{item, listed, pixel_at, pixel_count, pixel_in, rows_of};
+ghost use Rattle.px_core.specs.Pixels.{pixels_bytes, pixels_of, are_pixels};
 ghost use Rattle.px_core.specs.Rectangle.{in_rect};
 ghost use Rattle.px_core.specs.Tiles.{HasPixelIn, tile_number, tile_rect, tiles_of};
 
@@ -40,4 +43,15 @@ pub fn tiles_are_of_pixels()
 /// All are colours exactly where each is below 2^24.
 pub fn colors_are_numbers()
     ensures { (colors : List ℕ) → IsTrue (are_colors colors) ↔ All (λ color. color < 2 ^ 24) colors }
+{}
+
+/// A colour that is shown has its bits alone, and a colour of 16 bits is shown as itself once it is made wide.
+pub fn shown_colors_have_their_bits()
+    ensures below { (d : Depth) (c : ℕ) → c < 2 ^ 24 → shown d c < 2 ^ bits_in d }
+    ensures back { (v : ℕ) → cut_color (wide_color v) ≡ v }
+{}
+
+/// Pixels that are written are read back.
+pub fn pixels_are_read_back()
+    ensures { (d : Depth) (pixels : List ℕ) → IsTrue (are_pixels d pixels) → pixels_of d (pixels_bytes d pixels) ≡ pixels }
 {}

@@ -1,6 +1,6 @@
-ghost use Rattle.std.specs.Prelude.{◌≡◌, ◌≤◌, ℤ, pos, ◌+ℤ◌, ◌&&◌, int_le, IfSome, IsTrue};
+ghost use Rattle.std.specs.Prelude.{◌≡◌, ℤ, pos, ◌+ℤ◌, ◌&&◌, int_le, IfSome, IsTrue};
 ghost use Rattle.std.specs.Int.{int_max, int_min};
-ghost use Rattle.px_core.specs.Rectangle.{in_rect, in_optional_rect, in_optional_stretch, has_pixel, is_inside, common, common_length, within, if_pixels, if_numbers, IsPlaced, IsShort};
+ghost use Rattle.px_core.specs.Rectangle.{in_rect, in_optional_rect, has_pixel, is_inside, whole, common, common_length, clipped, if_pixels, is_session_size, IsPlaced, IsPlacedClip};
 
 use crate::surface::Size;
 
@@ -15,6 +15,19 @@ pub struct Rect {
     pub h: u32,
 }
 
+/// The rectangle of a whole picture.
+pub fn whole(size: Size) -> Rect
+    ensures whole { result ≡ whole size }
+    ensures placed { IsTrue (is_session_size size.w size.h) → IsPlaced result }
+{
+    Rect {
+        x: 0,
+        y: 0,
+        w: size.w,
+        h: size.h,
+    }
+}
+
 /// The common pixels of two rectangles; `None` exactly where there are none.
 pub fn meet(a: Rect, b: Rect) -> Option<Rect>
     requires first { IsPlaced a }
@@ -23,9 +36,31 @@ pub fn meet(a: Rect, b: Rect) -> Option<Rect>
     ensures none_without_pixels { IfSome result (λ r. IsTrue (has_pixel r)) }
     ensures rectangle { result ≡ if_pixels (common a b) }
 {
-    match (common_columns(a, b), common_rows(a, b)) {
-        (Some((x, w)), Some((y, h))) => Some(Rect { x, y, w, h }),
-        (_, _) => None,
+    let both = common(a, b);
+    if has_pixel(both) { Some(both) } else { None }
+}
+
+/// The part of a rectangle that a clip leaves; a side is 0 where it leaves none.
+pub fn clipped(rect: Rect, clip: Option<Rect>) -> Rect
+    ensures clipped { result ≡ clipped rect clip }
+    ensures placed { IsPlaced rect → IsPlacedClip clip → IsPlaced result }
+{
+    match clip {
+        Some(clip) => common(rect, clip),
+        None => rect,
+    }
+}
+
+/// The common pixels of two rectangles; a side is 0 where there are none.
+pub fn common(a: Rect, b: Rect) -> Rect
+    ensures common { result ≡ common a b }
+    ensures placed { IsPlaced a → IsPlaced b → IsPlaced result }
+{
+    Rect {
+        x: later(a.x, b.x),
+        y: later(a.y, b.y),
+        w: common_length(a.x, a.w, b.x, b.w),
+        h: common_length(a.y, a.h, b.y, b.h),
     }
 }
 
@@ -50,42 +85,16 @@ fn is_stretch_below(limit: u32, from: i32, length: u32) -> bool
     0 <= from && i64::from(from) + i64::from(length) <= i64::from(limit)
 }
 
-/// The common columns of two rectangles, by the first one and their number.
-fn common_columns(a: Rect, b: Rect) -> Option<(i32, u32)>
-    requires first { IsPlaced a }
-    requires second { IsPlaced b }
-    ensures columns { (x : ℤ) → in_optional_stretch result x ≡ (within a.x a.w x && within b.x b.w x) }
-    ensures none_if_empty { IfSome result (λ s. 1 ≤ s.1) }
-    ensures stretch { result ≡ if_numbers (int_max a.x b.x) (common_length a.x a.w b.x b.w) }
+/// How many numbers two stretches have in common.
+fn common_length(a: i32, m: u32, b: i32, n: u32) -> u32
+    ensures { result ≡ common_length a m b n }
 {
-    common_stretch(a.x, a.w, b.x, b.w)
-}
-
-/// The common rows of two rectangles, by the first one and their number.
-fn common_rows(a: Rect, b: Rect) -> Option<(i32, u32)>
-    requires first { IsPlaced a }
-    requires second { IsPlaced b }
-    ensures rows { (y : ℤ) → in_optional_stretch result y ≡ (within a.y a.h y && within b.y b.h y) }
-    ensures none_if_empty { IfSome result (λ s. 1 ≤ s.1) }
-    ensures stretch { result ≡ if_numbers (int_max a.y b.y) (common_length a.y a.h b.y b.h) }
-{
-    common_stretch(a.y, a.h, b.y, b.h)
-}
-
-/// The common part of two stretches of whole numbers, by its first number and its length; `None` where there is none.
-fn common_stretch(a: i32, a_length: u32, b: i32, b_length: u32) -> Option<(i32, u32)>
-    requires first { IsShort a a_length }
-    requires second { IsShort b b_length }
-    ensures numbers { (z : ℤ) → in_optional_stretch result z ≡ (within a a_length z && within b b_length z) }
-    ensures none_if_empty { IfSome result (λ s. 1 ≤ s.1) }
-    ensures stretch { result ≡ if_numbers (int_max a b) (common_length a a_length b b_length) }
-{
-    let from = later(a, b);
-    let end = earlier(end_of(a, a_length), end_of(b, b_length));
+    let from = i64::from(later(a, b));
+    let end = earlier(end_of(a, m), end_of(b, n));
     if from < end {
-        Some((from, end.abs_diff(from)))
+        end.abs_diff(from) as u32
     } else {
-        None
+        0
     }
 }
 
@@ -97,16 +106,15 @@ fn later(a: i32, b: i32) -> i32
 }
 
 /// The lesser of two numbers.
-fn earlier(a: i32, b: i32) -> i32
+pub(crate) fn earlier(a: i64, b: i64) -> i64
     ensures { result ≡ int_min a b }
 {
     if a < b { a } else { b }
 }
 
 /// The first number behind a stretch.
-fn end_of(from: i32, length: u32) -> i32
-    requires { IsShort from length }
+pub(crate) fn end_of(from: i32, length: u32) -> i64
     ensures { result ≡ from +ℤ pos length }
 {
-    from + length as i32
+    i64::from(from) + i64::from(length)
 }

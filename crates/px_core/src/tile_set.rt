@@ -6,14 +6,9 @@ ghost use Rattle.px_core.specs.TileFlags.{tiles, row_tiles, IsNextTile, IsShared
 
 use crate::rectangle::Rect;
 use crate::surface::Size;
+use crate::tile::{TILES, TILES_IN_ROW};
 use crate::tile_stretch::{TileStretch, touched_columns, touched_rows};
 use std::marker::Model;
-
-/// The number of tiles, which is that of the greatest picture's.
-const TILES: u32 = 1_024;
-
-/// The number of tiles in a row.
-const TILES_IN_ROW: usize = 32;
 
 /// A set of tiles, by their numbers from 0 to 1,023. Tile `32 * row + column` has 64 by 64 pixels.
 #[derive(Debug, Drop)]
@@ -52,7 +47,7 @@ impl TileSet {
     {
         let columns = touched_columns(r, s);
         let rows = touched_rows(r, s);
-        let end = self.end.max((TILES_IN_ROW * rows.end) as u32);
+        let end = self.end.max(TILES_IN_ROW * rows.end as u32);
         for row in rows.from..rows.end {
             set_row(&mut self.flags, row, columns);
         }
@@ -115,7 +110,7 @@ fn set_row(flags: &mut [bool], row: usize, columns: TileStretch)
     ensures set { tiles flags.new ≡ either_tiles (tiles flags.old) (row_tiles row columns.from columns.end) }
 {
     for column in columns.from..columns.end {
-        flags[TILES_IN_ROW * row + column] = true;
+        flags[TILES_IN_ROW as usize * row + column] = true;
     }
 }
 
@@ -128,7 +123,7 @@ fn is_row_met(flags: &[bool], row: usize, columns: TileStretch) -> bool
     ensures { IsShared result (tiles flags.now) (row_tiles row columns.from columns.end) }
 {
     for column in columns.from..columns.end {
-        if flags[TILES_IN_ROW * row + column] {
+        if flags[TILES_IN_ROW as usize * row + column] {
             return true;
         }
     }

@@ -1,15 +1,13 @@
-//! The rows, or the columns, of tiles that a stretch of pixels touches.
+//! The rows, or the columns, of tiles that a stretch of pixels touches, wherever it stands.
 ghost use Rattle.std.specs.Prelude.{◌≡◌, ℕ, ◌≤◌, pos, ◌+ℤ◌, IsTrue};
 ghost use Rattle.std.specs.Int.{int_min};
 ghost use Rattle.px_core.specs.Picture.{nat_of};
-ghost use Rattle.px_core.specs.Rectangle.{is_session_size, IsPlaced, IsShort};
+ghost use Rattle.px_core.specs.Rectangle.{is_session_size};
 ghost use Rattle.px_core.specs.TileFlags.{is_between, touches};
 
-use crate::rectangle::Rect;
+use crate::rectangle::{Rect, earlier, end_of};
 use crate::surface::Size;
-
-/// The sides of a tile, in pixels.
-const TILE_SIDE: u32 = 64;
+use crate::tile::TILE_SIDE;
 
 /// Some rows, or columns, of tiles that follow each other: the first one, and the first one behind them.
 #[derive(Clone, Copy)]
@@ -20,8 +18,7 @@ pub struct TileStretch {
 
 /// The columns of tiles that have a pixel column of a rectangle on a picture.
 pub fn touched_columns(r: Rect, s: Size) -> TileStretch
-    requires placed { IsPlaced r }
-    requires size { IsTrue (is_session_size s.w s.h) }
+    requires { IsTrue (is_session_size s.w s.h) }
     ensures ordered { result.from ≤ result.end }
     ensures inside { result.end ≤ 32 }
     ensures touched { (k : ℕ) → is_between result.from result.end k ≡ touches r.x r.w s.w k }
@@ -31,8 +28,7 @@ pub fn touched_columns(r: Rect, s: Size) -> TileStretch
 
 /// The rows of tiles that have a pixel row of a rectangle on a picture.
 pub fn touched_rows(r: Rect, s: Size) -> TileStretch
-    requires placed { IsPlaced r }
-    requires size { IsTrue (is_session_size s.w s.h) }
+    requires { IsTrue (is_session_size s.w s.h) }
     ensures ordered { result.from ≤ result.end }
     ensures inside { result.end ≤ 32 }
     ensures touched { (k : ℕ) → is_between result.from result.end k ≡ touches r.y r.h s.h k }
@@ -42,8 +38,7 @@ pub fn touched_rows(r: Rect, s: Size) -> TileStretch
 
 /// The rows (or columns) of tiles that have one of `length` pixel rows from `from` on, on a picture of `limit` rows.
 fn touched(from: i32, length: u32, limit: u32) -> TileStretch
-    requires stretch { IsShort from length }
-    requires limit { limit ≤ 2048 }
+    requires { limit ≤ 2048 }
     ensures ordered { result.from ≤ result.end }
     ensures inside { result.end ≤ 32 }
     ensures touched { (k : ℕ) → is_between result.from result.end k ≡ touches from length limit k }
@@ -69,17 +64,10 @@ fn first_on(from: i32) -> u32
 
 /// The first number behind a stretch and a picture of `limit` rows, and 0 where the stretch ends before the picture.
 fn end_on(from: i32, length: u32, limit: u32) -> u32
-    requires stretch { IsShort from length }
-    requires limit { limit ≤ 2048 }
+    requires { limit ≤ 2048 }
     ensures end { result ≡ nat_of (int_min (from +ℤ pos length) (pos limit)) }
     ensures below { result ≤ 2048 }
 {
-    first_on(lesser(from + length as i32, limit as i32))
-}
-
-/// The lesser of two numbers.
-fn lesser(a: i32, b: i32) -> i32
-    ensures { result ≡ int_min a b }
-{
-    if a < b { a } else { b }
+    let end = earlier(end_of(from, length), i64::from(limit));
+    if end < 0 { 0 } else { end as u32 }
 }
