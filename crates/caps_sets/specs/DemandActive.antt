@@ -2,8 +2,8 @@
 use Rattle.std.specs.Prelude.{ℕ, ◌+◌, Bool, true, false, List, [], ◌∷◌, ◌++◌, length, replicate}
 use Rattle.byteorder.specs.Endian.{little_bytes}
 use Rattle.px_core.specs.declared.depth.Depth.{Depth}
-use Rattle.px_core.specs.declared.depth.Depth.TheVariants.{Bits24, Bits16}
 use Rattle.px_core.specs.declared.surface.Size.{Size}
+use Rattle.px_core.specs.Depth.{bits_in}
 
 -- type; length, with this header; content ([MS-RDPBCGR] 2.2.1.13.1.1.1)
 abbrev pub capability_set : ℕ → List ℕ → List ℕ
@@ -24,16 +24,11 @@ abbrev pub flag : Bool → ℕ
 flag true = 1
 flag false = 0
 
--- the bits of a pixel of this depth
-abbrev pub preferred_bits : Depth → ℕ
-preferred_bits Bits24 = 24
-preferred_bits Bits16 = 16
-
 -- preferredBitsPerPixel; receive1BitPerPixel; receive4BitsPerPixel; receive8BitsPerPixel; desktopWidth; desktopHeight; pad2octets; desktopResizeFlag;
 -- bitmapCompressionFlag; highColorFlags; drawingFlags; multipleRectangleSupport; pad2octetsB (2.2.7.1.2)
 abbrev pub bitmap_set : Size → Depth → Bool → List ℕ
 bitmap_set size depth resizes =
-    capability_set 2 (numbers (preferred_bits depth ∷ 1 ∷ 1 ∷ 1 ∷ size.w ∷ size.h ∷ 0 ∷ flag resizes ∷ 1 ∷ []) ++ (0 ∷ 0 ∷ numbers (1 ∷ 0 ∷ [])))
+    capability_set 2 (numbers (bits_in depth ∷ 1 ∷ 1 ∷ 1 ∷ size.w ∷ size.h ∷ 0 ∷ flag resizes ∷ 1 ∷ []) ++ (0 ∷ 0 ∷ numbers (1 ∷ 0 ∷ [])))
 
 -- orderSupport: DstBlt, PatBlt, ScrBlt, MemBlt, Mem3Blt at 0 to 4, SaveBitmap at 11, GlyphIndex at 27
 abbrev pub order_support : List ℕ

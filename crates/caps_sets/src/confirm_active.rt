@@ -13,10 +13,10 @@
 //!
 //! What follows the sets isn't read.
 
-ghost use Rattle.px_core.specs.declared.depth.Depth.{Depth};
 ghost use Rattle.std.specs.Prelude.{◌≡◌, ◌↔◌, ◌≤◌, ◌+◌, ◌∷◌, [], List, ℕ, length, Ok, Err};
 ghost use Rattle.wire_num.specs.Layout.{fields_at};
 ghost use Rattle.wire_num.specs.Cursor.{rest, ReadsFields, ReadsFieldsAs};
+ghost use Rattle.px_core.specs.declared.depth.Depth.{Depth};
 ghost use Rattle.caps_sets.specs.CapabilitySets.{kind_of, least_length, with_set, with_general, nothing, before_sets, confirmed_together};
 ghost use Rattle.caps_sets.specs.ConfirmActive.{confirm_lengths, confirm_counts, set_header, set_at, sets_at, confirm_at, confirmed_of};
 ghost use Rattle.caps_sets.specs.Grammar.{IsConfirmActive};

@@ -21,10 +21,10 @@
 
 ghost use Rattle.std.specs.Prelude.{◌≡◌, ◌≤◌, ◌+◌, ◌++◌, false, length, OnOk, OnErr};
 ghost use Rattle.wire_num.specs.Written.{AppendsFront};
-ghost use Rattle.caps_sets.specs.DemandActive.{flag, preferred_bits, bitmap_set, before_bitmap, after_bitmap, demand_active};
+ghost use Rattle.caps_sets.specs.DemandActive.{flag, bitmap_set, before_bitmap, after_bitmap, demand_active};
 
 use byteorder::{ByteOrder, LittleEndian};
-use px_core::{Depth, Size};
+use px_core::{Depth, Size, bits_in};
 use wire_num::OutOfMemory;
 
 /// What stands before the Bitmap set.
@@ -128,16 +128,6 @@ fn put_bitmap(out: &mut Vec<u8>, size: Size, depth: Depth, resizes: bool) -> Res
     LittleEndian::write_u16(&mut set[DESKTOP_RESIZE_FLAG..], flag(resizes));
     out.extend_from_slice(&set)?;
     Ok(())
-}
-
-/// The bits of a pixel of this depth.
-fn preferred_bits(depth: Depth) -> u16
-    ensures { result ≡ preferred_bits depth }
-{
-    match depth {
-        Depth::Bits24 => 24,
-        Depth::Bits16 => 16,
-    }
 }
 
 /// A flag of two bytes.
