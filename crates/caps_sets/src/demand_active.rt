@@ -122,7 +122,7 @@ fn put_bitmap(out: &mut Vec<u8>, size: Size, depth: Depth, resizes: bool) -> Res
     ensures memory { OnErr result (AppendsFront out.old.items (bitmap_set size depth resizes) out.new.items) }
 {
     let mut set = BITMAP;
-    LittleEndian::write_u16(&mut set[PREFERRED_BITS_PER_PIXEL..], preferred_bits(depth));
+    LittleEndian::write_u16(&mut set[PREFERRED_BITS_PER_PIXEL..], bits_in(depth));
     LittleEndian::write_u16(&mut set[DESKTOP_WIDTH..], size.w as u16);
     LittleEndian::write_u16(&mut set[DESKTOP_HEIGHT..], size.h as u16);
     LittleEndian::write_u16(&mut set[DESKTOP_RESIZE_FLAG..], flag(resizes));
