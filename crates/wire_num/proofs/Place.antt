@@ -1,6 +1,6 @@
 -- What is left of a text, and of one that is refused, is its end.
 use Rattle.std.proofs.Common.{◌≡◌, ℕ, inl, inr, List, [], ◌∷◌, ◌++◌, length, ap, sym, ◌∙◌, append_assoc, append-nil}
-use Rattle.wire_num.specs.Layout.{Layout, Open, End, Rest, Body, Content, Bytes, Any, Big, Little, CountsRest, AtLeast, Length, Counted, Within}
+use Rattle.wire_num.specs.Layout.{Layout, Open, End, Rest, Body, Content, Exactly, Bytes, Any, Big, Little, CountsRest, AtLeast, Length, Counted, Within}
 use Rattle.wire_num.specs.Grammar.{IsText}
 use Rattle.wire_num.specs.Refusal.{IsRefusedAt}
 
@@ -31,6 +31,7 @@ text_end End bytes values left p = ([], p.1 ∙ sym p.2)
 text_end Rest bytes values left p = all_read bytes left p.1
 text_end (Body form) bytes values left p = all_read bytes left p.5
 text_end (Content form) bytes values left p = all_read bytes left p.5
+text_end (Exactly form next) bytes values left p = moved bytes p.0 p.1 left p.3 (text_end next p.1 values left p.4)
 text_end (Bytes ws next) bytes values left p = moved bytes ws p.0 left p.1 (text_end next p.0 values left p.2)
 text_end (Any n next) bytes values left p = moved bytes p.0 p.1 left p.3 (text_end next p.1 values left p.4)
 text_end (Big n test next) bytes values left p = moved bytes p.0 p.1 left p.5 (text_end next p.1 p.2 left p.7)
@@ -51,6 +52,11 @@ place (Content form) bytes left p =
     elim p [
       | inl m ↦ at_once bytes left m.1
       | inr q ↦ elim q [ inl t ↦ (t.0, t.3) | inr t ↦ (t.0 ++ t.1, t.3 ∙ sym (append_assoc t.0 t.1 left)) ]
+    ]
+place (Exactly form next) bytes left p =
+    elim p [
+      | inl m ↦ at_once bytes left m.1
+      | inr q ↦ elim q [ inl t ↦ (t.0, t.3) | inr t ↦ moved bytes t.0 t.1 left t.3 (place next t.1 left t.4) ]
     ]
 place (Bytes ws next) bytes left p = elim p [ inl m ↦ at_once bytes left m.1 | inr q ↦ moved bytes ws q.0 left q.1 (place next q.0 left q.2) ]
 place (Any n next) bytes left p = elim p [ inl m ↦ at_once bytes left m.1 | inr q ↦ moved bytes q.0 q.1 left q.3 (place next q.1 left q.4) ]

@@ -12,7 +12,7 @@ use Rattle.wire_num.specs.FieldValue.{as_one_field, passing_at, end_at, at_least
 use Rattle.wire_num.specs.Field.{Read, then_read, map_read, bytes_at, wanted}
 use Rattle.wire_num.specs.Number.{big_at, little_at}
 use Rattle.wire_num.specs.Length.{per_len_at, long_per_at, ber_len_at}
-use Rattle.wire_num.specs.Layout.{Layout, Open, End, Rest, Body, Content, Bytes, Any, Big, Little, CountsRest, AtLeast, Length, Counted, Within, Count, OneByte, Packed, Basic, count_at, exactly_at, before, fields_at}
+use Rattle.wire_num.specs.Layout.{Layout, Open, End, Rest, Body, Content, Exactly, Bytes, Any, Big, Little, CountsRest, AtLeast, Length, Counted, Within, Count, OneByte, Packed, Basic, count_at, exactly_at, before, fields_at}
 use Rattle.wire_num.specs.Grammar.{IsPacked, IsBasic, IsCount, IsText}
 use Rattle.wire_num.proofs.Steps.{then_ok, map_ok, short_ok, passed_ok, one_ok, fits, same_count, big_taken, little_taken}
 
@@ -58,11 +58,11 @@ pub end_ok : (bs : List ℕ) (y : List ℕ × List ℕ) → end_at bs ≡ Ok y �
 end_ok [] y e = let s = ok_same ([], []) y e in (refl, ap (λ p. p.0) s, ap (λ p. p.1) s)
 end_ok (b ∷ bs) y e = absurd (let h : ⊥ = cc in h)
 
-pub exactly_ok : (n : ℕ) (bs : List ℕ) (y : List ℕ × List ℕ) → exactly_at n bs ≡ Ok y → (length bs ≡ n) × ([] ≡ y.1)
+pub exactly_ok : (n : ℕ) (bs : List ℕ) (y : List ℕ × List ℕ) → exactly_at n bs ≡ Ok y → (length bs ≡ n) × ([] ≡ y.1) × (bs ≡ y.0)
 unfolding exactly_at
 exactly_ok n bs y e =
     let s = passed_ok (length bs == n) bs (bs, []) y e in
-    (same_count (length bs) n s.0, ap (λ p. p.1) s.1)
+    (same_count (length bs) n s.0, ap (λ p. p.1) s.1, ap (λ p. p.0) s.1)
 
 pub at_least_ok : (n : ℕ) (bs : List ℕ) (y : List ℕ × List ℕ) → at_least n bs ≡ Ok y → (n ≤ length bs) × (bs ≡ y.1)
 unfolding at_least
@@ -182,6 +182,14 @@ read_is_text (Content form) bytes values left e =
     let size : length v.1 ≡ v.0 = omega (arith, o.0, length-drop v.0 v.1, none) in
     let P : ℕ → Type 0 = λ n. IsCount form c.0 n in
     (c.0, v.1, subst P (sym size) c.1, c.2, sym m.2 ∙ ap (λ n. n ∷ []) (sym size), sym m.3 ∙ sym h.2 ∙ h.0)
+read_is_text (Exactly form next) bytes values left e =
+    let s = then_ok (count_at form bytes) (λ n rest. then_read (exactly_at n rest) (λ content _. fields_at next content)) (values, left) e in
+    let v = s.0 in
+    let c = count_ok form bytes v s.1 in
+    let t = then_ok (exactly_at v.0 v.1) (λ content _. fields_at next content) (values, left) s.2 in
+    let x = exactly_ok v.0 v.1 t.0 t.1 in
+    let P : ℕ → Type 0 = λ n. IsCount form c.0 n in
+    (c.0, v.1, subst P (sym x.0) c.1, c.2, read_is_text next v.1 values left (ap (fields_at next) x.2 ∙ t.2))
 read_is_text (Bytes ws next) bytes values left e =
     let s = then_ok (wanted ws bytes) (λ _ rest. fields_at next rest) (values, left) e in
     (s.0.1, wanted_ok ws bytes s.0 s.1, read_is_text next s.0.1 values left s.2)

@@ -5,11 +5,11 @@ use Rattle.byteorder.specs.Endian.{big_number, little_number}
 use Rattle.wire_num.specs.FieldValue.{passing_at, end_at, at_least, rest_count_at}
 use Rattle.wire_num.specs.Field.{Read, then_read, map_read, bytes_at, wanted}
 use Rattle.wire_num.specs.Number.{big_at, little_at}
-use Rattle.wire_num.specs.Layout.{count_at, Within, Counted, Length, AtLeast, CountsRest, Little, Big, Any, Bytes, Content, Body, Rest, End, Open, Layout, exactly_at, before, fields_at}
+use Rattle.wire_num.specs.Layout.{count_at, Within, Counted, Length, AtLeast, CountsRest, Little, Big, Any, Bytes, Exactly, Content, Body, Rest, End, Open, Layout, exactly_at, before, fields_at}
 use Rattle.wire_num.specs.Grammar.{IsText}
 use Rattle.wire_num.specs.Refusal.{IsSomeCount, IsRefusedAt}
 use Rattle.wire_num.proofs.TextIsRead.{then_again, bytes_again, bytes_there, big_there, little_there, passing_again, wanted_again, end_again, at_least_again}
-use Rattle.wire_num.proofs.TextIsRead.{rest_count_again, count_again, text_is_read}
+use Rattle.wire_num.proofs.TextIsRead.{exactly_again, rest_count_again, count_again, text_is_read}
 use Rattle.wire_num.proofs.Missing.{both, refuses, bytes_short, at_least_short, end_over, exactly_other, IsWanted, IsSkipped, IsBig, IsLittle, CountsMore}
 use Rattle.wire_num.proofs.Missing.{IsTested, wanted_exact, bytes_exact, big_exact, little_exact, rest_count_exact, count_exact, passing_count_exact}
 use Rattle.wire_num.proofs.Refused.{inside, behind_all, content_then, counted_then}
@@ -52,6 +52,24 @@ refusal_is_read (Content form) bytes left p =
             (count_again form count size (content ++ left) t.2)
             (then_again (bytes_at size (content ++ left)) content left (after_all size) (no_text left) (bytes_again content left)
             (ap (map_read (λ _. size ∷ [])) (end_over left t.4)))
+      ]
+    ]
+refusal_is_read (Exactly form next) bytes left p =
+    let after_all : List ℕ → List ℕ → Read (List ℕ) = λ content _. fields_at next content in
+    let tail : ℕ → List ℕ → Read (List ℕ) = λ n rest. then_read (exactly_at n rest) after_all in
+    elim p [
+      | inl m ↦ stop (count_at form bytes) tail left (refuses (IsSomeCount form) (count_at form) (count_exact form) bytes left m)
+      | inr q ↦ elim q [
+        | inl t ↦
+            ap (fields_at (Exactly form next)) t.3
+            ∙ then_again (count_at form (t.0 ++ left)) t.1 left tail (no_text left) (count_again form t.0 t.1 left t.2)
+            (stop (exactly_at t.1 left) after_all left (exactly_other t.1 left t.4))
+        | inr t ↦
+            let count = t.0 in let content = t.1 in
+            let size = length content in
+            ap (fields_at (Exactly form next)) t.3
+            ∙ then_again (count_at form (count ++ content)) size content tail (no_text left) (count_again form count size content t.2)
+            (then_again (exactly_at size content) content [] after_all (no_text left) (exactly_again content) (refusal_is_read next content left t.4))
       ]
     ]
 refusal_is_read (Bytes ws next) bytes left p =

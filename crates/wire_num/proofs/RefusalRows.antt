@@ -2,7 +2,7 @@
 use Rattle.std.proofs.Common.{◌≡◌, ℕ, List, [], ◌∷◌, refl}
 use Rattle.std.specs.Prelude.{Err}
 use Rattle.wire_num.specs.FieldValue.{is_any, is_at_most, passing_at, at_least, rest_count_at}
-use Rattle.wire_num.specs.Layout.{fields_at, exactly_at, Layout, Open, End, Body, Content, Bytes, Big, CountsRest, AtLeast, Counted, Within, OneByte, Packed, Basic, ◌▸◌}
+use Rattle.wire_num.specs.Layout.{fields_at, exactly_at, Layout, Open, End, Body, Content, Exactly, Bytes, Big, CountsRest, AtLeast, Counted, Within, OneByte, Packed, Basic, ◌▸◌}
 use Rattle.wire_num.specs.Refusal.{IsRefusedAt}
 use Rattle.wire_num.proofs.Refused.{refused}
 
@@ -24,6 +24,30 @@ shorter_body = row (Body Packed) (3 ∷ 7 ∷ 8 ∷ []) (7 ∷ 8 ∷ []) refl
 pub longer_body : Row (Body Packed) (1 ∷ 7 ∷ 8 ∷ []) (7 ∷ 8 ∷ [])
 unfolding exactly_at
 longer_body = row (Body Packed) (1 ∷ 7 ∷ 8 ∷ []) (7 ∷ 8 ∷ []) refl
+
+-- fields in a body: no count; another count than that of the bytes, before the fields are looked at; another byte than seven;
+-- a byte behind the fields, where nothing is to follow
+abbrev counted_seven : Layout
+counted_seven = Exactly Packed ▸ Bytes (7 ∷ []) ▸ End
+
+pub seven_without_count : Row counted_seven (192 ∷ 7 ∷ []) (192 ∷ 7 ∷ [])
+seven_without_count = row counted_seven (192 ∷ 7 ∷ []) (192 ∷ 7 ∷ []) refl
+
+pub seven_of_more : Row counted_seven (2 ∷ 6 ∷ []) (6 ∷ [])
+unfolding exactly_at
+seven_of_more = row counted_seven (2 ∷ 6 ∷ []) (6 ∷ []) refl
+
+pub seven_of_fewer : Row counted_seven (1 ∷ 7 ∷ 8 ∷ []) (7 ∷ 8 ∷ [])
+unfolding exactly_at
+seven_of_fewer = row counted_seven (1 ∷ 7 ∷ 8 ∷ []) (7 ∷ 8 ∷ []) refl
+
+pub six : Row counted_seven (1 ∷ 6 ∷ []) (6 ∷ [])
+unfolding exactly_at
+six = row counted_seven (1 ∷ 6 ∷ []) (6 ∷ []) refl
+
+pub behind_seven : Row counted_seven (2 ∷ 7 ∷ 8 ∷ []) (8 ∷ [])
+unfolding exactly_at
+behind_seven = row counted_seven (2 ∷ 7 ∷ 8 ∷ []) (8 ∷ []) refl
 
 -- content with too few bytes, and with more
 pub shorter_content : Row (Content Basic) (129 ∷ 3 ∷ 7 ∷ 8 ∷ []) (7 ∷ 8 ∷ [])

@@ -5,11 +5,11 @@ use Rattle.std.proofs.lemmas.List.{length-take-le}
 use Rattle.wire_num.specs.FieldValue.{passing_at, end_at, at_least, rest_count_at}
 use Rattle.wire_num.specs.Field.{Read, then_read, map_read, bytes_at, wanted}
 use Rattle.wire_num.specs.Number.{big_at, little_at}
-use Rattle.wire_num.specs.Layout.{count_at, Within, Counted, Length, AtLeast, CountsRest, Little, Big, Any, Bytes, Content, Body, Rest, End, Open, Layout, exactly_at, before, fields_at}
+use Rattle.wire_num.specs.Layout.{Count, count_at, Within, Counted, Length, AtLeast, CountsRest, Little, Big, Any, Bytes, Exactly, Content, Body, Rest, End, Open, Layout, exactly_at, before, fields_at}
 use Rattle.wire_num.specs.Grammar.{IsCount, IsText}
-use Rattle.wire_num.specs.Refusal.{IsSomeCount, IsPassingCount, TooFew, IsRefusedAt}
+use Rattle.wire_num.specs.Refusal.{IsSomeCount, IsPassingCount, TooFew, OtherCount, IsRefusedAt}
 use Rattle.wire_num.proofs.Steps.{then_ok, map_ok}
-use Rattle.wire_num.proofs.ReadIsText.{bytes_ok, passing_ok, wanted_ok, end_ok, at_least_ok, rest_count_ok, count_ok, regroup, before_ok, read_is_text}
+use Rattle.wire_num.proofs.ReadIsText.{bytes_ok, passing_ok, wanted_ok, end_ok, exactly_ok, at_least_ok, rest_count_ok, count_ok, regroup, before_ok, read_is_text}
 use Rattle.wire_num.proofs.TextIsRead.{exactly_again}
 use Rattle.wire_num.proofs.Missing.{both, missing, bytes_err, end_err, at_least_err, exactly_err, IsWanted, IsSkipped, IsBig, IsLittle, CountsMore, IsTested}
 use Rattle.wire_num.proofs.Missing.{wanted_exact, bytes_exact, big_exact, little_exact, rest_count_exact, count_exact, passing_count_exact}
@@ -51,6 +51,12 @@ few IsCountOf bytes count rest left n is whole e =
     let s = bytes_err n rest left e in
     (count, n, is, whole ∙ ap (λ xs. count ++ xs) s.1, subst (λ xs. length xs < n) s.1 s.0)
 
+-- another number of bytes stands behind a count
+other : (form : Count) (bytes count rest left : List ℕ) (n : ℕ) → IsCount form count n → bytes ≡ count ++ rest → exactly_at n rest ≡ Err left → OtherCount form bytes left
+other form bytes count rest left n is whole e =
+    let l = exactly_err n rest left e in
+    (count, n, is, whole ∙ ap (λ xs. count ++ xs) l, λ size. both (exactly_at n rest) (rest, []) left (ap (λ k. exactly_at k rest) (sym (ap length l ∙ size)) ∙ exactly_again rest) e)
+
 -- counted bytes, and those behind them
 record Parts (IsCountOf : List ℕ → ℕ → Type 0) (bytes count content after : List ℕ) : Type 0 where
   is : IsCountOf count (length content)
@@ -87,15 +93,7 @@ refused (Body form) bytes left e =
       | inr p ↦
           let v = p.0 in
           let c = count_ok form bytes v p.1 in
-          let x : exactly_at v.0 v.1 ≡ Err left = map_err (λ _. v.0 ∷ []) (exactly_at v.0 v.1) left p.2 in
-          let l = exactly_err v.0 v.1 left x in
-          inr (
-            c.0,
-            v.0,
-            c.1,
-            c.2 ∙ ap (λ xs. c.0 ++ xs) l,
-            λ size. both (exactly_at v.0 v.1) (v.1, []) left (ap (λ n. exactly_at n v.1) (sym (ap length l ∙ size)) ∙ exactly_again v.1) x,
-          )
+          inr (other form bytes c.0 v.1 left v.0 c.1 c.2 (map_err (λ _. v.0 ∷ []) (exactly_at v.0 v.1) left p.2))
     ]
 refused (Content form) bytes left e =
     elim (step (count_at form bytes) (λ n rest. then_read (bytes_at n rest) (λ _ after. map_read (λ _. n ∷ []) (end_at after))) left e) [
@@ -110,6 +108,19 @@ refused (Content form) bytes left e =
                 let t = parts (IsCount form) bytes c.0 v.1 w.0 w.1 v.0 c.1 c.2 q.1 in
                 let s = end_err w.1 left (map_err (λ _. v.0 ∷ []) (end_at w.1) left q.2) in
                 inr (inr (c.0, w.0, t.is, t.whole ∙ ap (λ xs. c.0 ++ (w.0 ++ xs)) s.1, subst (λ xs. 0 < length xs) s.1 s.0))
+          ]
+    ]
+refused (Exactly form next) bytes left e =
+    elim (step (count_at form bytes) (λ n rest. then_read (exactly_at n rest) (λ content _. fields_at next content)) left e) [
+      | inl h ↦ inl (missing (IsSomeCount form) (count_at form) (count_exact form) bytes left h)
+      | inr p ↦
+          let v = p.0 in
+          let c = count_ok form bytes v p.1 in
+          elim (step (exactly_at v.0 v.1) (λ content _. fields_at next content) left p.2) [
+            | inl h ↦ inr (inl (other form bytes c.0 v.1 left v.0 c.1 c.2 h))
+            | inr q ↦
+                let x = exactly_ok v.0 v.1 q.0 q.1 in
+                inr (inr (c.0, v.1, subst (IsCount form c.0) (sym x.0) c.1, c.2, refused next v.1 left (ap (fields_at next) x.2 ∙ q.2)))
           ]
     ]
 refused (Bytes ws next) bytes left e =

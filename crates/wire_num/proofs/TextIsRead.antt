@@ -13,7 +13,7 @@ use Rattle.byteorder.specs.Endian.{big_number, little_number}
 use Rattle.wire_num.specs.FieldValue.{as_one_field, passing_at, end_at, at_least, rest_count_at}
 use Rattle.wire_num.specs.Field.{Read, then_read, map_read, bytes_at, wanted}
 use Rattle.wire_num.specs.Length.{per_len_at, ber_len_at}
-use Rattle.wire_num.specs.Layout.{Layout, Open, End, Rest, Body, Content, Bytes, Any, Big, Little, CountsRest, AtLeast, Length, Counted, Within, Count, OneByte, Packed, Basic, count_at, exactly_at, before, fields_at}
+use Rattle.wire_num.specs.Layout.{Layout, Open, End, Rest, Body, Content, Exactly, Bytes, Any, Big, Little, CountsRest, AtLeast, Length, Counted, Within, Count, OneByte, Packed, Basic, count_at, exactly_at, before, fields_at}
 use Rattle.wire_num.specs.Grammar.{IsOneByte, IsPacked, IsBasic, IsCount, IsText}
 use Rattle.wire_num.proofs.Steps.{not_short, counts}
 
@@ -147,6 +147,13 @@ text_is_read (Content form) bytes values left p =
     (count_again form count size content p.2)
     (then_again (bytes_at size content) content [] (λ _ after. map_read (λ _. size ∷ []) (end_at after)) (got (size ∷ []) []) (bytes_all content) (ap (map_read (λ _. size ∷ [])) end_again))
     ∙ same_answer (size ∷ []) values [] left (sym p.4) (sym p.5)
+text_is_read (Exactly form next) bytes values left p =
+    let count = p.0 in let content = p.1 in
+    let size = length content in
+    ap (fields_at (Exactly form next)) p.3
+    ∙ then_again (count_at form (count ++ content)) size content (λ n rest. then_read (exactly_at n rest) (λ xs _. fields_at next xs)) (got values left)
+    (count_again form count size content p.2)
+    (then_again (exactly_at size content) content [] (λ xs _. fields_at next xs) (got values left) (exactly_again content) (text_is_read next content values left p.4))
 text_is_read (Bytes ws next) bytes values left p =
     ap (fields_at (Bytes ws next)) p.1
     ∙ then_again (wanted ws (ws ++ p.0)) [] p.0 (λ _ rest. fields_at next rest) (got values left) (wanted_again ws p.0) (text_is_read next p.0 values left p.2)

@@ -23,6 +23,8 @@ pub data Layout : Type 0 where
   Body : Count → Layout
   -- a count of the bytes to the end; fewer are refused at their first byte, more at the first one left over
   Content : Count → Layout
+  -- a count of the bytes to the end, and fields in them; another count is refused at their first byte
+  Exactly : Count → Layout → Layout
   -- exactly these bytes
   Bytes : List ℕ → Layout → Layout
   -- so many bytes of any value
@@ -68,6 +70,8 @@ fields_at (Body form) bs =
     then_read (count_at form bs) (λ n rest. map_read (λ _. n ∷ []) (exactly_at n rest))
 fields_at (Content form) bs =
     then_read (count_at form bs) (λ n rest. then_read (bytes_at n rest) (λ _ after. map_read (λ _. n ∷ []) (end_at after)))
+fields_at (Exactly form next) bs =
+    then_read (count_at form bs) (λ n rest. then_read (exactly_at n rest) (λ content _. fields_at next content))
 fields_at (Bytes ws next) bs = then_read (wanted ws bs) (λ _ rest. fields_at next rest)
 fields_at (Any n next) bs = then_read (bytes_at n bs) (λ _ rest. fields_at next rest)
 fields_at (Big n test next) bs =

@@ -1,7 +1,7 @@
 -- Where a text is refused, apart from reading: the fields before that place stand there, and the next one doesn't.
 use Rattle.std.specs.Prelude.{◌≡◌, ◌<◌, ◌≤◌, ◌⊎◌, ℕ, Bool, true, List, [], ◌∷◌, ◌++◌, length}
 use Rattle.byteorder.specs.Endian.{big_number, little_number}
-use Rattle.wire_num.specs.Layout.{Layout, Open, End, Rest, Body, Content, Bytes, Any, Big, Little, CountsRest, AtLeast, Length, Counted, Within, Count}
+use Rattle.wire_num.specs.Layout.{Layout, Open, End, Rest, Body, Content, Exactly, Bytes, Any, Big, Little, CountsRest, AtLeast, Length, Counted, Within, Count}
 use Rattle.wire_num.specs.Grammar.{IsCount, IsText}
 
 -- No text of a field is at the front of the bytes, and the place is their first byte. Which texts a field has is told with
@@ -20,10 +20,14 @@ IsSomeCount form text more = (n : ℕ) × IsCount form text n
 abbrev pub IsPassingCount : Count → (ℕ → Bool) → List ℕ → ℕ → Type 0
 IsPassingCount form test text n = IsCount form text n × (test n ≡ true)
 
+-- a count stands there, and then another number of bytes to the end: the place is the first of these
+abbrev pub OtherCount : Count → List ℕ → List ℕ → Type 0
+OtherCount form bytes left = (count : List ℕ) × (n : ℕ) × IsCount form count n × (bytes ≡ count ++ left) × (length left ≡ n → ⊥)
+
 -- These bytes are no text of the layout. Left are those from the place on at which its first field that isn't there should
 -- stand: from this field's first byte, from the end where so many bytes aren't there, and for a count with what it counts
 --   from the count, where none stands there or it fails its test;
---   from the first byte behind it, where too few are there;
+--   from the first byte behind it, where too few are there, or more where it counts all to the end;
 --   within it from the first byte of the field there that isn't there, or that is left over.
 abbrev pub IsRefusedAt : Layout → List ℕ → List ℕ → Type 0
 IsRefusedAt Open bytes left = ⊥
@@ -31,11 +35,15 @@ IsRefusedAt End bytes left = (0 < length bytes) × (left ≡ bytes)
 IsRefusedAt Rest bytes left = ⊥
 IsRefusedAt (Body form) bytes left =
     Missing (IsSomeCount form) bytes left
-    ⊎ ((count : List ℕ) × (n : ℕ) × IsCount form count n × (bytes ≡ count ++ left) × (length left ≡ n → ⊥))
+    ⊎ OtherCount form bytes left
 IsRefusedAt (Content form) bytes left =
     Missing (IsSomeCount form) bytes left
     ⊎ (TooFew (IsCount form) bytes left
     ⊎ ((count : List ℕ) × (content : List ℕ) × IsCount form count (length content) × (bytes ≡ count ++ (content ++ left)) × (0 < length left)))
+IsRefusedAt (Exactly form next) bytes left =
+    Missing (IsSomeCount form) bytes left
+    ⊎ (OtherCount form bytes left
+    ⊎ ((count : List ℕ) × (content : List ℕ) × IsCount form count (length content) × (bytes ≡ count ++ content) × IsRefusedAt next content left))
 IsRefusedAt (Bytes ws next) bytes left =
     Missing (λ text more. text ≡ ws) bytes left
     ⊎ ((more : List ℕ) × (bytes ≡ ws ++ more) × IsRefusedAt next more left)
