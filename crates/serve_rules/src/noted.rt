@@ -3,7 +3,7 @@ use crate::{ConnEnd, Places};
 
 /// What the read side has noted of the client's stream.
 #[derive(Drop)]
-pub struct Told {
+pub struct Noted {
     /// The places of the connection's entries so far.
     pub places: Places,
     /// The client has left.

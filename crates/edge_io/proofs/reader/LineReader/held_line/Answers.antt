@@ -1,8 +1,8 @@
 use Rattle.std.proofs.Common.{◌<◌, length, ap, arith}
 use Rattle.edge_io.specs.Reading.{ahead}
 use Rattle.edge_io.proofs.FindLemmas.{finds_ended, finds_long}
-use Rattle.script_run.proofs.Finding.{ahead_kept}
-use Rattle.script_run.proofs.reader.LineReader.held_line.Goals as goal
+use Rattle.edge_io.proofs.FindLemmas.{ahead_kept}
+use Rattle.edge_io.proofs.reader.LineReader.held_line.Goals as goal
 
 pub returns-in-Some-clause-found : goal.returns-in-Some-clause-found
 returns-in-Some-clause-found c = λ left.

@@ -4,8 +4,8 @@ use Rattle.edge_io.specs.Reading.{ahead}
 use Rattle.edge_io.proofs.BufferLemmas.{keeps_trans}
 use Rattle.edge_io.proofs.LineLemmas.{is_feed}
 use Rattle.edge_io.proofs.FindLemmas.{finds_last, finds_kept}
-use Rattle.script_run.proofs.Finding.{finds_later}
-use Rattle.script_run.proofs.reader.LineReader.read_line.Goals as goal
+use Rattle.edge_io.proofs.FindLemmas.{finds_later}
+use Rattle.edge_io.proofs.reader.LineReader.read_line.Goals as goal
 use Rattle.std.proofs.lemmas.Grind.{common_steps}
 
 pub returns-in-Some-clause-found : goal.returns-in-Some-clause-found

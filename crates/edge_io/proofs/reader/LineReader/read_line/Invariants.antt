@@ -2,7 +2,7 @@ use Rattle.std.proofs.Common.{◌≡◌, ◌-◌, ◌≤◌, length, position, N
 use Rattle.std.specs.Prelude.{◌==◌}
 use Rattle.std.specs.Io.KnownBytes.{Keeps}
 use Rattle.edge_io.specs.Reading.{ahead}
-use Rattle.script_run.proofs.reader.LineReader.read_line.Given as goal
+use Rattle.edge_io.proofs.reader.LineReader.read_line.Given as goal
 
 abbrev pub invariant-loop-self : goal.invariant-loop-self
 invariant-loop-self g l = record {
