@@ -11,7 +11,7 @@ use crate::patterns::{checkered, shaded};
 use crate::reaction::Reacted;
 use crate::shapes::unclipped;
 use draw_ops::{Brush, Image, Shape};
-use px_core::{Rect, Size};
+use px_core::{Rect, whole};
 use std::alloc::Global;
 
 /// The scan codes of F1 to F5.
@@ -175,17 +175,5 @@ impl Board {
         let mut board = *self;
         board.is_image_loaded = true;
         Ok(Reacted { board, drawings })
-    }
-}
-
-/// The rectangle of a whole picture.
-fn whole(size: Size) -> Rect
-    ensures { result ≡ whole size }
-{
-    Rect {
-        x: 0,
-        y: 0,
-        w: size.w,
-        h: size.h,
     }
 }

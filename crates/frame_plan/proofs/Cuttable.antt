@@ -28,7 +28,7 @@ use Rattle.frame_laws.proofs.Journals.{between_sound}
 use Rattle.frame_shows.proofs.SentKeeps.{GoodShape}
 use Rattle.frame_shows.proofs.SoundGood.{good_of}
 use Rattle.frame_shows.proofs.TextRect.{IsNear, text_near}
-use Rattle.frame_plan.specs.Cuts.{IsPlacedClip, ReadsPlaced, CanMove, IsCuttable, AllCuttable}
+use Rattle.frame_plan.specs.Cuts.{ReadsPlaced, CanMove, IsCuttable, AllCuttable}
 use Rattle.frame_plan.proofs.Cutting.{inside_placed}
 
 -- ---- rectangles

@@ -1,4 +1,3 @@
-pub mod Lengths
 pub mod Distinct
 pub mod Serving
 pub mod Turns

@@ -10,7 +10,7 @@ use Rattle.px_core.specs.Rectangle.{boxed, whole, common, common_length, has_pix
 use Rattle.px_core.specs.Tiles.{Tiles, all_tiles, tile_rect, tile_on, tiles_of, any_shared, share_tile, picture_tiles}
 use Rattle.px_core.specs.TileFlags.{EndsBelow}
 use Rattle.px_core.proofs.Stretches.{int_le_from}
-use Rattle.frame_plan.proofs.Lengths.{nat_of_is}
+use Rattle.px_core.proofs.Lengths.{nat_of_is}
 
 -- the whole picture with itself
 whole_length : (n : ℕ) → common_length (pos 0) n (pos 0) n ≡ n

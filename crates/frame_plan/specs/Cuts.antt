@@ -2,15 +2,10 @@
 use Rattle.std.specs.Prelude.{◌≡◌, ⊤, true, Option, Some, None, List, [], ◌∷◌}
 use Rattle.px_core.specs.declared.surface.Size.{Size}
 use Rattle.px_core.specs.declared.rectangle.Rect.{Rect}
-use Rattle.px_core.specs.Rectangle.{boxed, is_inside, IsPlaced}
+use Rattle.px_core.specs.Rectangle.{boxed, is_inside, IsPlaced, IsPlacedClip}
 use Rattle.draw_ops.specs.declared.shape.Shape.{Shape}
 use Rattle.draw_ops.specs.declared.shape.Shape.TheVariants.{Fill, Dst, Pat, Copy, Blit, Blit3, Text, Line, Save, Restore, LoadImage, LoadBrush, LoadGlyph}
 use Rattle.session_rules.specs.Pending.{Pending}
-
--- a clip that calls may be given
-abbrev pub IsPlacedClip : Option Rect → Type 0
-IsPlacedClip None = ⊤
-IsPlacedClip (Some clip) = IsPlaced clip
 
 -- the rectangle that a shape's order reads is one that calls may be given
 abbrev pub ReadsPlaced : Shape → Type 0

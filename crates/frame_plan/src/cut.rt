@@ -5,9 +5,8 @@ ghost use Rattle.frame_rules.specs.Cautious.{area_of, changes_nothing, moved, cu
 ghost use Rattle.frame_plan.specs.Cuts.{IsCuttable, IsWalkableAs, NearSource};
 ghost use Rattle.frame_plan.specs.Cutting.{cut_with};
 
-use crate::area::{clipped, common, whole};
 use draw_ops::{Drawing, Shape};
-use px_core::{Rect, Size, has_pixel};
+use px_core::{Rect, Size, clipped, common, has_pixel, whole};
 use session_core::SeenDrawing;
 
 /// The code of the raster operation that leaves every pixel as it was.

@@ -11,12 +11,11 @@ ghost use Rattle.frame_plan.specs.Walks.{HasGoneOver, HasWalkedAll};
 ghost use Rattle.frame_plan.specs.Planning.{planned_as, HasPlanned};
 ghost use Rattle.frame_plan.specs.declared.taken.Taken.TheVariants.{Nothing};
 
-use crate::area::whole;
 use crate::quiet::quiet_end;
 use crate::tiles::{lend_tiles, tiles_due};
 use crate::walk::Walker;
 use crate::{Desk, Orders, OutOfMemory, Take, Taken, TakenTile};
-use px_core::{Size, TileSet};
+use px_core::{Size, TileSet, whole};
 use save_plan::Blocks;
 use session_core::Session;
 use std::alloc::Global;

@@ -1,7 +1,6 @@
 //! The plan of a frame: which pending drawings of a session go to a viewer as orders, and which tiles go as bitmaps (profile).
 #![tactic(auto)]
 
-mod area;
 mod cut;
 mod desk;
 mod frame;
@@ -24,5 +23,4 @@ pub use support::{image_cache, run_cache};
 pub use take::Take;
 pub use taken::Taken;
 pub use tile::TakenTile;
-pub use tiles::tile_on;
 pub use wire_num::OutOfMemory;

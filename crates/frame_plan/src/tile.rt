@@ -3,15 +3,12 @@ ghost use Rattle.std.specs.Prelude.{◌≡◌, ◌≤◌, ◌==◌, is_some, len
 ghost use Rattle.frame_plan.specs.TileParts.{part_of_tile};
 
 use crate::OutOfMemory;
-use px_core::{Rect, Size};
+use px_core::{Rect, Size, TILE_SIDE};
 use session_core::Tile;
 use std::alloc::Global;
 use std::marker::Model;
 use std::sync::Arc;
 use surface_parts::cut_pixels;
-
-/// The columns, and the rows, of a tile.
-pub(crate) const TILE_SIDE: u32 = 64;
 
 /// A tile that goes as a bitmap: its number, the sides in pixels of its part on the picture, and a handle of the session's own tile.
 ///

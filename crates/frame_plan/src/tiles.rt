@@ -6,16 +6,10 @@ ghost use Rattle.px_core.specs.TileFlags.{tiles};
 ghost use Rattle.frame_plan.specs.Takes.{tile_taken};
 ghost use Rattle.frame_plan.specs.TileParts.{picture_by, IsOnPicture};
 
-use crate::area::{common, whole};
-use crate::tile::TILE_SIDE;
 use crate::{OutOfMemory, TakenTile};
-use px_core::{Rect, Size, TileSet, has_pixel};
+use px_core::{Size, TILE_SIDE, TILES_IN_ROW, TileSet, has_pixel, tile_on};
 use session_core::Session;
 use std::alloc::Global;
-use touch_marks::tile_rect;
-
-/// The number of tiles in a row.
-const TILES_IN_ROW: u32 = 32;
 
 /// The numbers of the tiles that are dirty or asked for, ascending.
 pub(crate) fn tiles_due(
@@ -91,13 +85,4 @@ fn tile_numbers(size: Size) -> u32
     ensures few { result ≤ 1024 }
 {
     TILES_IN_ROW * ((size.h + (TILE_SIDE - 1)) / TILE_SIDE)
-}
-
-/// The part of a tile that lies on a picture; a side is 0 where none does.
-pub fn tile_on(size: Size, tile: u32) -> Rect
-    requires size { IsTrue (is_session_size size.w size.h) }
-    requires tile { tile < 1024 }
-    ensures { result ≡ tile_on size tile }
-{
-    common(tile_rect(tile), whole(size))
 }

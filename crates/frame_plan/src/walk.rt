@@ -9,13 +9,12 @@ ghost use Rattle.frame_rules.specs.Frame.{walked, walked_pending, sent_if, skipp
 ghost use Rattle.frame_plan.specs.Cuts.{IsWalkable, IsCuttable, AllCuttable};
 ghost use Rattle.frame_plan.specs.Walks.{walk_of, HasDecided, HasGone, HasGoneOver, HasJumped, IsBegun};
 
-use crate::area::{clipped, whole};
 use crate::cut::{cut, is_cut};
 use crate::support::{supports_image, supports_text};
 use crate::{Orders, OutOfMemory};
 use caps_sets::Confirmed;
 use draw_ops::Shape;
-use px_core::{Rect, Size, TileSet};
+use px_core::{Rect, Size, TileSet, clipped, whole};
 use save_plan::{Blocks, PlaceFault};
 use session_core::{SeenDrawing, SeenDrawings, Session};
 use std::alloc::Global;

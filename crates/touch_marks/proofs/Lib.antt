@@ -1,4 +1,3 @@
-pub mod Lengths
 pub mod Noting
 pub mod Adding
 pub mod Entries

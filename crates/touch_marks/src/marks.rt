@@ -7,18 +7,13 @@ ghost use Rattle.draw_ops.specs.Fits.{broken_rule};
 ghost use Rattle.touch_marks.specs.Marking.{unmarked, marks_in, noted, past};
 ghost use Rattle.touch_marks.specs.Touching.{saves_into};
 
-use crate::area::{clipped, tile_rect};
-use crate::stretch::{Stretch, touched};
 use draw_ops::{Drawing, OutOfMemory, Shape};
-use px_core::{Rect, Size, TileSet};
+use px_core::{
+    Rect, Size, TILES, TILES_IN_ROW, TileSet, TileStretch, clipped, tile_rect, touched_columns,
+    touched_rows,
+};
 use std::alloc::Global;
 use std::marker::Model;
-
-/// The number of tiles, which is that of the greatest picture's.
-const TILES: u32 = 1_024;
-
-/// The number of tiles in a row.
-const TILES_IN_ROW: usize = 32;
 
 /// How many slots of saved blocks drawings may name.
 const SLOTS: u8 = 16;
@@ -75,8 +70,8 @@ impl Marks {
         ensures tiles { marks_in self.new.tiles ≡ noted (tiles_of s r) number (marks_in self.old.tiles) }
         ensures slots { self.new.slots ≡ self.old.slots }
     {
-        let columns = touched(r.x, r.w, s.w);
-        let rows = touched(r.y, r.h, s.h);
+        let columns = touched_columns(r, s);
+        let rows = touched_rows(r, s);
         note_rows(self.tiles.as_mut_slice(), rows, columns, number);
     }
 
@@ -119,7 +114,7 @@ impl Marks {
 }
 
 /// Notes the tiles of some columns in some rows.
-fn note_rows(numbers: &mut [u64], rows: Stretch, columns: Stretch, number: u64)
+fn note_rows(numbers: &mut [u64], rows: TileStretch, columns: TileStretch, number: u64)
     requires count { length numbers.old ≡ 1024 }
     requires rows { rows.from ≤ rows.end }
     requires low { rows.end ≤ 32 }
@@ -133,7 +128,7 @@ fn note_rows(numbers: &mut [u64], rows: Stretch, columns: Stretch, number: u64)
 }
 
 /// Notes the tiles of some columns in a row.
-fn note_row(numbers: &mut [u64], row: usize, columns: Stretch, number: u64)
+fn note_row(numbers: &mut [u64], row: usize, columns: TileStretch, number: u64)
     requires count { length numbers.old ≡ 1024 }
     requires row { row < 32 }
     requires ordered { columns.from ≤ columns.end }
@@ -141,6 +136,6 @@ fn note_row(numbers: &mut [u64], row: usize, columns: Stretch, number: u64)
     ensures { marks_in numbers.new ≡ noted (row_tiles row columns.from columns.end) number (marks_in numbers.old) }
 {
     for column in columns.from..columns.end {
-        numbers[TILES_IN_ROW * row + column] = number;
+        numbers[TILES_IN_ROW as usize * row + column] = number;
     }
 }

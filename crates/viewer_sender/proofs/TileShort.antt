@@ -1,7 +1,10 @@
--- The body of a tile's update fits into one packet.
-use Rattle.std.proofs.Common.{◌≡◌, ℕ, ◌*◌, ◌≤◌, List, length, arith}
-use Rattle.std.specs.Prelude.{Bool}
+-- The body of a tile's update fits into one packet, and its number is one of a picture's.
+use Rattle.std.proofs.Common.{◌≡◌, ℕ, ◌*◌, ◌/◌, ◌≤◌, ◌<◌, List, length, arith}
+use Rattle.std.specs.Prelude.{Bool, pos, ◌+ℤ◌, ◌≤ℤ◌}
+use Rattle.std.proofs.lemmas.Int.{ints, clamps}
+use Rattle.px_core.specs.declared.surface.Size.{Size}
 use Rattle.px_core.specs.declared.rectangle.Rect.{Rect}
+use Rattle.px_core.specs.Tiles.{tile_on}
 use Rattle.order_means.specs.WirePixels.{turned_over}
 use Rattle.order_means.specs.UpdateBodies.{tile_body}
 use Rattle.bitmap_upd.specs.Place.{IsUpdated}
@@ -16,3 +19,7 @@ tile_short no_header r pixels u whole =
     let low = u.low in
     let one : r.w * r.h ≤ 64 * r.h = grind (arith, narrow) in
     omega (arith, most, n, whole, one, low)
+
+-- a tile that is updated is one of the greatest picture's
+pub tile_below : (size : Size) (tile : ℕ) → IsUpdated (tile_on size tile) → tile < 1024
+tile_below size tile u = let low = u.bottom in let tall = u.tall in omega (arith, ints, clamps, low, tall)

@@ -21,14 +21,8 @@ use crate::plain::put_fill;
 use crate::updates::Updates;
 use crate::writer::FrameWriter;
 use frame_plan::{Take, TakenTile};
-use px_core::{Rect, Size, meet};
+use px_core::{Rect, Size, tile_on, whole};
 use std::alloc::Global;
-
-/// The columns, and the rows, of a tile (profile).
-const TILE_SIDE: u32 = 64;
-
-/// How many tiles a row of tiles has (profile).
-const TILES_IN_ROW: u32 = 32;
 
 /// The packets of a take's frame.
 pub(crate) fn write_frame(
@@ -133,36 +127,6 @@ fn put_tile(
             let pixels = tile.copied_pixels(alloc)?;
             updates.put_tile(alloc, r, pixels.as_slice(), no_header)
         }
-    }
-}
-
-/// The rectangle of a tile on a picture, of which it has a pixel.
-fn tile_on(size: Size, tile: u32) -> Rect
-    requires size { IsTrue (is_session_size size.w size.h) }
-    requires place { IsUpdated (tile_on size tile) }
-    ensures { result ≡ tile_on size tile }
-{
-    let cell = Rect {
-        x: (TILE_SIDE * (tile % TILES_IN_ROW)) as i32,
-        y: (TILE_SIDE * (tile / TILES_IN_ROW)) as i32,
-        w: TILE_SIDE,
-        h: TILE_SIDE,
-    };
-    match meet(cell, whole(size)) {
-        Some(r) => r,
-        None => cell,
-    }
-}
-
-/// The rectangle of a whole picture.
-fn whole(size: Size) -> Rect
-    ensures { result ≡ whole size }
-{
-    Rect {
-        x: 0,
-        y: 0,
-        w: size.w,
-        h: size.h,
     }
 }
 

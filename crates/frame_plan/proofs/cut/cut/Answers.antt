@@ -12,4 +12,4 @@ returns-clause-walkable c =
     let some : has_pixel (area_of c.args.size p) ≡ true = search rules in
     let shape : cut_to (area_of c.args.size p) p.drawing.shape ≡ Some c.in_ok-shape.shape = search rules in
     cut_walkable c.args.size p (cut_as c.in_ok-shape.shape p c.common-area.result) c.in_ok-shape.shape c.requires.size some c.requires.shape
-    (subst IsPlaced area c.common-area.ensures.placed) c.requires.cuttable.source shape (ap (cut_as c.in_ok-shape.shape p) area)
+    (subst IsPlaced area (c.common-area.ensures.placed (c.whole.ensures.placed c.requires.size) (c.clipped.ensures.placed (search rules) (search rules)))) c.requires.cuttable.source shape (ap (cut_as c.in_ok-shape.shape p) area)

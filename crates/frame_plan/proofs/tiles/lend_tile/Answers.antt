@@ -9,8 +9,8 @@ use Rattle.frame_plan.specs.TileParts.{part_of_tile, picture_by}
 use Rattle.frame_plan.proofs.TileParts.{part_is, tile_on_wide, tile_on_high}
 use Rattle.frame_plan.proofs.tiles.lend_tile.Goals as goal
 
-pub tile_on-part-requires-clause-tile : goal.tile_on-part-requires-clause-tile
-tile_on-part-requires-clause-tile c = let s = c.args.session.now in tile_below s.head.size (whole s.head.size) c.args.tile (small_session s.head.size c.recall_legal.ensures.size) c.requires
+pub tile_on-part-requires : goal.tile_on-part-requires
+tile_on-part-requires c = let s = c.args.session.now in tile_below s.head.size (whole s.head.size) c.args.tile (small_session s.head.size c.recall_legal.ensures.size) c.requires
 
 pub new-requires-clause-wide : goal.new-requires-clause-wide
 new-requires-clause-wide c = subst (λ (r : Rect). r.w ≤ 64) (sym c.tile_on-part.ensures) (tile_on_wide c.size.result c.args.tile)
