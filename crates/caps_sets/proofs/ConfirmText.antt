@@ -13,6 +13,7 @@ use Rattle.wire_num.proofs.Refused.{refused}
 use Rattle.wire_num.proofs.RefusalIsRead.{refusal_is_read}
 use Rattle.wire_num.proofs.Place.{Ends, at_once, moved, text_end}
 use Rattle.wire_num.proofs.Place as places
+use Rattle.px_core.specs.declared.depth.Depth.{Depth}
 use Rattle.caps_sets.specs.declared.confirmed.Confirmed.{Confirmed}
 use Rattle.caps_sets.specs.declared.sets_so_far.SetsSoFar.{SetsSoFar}
 use Rattle.caps_sets.specs.declared.caps_fault.CapsFault.{CapsFault}
@@ -106,11 +107,11 @@ one_count source bs values more t =
     let n = little_number 2 numbers.0 in
     (n, numbers.6 ∙ ap (λ xs. n ∷ xs) numbers.7.4.0)
 
-abbrev sets_of : List ℕ → List ℕ → Read Confirmed
-sets_of counts sets = map_read confirmed_together (sets_at (slice_index counts 0) before_sets sets)
+abbrev sets_of : Depth → List ℕ → List ℕ → Read Confirmed
+sets_of depth counts sets = map_read confirmed_together (sets_at (slice_index counts 0) (before_sets depth) sets)
 
-abbrev counts_of : List ℕ → List ℕ → Read Confirmed
-counts_of lengths more = then_read (fields_at (confirm_counts (slice_index lengths 0)) more) sets_of
+abbrev counts_of : Depth → List ℕ → List ℕ → Read Confirmed
+counts_of depth lengths more = then_read (fields_at (confirm_counts (slice_index lengths 0)) more) (sets_of depth)
 
 -- the same of equal values
 at_values : (f : List ℕ → Read Confirmed) (r : Read Confirmed) (xs ys : List ℕ) → xs ≡ ys → f xs ≡ r → f ys ≡ r
@@ -118,10 +119,10 @@ at_values f r xs ys e h = sym (ap f e) ∙ h
 
 -- ---- a PDU that was read
 
-to_confirm : (bs described counted lengths counts : List ℕ) (source n : ℕ) (y : SetsSoFar × List ℕ)
+to_confirm : (depth : Depth) (bs described counted lengths counts : List ℕ) (source n : ℕ) (y : SetsSoFar × List ℕ)
     → IsText confirm_lengths bs lengths described → lengths ≡ source ∷ [] → IsText (confirm_counts source) described counts counted → counts ≡ n ∷ []
-    → SetsRead n before_sets counted y → IsConfirmActive bs (confirmed_together y.0)
-to_confirm bs described counted lengths counts source n y l s k m r = record {
+    → SetsRead n (before_sets depth) counted y → IsConfirmActive depth bs (confirmed_together y.0)
+to_confirm depth bs described counted lengths counts source n y l s k m r = record {
   source = source;
   described = described;
   sets = r.sets;
@@ -130,30 +131,30 @@ to_confirm bs described counted lengths counts source n y l s k m r = record {
   lengths = subst (λ xs. IsText confirm_lengths bs xs described) s l;
   counts = subst (λ xs. IsText (confirm_counts source) described xs counted) (m ∙ ap (λ i. i ∷ []) (sym r.many)) k;
   each = r.stand;
-  says = ap confirmed_together r.says ∙ last_ones_count r.sets;
+  says = ap confirmed_together r.says ∙ last_ones_count depth r.sets;
 }
 
-confirm_ok : (bs : List ℕ) (y : Confirmed × List ℕ) → confirm_at bs ≡ Ok y → IsConfirmActive bs y.0
+confirm_ok : (depth : Depth) (bs : List ℕ) (y : Confirmed × List ℕ) → confirm_at depth bs ≡ Ok y → IsConfirmActive depth bs y.0
 unfolding confirm_at
-confirm_ok bs y e =
-    let a = then_ok (fields_at confirm_lengths bs) counts_of y e in
+confirm_ok depth bs y e =
+    let a = then_ok (fields_at confirm_lengths bs) (counts_of depth) y e in
     let lengths = read_is_text confirm_lengths bs a.0.0 a.0.1 a.1 in
     let s = one_length bs a.0.0 a.0.1 lengths in
-    let b = then_ok (fields_at (confirm_counts s.0) a.0.1) sets_of y (at_values (λ xs. counts_of xs a.0.1) (Ok y) a.0.0 (s.0 ∷ []) s.1 a.2) in
+    let b = then_ok (fields_at (confirm_counts s.0) a.0.1) (sets_of depth) y (at_values (λ xs. counts_of depth xs a.0.1) (Ok y) a.0.0 (s.0 ∷ []) s.1 a.2) in
     let counts = read_is_text (confirm_counts s.0) a.0.1 b.0.0 b.0.1 b.1 in
     let k = one_count s.0 a.0.1 b.0.0 b.0.1 counts in
-    let m = map_ok confirmed_together (sets_at k.0 before_sets b.0.1) y (at_values (λ xs. sets_of xs b.0.1) (Ok y) b.0.0 (k.0 ∷ []) k.1 b.2) in
-    let r = sets_ok k.0 before_sets b.0.1 m.0 m.1 in
-    subst (IsConfirmActive bs) m.2 (to_confirm bs a.0.1 b.0.1 a.0.0 b.0.0 s.0 k.0 m.0 lengths s.1 counts k.1 r)
+    let m = map_ok confirmed_together (sets_at k.0 (before_sets depth) b.0.1) y (at_values (λ xs. sets_of depth xs b.0.1) (Ok y) b.0.0 (k.0 ∷ []) k.1 b.2) in
+    let r = sets_ok k.0 (before_sets depth) b.0.1 m.0 m.1 in
+    subst (IsConfirmActive depth bs) m.2 (to_confirm depth bs a.0.1 b.0.1 a.0.0 b.0.0 s.0 k.0 m.0 lengths s.1 counts k.1 r)
 
-confirm_again : (bs : List ℕ) (c : Confirmed) (is : IsConfirmActive bs c) → confirm_at bs ≡ Ok (c, is.after)
+confirm_again : (depth : Depth) (bs : List ℕ) (c : Confirmed) (is : IsConfirmActive depth bs c) → confirm_at depth bs ≡ Ok (c, is.after)
 unfolding confirm_at
-confirm_again bs c is =
-    then_again (fields_at confirm_lengths bs) (is.source ∷ []) is.described counts_of (Ok (c, is.after))
+confirm_again depth bs c is =
+    then_again (fields_at confirm_lengths bs) (is.source ∷ []) is.described (counts_of depth) (Ok (c, is.after))
     (text_is_read confirm_lengths bs (is.source ∷ []) is.described is.lengths)
-    (then_again (fields_at (confirm_counts is.source) is.described) (length is.sets ∷ []) is.counted sets_of (Ok (c, is.after))
+    (then_again (fields_at (confirm_counts is.source) is.described) (length is.sets ∷ []) is.counted (sets_of depth) (Ok (c, is.after))
     (text_is_read (confirm_counts is.source) is.described (length is.sets ∷ []) is.counted is.counts)
-    (ap (map_read confirmed_together) (sets_again is.sets before_sets is.counted is.after is.each) ∙ ap (λ d. Ok (d, is.after)) (last_ones_count is.sets ∙ sym is.says)))
+    (ap (map_read confirmed_together) (sets_again is.sets (before_sets depth) is.counted is.after is.each) ∙ ap (λ d. Ok (d, is.after)) (last_ones_count depth is.sets ∙ sym is.says)))
 
 -- ---- a PDU that is refused
 
@@ -176,42 +177,42 @@ to_fault : (bs described counted left : List ℕ) (source n : ℕ) → Lengths b
 to_fault bs described counted left source n l k r =
     inr (inr (source, described, n, counted, r.sets, r.rest, l, k, r.stand, r.fewer, r.bad))
 
-confirm_err : (bs left : List ℕ) → confirm_at bs ≡ Err left → HasFault bs left
+confirm_err : (depth : Depth) (bs left : List ℕ) → confirm_at depth bs ≡ Err left → HasFault bs left
 unfolding confirm_at
-confirm_err bs left e =
-    elim (then_err (fields_at confirm_lengths bs) counts_of left e) [
+confirm_err depth bs left e =
+    elim (then_err (fields_at confirm_lengths bs) (counts_of depth) left e) [
       | inl h ↦ inl (refused confirm_lengths bs left h)
       | inr a ↦
           let described = a.0.1 in
           let s = one_length bs a.0.0 described (read_is_text confirm_lengths bs a.0.0 described a.1) in
           let lengths = lengths_are bs a.0.0 described s.0 (read_is_text confirm_lengths bs a.0.0 described a.1) s.1 in
-          elim (then_err (fields_at (confirm_counts s.0) described) sets_of left (at_values (λ xs. counts_of xs described) (no_sets left) a.0.0 (s.0 ∷ []) s.1 a.2)) [
+          elim (then_err (fields_at (confirm_counts s.0) described) (sets_of depth) left (at_values (λ xs. counts_of depth xs described) (no_sets left) a.0.0 (s.0 ∷ []) s.1 a.2)) [
             | inl h ↦ inr (inl (s.0, described, lengths, refused (confirm_counts s.0) described left h))
             | inr b ↦
                 let text = read_is_text (confirm_counts s.0) described b.0.0 b.0.1 b.1 in
                 let k = one_count s.0 described b.0.0 b.0.1 text in
                 to_fault bs described b.0.1 left s.0 k.0 lengths (counts_are s.0 described b.0.0 b.0.1 k.0 text k.1)
-                (sets_err k.0 before_sets b.0.1 left
-                (map_err confirmed_together (sets_at k.0 before_sets b.0.1) left (at_values (λ xs. sets_of xs b.0.1) (no_sets left) b.0.0 (k.0 ∷ []) k.1 b.2)))
+                (sets_err k.0 (before_sets depth) b.0.1 left
+                (map_err confirmed_together (sets_at k.0 (before_sets depth) b.0.1) left (at_values (λ xs. sets_of depth xs b.0.1) (no_sets left) b.0.0 (k.0 ∷ []) k.1 b.2)))
           ]
     ]
 
-confirm_bad : (bs left : List ℕ) → HasFault bs left → confirm_at bs ≡ no_sets left
+confirm_bad : (depth : Depth) (bs left : List ℕ) → HasFault bs left → confirm_at depth bs ≡ no_sets left
 unfolding confirm_at
-confirm_bad bs left fault =
+confirm_bad depth bs left fault =
     elim fault [
-      | inl h ↦ ap (λ r. then_read r counts_of) (refusal_is_read confirm_lengths bs left h)
+      | inl h ↦ ap (λ r. then_read r (counts_of depth)) (refusal_is_read confirm_lengths bs left h)
       | inr f ↦ elim f [
         | inl p ↦
-            then_again (fields_at confirm_lengths bs) (p.0 ∷ []) p.1 counts_of (no_sets left)
+            then_again (fields_at confirm_lengths bs) (p.0 ∷ []) p.1 (counts_of depth) (no_sets left)
             (text_is_read confirm_lengths bs (p.0 ∷ []) p.1 p.2)
-            (ap (λ r. then_read r sets_of) (refusal_is_read (confirm_counts p.0) p.1 left p.3))
+            (ap (λ r. then_read r (sets_of depth)) (refusal_is_read (confirm_counts p.0) p.1 left p.3))
         | inr p ↦
-            then_again (fields_at confirm_lengths bs) (p.0 ∷ []) p.1 counts_of (no_sets left)
+            then_again (fields_at confirm_lengths bs) (p.0 ∷ []) p.1 (counts_of depth) (no_sets left)
             (text_is_read confirm_lengths bs (p.0 ∷ []) p.1 p.6)
-            (then_again (fields_at (confirm_counts p.0) p.1) (p.2 ∷ []) p.3 sets_of (no_sets left)
+            (then_again (fields_at (confirm_counts p.0) p.1) (p.2 ∷ []) p.3 (sets_of depth) (no_sets left)
             (text_is_read (confirm_counts p.0) p.1 (p.2 ∷ []) p.3 p.7)
-            (ap (map_read confirmed_together) (sets_bad p.2 p.4 before_sets p.3 p.5 left p.9 p.8 p.10)))
+            (ap (map_read confirmed_together) (sets_bad p.2 p.4 (before_sets depth) p.3 p.5 left p.9 p.8 p.10)))
       ]
     ]
 
@@ -259,16 +260,16 @@ placed_err : (bs : List ℕ) (r : Read Confirmed) (at : ℕ) → answer bs r ≡
 placed_err bs (Ok v) at e = absurd (let h : ⊥ = cc in h)
 placed_err bs (Err left) at e = let same : place_in bs left ≡ at = cc in (left, refl, same)
 
-pub confirm_is_text : (bs : List ℕ) (c : Confirmed) → confirmed_of bs ≡ Ok c → IsConfirmActive bs c
-confirm_is_text bs c e = let p = placed_ok bs (confirm_at bs) c e in confirm_ok bs (c, p.0) p.1
+pub confirm_is_text : (depth : Depth) (bs : List ℕ) (c : Confirmed) → confirmed_of depth bs ≡ Ok c → IsConfirmActive depth bs c
+confirm_is_text depth bs c e = let p = placed_ok bs (confirm_at depth bs) c e in confirm_ok depth bs (c, p.0) p.1
 
-pub text_is_confirm : (bs : List ℕ) (c : Confirmed) → IsConfirmActive bs c → confirmed_of bs ≡ Ok c
-text_is_confirm bs c is = ap (answer bs) (confirm_again bs c is)
+pub text_is_confirm : (depth : Depth) (bs : List ℕ) (c : Confirmed) → IsConfirmActive depth bs c → confirmed_of depth bs ≡ Ok c
+text_is_confirm depth bs c is = ap (answer bs) (confirm_again depth bs c is)
 
-pub first_fault : (bs : List ℕ) (fault : CapsFault) → confirmed_of bs ≡ Err fault → IsFirstFault bs fault
-first_fault bs (BadCaps at) e =
-    let p = placed_err bs (confirm_at bs) at e in
-    let fault = confirm_err bs p.0 p.1 in
+pub first_fault : (depth : Depth) (bs : List ℕ) (fault : CapsFault) → confirmed_of depth bs ≡ Err fault → IsFirstFault bs fault
+first_fault depth bs (BadCaps at) e =
+    let p = placed_err bs (confirm_at depth bs) at e in
+    let fault = confirm_err depth bs p.0 p.1 in
     let h = fault_end bs p.0 fault in
     record {
       front = h.0;
@@ -278,7 +279,7 @@ first_fault bs (BadCaps at) e =
       fault = fault;
     }
 
-pub fault_is_told : (bs : List ℕ) (fault : CapsFault) → IsFirstFault bs fault → confirmed_of bs ≡ Err fault
-fault_is_told bs (BadCaps at) f =
+pub fault_is_told : (depth : Depth) (bs : List ℕ) (fault : CapsFault) → IsFirstFault bs fault → confirmed_of depth bs ≡ Err fault
+fault_is_told depth bs (BadCaps at) f =
     let place : place_in bs f.left ≡ at = omega (arith, ap length f.whole, length-append f.front f.left, f.place) in
-    ap (answer bs) (confirm_bad bs f.left f.fault) ∙ ap (λ k. Err (BadCaps k)) place
+    ap (answer bs) (confirm_bad depth bs f.left f.fault) ∙ ap (λ k. Err (BadCaps k)) place

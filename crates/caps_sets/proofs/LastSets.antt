@@ -1,6 +1,7 @@
 -- Sets that count one after the other come to what the last ones of each kind say.
 use Rattle.std.proofs.Common.{◌≡◌, ℕ, cond, List, [], ◌∷◌, map, refl, ap, ◌∙◌}
 use Rattle.std.specs.Prelude.{filter}
+use Rattle.px_core.specs.declared.depth.Depth.{Depth}
 use Rattle.caps_sets.specs.declared.confirmed.Confirmed.{Confirmed}
 use Rattle.caps_sets.specs.declared.sets_so_far.SetsSoFar.{SetsSoFar}
 use Rattle.caps_sets.specs.declared.set_kind.SetKind.{SetKind}
@@ -31,6 +32,9 @@ confirmed_over c sets = record {
   bitmaps = last_says BitmapCache says_bitmaps c.bitmaps sets;
   glyphs = last_says GlyphCache says_glyphs c.glyphs sets;
   cautious = last_says General says_cautious c.cautious sets;
+  depth = c.depth;
+  fast = c.fast;
+  pointers = c.pointers;
 }
 
 abbrev over : SetsSoFar → List Set → SetsSoFar
@@ -58,6 +62,9 @@ confirmed_first first c set sets = record {
   bitmaps = says_first first BitmapCache says_bitmaps c.bitmaps set sets;
   glyphs = says_first first GlyphCache says_glyphs c.glyphs set sets;
   cautious = says_first first General says_cautious c.cautious set sets;
+  depth = c.depth;
+  fast = c.fast;
+  pointers = c.pointers;
 }
 
 abbrev over_first : SetKind → SetsSoFar → Set → List Set → SetsSoFar
@@ -76,5 +83,5 @@ all_count : (sets : List Set) (s : SetsSoFar) → with_sets sets s ≡ over s se
 all_count [] s = refl
 all_count (set ∷ sets) s = all_count sets (with_set (kind_in set) set.content s) ∙ one_more (kind_in set) s set sets
 
-pub last_ones_count : (sets : List Set) → confirmed_together (with_sets sets before_sets) ≡ said_by sets
-last_ones_count sets = ap confirmed_together (all_count sets before_sets)
+pub last_ones_count : (depth : Depth) (sets : List Set) → confirmed_together (with_sets sets (before_sets depth)) ≡ said_by depth sets
+last_ones_count depth sets = ap confirmed_together (all_count sets (before_sets depth))

@@ -2,6 +2,7 @@
 use Rattle.std.proofs.Common.{◌≡◌, ℕ, List, [], ◌∷◌, ◌++◌, replicate, refl, true}
 use Rattle.std.specs.Prelude.{Ok, Err}
 use Rattle.wire_num.specs.FieldValue.{passing_at}
+use Rattle.px_core.specs.declared.depth.Depth.TheVariants.{Bits24, Bits16}
 use Rattle.caps_sets.specs.declared.caps_fault.CapsFault.TheVariants.{BadCaps}
 use Rattle.caps_sets.specs.Confirmed.{plain, full}
 use Rattle.caps_sets.specs.CapabilitySets.{says_bitmaps, says_glyphs, nothing}
@@ -49,102 +50,107 @@ abbrev five_sets : ℕ → ℕ → List ℕ
 five_sets first last =
     set 1 first (replicate 20 0) ++ (rectangles ++ (bitmap_caches (replicate 12 0) ++ (brush 0 ++ glyph_caches last (replicate 40 0) 0)))
 
-sample : confirmed_of (start 6 ++ (five_sets 24 52 ++ pointer 10)) ≡ Ok plain
+sample : confirmed_of Bits24 (start 6 ++ (five_sets 24 52 ++ pointer 10)) ≡ Ok plain
 unfolding confirm_at confirm_lengths confirm_counts set_at set_header with_content_of passing_at says_bitmaps says_glyphs
 sample = refl
 
 -- what preset `full` confirms, in another order, with sets that aren't read
-all_orders : confirmed_of (start 7 ++ (glyph_caches 52 (254 ∷ 0 ∷ 4 ∷ 0 ∷ 254 ∷ 0 ∷ 4 ∷ 0 ∷ 254 ∷ 0 ∷ 8 ∷ 0 ∷ 254 ∷ 0 ∷ 8 ∷ 0 ∷ 254 ∷ 0 ∷ 16 ∷ 0 ∷ 254 ∷ 0 ∷ 32 ∷ 0 ∷ 254 ∷ 0 ∷ 64 ∷ 0 ∷ 254 ∷ 0 ∷ 128 ∷ 0 ∷ 254 ∷ 0 ∷ 0 ∷ 1 ∷ 64 ∷ 0 ∷ 0 ∷ 8 ∷ []) 2
+all_orders : confirmed_of Bits24 (start 7 ++ (glyph_caches 52 (254 ∷ 0 ∷ 4 ∷ 0 ∷ 254 ∷ 0 ∷ 4 ∷ 0 ∷ 254 ∷ 0 ∷ 8 ∷ 0 ∷ 254 ∷ 0 ∷ 8 ∷ 0 ∷ 254 ∷ 0 ∷ 16 ∷ 0 ∷ 254 ∷ 0 ∷ 32 ∷ 0 ∷ 254 ∷ 0 ∷ 64 ∷ 0 ∷ 254 ∷ 0 ∷ 128 ∷ 0 ∷ 254 ∷ 0 ∷ 0 ∷ 1 ∷ 64 ∷ 0 ∷ 0 ∷ 8 ∷ []) 2
     ++ (brush 1 ++ (pointer 10 ++ (set 14 4 [] ++ (bitmap_caches (120 ∷ 0 ∷ 0 ∷ 3 ∷ 120 ∷ 0 ∷ 0 ∷ 12 ∷ 80 ∷ 1 ∷ 0 ∷ 48 ∷ []) ++ (order 10 (1 ∷ 1 ∷ 1 ∷ 1 ∷ 1 ∷ []) 1 1 4 ++ general 4))))))) ≡ Ok full
 unfolding confirm_at confirm_lengths confirm_counts set_at set_header with_content_of passing_at says_bitmaps says_glyphs
 all_orders = refl
 
 -- frame markers, by flags that say that they are valid; brushes of level 2; any byte but 0 is an order
-marked : confirmed_of (start 2 ++ (order 128 (9 ∷ 0 ∷ 0 ∷ 0 ∷ 0 ∷ []) 0 0 255 ++ brush 2)) ≡ Ok (record nothing { dst = true; marker = true; brush = true })
+marked : confirmed_of Bits24 (start 2 ++ (order 128 (9 ∷ 0 ∷ 0 ∷ 0 ∷ 0 ∷ []) 0 0 255 ++ brush 2)) ≡ Ok (record (nothing Bits24) { dst = true; marker = true; brush = true })
 unfolding confirm_at confirm_lengths confirm_counts set_at set_header with_content_of passing_at
 marked = refl
 
-level_three : confirmed_of (start 1 ++ brush 3) ≡ Ok nothing
+level_three : confirmed_of Bits24 (start 1 ++ brush 3) ≡ Ok (nothing Bits24)
 unfolding confirm_at confirm_lengths confirm_counts set_at set_header with_content_of passing_at
 level_three = refl
 
 -- the last one counts, as a whole
-repeated : confirmed_of (start 4 ++ (order 8 (1 ∷ 1 ∷ 1 ∷ 1 ∷ 1 ∷ []) 1 1 0 ++ (general 4 ++ (rectangles ++ general 251)))) ≡ Ok plain
+repeated : confirmed_of Bits24 (start 4 ++ (order 8 (1 ∷ 1 ∷ 1 ∷ 1 ∷ 1 ∷ []) 1 1 0 ++ (general 4 ++ (rectangles ++ general 251)))) ≡ Ok plain
 unfolding confirm_at confirm_lengths confirm_counts set_at set_header with_content_of passing_at
 repeated = refl
 
 -- ---- a client that states a protocol version is cautious, and takes brushes by level 2 alone, in either order of the sets
 
-cautious : confirmed_of (start 1 ++ versioned 0 2) ≡ Ok (record nothing { cautious = true })
+cautious : confirmed_of Bits24 (start 1 ++ versioned 0 2) ≡ Ok (record (nothing Bits24) { cautious = true })
 unfolding confirm_at confirm_lengths confirm_counts set_at set_header with_content_of passing_at
 cautious = refl
 
-lowest_version : confirmed_of (start 1 ++ versioned 1 0) ≡ Ok (record nothing { cautious = true })
+lowest_version : confirmed_of Bits24 (start 1 ++ versioned 1 0) ≡ Ok (record (nothing Bits24) { cautious = true })
 unfolding confirm_at confirm_lengths confirm_counts set_at set_header with_content_of passing_at
 lowest_version = refl
 
-cautious_level_one : confirmed_of (start 2 ++ (versioned 0 2 ++ brush 1)) ≡ Ok (record nothing { cautious = true })
+cautious_level_one : confirmed_of Bits24 (start 2 ++ (versioned 0 2 ++ brush 1)) ≡ Ok (record (nothing Bits24) { cautious = true })
 unfolding confirm_at confirm_lengths confirm_counts set_at set_header with_content_of passing_at
 cautious_level_one = refl
 
-level_one_first : confirmed_of (start 2 ++ (brush 1 ++ versioned 0 2)) ≡ Ok (record nothing { cautious = true })
+level_one_first : confirmed_of Bits24 (start 2 ++ (brush 1 ++ versioned 0 2)) ≡ Ok (record (nothing Bits24) { cautious = true })
 unfolding confirm_at confirm_lengths confirm_counts set_at set_header with_content_of passing_at
 level_one_first = refl
 
-cautious_level_two : confirmed_of (start 2 ++ (versioned 0 2 ++ brush 2)) ≡ Ok (record nothing { cautious = true; brush = true })
+cautious_level_two : confirmed_of Bits24 (start 2 ++ (versioned 0 2 ++ brush 2)) ≡ Ok (record (nothing Bits24) { cautious = true; brush = true })
 unfolding confirm_at confirm_lengths confirm_counts set_at set_header with_content_of passing_at
 cautious_level_two = refl
 
 -- the last General set states none
-no_longer_cautious : confirmed_of (start 3 ++ (versioned 0 2 ++ (brush 1 ++ versioned 0 0))) ≡ Ok (record nothing { brush = true })
+no_longer_cautious : confirmed_of Bits24 (start 3 ++ (versioned 0 2 ++ (brush 1 ++ versioned 0 0))) ≡ Ok (record (nothing Bits24) { brush = true })
 unfolding confirm_at confirm_lengths confirm_counts set_at set_header with_content_of passing_at
 no_longer_cautious = refl
 
 -- no set, and bytes that aren't counted
-none_counted : confirmed_of (start 0 ++ general 4) ≡ Ok nothing
+none_counted : confirmed_of Bits24 (start 0 ++ general 4) ≡ Ok (nothing Bits24)
 unfolding confirm_at confirm_lengths confirm_counts passing_at
 none_counted = refl
 
+-- the depth is the viewer's, whatever the sets say
+at_sixteen_bits : confirmed_of Bits16 (start 6 ++ (five_sets 24 52 ++ pointer 10)) ≡ Ok (record plain { depth = Bits16 })
+unfolding confirm_at confirm_lengths confirm_counts set_at set_header with_content_of passing_at says_bitmaps says_glyphs
+at_sixteen_bits = refl
+
 -- ---- refused
 
-short_general : confirmed_of (start 6 ++ (five_sets 23 52 ++ pointer 10)) ≡ Err (BadCaps 18)
+short_general : confirmed_of Bits24 (start 6 ++ (five_sets 23 52 ++ pointer 10)) ≡ Err (BadCaps 18)
 unfolding confirm_at confirm_lengths confirm_counts set_at set_header with_content_of passing_at says_bitmaps says_glyphs
 short_general = refl
 
-short_glyph_cache : confirmed_of (start 6 ++ (five_sets 24 51 ++ pointer 10)) ≡ Err (BadCaps 178)
+short_glyph_cache : confirmed_of Bits24 (start 6 ++ (five_sets 24 51 ++ pointer 10)) ≡ Err (BadCaps 178)
 unfolding confirm_at confirm_lengths confirm_counts set_at set_header with_content_of passing_at says_bitmaps says_glyphs
 short_glyph_cache = refl
 
-short_bitmap : confirmed_of (start 1 ++ set 2 27 (replicate 24 0)) ≡ Err (BadCaps 18)
+short_bitmap : confirmed_of Bits24 (start 1 ++ set 2 27 (replicate 24 0)) ≡ Err (BadCaps 18)
 unfolding confirm_at confirm_lengths confirm_counts set_at set_header with_content_of passing_at
 short_bitmap = refl
 
-no_header : confirmed_of (start 6 ++ (five_sets 24 52 ++ pointer 3)) ≡ Err (BadCaps 230)
+no_header : confirmed_of Bits24 (start 6 ++ (five_sets 24 52 ++ pointer 3)) ≡ Err (BadCaps 230)
 unfolding confirm_at confirm_lengths confirm_counts set_at set_header with_content_of passing_at says_bitmaps says_glyphs
 no_header = refl
 
-past_the_end : confirmed_of (start 6 ++ (five_sets 24 52 ++ pointer 11)) ≡ Err (BadCaps 230)
+past_the_end : confirmed_of Bits24 (start 6 ++ (five_sets 24 52 ++ pointer 11)) ≡ Err (BadCaps 230)
 unfolding confirm_at confirm_lengths confirm_counts set_at set_header with_content_of passing_at says_bitmaps says_glyphs
 past_the_end = refl
 
 -- a set that isn't there, and one of which only the type is
-missing_set : confirmed_of (start 7 ++ (five_sets 24 52 ++ pointer 10)) ≡ Err (BadCaps 240)
+missing_set : confirmed_of Bits24 (start 7 ++ (five_sets 24 52 ++ pointer 10)) ≡ Err (BadCaps 240)
 unfolding confirm_at confirm_lengths confirm_counts set_at set_header with_content_of passing_at says_bitmaps says_glyphs
 missing_set = refl
 
-type_alone : confirmed_of (start 7 ++ (five_sets 24 52 ++ pointer 8)) ≡ Err (BadCaps 240)
+type_alone : confirmed_of Bits24 (start 7 ++ (five_sets 24 52 ++ pointer 8)) ≡ Err (BadCaps 240)
 unfolding confirm_at confirm_lengths confirm_counts set_at set_header with_content_of passing_at says_bitmaps says_glyphs
 type_alone = refl
 
 -- a field before the sets that doesn't fit
-no_bytes : confirmed_of [] ≡ Err (BadCaps 0)
+no_bytes : confirmed_of Bits24 [] ≡ Err (BadCaps 0)
 unfolding confirm_at confirm_lengths
 no_bytes = refl
 
-short_source : confirmed_of (1 ∷ 0 ∷ 0 ∷ 0 ∷ 2 ∷ 0 ∷ 4 ∷ 0 ∷ 0 ∷ 0 ∷ 82 ∷ 68 ∷ 80 ∷ []) ≡ Err (BadCaps 10)
+short_source : confirmed_of Bits24 (1 ∷ 0 ∷ 0 ∷ 0 ∷ 2 ∷ 0 ∷ 4 ∷ 0 ∷ 0 ∷ 0 ∷ 82 ∷ 68 ∷ 80 ∷ []) ≡ Err (BadCaps 10)
 unfolding confirm_at confirm_lengths confirm_counts passing_at
 short_source = refl
 
-no_count : confirmed_of (1 ∷ 0 ∷ 0 ∷ 0 ∷ 2 ∷ 0 ∷ 4 ∷ 0 ∷ 0 ∷ 0 ∷ 82 ∷ 68 ∷ 80 ∷ 0 ∷ 6 ∷ []) ≡ Err (BadCaps 14)
+no_count : confirmed_of Bits24 (1 ∷ 0 ∷ 0 ∷ 0 ∷ 2 ∷ 0 ∷ 4 ∷ 0 ∷ 0 ∷ 0 ∷ 82 ∷ 68 ∷ 80 ∷ 0 ∷ 6 ∷ []) ≡ Err (BadCaps 14)
 unfolding confirm_at confirm_lengths confirm_counts passing_at
 no_count = refl

@@ -3,6 +3,7 @@
 use Rattle.std.specs.Prelude.{ℕ, zero, suc, ◌+◌, ◌-◌, ◌==◌, Bool, false, ◌&&◌, ◌||◌, not, List, [], ◌∷◌, drop, replicate, if◌then◌else◌}
 use Rattle.byteorder.specs.Endian.{little_number}
 use Rattle.wire_num.specs.FieldValue.{has_bits}
+use Rattle.px_core.specs.declared.depth.Depth.{Depth}
 use Rattle.caps_sets.specs.declared.cache_size.CacheSize.{CacheSize}
 use Rattle.caps_sets.specs.declared.confirmed.Confirmed.{Confirmed}
 use Rattle.caps_sets.specs.declared.sets_so_far.SetsSoFar.{SetsSoFar}
@@ -84,9 +85,9 @@ says_glyph_level content = number_in 2 48 content
 
 -- ---- what is confirmed
 
--- what is confirmed without a set
-abbrev pub nothing : Confirmed
-nothing = record {
+-- what is confirmed without a set, by a viewer of this depth
+abbrev pub nothing : Depth → Confirmed
+nothing depth = record {
   dst = false;
   pat = false;
   scr = false;
@@ -102,6 +103,9 @@ nothing = record {
   bitmaps = replicate 3 (sized 0 0);
   glyphs = replicate 10 (sized 0 0);
   cautious = false;
+  depth = depth;
+  fast = false;
+  pointers = 0;
 }
 
 -- the orders of an Order set, in place of those of earlier ones
@@ -119,8 +123,8 @@ with_orders content c = record c {
 }
 
 -- before the first set
-abbrev pub before_sets : SetsSoFar
-before_sets = record { confirmed = nothing; brush_level = 0 }
+abbrev pub before_sets : Depth → SetsSoFar
+before_sets depth = record { confirmed = nothing depth; brush_level = 0 }
 
 -- what a General set says
 abbrev pub with_general : List ℕ → Confirmed → Confirmed

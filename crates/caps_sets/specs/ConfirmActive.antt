@@ -3,6 +3,7 @@ use Rattle.std.specs.Prelude.{ℕ, zero, suc, ◌+◌, ◌-◌, nat_le, ◌&&◌
 use Rattle.wire_num.specs.FieldValue.{is_any, placed}
 use Rattle.wire_num.specs.Layout.{Layout, Open, Any, Little, ◌▸◌, fields_at}
 use Rattle.wire_num.specs.Field.{Read, then_read, map_read, bytes_at}
+use Rattle.px_core.specs.declared.depth.Depth.{Depth}
 use Rattle.caps_sets.specs.declared.confirmed.Confirmed.{Confirmed}
 use Rattle.caps_sets.specs.declared.sets_so_far.SetsSoFar.{SetsSoFar}
 use Rattle.caps_sets.specs.declared.set_kind.SetKind.{SetKind}
@@ -53,12 +54,12 @@ sets_at zero s bs = Ok (s, bs)
 sets_at (suc n) s bs = then_read (set_at s bs) (λ more after. sets_at n more after)
 
 -- what stands before the sets, and as many of them as are counted; what follows them isn't read
-unfoldable pub confirm_at : List ℕ → Read Confirmed
-confirm_at bs =
+unfoldable pub confirm_at : Depth → List ℕ → Read Confirmed
+confirm_at depth bs =
     then_read (fields_at confirm_lengths bs) (λ lengths more.
     then_read (fields_at (confirm_counts (slice_index lengths 0)) more) (λ counts sets.
-    map_read confirmed_together (sets_at (slice_index counts 0) before_sets sets)))
+    map_read confirmed_together (sets_at (slice_index counts 0) (before_sets depth) sets)))
 
--- what a Confirm Active PDU confirms
-abbrev pub confirmed_of : List ℕ → Result Confirmed CapsFault
-confirmed_of bs = placed BadCaps bs (confirm_at bs)
+-- what a Confirm Active PDU of a viewer of this depth confirms
+abbrev pub confirmed_of : Depth → List ℕ → Result Confirmed CapsFault
+confirmed_of depth bs = placed BadCaps bs (confirm_at depth bs)

@@ -2,6 +2,8 @@
 use Rattle.std.specs.Prelude.{ℕ, zero, suc, ◌+◌, Bool, true, false, List, [], ◌∷◌, replicate, slice_set, Option, Some, None, if◌then◌else◌}
 use Rattle.caps_sets.specs.declared.cache_size.CacheSize.{CacheSize}
 use Rattle.caps_sets.specs.declared.confirmed.Confirmed.{Confirmed}
+use Rattle.px_core.specs.declared.depth.Depth.{Depth}
+use Rattle.px_core.specs.declared.depth.Depth.TheVariants.{Bits24}
 
 -- a cache of so many entries, whose greatest cell has so many bytes
 abbrev pub sized : ℕ → ℕ → CacheSize
@@ -25,6 +27,9 @@ plain = record {
   bitmaps = replicate 3 (sized 0 0);
   glyphs = replicate 10 (sized 0 0);
   cautious = false;
+  depth = Bits24;
+  fast = false;
+  pointers = 0;
 }
 
 -- the preset `bare`: all orders, and caches without an entry
@@ -45,6 +50,9 @@ bare = record {
   bitmaps = replicate 3 (sized 0 0);
   glyphs = replicate 10 (sized 0 0);
   cautious = false;
+  depth = Bits24;
+  fast = false;
+  pointers = 0;
 }
 
 -- the preset `full`: all orders, and all caches
@@ -57,6 +65,22 @@ full = record bare {
 -- the preset `marked`: `full`, with frame markers
 abbrev pub marked : Confirmed
 marked = record full { marker = true }
+
+-- ---- what the host's bytes go by
+
+-- the bits of a pixel that a viewer is shown: 24 of each viewer so far
+unfoldable pub depth_of : Confirmed → Depth
+depth_of c = Bits24
+
+-- whether a viewer's updates go in packets of the fast path: no viewer's so far
+unfoldable pub takes_fast : Confirmed → Bool
+takes_fast c = false
+
+-- how many pointers a viewer is told to hold: none so far
+unfoldable pub pointer_cells : Confirmed → ℕ
+pointer_cells c = 0
+
+-- ---- caches of other sizes
 
 -- the same but for one bitmap cache
 abbrev pub with_bitmap_cache : ℕ → CacheSize → Confirmed → Confirmed

@@ -1,7 +1,9 @@
 -- The Demand Active PDU that the host writes ([MS-RDPBCGR] 2.2.1.13.1.1), from its share control header on. Its sets, their order and their values are profile.
 use Rattle.std.specs.Prelude.{ℕ, ◌+◌, Bool, true, false, List, [], ◌∷◌, ◌++◌, length, replicate}
 use Rattle.byteorder.specs.Endian.{little_bytes}
+use Rattle.px_core.specs.declared.depth.Depth.{Depth}
 use Rattle.px_core.specs.declared.surface.Size.{Size}
+use Rattle.px_core.specs.Depth.{bits_in}
 
 -- type; length, with this header; content ([MS-RDPBCGR] 2.2.1.13.1.1.1)
 abbrev pub capability_set : ℕ → List ℕ → List ℕ
@@ -22,10 +24,11 @@ abbrev pub flag : Bool → ℕ
 flag true = 1
 flag false = 0
 
--- preferredBitsPerPixel, 24; receive1BitPerPixel; receive4BitsPerPixel; receive8BitsPerPixel; desktopWidth; desktopHeight; pad2octets; desktopResizeFlag;
+-- preferredBitsPerPixel; receive1BitPerPixel; receive4BitsPerPixel; receive8BitsPerPixel; desktopWidth; desktopHeight; pad2octets; desktopResizeFlag;
 -- bitmapCompressionFlag; highColorFlags; drawingFlags; multipleRectangleSupport; pad2octetsB (2.2.7.1.2)
-abbrev pub bitmap_set : Size → Bool → List ℕ
-bitmap_set size resizes = capability_set 2 (numbers (24 ∷ 1 ∷ 1 ∷ 1 ∷ size.w ∷ size.h ∷ 0 ∷ flag resizes ∷ 1 ∷ []) ++ (0 ∷ 0 ∷ numbers (1 ∷ 0 ∷ [])))
+abbrev pub bitmap_set : Size → Depth → Bool → List ℕ
+bitmap_set size depth resizes =
+    capability_set 2 (numbers (bits_in depth ∷ 1 ∷ 1 ∷ 1 ∷ size.w ∷ size.h ∷ 0 ∷ flag resizes ∷ 1 ∷ []) ++ (0 ∷ 0 ∷ numbers (1 ∷ 0 ∷ [])))
 
 -- orderSupport: DstBlt, PatBlt, ScrBlt, MemBlt, Mem3Blt at 0 to 4, SaveBitmap at 11, GlyphIndex at 27
 abbrev pub order_support : List ℕ
@@ -75,6 +78,6 @@ before_bitmap = demand_header ++ (demand_start ++ general_set)
 unfoldable pub after_bitmap : List ℕ
 after_bitmap = order_set ++ (pointer_set ++ (input_set ++ (virtual_channel_set ++ (share_set ++ (font_set ++ little_bytes 4 0)))))
 
--- the whole, for a picture of this size, to a client that is to take that size for its window or not
-unfoldable pub demand_active : Size → Bool → List ℕ
-demand_active size resizes = before_bitmap ++ (bitmap_set size resizes ++ after_bitmap)
+-- the whole, for a picture of this size, to a client of this depth that is to take that size for its window or not
+unfoldable pub demand_active : Size → Depth → Bool → List ℕ
+demand_active size depth resizes = before_bitmap ++ (bitmap_set size depth resizes ++ after_bitmap)

@@ -1,6 +1,7 @@
 -- What a Confirm Active PDU is, apart from reading: which bytes stand there, and what they confirm.
 use Rattle.std.specs.Prelude.{◌≡◌, ◌≤◌, ℕ, ◌+◌, Bool, true, false, List, [], ◌∷◌, ◌++◌, length, map, filter, replicate}
 use Rattle.wire_num.specs.Grammar.{IsText}
+use Rattle.px_core.specs.declared.depth.Depth.{Depth}
 use Rattle.caps_sets.specs.declared.confirmed.Confirmed.{Confirmed}
 use Rattle.caps_sets.specs.declared.set_kind.SetKind.{SetKind}
 use Rattle.caps_sets.specs.declared.set_kind.SetKind.TheVariants.{General, Bitmap, Order, BitmapCache, Brush, GlyphCache, Other}
@@ -50,9 +51,9 @@ last_or none (x ∷ xs) = last_or x xs
 abbrev pub last_says : {A : Type 0} → SetKind → (List ℕ → A) → A → List Set → A
 last_says kind says none sets = last_or none (map (λ set. says set.content) (filter (λ set. is_same_kind kind (kind_in set)) sets))
 
--- each set's last one counts, and a missing one confirms nothing
-abbrev pub said_by : List Set → Confirmed
-said_by sets = record {
+-- each set's last one counts, and a missing one confirms nothing; the depth is the viewer's
+abbrev pub said_by : Depth → List Set → Confirmed
+said_by depth sets = record {
   dst = last_says Order (says_support 0) false sets;
   pat = last_says Order (says_support 1) false sets;
   scr = last_says Order (says_support 2) false sets;
@@ -68,10 +69,13 @@ said_by sets = record {
   bitmaps = last_says BitmapCache says_bitmaps (replicate 3 (sized 0 0)) sets;
   glyphs = last_says GlyphCache says_glyphs (replicate 10 (sized 0 0)) sets;
   cautious = last_says General says_cautious false sets;
+  depth = depth;
+  fast = false;
+  pointers = 0;
 }
 
 -- the bytes are a Confirm Active PDU: the fields before the sets, and as many sets as these count; any bytes may follow
-pub record IsConfirmActive (bytes : List ℕ) (confirmed : Confirmed) : Type 0 where
+pub record IsConfirmActive (depth : Depth) (bytes : List ℕ) (confirmed : Confirmed) : Type 0 where
   pub source : ℕ
   pub described : List ℕ
   pub sets : List Set
@@ -80,4 +84,4 @@ pub record IsConfirmActive (bytes : List ℕ) (confirmed : Confirmed) : Type 0 w
   pub lengths : IsText confirm_lengths bytes (source ∷ []) described
   pub counts : IsText (confirm_counts source) described (length sets ∷ []) counted
   pub each : AreSets counted sets after
-  pub says : confirmed ≡ said_by sets
+  pub says : confirmed ≡ said_by depth sets

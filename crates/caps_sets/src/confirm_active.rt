@@ -16,6 +16,7 @@
 ghost use Rattle.std.specs.Prelude.{◌≡◌, ◌↔◌, ◌≤◌, ◌+◌, ◌∷◌, [], List, ℕ, length, Ok, Err};
 ghost use Rattle.wire_num.specs.Layout.{fields_at};
 ghost use Rattle.wire_num.specs.Cursor.{rest, ReadsFields, ReadsFieldsAs};
+ghost use Rattle.px_core.specs.declared.depth.Depth.{Depth};
 ghost use Rattle.caps_sets.specs.CapabilitySets.{kind_of, least_length, with_set, with_general, nothing, before_sets, confirmed_together};
 ghost use Rattle.caps_sets.specs.ConfirmActive.{confirm_lengths, confirm_counts, set_header, set_at, sets_at, confirm_at, confirmed_of};
 ghost use Rattle.caps_sets.specs.Grammar.{IsConfirmActive};
@@ -30,6 +31,7 @@ use crate::order_set::with_orders;
 use crate::set_kind::{HEADER_SIZE, SetKind, kind_of, least_length};
 use crate::sets_so_far::SetsSoFar;
 use crate::{BITMAP_CACHES, CacheSize, Caches, Confirmed, GLYPH_CACHES};
+use px_core::Depth;
 use wire_num::{Cursor, Short};
 
 /// The bytes of shareId.
@@ -44,32 +46,33 @@ const NO_CACHE: CacheSize = CacheSize {
     cell: 0,
 };
 
-/// Reads what a Confirm Active PDU confirms, from behind its share control header on ([MS-RDPBCGR] 2.2.1.13.2.1).
-pub fn read_confirm(body: &[u8]) -> Result<Confirmed, CapsFault>
-    ensures { result ≡ confirmed_of body.now }
+/// Reads what a Confirm Active PDU of a viewer of this depth confirms, from behind its share control header on ([MS-RDPBCGR]
+/// 2.2.1.13.2.1).
+pub fn read_confirm(body: &[u8], depth: Depth) -> Result<Confirmed, CapsFault>
+    ensures { result ≡ confirmed_of depth body.now }
 {
     let mut cursor = Cursor::new(body);
-    match read_confirm_active(&mut cursor) {
+    match read_confirm_active(depth, &mut cursor) {
         Ok(confirmed) => Ok(confirmed),
         Err(_) => Err(CapsFault::BadCaps { at: cursor.at() }),
     }
 }
 
 /// The law of Confirm Active PDUs: one is read exactly where its fields and as many sets as they count stand there, and then
-/// confirms what the last set of each kind says. It is refused exactly for the first fault there, at its place.
+/// confirms what the last set of each kind says, at the viewer's depth. It is refused exactly for the first fault there, at its place.
 pub fn confirms_are_read_exactly()
-    ensures exact { (bytes : List ℕ) (confirmed : Confirmed) → (confirmed_of bytes ≡ Ok confirmed) ↔ IsConfirmActive bytes confirmed }
-    ensures refused { (bytes : List ℕ) (fault : CapsFault) → (confirmed_of bytes ≡ Err fault) ↔ IsFirstFault bytes fault }
+    ensures exact { (depth : Depth) (bytes : List ℕ) (confirmed : Confirmed) → (confirmed_of depth bytes ≡ Ok confirmed) ↔ IsConfirmActive depth bytes confirmed }
+    ensures refused { (depth : Depth) (bytes : List ℕ) (fault : CapsFault) → (confirmed_of depth bytes ≡ Err fault) ↔ IsFirstFault bytes fault }
 {}
 
 /// Reads what stands before the sets, and these.
 #[tactic(auto, unfolding(crate::specs::ConfirmActive::confirm_at))]
-fn read_confirm_active(cursor: &mut Cursor<'_>) -> Result<Confirmed, Short>
-    ensures { ReadsFields confirm_at result cursor.old cursor.new }
+fn read_confirm_active(depth: Depth, cursor: &mut Cursor<'_>) -> Result<Confirmed, Short>
+    ensures { ReadsFields (confirm_at depth) result cursor.old cursor.new }
 {
     let source = read_lengths(cursor)?;
     let count = read_counts(source, cursor)?;
-    let sets = read_sets(count, cursor)?;
+    let sets = read_sets(depth, count, cursor)?;
     Ok(confirmed_together(sets))
 }
 
@@ -96,11 +99,11 @@ fn read_counts(source: u16, cursor: &mut Cursor<'_>) -> Result<u16, Short>
     Ok(count)
 }
 
-/// Reads so many sets.
-fn read_sets(count: u16, cursor: &mut Cursor<'_>) -> Result<SetsSoFar, Short>
-    ensures { ReadsFields (sets_at count before_sets) result cursor.old cursor.new }
+/// Reads so many sets of a viewer of this depth.
+fn read_sets(depth: Depth, count: u16, cursor: &mut Cursor<'_>) -> Result<SetsSoFar, Short>
+    ensures { ReadsFields (sets_at count (before_sets depth)) result cursor.old cursor.new }
 {
-    let mut sets = before_sets();
+    let mut sets = before_sets(depth);
     for _ in 0..count {
         sets = read_set(sets, cursor)?;
     }
@@ -193,19 +196,19 @@ fn confirmed_together(sets: SetsSoFar) -> Confirmed
     }
 }
 
-/// Before the first set.
-fn before_sets() -> SetsSoFar
-    ensures { result ≡ before_sets }
+/// Before the first set of a viewer of this depth.
+fn before_sets(depth: Depth) -> SetsSoFar
+    ensures { result ≡ before_sets depth }
 {
     SetsSoFar {
-        confirmed: nothing(),
+        confirmed: nothing(depth),
         brush_level: 0,
     }
 }
 
-/// What is confirmed without a set.
-fn nothing() -> Confirmed
-    ensures { result ≡ nothing }
+/// What is confirmed without a set, by a viewer of this depth.
+fn nothing(depth: Depth) -> Confirmed
+    ensures { result ≡ nothing depth }
 {
     Confirmed {
         dst: false,
@@ -223,5 +226,8 @@ fn nothing() -> Confirmed
         bitmaps: Caches::new([NO_CACHE; BITMAP_CACHES]),
         glyphs: Caches::new([NO_CACHE; GLYPH_CACHES]),
         cautious: false,
+        depth,
+        fast: false,
+        pointers: 0,
     }
 }

@@ -2,6 +2,7 @@
 #![tactic(auto)]
 
 use crate::{Caches3, Caches10};
+use px_core::Depth;
 
 /// What a viewer confirmed, as far as frames depend on it.
 #[derive(Clone, Copy, PartialEq, Eq)]
@@ -37,4 +38,10 @@ pub struct Confirmed {
     /// Whether drawings are cut before they are sent, as for a client that states a protocol version (profile; [MS-RDPBCGR]
     /// 2.2.7.1.1).
     pub cautious: bool,
+    /// The bits of a pixel that it is shown.
+    pub depth: Depth,
+    /// Whether its updates go in packets of the fast path ([MS-RDPBCGR] 2.2.9.1.2).
+    pub fast: bool,
+    /// How many pointers it holds ([MS-RDPBCGR] 2.2.7.1.5).
+    pub pointers: u16,
 }

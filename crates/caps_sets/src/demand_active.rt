@@ -10,7 +10,7 @@
 //! | 18 | 2 | numberCapabilities | 8 |
 //! | 20 | 2 | pad2Octets | 0 |
 //! | 22 | 24 | General Capability Set | refresh and suppression, and packed bitmaps without the compression header (2.2.7.1.1) |
-//! | 46 | 28 | Bitmap Capability Set | 24 bits for each pixel, desktopWidth at 58, desktopHeight at 60, desktopResizeFlag at 64 (2.2.7.1.2) |
+//! | 46 | 28 | Bitmap Capability Set | 24 or 16 bits for each pixel at 50, desktopWidth at 58, desktopHeight at 60, desktopResizeFlag at 64 (2.2.7.1.2) |
 //! | 74 | 88 | Order Capability Set | the seven orders, zero bounds deltas, frame markers (2.2.7.1.3) |
 //! | 162 | 10 | Pointer Capability Set | 25 pointers (2.2.7.1.5) |
 //! | 172 | 88 | Input Capability Set | scan codes, extended mouse events and Unicode (2.2.7.1.6) |
@@ -24,7 +24,7 @@ ghost use Rattle.wire_num.specs.Written.{AppendsFront};
 ghost use Rattle.caps_sets.specs.DemandActive.{flag, bitmap_set, before_bitmap, after_bitmap, demand_active};
 
 use byteorder::{ByteOrder, LittleEndian};
-use px_core::Size;
+use px_core::{Depth, Size, bits_in};
 use wire_num::OutOfMemory;
 
 /// What stands before the Bitmap set.
@@ -35,13 +35,15 @@ const BEFORE_BITMAP: [u8; 46] = [
     1, 0, 24, 0, 1, 0, 3, 0, 0, 2, 0, 0, // General, osMajorType to pad2octetsA
     0, 0, 0, 4, 0, 0, 0, 0, 0, 0, 1, 1, // generalCompressionTypes to suppressOutputSupport
 ];
-/// The Bitmap set; width, height and the resize flag are filled in.
+/// The Bitmap set; depth, width, height and the resize flag are filled in.
 const BITMAP: [u8; 28] = [
-    2, 0, 28, 0, 24, 0, 1, 0, 1, 0, 1, 0, // preferredBitsPerPixel to receive8BitsPerPixel
+    2, 0, 28, 0, 0, 0, 1, 0, 1, 0, 1, 0, // preferredBitsPerPixel to receive8BitsPerPixel
     0, 0, 0, 0, // desktopWidth, desktopHeight
     0, 0, 0, 0, 1, 0, 0, 0, 1, 0, 0, 0, // pad2octets to pad2octetsB
 ];
 /// The places of these in it.
+const PREFERRED_BITS_PER_PIXEL: usize = 4;
+
 const DESKTOP_WIDTH: usize = 12;
 
 const DESKTOP_HEIGHT: usize = 14;
@@ -69,30 +71,35 @@ const AFTER_BITMAP: [u8; 214] = [
     0, 0, 0, 0, // sessionId
 ];
 
-/// Writes a Demand Active PDU for a picture of this size at the end, with a desktopResizeFlag of 0. An `Err` leaves a front of it
-/// there.
-pub fn write_demand(out: &mut Vec<u8>, size: Size) -> Result<(), OutOfMemory>
+/// Writes a Demand Active PDU for a picture of this size at the end, to a viewer of this depth, with a desktopResizeFlag of 0. An
+/// `Err` leaves a front of it there.
+pub fn write_demand(out: &mut Vec<u8>, size: Size, depth: Depth) -> Result<(), OutOfMemory>
     requires wide { size.w ≤ 65535 }
     requires high { size.h ≤ 65535 }
-    ensures ok { OnOk result (out.new.items ≡ out.old.items ++ demand_active size false) }
+    ensures ok { OnOk result (out.new.items ≡ out.old.items ++ demand_active size depth false) }
     ensures size { OnOk result (length out.new.items ≡ length out.old.items + 288) }
-    ensures memory { OnErr result (AppendsFront out.old.items (demand_active size false) out.new.items) }
+    ensures memory { OnErr result (AppendsFront out.old.items (demand_active size depth false) out.new.items) }
 {
-    write_demand_with(out, size, false)
+    write_demand_with(out, size, depth, false)
 }
 
-/// Writes a Demand Active PDU for a picture of this size at the end, with whether the client is to take that size for its window.
-/// An `Err` leaves a front of it there.
+/// Writes a Demand Active PDU for a picture of this size at the end, to a viewer of this depth, with whether the client is to take
+/// that size for its window. An `Err` leaves a front of it there.
 #[tactic(auto, unfolding(crate::specs::DemandActive::demand_active))]
-pub fn write_demand_with(out: &mut Vec<u8>, size: Size, resizes: bool) -> Result<(), OutOfMemory>
+pub fn write_demand_with(
+    out: &mut Vec<u8>,
+    size: Size,
+    depth: Depth,
+    resizes: bool,
+) -> Result<(), OutOfMemory>
     requires wide { size.w ≤ 65535 }
     requires high { size.h ≤ 65535 }
-    ensures ok { OnOk result (out.new.items ≡ out.old.items ++ demand_active size resizes) }
+    ensures ok { OnOk result (out.new.items ≡ out.old.items ++ demand_active size depth resizes) }
     ensures size { OnOk result (length out.new.items ≡ length out.old.items + 288) }
-    ensures memory { OnErr result (AppendsFront out.old.items (demand_active size resizes) out.new.items) }
+    ensures memory { OnErr result (AppendsFront out.old.items (demand_active size depth resizes) out.new.items) }
 {
     put_before(out)?;
-    put_bitmap(out, size, resizes)?;
+    put_bitmap(out, size, depth, resizes)?;
     put_after(out)?;
     Ok(())
 }
@@ -108,13 +115,14 @@ fn put_before(out: &mut Vec<u8>) -> Result<(), OutOfMemory>
 }
 
 /// Writes the Bitmap set.
-fn put_bitmap(out: &mut Vec<u8>, size: Size, resizes: bool) -> Result<(), OutOfMemory>
+fn put_bitmap(out: &mut Vec<u8>, size: Size, depth: Depth, resizes: bool) -> Result<(), OutOfMemory>
     requires wide { size.w ≤ 65535 }
     requires high { size.h ≤ 65535 }
-    ensures ok { OnOk result (out.new.items ≡ out.old.items ++ bitmap_set size resizes) }
-    ensures memory { OnErr result (AppendsFront out.old.items (bitmap_set size resizes) out.new.items) }
+    ensures ok { OnOk result (out.new.items ≡ out.old.items ++ bitmap_set size depth resizes) }
+    ensures memory { OnErr result (AppendsFront out.old.items (bitmap_set size depth resizes) out.new.items) }
 {
     let mut set = BITMAP;
+    LittleEndian::write_u16(&mut set[PREFERRED_BITS_PER_PIXEL..], bits_in(depth));
     LittleEndian::write_u16(&mut set[DESKTOP_WIDTH..], size.w as u16);
     LittleEndian::write_u16(&mut set[DESKTOP_HEIGHT..], size.h as u16);
     LittleEndian::write_u16(&mut set[DESKTOP_RESIZE_FLAG..], flag(resizes));

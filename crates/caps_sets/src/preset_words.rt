@@ -20,6 +20,7 @@ ghost use Rattle.caps_sets.specs.Presets.{presets, preset_named, size_by, with_c
 
 use crate::{BITMAP_CACHES, CacheSize, Caches, Confirmed, GLYPH_CACHES};
 use line_text::{Parts, is_same_word, read_number};
+use px_core::Depth;
 
 /// What separates entries and cell.
 const COMMA: u8 = b',';
@@ -143,6 +144,9 @@ fn plain() -> Confirmed
         bitmaps: Caches::new([NO_CACHE; BITMAP_CACHES]),
         glyphs: Caches::new([NO_CACHE; GLYPH_CACHES]),
         cautious: false,
+        depth: Depth::Bits24,
+        fast: false,
+        pointers: 0,
     }
 }
 
@@ -166,6 +170,9 @@ fn bare() -> Confirmed
         bitmaps: Caches::new([NO_CACHE; BITMAP_CACHES]),
         glyphs: Caches::new([NO_CACHE; GLYPH_CACHES]),
         cautious: false,
+        depth: Depth::Bits24,
+        fast: false,
+        pointers: 0,
     }
 }
 

@@ -1,4 +1,3 @@
-mod Feeds
 mod Writing
 pub mod Lines
 pub mod Cutting

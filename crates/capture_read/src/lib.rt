@@ -3,7 +3,6 @@
 
 mod capture_reader;
 mod digits;
-mod find;
 mod joined;
 mod long_lines;
 mod refusals;

@@ -6,8 +6,7 @@ ghost use Rattle.edge_io.specs.Source.{ReadCause};
 ghost use Rattle.capture_read.specs.Long.{behind, Moves, Refills, MoreCame, Cuts, CutCause};
 
 use crate::OutOfMemory;
-use crate::find::find_byte;
-use edge_io::{Got, Source};
+use edge_io::{Got, Source, find_byte};
 use std::alloc::Global;
 use std::marker::Model;
 

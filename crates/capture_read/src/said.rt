@@ -13,9 +13,9 @@ ghost use Rattle.capture_read.specs.Lines.{Says, meant_by, nobody_line};
 
 use crate::OutOfMemory;
 use crate::digits::{is_bytes_word, read_bytes};
-use crate::find::find_byte;
 use crate::refusals::{is_broken_line, is_nobody_line, is_step_refusal};
 use caps_sets::{Confirmed, preset};
+use edge_io::find_byte;
 use line_text::{is_same_word, read_number};
 use px_core::{Size, is_session_size};
 

@@ -105,5 +105,6 @@ fn remembered(given: ClientData) -> Client
         width: given.asked_width,
         height: given.asked_height,
         build: given.build,
+        depth: given.depth,
     }
 }

@@ -180,7 +180,9 @@ fn welcomed(client: Client, name: Name) -> Answer
         news: News::Step(ConnStep::Named(name)),
         next: Stage::Shares {
             channels: client.channels,
-            phase: SharePhase::Confirm,
+            phase: SharePhase::Confirm {
+                depth: client.depth,
+            },
         },
     }
 }

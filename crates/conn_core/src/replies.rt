@@ -17,7 +17,7 @@ use gcc_per::write_server;
 use info_lic::LICENCE;
 use mcs_ber::write_response;
 use mcs_dom::{write_attach, write_indication, write_join};
-use px_core::Size;
+use px_core::{Depth, Size};
 use share_pdu::{Final, write_final};
 use tpkt_x224::write_confirm;
 use wire_num::OutOfMemory;
@@ -42,7 +42,7 @@ pub fn write_reply(
         Reply::Response { channels, asked } => respond(out, body, channels, asked),
         Reply::Attached { user } => write_attach(out, user),
         Reply::Joined { user, channel } => write_join(out, user, channel),
-        Reply::Welcome(client) => welcome(out, size, body, resizes(size, client)),
+        Reply::Welcome(client) => welcome(out, size, body, client.depth, resizes(size, client)),
         Reply::Final { which, user } => finish(out, body, which, user),
     }
 }
@@ -70,20 +70,21 @@ fn resizes(size: Size, client: Client) -> bool
     client.build != 0 && !(u32::from(client.width) == size.w && u32::from(client.height) == size.h)
 }
 
-/// Writes the licence, and a Demand Active behind it, with whether the client is to take the session's size for its window.
+/// Writes the licence, and a Demand Active to a client of this depth behind it, with whether the client is to take the session's size for its window.
 fn welcome(
     out: &mut Vec<u8>,
     size: Size,
     body: &mut Vec<u8>,
+    depth: Depth,
     resizes: bool,
 ) -> Result<(), OutOfMemory>
     requires wide { size.w ≤ 65535 }
     requires high { size.h ≤ 65535 }
-    ensures ok { OnOk result (out.new.items ≡ out.old.items ++ (send_data_indication licence ++ send_data_indication (demand_active size resizes))) }
-    ensures memory { OnErr result (AppendsFront out.old.items (send_data_indication licence ++ send_data_indication (demand_active size resizes)) out.new.items) }
+    ensures ok { OnOk result (out.new.items ≡ out.old.items ++ (send_data_indication licence ++ send_data_indication (demand_active size depth resizes))) }
+    ensures memory { OnErr result (AppendsFront out.old.items (send_data_indication licence ++ send_data_indication (demand_active size depth resizes)) out.new.items) }
 {
     license(out)?;
-    demand(out, size, body, resizes)?;
+    demand(out, size, body, depth, resizes)?;
     Ok(())
 }
 
@@ -95,20 +96,21 @@ fn license(out: &mut Vec<u8>) -> Result<(), OutOfMemory>
     write_indication(out, &LICENCE)
 }
 
-/// Writes a Demand Active.
+/// Writes a Demand Active to a client of this depth.
 fn demand(
     out: &mut Vec<u8>,
     size: Size,
     body: &mut Vec<u8>,
+    depth: Depth,
     resizes: bool,
 ) -> Result<(), OutOfMemory>
     requires wide { size.w ≤ 65535 }
     requires high { size.h ≤ 65535 }
-    ensures ok { OnOk result (out.new.items ≡ out.old.items ++ send_data_indication (demand_active size resizes)) }
-    ensures memory { OnErr result (AppendsFront out.old.items (send_data_indication (demand_active size resizes)) out.new.items) }
+    ensures ok { OnOk result (out.new.items ≡ out.old.items ++ send_data_indication (demand_active size depth resizes)) }
+    ensures memory { OnErr result (AppendsFront out.old.items (send_data_indication (demand_active size depth resizes)) out.new.items) }
 {
     body.clear();
-    write_demand_with(body, size, resizes)?;
+    write_demand_with(body, size, depth, resizes)?;
     write_indication(out, body)
 }
 

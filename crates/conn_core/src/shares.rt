@@ -12,6 +12,7 @@ use crate::refusals::{BAD_CAPS, BAD_INPUT, BAD_SHARE, COMPRESSED};
 use caps_sets::{CapsFault, Confirmed, read_confirm};
 use conn_rules::{Deed, Refusal, SharePhase};
 use input_pdu::{Event, InputFault, read_events};
+use px_core::Depth;
 use share_pdu::{ClientPdu, Final, ShareFault, read_share};
 
 /// Reads what the share PDU in a body asks for, which begins at a place; none where it isn't expected. `events` is taken for the
@@ -77,12 +78,12 @@ fn confirm_deed(phase: SharePhase, place: usize, fields: &[u8]) -> Result<Option
     ensures { result ≡ confirm_deed phase place fields.now }
 {
     match phase {
-        SharePhase::Confirm => {
-            let confirmed = read_sets(place, fields)?;
+        SharePhase::Confirm { depth } => {
+            let confirmed = read_sets(depth, place, fields)?;
             Ok(Some(Deed::Confirm(confirmed)))
         }
-        SharePhase::Finish { .. } => {
-            read_sets(place, fields)?;
+        SharePhase::Finish { confirmed, .. } => {
+            read_sets(confirmed.depth, place, fields)?;
             Ok(None)
         }
         SharePhase::Ready => Ok(Some(Deed::Nothing)),
@@ -114,7 +115,7 @@ fn plain_deed(phase: SharePhase, pdu: ClientPdu) -> Option<Deed>
     ensures { result ≡ plain_deed phase pdu }
 {
     match phase {
-        SharePhase::Confirm => early_deed(pdu),
+        SharePhase::Confirm { .. } => early_deed(pdu),
         SharePhase::Finish { confirmed, next } => finish_deed(confirmed, next, pdu),
         SharePhase::Ready => ready_deed(pdu),
     }
@@ -200,11 +201,11 @@ fn ready_deed(pdu: ClientPdu) -> Option<Deed>
     }
 }
 
-/// Reads the capability sets of a Confirm Active, whose fields begin at a place.
-fn read_sets(place: usize, fields: &[u8]) -> Result<Confirmed, Refusal>
-    ensures { result ≡ sets_read place (confirmed_of fields.now) }
+/// Reads the capability sets of a Confirm Active of a client of this depth, whose fields begin at a place.
+fn read_sets(depth: Depth, place: usize, fields: &[u8]) -> Result<Confirmed, Refusal>
+    ensures { result ≡ sets_read place (confirmed_of depth fields.now) }
 {
-    match read_confirm(fields) {
+    match read_confirm(fields, depth) {
         Ok(confirmed) => Ok(confirmed),
         Err(CapsFault::BadCaps { at }) => Err(Refusal {
             k: BAD_CAPS,

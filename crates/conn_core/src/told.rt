@@ -44,7 +44,7 @@ fn is_ready(stage: Stage) -> bool
             ..
         } => true,
         Stage::Shares {
-            phase: SharePhase::Confirm,
+            phase: SharePhase::Confirm { .. },
             ..
         } => false,
         Stage::Shares {

@@ -3,6 +3,7 @@ use Rattle.std.proofs.Common.{◌≡◌, ℕ, zero, suc, ◌+◌, Bool, true, fa
 use Rattle.std.specs.Prelude.{nat_le, ◌&&◌, slice_index, Result, Ok, Err}
 use Rattle.wire_num.specs.Field.{Read, then_read, map_read}
 use Rattle.wire_num.specs.Layout.{fields_at}
+use Rattle.px_core.specs.declared.depth.Depth.{Depth}
 use Rattle.caps_sets.specs.declared.confirmed.Confirmed.{Confirmed}
 use Rattle.caps_sets.specs.declared.sets_so_far.SetsSoFar.{SetsSoFar}
 use Rattle.caps_sets.specs.declared.set_kind.SetKind.{SetKind}
@@ -30,8 +31,8 @@ ten content = so_many 10 4 content
 abbrev SoFar : SetsSoFar → Type 0
 SoFar s = HasItsCaches s.confirmed
 
-none_caches : SoFar before_sets
-none_caches = record { bitmaps = refl; glyphs = refl }
+none_caches : (depth : Depth) → SoFar (before_sets depth)
+none_caches depth = record { bitmaps = refl; glyphs = refl }
 
 set_caches : (kind : SetKind) (content : List ℕ) (s : SetsSoFar) → SoFar s → SoFar (with_set kind content s)
 set_caches General content s h = record { bitmaps = h.bitmaps; glyphs = h.glyphs }
@@ -90,20 +91,20 @@ all_caches : (r : Read SetsSoFar) → ReadsSoFar r → ReadsCaches (map_read con
 all_caches (Ok v) h = together_caches v.0 h
 all_caches (Err left) h = tt
 
-abbrev sets_of : List ℕ → List ℕ → Read Confirmed
-sets_of counts sets = map_read confirmed_together (sets_at (slice_index counts 0) before_sets sets)
+abbrev sets_of : Depth → List ℕ → List ℕ → Read Confirmed
+sets_of depth counts sets = map_read confirmed_together (sets_at (slice_index counts 0) (before_sets depth) sets)
 
-counts_caches : (r : Read (List ℕ)) → ReadsCaches (then_read r sets_of)
-counts_caches (Ok v) = all_caches (sets_at (slice_index v.0 0) before_sets v.1) (sets_caches (slice_index v.0 0) before_sets v.1 none_caches)
-counts_caches (Err left) = tt
+counts_caches : (depth : Depth) (r : Read (List ℕ)) → ReadsCaches (then_read r (sets_of depth))
+counts_caches depth (Ok v) = all_caches (sets_at (slice_index v.0 0) (before_sets depth) v.1) (sets_caches (slice_index v.0 0) (before_sets depth) v.1 (none_caches depth))
+counts_caches depth (Err left) = tt
 
-lengths_caches : (r : Read (List ℕ)) → ReadsCaches (then_read r (λ lengths more. then_read (fields_at (confirm_counts (slice_index lengths 0)) more) sets_of))
-lengths_caches (Ok v) = counts_caches (fields_at (confirm_counts (slice_index v.0 0)) v.1)
-lengths_caches (Err left) = tt
+lengths_caches : (depth : Depth) (r : Read (List ℕ)) → ReadsCaches (then_read r (λ lengths more. then_read (fields_at (confirm_counts (slice_index lengths 0)) more) (sets_of depth)))
+lengths_caches depth (Ok v) = counts_caches depth (fields_at (confirm_counts (slice_index v.0 0)) v.1)
+lengths_caches depth (Err left) = tt
 
-confirm_caches : (bs : List ℕ) → ReadsCaches (confirm_at bs)
+confirm_caches : (depth : Depth) (bs : List ℕ) → ReadsCaches (confirm_at depth bs)
 unfolding confirm_at
-confirm_caches bs = lengths_caches (fields_at confirm_lengths bs)
+confirm_caches depth bs = lengths_caches depth (fields_at confirm_lengths bs)
 
 abbrev pub GivesCaches : Result Confirmed CapsFault → Type 0
 GivesCaches (Ok c) = HasItsCaches c
@@ -113,5 +114,5 @@ placed_caches : (fault : ℕ → CapsFault) (bs : List ℕ) (r : Read Confirmed)
 placed_caches fault bs (Ok v) h = h
 placed_caches fault bs (Err left) h = tt
 
-pub confirmed_caches : (bs : List ℕ) → GivesCaches (confirmed_of bs)
-confirmed_caches bs = placed_caches BadCaps bs (confirm_at bs) (confirm_caches bs)
+pub confirmed_caches : (depth : Depth) (bs : List ℕ) → GivesCaches (confirmed_of depth bs)
+confirmed_caches depth bs = placed_caches BadCaps bs (confirm_at depth bs) (confirm_caches depth bs)

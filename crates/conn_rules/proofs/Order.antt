@@ -27,6 +27,7 @@ use Rattle.mcs_dom.specs.DomainPdu.{domain_pdu_of}
 use Rattle.info_lic.specs.declared.info_fault.InfoFault.{InfoFault}
 use Rattle.info_lic.specs.declared.info_fault.InfoFault.TheVariants.{BadInfo}
 use Rattle.info_lic.specs.ClientInfo.{name_of}
+use Rattle.px_core.specs.declared.depth.Depth.{Depth}
 use Rattle.caps_sets.specs.declared.confirmed.Confirmed.{Confirmed}
 use Rattle.caps_sets.specs.declared.caps_fault.CapsFault.{CapsFault}
 use Rattle.caps_sets.specs.declared.caps_fault.CapsFault.TheVariants.{BadCaps}
@@ -243,19 +244,19 @@ joins_suits client user io mcs (Bye reason) = refl
 abbrev DeedOf : SharePhase → Option Deed → Type 0
 DeedOf here None = ⊤
 DeedOf here (Some deed.Nothing) = ⊤
-DeedOf phase.Confirm (Some (deed.Confirm confirmed)) = ⊤
+DeedOf (phase.Confirm depth) (Some (deed.Confirm confirmed)) = ⊤
 DeedOf (phase.Finish before next) (Some (deed.Confirm confirmed)) = ⊥
 DeedOf phase.Ready (Some (deed.Confirm confirmed)) = ⊥
-DeedOf phase.Confirm (Some (deed.Answer confirmed which)) = ⊥
+DeedOf (phase.Confirm depth) (Some (deed.Answer confirmed which)) = ⊥
 DeedOf (phase.Finish before next) (Some (deed.Answer confirmed which)) = ⊤
 DeedOf phase.Ready (Some (deed.Answer confirmed which)) = ⊥
-DeedOf phase.Confirm (Some deed.Tell) = ⊥
+DeedOf (phase.Confirm depth) (Some deed.Tell) = ⊥
 DeedOf (phase.Finish before next) (Some deed.Tell) = ⊥
 DeedOf phase.Ready (Some deed.Tell) = ⊤
-DeedOf phase.Confirm (Some (deed.Suppress stop)) = ⊥
+DeedOf (phase.Confirm depth) (Some (deed.Suppress stop)) = ⊥
 DeedOf (phase.Finish before next) (Some (deed.Suppress stop)) = ⊥
 DeedOf phase.Ready (Some (deed.Suppress stop)) = ⊤
-DeedOf phase.Confirm (Some deed.Shutdown) = ⊥
+DeedOf (phase.Confirm depth) (Some deed.Shutdown) = ⊥
 DeedOf (phase.Finish before next) (Some deed.Shutdown) = ⊥
 DeedOf phase.Ready (Some deed.Shutdown) = ⊤
 
@@ -274,27 +275,27 @@ input_suits : (here : SharePhase) (wanted : Option Deed) (place : ℕ) (r : Resu
 input_suits here wanted place (Ok events) p = p
 input_suits here wanted place (Err at) p = tt
 
-sets_suit : (place : ℕ) (r : Result Confirmed CapsFault) → ReadOf phase.Confirm (bind (sets_read place r) (λ confirmed. Ok (Some (deed.Confirm confirmed))))
-sets_suit place (Ok confirmed) = tt
-sets_suit place (Err (BadCaps at)) = tt
+sets_suit : (depth : Depth) (place : ℕ) (r : Result Confirmed CapsFault) → ReadOf (phase.Confirm depth) (bind (sets_read place r) (λ confirmed. Ok (Some (deed.Confirm confirmed))))
+sets_suit depth place (Ok confirmed) = tt
+sets_suit depth place (Err (BadCaps at)) = tt
 
 sets_again : (before : Confirmed) (next : Final) (place : ℕ) (r : Result Confirmed CapsFault) → ReadOf (phase.Finish before next) (bind (sets_read place r) (λ confirmed. Ok None))
 sets_again before next place (Ok confirmed) = tt
 sets_again before next place (Err (BadCaps at)) = tt
 
 deed_suits : (here : SharePhase) (place : ℕ) (bytes : List ℕ) (p : ClientPdu) → ReadOf here (deed_of here place bytes p)
-deed_suits phase.Confirm place bytes (pdu.Confirm r) = sets_suit _ (confirmed_of (slice_range bytes r.from r.to))
-deed_suits phase.Confirm place bytes pdu.Synchronize = tt
-deed_suits phase.Confirm place bytes pdu.Cooperate = tt
-deed_suits phase.Confirm place bytes pdu.Request = tt
-deed_suits phase.Confirm place bytes pdu.FontList = tt
-deed_suits phase.Confirm place bytes pdu.KeyList = tt
-deed_suits phase.Confirm place bytes (pdu.Input r) = input_suits phase.Confirm _ _ (events_of (slice_range bytes r.from r.to)) tt
-deed_suits phase.Confirm place bytes (pdu.Refresh r) = tt
-deed_suits phase.Confirm place bytes (pdu.Suppress stop) = tt
-deed_suits phase.Confirm place bytes pdu.Shutdown = tt
-deed_suits phase.Confirm place bytes pdu.Other = tt
-deed_suits (phase.Finish before next) place bytes (pdu.Confirm r) = sets_again before next _ (confirmed_of (slice_range bytes r.from r.to))
+deed_suits (phase.Confirm depth) place bytes (pdu.Confirm r) = sets_suit depth _ (confirmed_of depth (slice_range bytes r.from r.to))
+deed_suits (phase.Confirm depth) place bytes pdu.Synchronize = tt
+deed_suits (phase.Confirm depth) place bytes pdu.Cooperate = tt
+deed_suits (phase.Confirm depth) place bytes pdu.Request = tt
+deed_suits (phase.Confirm depth) place bytes pdu.FontList = tt
+deed_suits (phase.Confirm depth) place bytes pdu.KeyList = tt
+deed_suits (phase.Confirm depth) place bytes (pdu.Input r) = input_suits (phase.Confirm depth) _ _ (events_of (slice_range bytes r.from r.to)) tt
+deed_suits (phase.Confirm depth) place bytes (pdu.Refresh r) = tt
+deed_suits (phase.Confirm depth) place bytes (pdu.Suppress stop) = tt
+deed_suits (phase.Confirm depth) place bytes pdu.Shutdown = tt
+deed_suits (phase.Confirm depth) place bytes pdu.Other = tt
+deed_suits (phase.Finish before next) place bytes (pdu.Confirm r) = sets_again before next _ (confirmed_of before.depth (slice_range bytes r.from r.to))
 deed_suits (phase.Finish before next) place bytes pdu.Synchronize = due_suits before before next next final.Synchronize
 deed_suits (phase.Finish before next) place bytes pdu.Cooperate = due_suits before before next next final.Cooperate
 deed_suits (phase.Finish before next) place bytes pdu.Request = due_suits before before next next final.Granted
@@ -327,7 +328,7 @@ abbrev so_far : SharePhase → Progress
 so_far here = progress_of (stage.Shares 0 here)
 
 keeps_phase : (channels : ℕ) (here : SharePhase) → Keeps (so_far here) (stage.Shares channels here)
-keeps_phase channels phase.Confirm = refl
+keeps_phase channels (phase.Confirm depth) = refl
 keeps_phase channels (phase.Finish before next) = refl
 keeps_phase channels phase.Ready = refl
 
@@ -339,19 +340,19 @@ answered_suits channels confirmed final.FontMap = refl
 
 done_suits : (channels : ℕ) (here : SharePhase) (what : Deed) → DeedOf here (Some what) → Suits (so_far here) (done channels here what)
 done_suits channels here deed.Nothing p = keeps_phase channels here
-done_suits channels phase.Confirm (deed.Confirm confirmed) p = refl
+done_suits channels (phase.Confirm depth) (deed.Confirm confirmed) p = refl
 done_suits channels (phase.Finish before next) (deed.Confirm confirmed) p = absurd p
 done_suits channels phase.Ready (deed.Confirm confirmed) p = absurd p
-done_suits channels phase.Confirm (deed.Answer confirmed which) p = absurd p
+done_suits channels (phase.Confirm depth) (deed.Answer confirmed which) p = absurd p
 done_suits channels (phase.Finish before next) (deed.Answer confirmed which) p = answered_suits channels confirmed which
 done_suits channels phase.Ready (deed.Answer confirmed which) p = absurd p
-done_suits channels phase.Confirm deed.Tell p = absurd p
+done_suits channels (phase.Confirm depth) deed.Tell p = absurd p
 done_suits channels (phase.Finish before next) deed.Tell p = absurd p
 done_suits channels phase.Ready deed.Tell p = refl
-done_suits channels phase.Confirm (deed.Suppress stop) p = absurd p
+done_suits channels (phase.Confirm depth) (deed.Suppress stop) p = absurd p
 done_suits channels (phase.Finish before next) (deed.Suppress stop) p = absurd p
 done_suits channels phase.Ready (deed.Suppress stop) p = refl
-done_suits channels phase.Confirm deed.Shutdown p = absurd p
+done_suits channels (phase.Confirm depth) deed.Shutdown p = absurd p
 done_suits channels (phase.Finish before next) deed.Shutdown p = absurd p
 done_suits channels phase.Ready deed.Shutdown p = refl
 
@@ -365,7 +366,7 @@ share_suits channels here mcs user channel body = by_channel_suits (so_far here)
     (judged_suits channels mcs_place user here _ _ (read_suits here _ (body_in mcs body) (share_pdu_of (body_in mcs body))))
 
 leaves_suits : (here : SharePhase) → NewsOf (so_far here) (news.Step step.Bye) Ended
-leaves_suits phase.Confirm = refl
+leaves_suits (phase.Confirm depth) = refl
 leaves_suits (phase.Finish before next) = refl
 leaves_suits phase.Ready = refl
 
@@ -388,7 +389,7 @@ mcs_suits (stage.Initial asked) mcs e same = initial_suits asked mcs_place mcs (
 mcs_suits (stage.Erect client) mcs e same = bind_suits Connecting (pdu_in mcs) _ (λ p. erect_suits client mcs_place p)
 mcs_suits (stage.Attach client) mcs e same = bind_suits Connecting (pdu_in mcs) _ (λ p. attach_suits client mcs_place p)
 mcs_suits (stage.Joins client user io) mcs e same = bind_suits Connecting (pdu_in mcs) _ (λ p. joins_suits client user io mcs p)
-mcs_suits (stage.Shares channels phase.Confirm) mcs e same = bind_suits Connecting (pdu_in mcs) _ (λ p. shares_suits channels phase.Confirm mcs p)
+mcs_suits (stage.Shares channels (phase.Confirm depth)) mcs e same = bind_suits Connecting (pdu_in mcs) _ (λ p. shares_suits channels (phase.Confirm depth) mcs p)
 mcs_suits (stage.Shares channels (phase.Finish before next)) mcs e same = bind_suits Connecting (pdu_in mcs) _ (λ p. shares_suits channels (phase.Finish before next) mcs p)
 mcs_suits (stage.Shares channels phase.Ready) mcs e same = bind_suits Ready (pdu_in mcs) _ (λ p. shares_suits channels phase.Ready mcs p)
 mcs_suits stage.Over mcs e same = absurd (let no : ⊥ = cc in no)
@@ -486,7 +487,7 @@ told_in_order (stage.Initial asked) packet what after o p = early_in_order packe
 told_in_order (stage.Erect client) packet what after o p = early_in_order packet what after p
 told_in_order (stage.Attach client) packet what after o p = early_in_order packet what after p
 told_in_order (stage.Joins client user io) packet what after o p = early_in_order packet what after p
-told_in_order (stage.Shares channels phase.Confirm) packet what after o p = early_in_order packet what after p
+told_in_order (stage.Shares channels (phase.Confirm depth)) packet what after o p = early_in_order packet what after p
 told_in_order (stage.Shares channels (phase.Finish before next)) packet what after o p = early_in_order packet what after p
 told_in_order (stage.Shares channels phase.Ready) packet what after o p = later_in_order packet what after p
 told_in_order stage.Over packet what after o p = absurd p

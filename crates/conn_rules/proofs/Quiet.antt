@@ -39,7 +39,7 @@ IsQuiet (stage.Initial asked) = ⊥
 IsQuiet (stage.Erect client) = ⊥
 IsQuiet (stage.Attach client) = ⊥
 IsQuiet (stage.Joins client user io) = ⊥
-IsQuiet (stage.Shares channels phase.Confirm) = ⊥
+IsQuiet (stage.Shares channels (phase.Confirm depth)) = ⊥
 IsQuiet (stage.Shares channels (phase.Finish confirmed next)) = ⊥
 IsQuiet (stage.Shares channels phase.Ready) = Unit {0}
 IsQuiet stage.Over = Unit {0}
@@ -153,7 +153,7 @@ packet_quiet (stage.Initial asked) h packet q = absurd q
 packet_quiet (stage.Erect client) h packet q = absurd q
 packet_quiet (stage.Attach client) h packet q = absurd q
 packet_quiet (stage.Joins client user io) h packet q = absurd q
-packet_quiet (stage.Shares channels phase.Confirm) h packet q = absurd q
+packet_quiet (stage.Shares channels (phase.Confirm depth)) h packet q = absurd q
 packet_quiet (stage.Shares channels (phase.Finish confirmed next)) h packet q = absurd q
 packet_quiet (stage.Shares channels phase.Ready) h packet q =
     let k : Hearing = record { size = h.size; stage = stage.Shares channels phase.Ready; place = h.place; part = h.part } in
@@ -174,7 +174,7 @@ ready_is_quiet (stage.Initial asked) e = absurd (let no : ⊥ = cc in no)
 ready_is_quiet (stage.Erect client) e = absurd (let no : ⊥ = cc in no)
 ready_is_quiet (stage.Attach client) e = absurd (let no : ⊥ = cc in no)
 ready_is_quiet (stage.Joins client user io) e = absurd (let no : ⊥ = cc in no)
-ready_is_quiet (stage.Shares channels phase.Confirm) e = absurd (let no : ⊥ = cc in no)
+ready_is_quiet (stage.Shares channels (phase.Confirm depth)) e = absurd (let no : ⊥ = cc in no)
 ready_is_quiet (stage.Shares channels (phase.Finish confirmed next)) e = absurd (let no : ⊥ = cc in no)
 ready_is_quiet (stage.Shares channels phase.Ready) e = tt
 ready_is_quiet stage.Over e = absurd (let no : ⊥ = cc in no)

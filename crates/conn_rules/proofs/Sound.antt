@@ -208,7 +208,7 @@ ready_sound pdu.Shutdown = tt
 ready_sound pdu.Other = tt
 
 plain_sound : (here : SharePhase) (p : ClientPdu) → SoundPhase here → SoundDeed (plain_deed here p)
-plain_sound phase.Confirm p h = early_sound p
+plain_sound (phase.Confirm depth) p h = early_sound p
 plain_sound (phase.Finish confirmed next) p h = finish_sound confirmed next p h
 plain_sound phase.Ready p h = ready_sound p
 
@@ -225,9 +225,9 @@ input_sound wanted place (Ok events) p = p
 input_sound wanted place (Err at) p = number 14 (omega arith) (omega arith)
 
 confirm_sound : (here : SharePhase) (place : ℕ) (bytes : List ℕ) (r : Range) → SoundRead (deed_of here place bytes (pdu.Confirm r))
-confirm_sound phase.Confirm place bytes r =
-    let part = slice_range bytes r.from r.to in sets_sound (place_behind place r.from) (confirmed_of part) (confirmed_caches part)
-confirm_sound (phase.Finish before next) place bytes r = sets_again (place_behind place r.from) (confirmed_of (slice_range bytes r.from r.to))
+confirm_sound (phase.Confirm depth) place bytes r =
+    let part = slice_range bytes r.from r.to in sets_sound (place_behind place r.from) (confirmed_of depth part) (confirmed_caches depth part)
+confirm_sound (phase.Finish before next) place bytes r = sets_again (place_behind place r.from) (confirmed_of before.depth (slice_range bytes r.from r.to))
 confirm_sound phase.Ready place bytes r = tt
 
 deed_sound : (here : SharePhase) (place : ℕ) (bytes : List ℕ) (p : ClientPdu) → SoundPhase here → SoundRead (deed_of here place bytes p)
@@ -249,7 +249,7 @@ read_sound here place bytes (Err (BadShare at)) h = number 12 (omega arith) (ome
 read_sound here place bytes (Err (Compressed at)) h = number 13 (omega arith) (omega arith)
 
 sound_at : (channels : ℕ) (here : SharePhase) → SoundPhase here → IsSound (stage.Shares channels here)
-sound_at channels phase.Confirm h = tt
+sound_at channels (phase.Confirm depth) h = tt
 sound_at channels (phase.Finish confirmed next) h = h
 sound_at channels phase.Ready h = tt
 
@@ -301,7 +301,7 @@ mcs_sound (stage.Shares channels here) mcs h =
     bind_sound (domain_pdu_of mcs) (λ p. shares_judged channels here mcs p) (λ p. shares_sound channels here mcs p (phase_of channels here h))
   where
     phase_of : (channels : ℕ) (here : SharePhase) → IsSound (stage.Shares channels here) → SoundPhase here
-    phase_of channels phase.Confirm h = tt
+    phase_of channels (phase.Confirm depth) h = tt
     phase_of channels (phase.Finish confirmed next) h = h
     phase_of channels phase.Ready h = tt
 mcs_sound stage.Over mcs h = (tt, tt)

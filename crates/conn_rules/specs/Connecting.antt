@@ -28,7 +28,7 @@ request_judged (Err fault) = bad_tpdu fault.at
 
 -- what is remembered of client data
 abbrev pub remembered : ClientData → Client
-remembered given = record { channels = given.channels; width = given.asked_width; height = given.asked_height; build = given.build }
+remembered given = record { channels = given.channels; width = given.asked_width; height = given.asked_height; build = given.build; depth = given.depth }
 
 -- client data that begin at a place are answered by the server's
 abbrev pub client_judged : ℕ → ℕ → Result ClientData GccFault → Judged

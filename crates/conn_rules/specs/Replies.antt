@@ -25,5 +25,5 @@ reply_bytes size (Confirm request) = confirm_of request
 reply_bytes size (Response channels asked) = connect_response (create_response channels asked)
 reply_bytes size (Attached user) = attach_user_confirm user
 reply_bytes size (Joined user channel) = channel_join_confirm user channel
-reply_bytes size (Welcome client) = send_data_indication licence ++ send_data_indication (demand_active size (resizes size client))
+reply_bytes size (Welcome client) = send_data_indication licence ++ send_data_indication (demand_active size client.depth (resizes size client))
 reply_bytes size (Final which user) = send_data_indication (final_bytes which user)

@@ -78,7 +78,7 @@ ready_deed pdu.Shutdown = Some deed.Shutdown
 ready_deed pdu.Other = Some deed.Nothing
 
 abbrev pub plain_deed : SharePhase → ClientPdu → Option Deed
-plain_deed phase.Confirm p = early_deed p
+plain_deed (phase.Confirm depth) p = early_deed p
 plain_deed (phase.Finish confirmed next) p = finish_deed confirmed next p
 plain_deed phase.Ready p = ready_deed p
 
@@ -89,10 +89,10 @@ abbrev pub sets_read : ℕ → Result Confirmed CapsFault → Result Confirmed R
 sets_read place (Ok confirmed) = Ok confirmed
 sets_read place (Err (BadCaps at)) = bad_caps (place_behind place at)
 
--- a Confirm Active; after the Font List it isn't read
+-- a Confirm Active of a client of this depth, or of the one that was confirmed before; after the Font List it isn't read
 abbrev pub confirm_deed : SharePhase → ℕ → List ℕ → Result (Option Deed) Refusal
-confirm_deed phase.Confirm place bytes = bind (sets_read place (confirmed_of bytes)) (λ confirmed. Ok (Some (deed.Confirm confirmed)))
-confirm_deed (phase.Finish before next) place bytes = bind (sets_read place (confirmed_of bytes)) (λ confirmed. Ok None)
+confirm_deed (phase.Confirm depth) place bytes = bind (sets_read place (confirmed_of depth bytes)) (λ confirmed. Ok (Some (deed.Confirm confirmed)))
+confirm_deed (phase.Finish before next) place bytes = bind (sets_read place (confirmed_of before.depth bytes)) (λ confirmed. Ok None)
 confirm_deed phase.Ready place bytes = Ok (Some deed.Nothing)
 
 -- an Input PDU, whose body begins at a place: its events are there

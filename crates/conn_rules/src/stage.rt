@@ -2,6 +2,7 @@
 
 use crate::Client;
 use caps_sets::Confirmed;
+use px_core::Depth;
 use share_pdu::Final;
 
 /// What the client is to send next, or how its stream has ended. A client with so many static virtual channels has the user
@@ -45,8 +46,8 @@ pub enum Stage {
 /// Which share PDU is next.
 #[derive(Clone, Copy, PartialEq, Eq)]
 pub enum SharePhase {
-    /// Confirm Active.
-    Confirm,
+    /// Confirm Active, from a client that is shown so many bits of a pixel.
+    Confirm { depth: Depth },
     /// The PDU of the finalisation that this answer is due to, from a client that confirmed this.
     Finish { confirmed: Confirmed, next: Final },
     /// Any: the Font List was answered.

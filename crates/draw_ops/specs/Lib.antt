@@ -5,3 +5,6 @@ pub mod Drawing
 pub mod Ranges
 pub mod StateColors
 pub mod Fits
+pub mod Depths
+pub mod Forms
+pub mod Shapes

@@ -4,6 +4,7 @@
 #![tactic(auto)]
 
 mod brush;
+pub mod depth_laws;
 mod fault;
 mod glyph;
 mod image;

@@ -1,4 +1,4 @@
--- Where a line feed first stands.
+-- Where a byte first stands.
 use Rattle.std.proofs.Common.{◌≡◌, ℕ, ◌<◌, Bool, true, false, cond, List, length, Some, None, position, get_or, refl, sym, arith, ap}
 use Rattle.std.specs.Prelude.{Option, nat_lt, ◌==◌}
 use Rattle.std.specs.List.{position_or_len}

@@ -1,11 +1,12 @@
 -- What a call of a line reader finds.
-use Rattle.std.specs.Prelude.{◌≡◌, ℕ, ◌+◌, ◌<◌, true, false, List, [], length, drop, ⊤}
+use Rattle.std.specs.Prelude.{◌≡◌, ℕ, ◌+◌, ◌<◌, ◌≤◌, ◌==◌, true, false, List, [], length, drop, position, ⊤}
 use Rattle.std.specs.declared.option.Option.{Option}
+use Rattle.std.specs.declared.option.Option.TheVariants.{None}
 use Rattle.std.specs.Io.KnownBytes.{Keeps, IsAtEnd}
 use Rattle.edge_io.specs.Faults.{Rose}
 use Rattle.edge_io.specs.declared.source.Got.{Got}
 use Rattle.edge_io.specs.declared.source.Got.TheVariants as got
-use Rattle.line_text.specs.Lines.{Line, line_bytes, is_past_limits}
+use Rattle.line_text.specs.Lines.{Line, line_bytes, line_limit, is_past_limits}
 use Rattle.edge_io.specs.declared.reader.Found.{Found}
 use Rattle.edge_io.specs.declared.reader.Found.TheVariants as found
 use Rattle.edge_io.specs.Reading.{LineReading, TakesLine, IsPastLimits}
@@ -44,6 +45,10 @@ HandsLine (found.Line ended) old new line = (ended ≡ line.ended) × (new.text 
 HandsLine found.PastLimits old new line = (new ≡ old) × (is_past_limits old.at line ≡ true)
 HandsLine found.End old new line = ⊥
 HandsLine found.Failed old new line = ⊥
+
+-- what a reader holds is a part of a line, and it shows no line any more
+abbrev pub HoldsPart : (old new : LineReading) → Type 0
+HoldsPart old new = (new.at ≡ old.at) × (new.text ≡ []) × (new.held ≡ old.held) × (position (λ b. b == 10) new.held ≡ None) × (length new.held ≤ line_limit)
 
 -- what a reader holds after it has read once more
 abbrev pub Fills : Got → LineReading → LineReading → Type 0

@@ -11,3 +11,4 @@ pub mod Reading
 pub mod Finding
 pub mod Dial
 pub mod PlannedDial
+pub mod Outside

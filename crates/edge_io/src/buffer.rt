@@ -1,7 +1,15 @@
-ghost use Rattle.std.specs.Prelude.{◌≡◌, ◌≤◌, ◌<◌, ◌-◌, length, take, drop, slice_range};
+ghost use Rattle.std.specs.Prelude.{◌≡◌, ◌==◌, ◌≤◌, ◌<◌, ◌-◌, length, take, drop, position, slice_range};
 ghost use Rattle.edge_io.specs.Source.{FitsRoom, Takes, ReadCause};
 
 use crate::{Got, Source};
+use memchr::memchr;
+
+/// Where a byte first stands in a text.
+pub fn find_byte(text: &[u8], byte: u8) -> Option<usize>
+    ensures { result ≡ position (λ b. b == byte) text.now }
+{
+    memchr(byte, text)
+}
 
 /// Moves a part of a buffer to its front.
 pub fn move_to_front(buffer: &mut [u8], from: usize, to: usize)

@@ -21,6 +21,7 @@ mod reader;
 mod sink;
 mod source;
 
+pub use buffer::find_byte;
 pub use bytes::Bytes;
 pub use dial::Dial;
 pub use file_in::FileIn;

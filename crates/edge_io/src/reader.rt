@@ -1,11 +1,10 @@
-ghost use Rattle.std.specs.Prelude.{◌≡◌, ◌==◌, ◌≤◌, ◌+◌, [], length, take, position, None, IfOk, if◌then◌else◌};
+ghost use Rattle.std.specs.Prelude.{◌≡◌, ◌==◌, ◌≤◌, ◌+◌, [], Option, List, ℕ, length, take, position, None, IfOk, IfSome, if◌then◌else◌};
 ghost use Rattle.std.specs.Io.KnownBytes.{Keeps};
 ghost use Rattle.edge_io.specs.Source.{ReadCause};
 ghost use Rattle.edge_io.specs.Reading.{new_reading, ahead};
 
-use crate::buffer::{move_to_front, read_behind};
+use crate::buffer::{find_byte, move_to_front, read_behind};
 use crate::{Got, OutOfMemory, Source};
-use memchr::memchr;
 use std::alloc::Global;
 use std::marker::Model;
 
@@ -59,7 +58,7 @@ impl Model for LineReader {
 }
 
 impl LineReader {
-    ghost use Rattle.edge_io.specs.Finding.{Finds, FindCause, HandsLine, Fills, EndsAt};
+    ghost use Rattle.edge_io.specs.Finding.{Finds, FindCause, HandsLine, HoldsPart, Fills, EndsAt};
 
     /// A reader before the first line.
     pub fn new(alloc: Global) -> Result<LineReader, OutOfMemory>
@@ -89,18 +88,44 @@ impl LineReader {
         // Of the bytes that a source gave before it failed no whole line is left.
         ensures part { result ≡ Found.Failed → position (λ b. b == 10) self.new.held ≡ None }
     {
+        match self.held_line() {
+            Some(found) => found,
+            None => self.read_line(input),
+        }
+    }
+
+    /// Hands out the next line where no more need be read for it. The text of an earlier line is given up.
+    pub fn held_line(&mut self) -> Option<Found>
+        ensures found { IfSome result (λ found. (left : Option (List ℕ)) → Finds found self.old self.new (ahead self.old left) (ahead self.new left)) }
+        ensures read { IfSome result (λ found. found ≡ Found.Failed → ⊥) }
+        ensures none { result ≡ None → HoldsPart self.old self.new }
+    {
         self.forget_text();
+        if let Some(count) = self.find_line_feed() {
+            return Some(self.hand_out(count, true));
+        }
+        if self.held() > LINE_LIMIT {
+            return Some(Found::PastLimits);
+        }
+        None
+    }
+
+    /// Reads until the next line is held, and hands it out, or says why there is none.
+    pub fn read_line<S: Source>(&mut self, input: &mut S) -> Found
+        requires part { position (λ b. b == 10) self.old.held ≡ None }
+        requires room { length self.old.held ≤ LINE_LIMIT }
+        ensures found { Finds result self.old self.new (ahead self.old (S.left input.old)) (ahead self.new (S.left input.new)) }
+        ensures cause { FindCause result (S.faults input.old) (S.faults input.new) }
+        ensures part { result ≡ Found.Failed → position (λ b. b == 10) self.new.held ≡ None }
+    {
         loop {
-            if let Some(count) = self.find_line_feed() {
-                return self.hand_out(count, true);
-            }
-            if self.held() > LINE_LIMIT {
-                return Found::PastLimits;
-            }
             match self.fill(input) {
                 Got::Bytes(_) => {}
                 Got::End => break,
                 Got::Failed => return Found::Failed,
+            }
+            if let Some(found) = self.held_line() {
+                return found;
             }
         }
         match self.held() {
@@ -127,7 +152,7 @@ impl LineReader {
     fn find_line_feed(&self) -> Option<usize>
         ensures { result ≡ position (λ b. b == 10) self.now.held }
     {
-        memchr(LINE_FEED, &self.buffer[self.from..self.to])
+        find_byte(&self.buffer[self.from..self.to], LINE_FEED)
     }
 
     /// Hands out so many bytes as the text of a line, and with them the line feed that ended it, unless it is past the limits.

@@ -285,7 +285,7 @@ some_client bs blocks desktop first core =
     let found = found_with blocks (Some desktop) (one_core (core_blocks blocks) desktop core) first.network in
     let all = found.all in
     let whole : bs ≡ flat_map block_bytes blocks = first.whole ∙ append-nil (flat_map block_bytes blocks) in (
-      record { channels = channels_of all.channels; asked_width = desktop.width; asked_height = desktop.height; build = desktop.build },
+      record { channels = channels_of all.channels; asked_width = desktop.width; asked_height = desktop.height; build = desktop.build; depth = desktop.depth },
       go_on (blocks_from (length bs) no_blocks bs) (λ found after. data_with found.desktop found.channels after) all []
           (ap (blocks_from (length bs) no_blocks) whole ∙ blocks_again (length bs) blocks no_blocks all (omega (arith, ap length whole)) first.each found.adds)
           ∙ ap (λ o. data_with o all.channels []) found.core,

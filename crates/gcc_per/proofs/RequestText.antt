@@ -64,11 +64,11 @@ placed_ok bs (Err d) client e = absurd (let h : ⊥ = cc in h)
 pub record Found (o : Option Desktop) (channels : Option ℕ) (y : ClientData × List ℕ) : Type 0 where
   pub desktop : Desktop
   pub there : o ≡ Some desktop
-  pub client : y.0 ≡ record { channels = channels_of channels; asked_width = desktop.width; asked_height = desktop.height; build = desktop.build }
+  pub client : y.0 ≡ record { channels = channels_of channels; asked_width = desktop.width; asked_height = desktop.height; build = desktop.build; depth = desktop.depth }
 
 found_ok : (o : Option Desktop) (channels : Option ℕ) (after : List ℕ) (y : ClientData × List ℕ) → data_with o channels after ≡ Ok y → Found o channels y
 found_ok (Some desktop) channels after y e =
-    let said : ClientData = record { channels = channels_of channels; asked_width = desktop.width; asked_height = desktop.height; build = desktop.build } in
+    let said : ClientData = record { channels = channels_of channels; asked_width = desktop.width; asked_height = desktop.height; build = desktop.build; depth = desktop.depth } in
     let h : (said, after) ≡ y = cc in record { desktop = desktop; there = refl; client = sym (ap (λ p. p.0) h) }
 found_ok None channels after y e = absurd (let h : ⊥ = cc in h)
 
@@ -91,7 +91,7 @@ blocks_ok bs y e =
     }
 
 blocks_said : (blocks : List Block) (all : ClientBlocks) (desktop : Desktop) → AllByRecursion IsBlock blocks → AddAll blocks no_blocks all → all.desktop ≡ Some desktop
-    → client_blocks_at (flat_map block_bytes blocks) ≡ Ok (record { channels = channels_of all.channels; asked_width = desktop.width; asked_height = desktop.height; build = desktop.build }, [])
+    → client_blocks_at (flat_map block_bytes blocks) ≡ Ok (record { channels = channels_of all.channels; asked_width = desktop.width; asked_height = desktop.height; build = desktop.build; depth = desktop.depth }, [])
 unfolding client_blocks_at blocks_at
 blocks_said blocks all desktop each a e =
     let bs : List ℕ = flat_map block_bytes blocks in
@@ -101,10 +101,10 @@ blocks_said blocks all desktop each a e =
 -- ---- the user data
 
 abbrev asked_of : ClientData → Desktop
-asked_of client = record { width = client.asked_width; height = client.asked_height; build = client.build }
+asked_of client = record { width = client.asked_width; height = client.asked_height; build = client.build; depth = client.depth }
 
 abbrev client_with : ℕ → Desktop → ClientData
-client_with channels desktop = record { channels = channels; asked_width = desktop.width; asked_height = desktop.height; build = desktop.build }
+client_with channels desktop = record { channels = channels; asked_width = desktop.width; asked_height = desktop.height; build = desktop.build; depth = desktop.depth }
 
 record UserData (bs : List ℕ) (client : ClientData) : Type 0 where
   count : List ℕ
@@ -170,7 +170,7 @@ request_ok bytes client e =
     let says = user.says.says in
     let blocks = stand.blocks in
     let whole : more ≡ user.count ++ flat_map block_bytes blocks = user.whole ∙ ap (λ xs. user.count ++ xs) stand.whole in
-    let desktop : Desktop = record { width = client.asked_width; height = client.asked_height; build = client.build } in
+    let desktop : Desktop = record { width = client.asked_width; height = client.asked_height; build = client.build; depth = client.depth } in
     let asked : says.desktop ≡ desktop = ap (λ c. asked_of c) (sym says.client) in
     record {
       count = user.count;
@@ -186,7 +186,7 @@ pub request_again : (bytes : List ℕ) (client : ClientData) → IsRequest bytes
 unfolding client_data_at
 request_again bytes client r =
     let content : List ℕ = flat_map block_bytes r.blocks in
-    let desktop : Desktop = record { width = client.asked_width; height = client.asked_height; build = client.build } in
+    let desktop : Desktop = record { width = client.asked_width; height = client.asked_height; build = client.build; depth = client.depth } in
     let network = network_of (network_blocks r.blocks) client.channels r.network in
     let all : ClientBlocks = record { desktop = Some desktop; channels = network.0 } in
     let adds = both_sides r.blocks no_blocks all (one_core (core_blocks r.blocks) desktop r.core) network.1 in

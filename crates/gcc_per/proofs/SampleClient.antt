@@ -2,6 +2,7 @@
 use Rattle.std.proofs.Common.{◌≡◌, ℕ, List, [], ◌∷◌, ◌++◌, replicate, refl}
 use Rattle.std.specs.Prelude.{Result, Ok, Err}
 use Rattle.wire_num.specs.FieldValue.{passing_at}
+use Rattle.px_core.specs.declared.depth.Depth.TheVariants.{Bits24}
 use Rattle.gcc_per.specs.declared.gcc_fault.GccFault.{GccFault}
 use Rattle.gcc_per.specs.declared.gcc_fault.GccFault.TheVariants.{BadGcc, DepthNotOffered, TooManyChannels}
 use Rattle.gcc_per.specs.declared.client_data.ClientData.{ClientData}
@@ -29,7 +30,7 @@ network count = (3 ∷ 192 ∷ 44 ∷ 0 ∷ count ∷ 0 ∷ 0 ∷ 0 ∷ []) ++ (
     (99 ∷ 108 ∷ 105 ∷ 112 ∷ 114 ∷ 100 ∷ 114 ∷ 0 ∷ 0 ∷ 0 ∷ 0 ∷ 0 ∷ []) ++ (114 ∷ 100 ∷ 112 ∷ 115 ∷ 110 ∷ 100 ∷ 0 ∷ 0 ∷ 0 ∷ 0 ∷ 0 ∷ 0 ∷ [])))
 
 abbrev answer : ℕ → Result ClientData GccFault
-answer channels = Ok (record { channels = channels; asked_width = 64; asked_height = 48; build = 0 })
+answer channels = Ok (record { channels = channels; asked_width = 64; asked_height = 48; build = 0; depth = Bits24 })
 
 sample : client_data_of (request 200 ++ (core 7 ++ (security ++ network 3))) ≡ answer 3
 unfolding create_request client_data_at user_data_at client_blocks_at blocks_at block_at kind_at length_at channels_at channel_count_at desktop_of passing_at
@@ -45,7 +46,7 @@ core_alone = refl
 
 -- clientBuild stands behind keyboardLayout, and before clientName
 built : client_data_of (request 144 ++ ((1 ∷ 192 ∷ 144 ∷ 0 ∷ 4 ∷ 0 ∷ 8 ∷ 0 ∷ 0 ∷ 2 ∷ 128 ∷ 1 ∷ 1 ∷ 202 ∷ 3 ∷ 170 ∷ 9 ∷ 4 ∷ 0 ∷ 0 ∷ 187 ∷ 71 ∷ 0 ∷ 1 ∷ 97 ∷ []) ++ (replicate 115 0 ++ (24 ∷ 0 ∷ 7 ∷ 0 ∷ []))))
-    ≡ Ok (record { channels = 0; asked_width = 512; asked_height = 384; build = 16795579 })
+    ≡ Ok (record { channels = 0; asked_width = 512; asked_height = 384; build = 16795579; depth = Bits24 })
 unfolding create_request client_data_at user_data_at client_blocks_at blocks_at block_at kind_at length_at channels_at channel_count_at desktop_of passing_at
 built = refl
 

@@ -2,6 +2,7 @@
 use Rattle.std.specs.Prelude.{ℕ, ◌+◌, ◌==◌, nat_le, Bool, false, List, length, drop, Option, Some, None, if◌then◌else◌}
 use Rattle.byteorder.specs.Endian.{little_number}
 use Rattle.wire_num.specs.FieldValue.{has_bits}
+use Rattle.px_core.specs.declared.depth.Depth.TheVariants.{Bits24}
 use Rattle.gcc_per.specs.declared.client_core.Desktop.{Desktop}
 
 -- the number of two bytes at an offset, where it is wholly there
@@ -23,5 +24,5 @@ core_offers_24 content = offers_24 (number_within 138 content) (number_within 13
 unfoldable pub desktop_of : List ℕ → Option Desktop
 desktop_of content =
     if core_offers_24 content
-    then Some (record { width = little_number 2 (drop 4 content); height = little_number 2 (drop 6 content); build = little_number 4 (drop 16 content) })
+    then Some (record { width = little_number 2 (drop 4 content); height = little_number 2 (drop 6 content); build = little_number 4 (drop 16 content); depth = Bits24 })
     else None

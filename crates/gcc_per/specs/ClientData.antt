@@ -31,7 +31,7 @@ channels_of None = 0
 -- a missing CS_CORE is refused at the end of the blocks
 abbrev pub data_with : Option Desktop → Option ℕ → List ℕ → Checked ClientData
 data_with (Some desktop) channels after =
-    Ok (record { channels = channels_of channels; asked_width = desktop.width; asked_height = desktop.height; build = desktop.build }, after)
+    Ok (record { channels = channels_of channels; asked_width = desktop.width; asked_height = desktop.height; build = desktop.build; depth = desktop.depth }, after)
 data_with None channels after = Err (Broken, after)
 
 -- the client's data blocks, all of the bytes

@@ -75,5 +75,5 @@ pub record IsRequest (bytes : List ℕ) (client : ClientData) : Type 0 where
   pub request : IsText create_request bytes [] (count ++ flat_map block_bytes blocks)
   pub counted : IsPacked count (length (flat_map block_bytes blocks))
   pub each : AllByRecursion IsBlock blocks
-  pub core : IsCore (core_blocks blocks) (record { width = client.asked_width; height = client.asked_height; build = client.build })
+  pub core : IsCore (core_blocks blocks) (record { width = client.asked_width; height = client.asked_height; build = client.build; depth = client.depth })
   pub network : IsNetwork (network_blocks blocks) client.channels

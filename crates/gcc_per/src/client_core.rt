@@ -19,6 +19,7 @@ ghost use Rattle.std.specs.Prelude.{◌≡◌, ◌≤◌, length};
 ghost use Rattle.gcc_per.specs.ClientCore.{number_within, offers_24, core_offers_24, desktop_of};
 
 use byteorder::{ByteOrder, LittleEndian};
+use px_core::Depth;
 
 /// The bytes of a block's header, which isn't in the content.
 const HEADER_SIZE: usize = 4;
@@ -43,12 +44,13 @@ const HIGH_COLOR_24BPP: u16 = 24;
 
 const RNS_UD_COLOR_24BPP: u16 = 0xCA04;
 
-/// The size of the desktop that the client asks for, in pixels, and the build number that it says.
+/// The size of the desktop that the client asks for, in pixels, the build number that it says, and the depth that it is shown.
 #[derive(Clone, Copy, Debug, PartialEq, Eq)]
 pub struct Desktop {
     pub width: u16,
     pub height: u16,
     pub build: u32,
+    pub depth: Depth,
 }
 
 /// The desktop that the content of a CS_CORE asks for; none where 24 bits for each pixel aren't offered.
@@ -64,6 +66,7 @@ pub fn desktop_of(content: &[u8]) -> Option<Desktop>
         width: LittleEndian::read_u16(&content[DESKTOP_WIDTH..]),
         height: LittleEndian::read_u16(&content[DESKTOP_HEIGHT..]),
         build: LittleEndian::read_u32(&content[CLIENT_BUILD..]),
+        depth: Depth::Bits24,
     })
 }
 

@@ -20,6 +20,7 @@ ghost use Rattle.gcc_per.specs.declared.gcc_fault.GccFault.TheVariants.{DepthNot
 use crate::GccFault;
 use crate::client_blocks::read_blocks;
 use crate::gcc_fault::{Cause, fault_of};
+use px_core::Depth;
 use wire_num::{Cursor, Short};
 
 /// The key that chooses T.124: object 0.0.20.124.0.1.
@@ -40,6 +41,8 @@ pub struct ClientData {
     pub asked_height: u16,
     /// Its build number, clientBuild (MS-RDPBCGR, 2.2.1.3.2).
     pub build: u32,
+    /// The bits of a pixel that it is shown, by the depths that it offers.
+    pub depth: Depth,
 }
 
 /// Reads a GCC Conference Create Request, which is all of the slice: the user data of a Connect-Initial (T.124, 8.7;
@@ -117,6 +120,7 @@ fn read_client_blocks(cursor: &mut Cursor<'_>) -> Result<ClientData, Cause>
             asked_width: desktop.width,
             asked_height: desktop.height,
             build: desktop.build,
+            depth: desktop.depth,
         }),
         None => Err(Cause::Broken),
     }

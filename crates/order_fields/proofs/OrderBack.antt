@@ -3,6 +3,7 @@ use Rattle.std.proofs.Common.{◌≡◌, ℕ, zero, suc, ◌+◌, ◌-◌, ◌*�
 use Rattle.std.specs.Prelude.{Ok, Option, nat_lt, nat_le, ◌==◌, ◌&&◌, not, if◌then◌else◌}
 use Rattle.std.proofs.lemmas.Bool.{false≢true}
 use Rattle.std.proofs.lemmas.Bool.Decides.{nat_tests}
+use Rattle.px_core.specs.declared.depth.Depth.{Depth}
 use Rattle.wire_num.specs.Field.{then_read}
 use Rattle.byteorder.specs.Endian.{little_bytes}
 use Rattle.order_fields.specs.OrderTable.{Row, row_of, Values, FieldList, Edges, Registers, last_values, AreRegisters, FitRow, FitsRow, IsFieldList, FitBounds}
@@ -130,9 +131,9 @@ untyped : (last code : ℕ) (b : Bool) → (last == code) ≡ b → not b ≡ fa
 untyped last code true e h = grind (arith, nat_tests, e)
 untyped last code false e h = absurd (false≢true (sym h))
 
-row_back : (r : Row) (regs : Registers) (confirmed : Bool) (vs : Values) (bounds : Option Edges) (rest : List ℕ) → row_of r.code ≡ Some r → AreRegisters regs → FitRow r vs → FitBounds bounds →
-    order_at regs (row_bytes r regs confirmed vs bounds ++ rest) ≡ Ok (seen_primary regs (record { code = r.code; values = vs }) bounds, rest)
-row_back r regs confirmed vs bounds rest found are fits edges =
+row_back : (depth : Depth) (r : Row) (regs : Registers) (confirmed : Bool) (vs : Values) (bounds : Option Edges) (rest : List ℕ) → row_of r.code ≡ Some r → AreRegisters regs → FitRow r vs → FitBounds bounds →
+    order_at depth regs (row_bytes r regs confirmed vs bounds ++ rest) ≡ Ok (seen_primary regs (record { code = r.code; values = vs }) bounds, rest)
+row_back depth r regs confirmed vs bounds rest found are fits edges =
     let sound = sound_row r.code r found in
     let last = last_fits regs r.code r are found in
     let typed = is_typed r regs in
@@ -149,21 +150,21 @@ row_back r regs confirmed vs bounds rest found are fits edges =
     let below : flags < 256 ^ r.flags = omega (arith, fewer, sound.room) in
     let small : flags < 16777216 = below_three flags r.flags below sound.flags in
     let parts = parts_back (has_bounds bounds) typed delta keeps_edges omitted (omega (arith, sound.flags)) in
-    ap (λ form. order_by form regs control (tail_bytes r typed delta keeps_edges fs keeps regs.bounds bounds vs.bytes ++ rest)) (form_back control parts.form)
+    ap (λ form. order_by depth form regs control (tail_bytes r typed delta keeps_edges fs keeps regs.bounds bounds vs.bytes ++ rest)) (form_back control parts.form)
     ∙ tail_back r regs control typed delta keeps_edges fs keeps vs bounds rest found parts (shown_most flags r.flags below sound.flags) small (untyped regs.last r.code (regs.last == r.code) refl)
     (λ more. bounds_back confirmed regs.bounds bounds more edges)
     (λ more. values_back r.kinds r.counted delta (last_values regs r.code).numbers vs.numbers (last_values regs r.code).bytes vs.bytes more last.numbers fits.numbers last.bytes fits.bytes
     (λ d. and_second (any_coordinate fs) (all_near fs) d))
 
-back_by : (found : Option Row) (regs : Registers) (confirmed : Bool) (o : FieldList) (bounds : Option Edges) (rest : List ℕ) → row_of o.code ≡ found → AreRegisters regs → FitsRow found o.values → FitBounds bounds →
-    order_at regs (bytes_by_row found regs confirmed o.values bounds ++ rest) ≡ Ok (seen_primary regs o bounds, rest)
-back_by None regs confirmed o bounds rest is are fits edges = absurd fits
-back_by (Some r) regs confirmed o bounds rest is are fits edges =
+back_by : (depth : Depth) (found : Option Row) (regs : Registers) (confirmed : Bool) (o : FieldList) (bounds : Option Edges) (rest : List ℕ) → row_of o.code ≡ found → AreRegisters regs → FitsRow found o.values → FitBounds bounds →
+    order_at depth regs (bytes_by_row found regs confirmed o.values bounds ++ rest) ≡ Ok (seen_primary regs o bounds, rest)
+back_by depth None regs confirmed o bounds rest is are fits edges = absurd fits
+back_by depth (Some r) regs confirmed o bounds rest is are fits edges =
     let code : r.code ≡ o.code = code_of_row o.code r is in
     let here : row_of r.code ≡ Some r = ap row_of code ∙ is in
-    row_back r regs confirmed o.values bounds rest here are fits edges ∙ ap (λ c. Ok (seen_primary regs (record { code = c; values = o.values }) bounds, rest)) code
+    row_back depth r regs confirmed o.values bounds rest here are fits edges ∙ ap (λ c. Ok (seen_primary regs (record { code = c; values = o.values }) bounds, rest)) code
 
 -- what is written is read back to the same fields, bounds and registers
-pub order_back : (regs : Registers) (confirmed : Bool) (o : FieldList) (bounds : Option Edges) (rest : List ℕ) → AreRegisters regs → IsFieldList o → FitBounds bounds →
-    order_at regs (order_bytes regs confirmed o bounds ++ rest) ≡ Ok (seen_primary regs o bounds, rest)
-order_back regs confirmed o bounds rest are fits edges = back_by (row_of o.code) regs confirmed o bounds rest refl are fits edges
+pub order_back : (depth : Depth) (regs : Registers) (confirmed : Bool) (o : FieldList) (bounds : Option Edges) (rest : List ℕ) → AreRegisters regs → IsFieldList o → FitBounds bounds →
+    order_at depth regs (order_bytes regs confirmed o bounds ++ rest) ≡ Ok (seen_primary regs o bounds, rest)
+order_back depth regs confirmed o bounds rest are fits edges = back_by depth (row_of o.code) regs confirmed o bounds rest refl are fits edges

@@ -1,5 +1,6 @@
--- The orders of an update, read with registers ([MS-RDPEGDI] 2.2.2.2.1.1.2).
+-- The orders of an update, read with registers ([MS-RDPEGDI] 2.2.2.2.1.1.2). Of all orders a cached brush alone looks another way at another depth.
 use Rattle.std.specs.Prelude.{ℕ, zero, suc, ◌-◌, ◌/◌, ◌%◌, ◌==◌, nat_le, Bool, true, false, ◌&&◌, ℤ, pos, ◌+ℤ◌, List, [], ◌∷◌, ◌++◌, map, Option, Some, None, Ok, Err, if◌then◌else◌}
+use Rattle.px_core.specs.declared.depth.Depth.{Depth}
 use Rattle.order_fields.specs.declared.kind.FieldKind.{FieldKind}
 use Rattle.order_fields.specs.declared.kind.FieldKind.TheVariants.{Coordinate, Number, Signed, Color}
 use Rattle.wire_num.specs.Field.{Read, then_read, map_read, taken, given, kept}
@@ -118,16 +119,16 @@ form_of control = if control % 4 == 1 then PrimaryForm else (if control == 3 the
 abbrev pub seen_others : Registers → List Cached → Seen
 seen_others regs os = seen (map Other os) regs
 
-abbrev pub order_by : Form → Registers → ℕ → List ℕ → Read Seen
-order_by PrimaryForm regs control bs = primary_at regs control bs
-order_by SecondaryForm regs control bs = map_read (seen_others regs) (secondary_at bs)
-order_by MarkerForm regs control bs = map_read (seen_others regs) (marker_at bs)
-order_by NoForm regs control bs = Err (control ∷ bs)
+abbrev pub order_by : Depth → Form → Registers → ℕ → List ℕ → Read Seen
+order_by depth PrimaryForm regs control bs = primary_at regs control bs
+order_by depth SecondaryForm regs control bs = map_read (seen_others regs) (secondary_at depth bs)
+order_by depth MarkerForm regs control bs = map_read (seen_others regs) (marker_at bs)
+order_by depth NoForm regs control bs = Err (control ∷ bs)
 
 -- the order at the front of bytes
-abbrev pub order_at : Registers → List ℕ → Read Seen
-order_at regs [] = Err []
-order_at regs (control ∷ bs) = order_by (form_of control) regs control bs
+abbrev pub order_at : Depth → Registers → List ℕ → Read Seen
+order_at depth regs [] = Err []
+order_at depth regs (control ∷ bs) = order_by depth (form_of control) regs control bs
 
 -- ---- the orders of a body
 
@@ -150,6 +151,6 @@ then_orders (Ok v) regs more = with_orders v.0.orders (more v.1 v.0.after)
 then_orders (Err left) regs more = record { orders = []; after = regs; refused = Some left }
 
 -- so many orders, which fill the bytes
-abbrev pub orders_in : List ℕ → ℕ → Registers → Stream
-orders_in bs zero regs = stream_end regs bs
-orders_in bs (suc n) regs = then_orders (order_at regs bs) regs (λ rest after. orders_in rest n after)
+abbrev pub orders_in : Depth → List ℕ → ℕ → Registers → Stream
+orders_in depth bs zero regs = stream_end regs bs
+orders_in depth bs (suc n) regs = then_orders (order_at depth regs bs) regs (λ rest after. orders_in depth rest n after)

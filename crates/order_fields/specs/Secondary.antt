@@ -2,7 +2,9 @@
 use Rattle.std.specs.Prelude.{ℕ, zero, suc, ◌+◌, ◌*◌, ◌/◌, ◌==◌, nat_lt, Bool, true, false, ℤ, List, [], ◌∷◌, ◌++◌, Ok, Err, if◌then◌else◌}
 use Rattle.wire_num.specs.Field.{Read, then_read, map_read, bytes_at, given, taken, wanted}
 use Rattle.wire_num.specs.Number.{little_at, little_signed_at}
-use Rattle.wire_num.specs.Pixels.{pixels_of}
+use Rattle.px_core.specs.declared.depth.Depth.{Depth}
+use Rattle.px_core.specs.Depth.{brush_format, brush_bytes}
+use Rattle.px_core.specs.Pixels.{pixels_of}
 
 -- a cached bitmap; its pixels are looked at by the client, which also tests its depth and flags
 pub record BitmapOrder : Type 0 where
@@ -63,11 +65,11 @@ glyphs_at (suc n) cache bs = then_read (glyph_at cache bs) (λ o rest. map_read 
 abbrev pub glyph_order_at : List ℕ → Read (List Cached)
 glyph_order_at bs = then_read (little_at 1 bs) (λ cache a. then_read (little_at 1 a) (λ n b. glyphs_at n cache b))
 
--- cache brush ([MS-RDPEGDI] 2.2.2.2.1.2.7): entry 1, format 05, sides 08 08, style 1, length C0, 64 pixels
-abbrev pub brush_at : List ℕ → Read (List Cached)
-brush_at bs =
-    then_read (little_at 1 bs) (λ entry a. then_read (wanted (5 ∷ []) a) (λ format b. then_read (wanted (8 ∷ 8 ∷ []) b) (λ sides c. then_read (little_at 1 c) (λ style d.
-    then_read (wanted (192 ∷ []) d) (λ count e. map_read (λ xs. Brush (record { entry = entry; pixels = pixels_of xs }) ∷ []) (bytes_at 192 e))))))
+-- cache brush ([MS-RDPEGDI] 2.2.2.2.1.2.7): entry 1, format 05, sides 08 08, style 1, length C0, 64 pixels; at 16 bits format 04 and length 80
+abbrev pub brush_at : Depth → List ℕ → Read (List Cached)
+brush_at depth bs =
+    then_read (little_at 1 bs) (λ entry a. then_read (wanted (brush_format depth ∷ []) a) (λ format b. then_read (wanted (8 ∷ 8 ∷ []) b) (λ sides c. then_read (little_at 1 c) (λ style d.
+    then_read (wanted (brush_bytes depth ∷ []) d) (λ count e. map_read (λ xs. Brush (record { entry = entry; pixels = pixels_of depth xs }) ∷ []) (bytes_at (brush_bytes depth) e))))))
 
 -- the secondary orders that are read
 pub data SecondaryKind : Type 0 where
@@ -81,12 +83,12 @@ abbrev pub secondary_kind : ℕ → SecondaryKind
 secondary_kind t = if t == 0 then RawBitmapKind else (if t == 2 then PackedBitmapKind else (if t == 3 then GlyphKind else (if t == 7 then BrushKind else NoSecondary)))
 
 -- what stands behind the type; another type is refused at its byte
-abbrev pub secondary_body : SecondaryKind → ℕ → List ℕ → List ℕ → Read (List Cached)
-secondary_body RawBitmapKind flags typed bs = bitmap_at flags false bs
-secondary_body PackedBitmapKind flags typed bs = bitmap_at flags true bs
-secondary_body GlyphKind flags typed bs = glyph_order_at bs
-secondary_body BrushKind flags typed bs = brush_at bs
-secondary_body NoSecondary flags typed bs = Err typed
+abbrev pub secondary_body : Depth → SecondaryKind → ℕ → List ℕ → List ℕ → Read (List Cached)
+secondary_body depth RawBitmapKind flags typed bs = bitmap_at flags false bs
+secondary_body depth PackedBitmapKind flags typed bs = bitmap_at flags true bs
+secondary_body depth GlyphKind flags typed bs = glyph_order_at bs
+secondary_body depth BrushKind flags typed bs = brush_at depth bs
+secondary_body depth NoSecondary flags typed bs = Err typed
 
 abbrev pub filled : {A : Type 0} → A → List ℕ → List ℕ → Read A
 filled v [] after = Ok (v, after)
@@ -98,10 +100,10 @@ within_total (Ok v) after = filled v.0 v.1 after
 within_total (Err left) after = Err (left ++ after)
 
 -- a secondary order after its control byte: its total length less 13, extraFlags 2, type 1, body; a total that doesn't fit is refused at its length
-abbrev pub secondary_at : List ℕ → Read (List Cached)
-secondary_at bs =
+abbrev pub secondary_at : Depth → List ℕ → Read (List Cached)
+secondary_at depth bs =
     then_read (little_at 2 bs) (λ n a. then_read (taken bs (n + 10) a) (λ inside after.
-    within_total (then_read (little_at 2 inside) (λ flags c. then_read (little_at 1 c) (λ t d. secondary_body (secondary_kind t) flags c d))) after))
+    within_total (then_read (little_at 2 inside) (λ flags c. then_read (little_at 1 c) (λ t d. secondary_body depth (secondary_kind t) flags c d))) after))
 
 -- a frame marker after its control byte: action 4, 0 where a frame begins and 1 where it ends
 abbrev pub marker_at : List ℕ → Read (List Cached)

@@ -1,5 +1,6 @@
 ghost use Rattle.std.specs.Prelude.{◌≡◌, ◌++◌, OnOk, OnErr, List, ℕ, Ok, Some, true};
 ghost use Rattle.wire_num.specs.Written.{AppendsFront};
+ghost use Rattle.px_core.specs.declared.depth.Depth.{Depth};
 ghost use Rattle.order_fields.specs.OrderTable.{FitBounds, FitEdges, registers_after};
 ghost use Rattle.order_fields.specs.OrderStream.{order_at, bounds_at, seen_primary};
 ghost use Rattle.order_fields.specs.OrderDelta.{order_bytes, bounds_bytes, keeps_bounds as keeps_edges, edges_of, edges_of_optional};
@@ -26,7 +27,7 @@ pub fn write_order(
     ensures ok { OnOk result (out.new.items ≡ out.old.items ++ order_bytes regs.old zero_bounds o.now (edges_of_optional bounds)) }
     ensures registers { OnOk result (regs.new ≡ registers_after regs.old o.now (edges_of_optional bounds)) }
     ensures memory { OnErr result (AppendsFront out.old.items (order_bytes regs.old zero_bounds o.now (edges_of_optional bounds)) out.new.items) }
-    ensures read_back { (rest : List ℕ) → order_at regs.old (order_bytes regs.old zero_bounds o.now (edges_of_optional bounds) ++ rest) ≡ Ok (seen_primary regs.old o.now (edges_of_optional bounds), rest) }
+    ensures read_back { (depth : Depth) (rest : List ℕ) → order_at depth regs.old (order_bytes regs.old zero_bounds o.now (edges_of_optional bounds) ++ rest) ≡ Ok (seen_primary regs.old o.now (edges_of_optional bounds), rest) }
 {
     let new = optional_bounds_of(bounds);
     let values = o.values();

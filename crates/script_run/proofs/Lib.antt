@@ -2,8 +2,6 @@ pub mod Senses
 pub mod Taken
 pub mod Continued
 pub mod Held
-mod Feeds
-pub mod Finding
 pub mod Cut
 pub mod HeldLines
 pub mod FirstLine

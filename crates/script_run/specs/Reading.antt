@@ -1,11 +1,11 @@
 -- How far the lines of a script were read and done, and what the rest of them gives of the capture.
-use Rattle.std.specs.Prelude.{◌≡◌, ℕ, List, [], ◌∷◌, ◌++◌, Bool, true, false, ◌==◌, position, length, ◌≤◌, ⊤, IsTrue}
+use Rattle.std.specs.Prelude.{◌≡◌, ℕ, List, [], ◌∷◌, ◌++◌, Bool, true, false, ◌==◌, position, ⊤, IsTrue}
 use Rattle.std.specs.Io.KnownBytes.{Appends}
 use Rattle.std.specs.declared.option.Option.{Option}
 use Rattle.std.specs.declared.option.Option.TheVariants.{Some, None}
 use Rattle.px_core.specs.declared.surface.Size.{Size}
 use Rattle.px_core.specs.Rectangle.{is_session_size}
-use Rattle.line_text.specs.Lines.{Line, lines_of, line_limit}
+use Rattle.line_text.specs.Lines.{Line, lines_of}
 use Rattle.edge_io.specs.Reading.{LineReading, ahead}
 use Rattle.edge_io.specs.Faults.{Rose}
 use Rattle.frame_rules.specs.Encoder.{Encoder}
@@ -72,10 +72,6 @@ pub record Moment : Type 0 where
 
 abbrev pub moment : LineReading → (left told : Option (List ℕ)) → Moment
 moment reading left told = record { reading = reading; left = left; told = told }
-
--- what a reader holds is a part of a line, and it shows no line any more
-abbrev pub HoldsPart : (old new : LineReading) → Type 0
-HoldsPart old new = (new.at ≡ old.at) × (new.text ≡ []) × (new.held ≡ old.held) × (position (λ b. b == 10) new.held ≡ None) × (length new.held ≤ line_limit)
 
 -- the bytes ahead
 abbrev pub ahead_of : Moment → Option (List ℕ)

@@ -7,7 +7,6 @@ mod line;
 mod lines;
 mod opening;
 mod page;
-mod reader;
 mod script;
 mod text;
 

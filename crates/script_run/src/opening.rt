@@ -2,8 +2,7 @@ ghost use Rattle.std.specs.Prelude.{◌≡◌, ℕ, List, Option};
 ghost use Rattle.edge_io.specs.Reading.{new_reading};
 ghost use Rattle.script_run.specs.Reading.{Opens, OpensCause, first_of, moment};
 
-use crate::reader::LineReader;
-use edge_io::{Found, Source};
+use edge_io::{Found, LineReader, Source};
 use px_core::Size;
 use script_lines::{LineRule, size_of_line};
 

@@ -4,8 +4,7 @@ use crate::fault::ScriptFault;
 use crate::found::refuse;
 use crate::lines::do_lines;
 use crate::opening::{FirstLine, first_line};
-use crate::reader::LineReader;
-use edge_io::{Sink, Source};
+use edge_io::{LineReader, Sink, Source};
 use std::alloc::Global;
 
 /// The number of the line that gives the size.

@@ -5,6 +5,7 @@ use Rattle.std.specs.declared.option.Option.{Option}
 use Rattle.std.specs.declared.option.Option.TheVariants.{Some, None}
 use Rattle.std.specs.Io.KnownBytes.{Consumes}
 use Rattle.edge_io.specs.Faults.{Rose}
+use Rattle.edge_io.specs.Outside.{Input}
 use Rattle.input_pdu.specs.declared.event.Event.{Event}
 use Rattle.session_rules.specs.Journal.{Head}
 use Rattle.grow_lock.specs.Journal.{StartsWith}
@@ -21,7 +22,7 @@ use Rattle.serve_rules.specs.declared.ends.ConnEnd.{ConnEnd}
 use Rattle.serve_rules.specs.declared.ends.ConnEnd.TheVariants.{Left, Refused, Truncated, NotInvited, RoomFull, JoinsSpent, ReadFault, WriteFault, OutOfMemory}
 use Rattle.serve_rules.specs.declared.ends.SideEnd.{SideEnd}
 use Rattle.serve_rules.specs.declared.ends.SideEnd.TheVariants.{Done, Stopped}
-use Rattle.serve_rules.specs.declared.told.Told.{Told}
+use Rattle.serve_rules.specs.declared.noted.Noted.{Noted}
 use Rattle.serve_rules.proofs.Handling.{handles_then, handles_more}
 use Rattle.serve_rules.proofs.Noticing.{notice_then, events_then}
 
@@ -44,18 +45,18 @@ consumes_then (Some a) (Some b) None xs ys p q = absurd q
 consumes_then (Some a) (Some b) (Some c) xs ys p q = p ∙ (ap (λ l. xs ++ l) q ∙ sym (append_assoc xs ys c))
 
 -- an end of the second stretch is one of both: what the second left is what both did, and the first met no fault
-end_then : (flagged : Bool) (left left' : Option (List ℕ)) (xs ys : List ℕ) (h : Hearing) (notice : Notice) (f f' f'' : ℕ) (end : SideEnd)
-    → (IsWhole left' ys → IsWhole left (xs ++ ys)) → f' ≡ f → ReadEnd flagged left' ys h notice f' f'' end → ReadEnd flagged left (xs ++ ys) h notice f f'' end
-end_then flagged left left' xs ys h notice f f' f'' (Done Left) whole same e = λ unended. let x = e unended in (whole x.0, x.1)
-end_then flagged left left' xs ys h notice f f' f'' (Done (Refused k at)) whole same e = e
-end_then flagged left left' xs ys h notice f f' f'' (Done Truncated) whole same e = (e.0, whole e.1, e.2)
-end_then flagged left left' xs ys h notice f f' f'' (Done NotInvited) whole same e = e
-end_then flagged left left' xs ys h notice f f' f'' (Done RoomFull) whole same e = e
-end_then flagged left left' xs ys h notice f f' f'' (Done JoinsSpent) whole same e = e
-end_then flagged left left' xs ys h notice f f' f'' (Done ReadFault) whole same e = subst (λ (n : ℕ). Rose n f'') same e
-end_then flagged left left' xs ys h notice f f' f'' (Done WriteFault) whole same e = e
-end_then flagged left left' xs ys h notice f f' f'' (Done OutOfMemory) whole same e = e
-end_then flagged left left' xs ys h notice f f' f'' Stopped whole same e = e
+end_then : (flagged : Bool) (xs ys : List ℕ) (h : Hearing) (notice : Notice) (i j k : Input) (end : SideEnd)
+    → (IsWhole j.left ys → IsWhole i.left (xs ++ ys)) → j.faults ≡ i.faults → ReadEnd flagged ys h notice j k end → ReadEnd flagged (xs ++ ys) h notice i k end
+end_then flagged xs ys h notice i j k (Done Left) whole same e = λ unended. let x = e unended in (whole x.0, x.1)
+end_then flagged xs ys h notice i j k (Done (Refused k at)) whole same e = e
+end_then flagged xs ys h notice i j k (Done Truncated) whole same e = (e.0, whole e.1, e.2)
+end_then flagged xs ys h notice i j k (Done NotInvited) whole same e = e
+end_then flagged xs ys h notice i j k (Done RoomFull) whole same e = e
+end_then flagged xs ys h notice i j k (Done JoinsSpent) whole same e = e
+end_then flagged xs ys h notice i j k (Done ReadFault) whole same e = subst (λ (n : ℕ). Rose n k.faults) same e
+end_then flagged xs ys h notice i j k (Done WriteFault) whole same e = e
+end_then flagged xs ys h notice i j k (Done OutOfMemory) whole same e = e
+end_then flagged xs ys h notice i j k Stopped whole same e = e
 
 -- bytes behind others: where nothing was read behind a Bye or a Shutdown of the second ones, none was of both, if the first ones had none
 stops_then : (rest steps : List ConnStep) (h k : Hearing) (n m : Notice) (xs ys : List ℕ) → rest ++ (heard h xs).steps ≡ steps → m ≡ notice_after_all n steps
@@ -78,35 +79,35 @@ stops_then rest steps h k n m xs ys all same both a b = ⊎_elim
     b
 
 -- a stretch of reading after one that went well
-pub reads_then : (head : Head) (v : ℕ) (rest : List ConnStep) (flagged : Bool) (conn conn' conn'' : Hearing) (p q r : SessionPass) (told told' told'' : Told)
-    (left left' left'' : Option (List ℕ)) (f f' f'' : ℕ) (end : SideEnd)
-    → ReadsOn head v rest true conn conn' p q told told' left left' f f' Stopped → ReadsOn head v [] flagged conn' conn'' q r told' told'' left' left'' f' f'' end
-    → ReadsOn head v rest flagged conn conn'' p r told told'' left left'' f f'' end
-reads_then head v rest flagged conn conn' conn'' p q r told told' told'' left left' left'' f f' f'' end a b =
+pub reads_then : (head : Head) (v : ℕ) (rest : List ConnStep) (flagged : Bool) (conn conn' conn'' : Hearing) (p q r : SessionPass) (s t u : Noted)
+    (i j k : Input) (end : SideEnd)
+    → ReadsOn head v rest true conn conn' p q s t i j Stopped → ReadsOn head v [] flagged conn' conn'' q r t u j k end
+    → ReadsOn head v rest flagged conn conn'' p r s u i k end
+reads_then head v rest flagged conn conn' conn'' p q r s t u i j k end a b =
     let whole = a.all orderly_stop in
     let after_is : conn' ≡ (heard conn a.fed).after = whole.1 in
     let both : heard conn (a.fed ++ b.fed) ≡ then_heard (heard conn a.fed) (heard conn' b.fed)
     = heard_then conn a.fed b.fed ∙ ap (λ (h : Hearing). then_heard (heard conn a.fed) (heard h b.fed)) (sym after_is) in
     record {
       fed = a.fed ++ b.fed;
-      taken = consumes_then left left' left'' a.fed b.fed a.taken b.taken;
+      taken = consumes_then i.left j.left k.left a.fed b.fed a.taken b.taken;
       steps = a.steps ++ b.steps;
       undone = b.undone;
       front = ap (λ (h : Heard). rest ++ h.steps) both
           ∙ (sym (append_assoc rest _ _)
           ∙ (ap₂ ◌++◌ (a.front ∙ (ap (λ l. a.steps ++ l) whole.0 ∙ append-nil a.steps)) b.front ∙ sym (append_assoc a.steps b.steps b.undone)));
       all = λ orderly. let w = b.all orderly in (w.0, w.1 ∙ ap (λ (h : Heard). h.after) (sym both));
-      handles = subst (λ es. Handles head v es p r told.places.list told''.places.list) (sym (events_then a.steps b.steps))
-          (handles_then head v (events_in a.steps) (events_in b.steps) p q r told.places.list told'.places.list told''.places.list a.handles b.handles);
+      handles = subst (λ es. Handles head v es p r s.places.list u.places.list) (sym (events_then a.steps b.steps))
+          (handles_then head v (events_in a.steps) (events_in b.steps) p q r s.places.list t.places.list u.places.list a.handles b.handles);
       room = b.room;
-      notice = b.notice ∙ (ap (λ n. notice_after_all n b.steps) a.notice ∙ sym (notice_then (notice_in told) a.steps b.steps));
-      stops = stops_then rest a.steps conn conn' (notice_in told) (notice_in told') a.fed b.fed (a.front ∙ (ap (λ l. a.steps ++ l) whole.0 ∙ append-nil a.steps)) a.notice
+      notice = b.notice ∙ (ap (λ n. notice_after_all n b.steps) a.notice ∙ sym (notice_then (notice_in s) a.steps b.steps));
+      stops = stops_then rest a.steps conn conn' (notice_in s) (notice_in t) a.fed b.fed (a.front ∙ (ap (λ l. a.steps ++ l) whole.0 ∙ append-nil a.steps)) a.notice
           (λ before. ap (λ (h : Heard). h.steps) (heard_then conn a.fed before)
           ∙ ap (λ (h : Hearing). (heard conn a.fed).steps ++ (heard h before).steps) (sym after_is)) a.stops b.stops;
       calm = λ stopped. b.calm stopped ∙ a.calm refl;
-      ends = subst (λ (h : Heard). ReadEnd flagged left (a.fed ++ b.fed) h.after (notice_in told'') f f'' end) (sym both)
-          (end_then flagged left left' a.fed b.fed (heard conn' b.fed).after (notice_in told'') f f' f'' end
-          (consumes_then left left' (Some []) a.fed b.fed a.taken) (a.calm refl) b.ends);
+      ends = subst (λ (h : Heard). ReadEnd flagged (a.fed ++ b.fed) h.after (notice_in u) i k end) (sym both)
+          (end_then flagged a.fed b.fed (heard conn' b.fed).after (notice_in u) i j k end
+          (consumes_then i.left j.left (Some []) a.fed b.fed a.taken) (a.calm refl) b.ends);
     }
 
 -- what was handled from a pass, of which some share was split off, was handled from the pass before
@@ -127,17 +128,17 @@ handles_from head v es p a share P Q h keeps = record {
 }
 
 -- what a read side did stays so for the pass in which it met the other side's, which appended nothing and has come back with its share
-pub reads_met : (head : Head) (v : ℕ) (rest : List ConnStep) (flagged : Bool) (conn conn' : Hearing) (p' p a b m : SessionPass) (told told' : Told)
-    (left left' : Option (List ℕ)) (f f' : ℕ) (end : SideEnd)
-    → p' ≡ record p { share = left_half p.share } → ReadsOn head v rest flagged conn conn' p' a told told' left left' f f' end
+pub reads_met : (head : Head) (v : ℕ) (rest : List ConnStep) (flagged : Bool) (conn conn' : Hearing) (p' p a b m : SessionPass) (s t : Noted)
+    (i j : Input) (end : SideEnd)
+    → p' ≡ record p { share = left_half p.share } → ReadsOn head v rest flagged conn conn' p' a s t i j end
     → StartsWith m.seen a.seen → m.found ≡ a.found ++ b.found → m.mine ≡ a.mine ++ b.mine → b.mine ≡ []
-    → m.share ≡ both a.share b.share → HoldsShare b.share (right_half p.share) → ReadsOn head v rest flagged conn conn' p m told told' left left' f f' end
-reads_met head v rest flagged conn conn' p' p a b m told told' left left' f f' end same h grows found mine none share theirs =
+    → m.share ≡ both a.share b.share → HoldsShare b.share (right_half p.share) → ReadsOn head v rest flagged conn conn' p m s t i j end
+reads_met head v rest flagged conn conn' p' p a b m s t i j end same h grows found mine none share theirs =
     let split : SessionPass = record p { share = left_half p.share } in
-    let handled : Handles head v (events_in h.steps) split a told.places.list told'.places.list
-    = subst (λ (x : SessionPass). Handles head v (events_in h.steps) x a told.places.list told'.places.list) same h.handles in
-    let met : (s : Share) → HoldsShare (both a.share b.share) s → HoldsShare m.share s
-    = λ s. subst (λ (x : Share). HoldsShare x s) (sym share) in
+    let handled : Handles head v (events_in h.steps) split a s.places.list t.places.list
+    = subst (λ (x : SessionPass). Handles head v (events_in h.steps) x a s.places.list t.places.list) same h.handles in
+    let met : (z : Share) → HoldsShare (both a.share b.share) z → HoldsShare m.share z
+    = λ z. subst (λ (x : Share). HoldsShare x z) (sym share) in
     record {
       fed = h.fed;
       taken = h.taken;
@@ -145,8 +146,8 @@ reads_met head v rest flagged conn conn' p' p a b m told told' left left' f f' e
       undone = h.undone;
       front = h.front;
       all = h.all;
-      handles = handles_from head v (events_in h.steps) p m (left_half p.share) told.places.list told'.places.list
-          (handles_more head v (events_in h.steps) split a m told.places.list told'.places.list b.found handled grows found (mine ∙ (ap (λ l. a.mine ++ l) none ∙ append-nil a.mine))
+      handles = handles_from head v (events_in h.steps) p m (left_half p.share) s.places.list t.places.list
+          (handles_more head v (events_in h.steps) split a m s.places.list t.places.list b.found handled grows found (mine ∙ (ap (λ l. a.mine ++ l) none ∙ append-nil a.mine))
           (met a.share (both_first a.share b.share)))
           (met p.share (both_of_halves p.share a.share b.share handled.share theirs));
       room = h.room;

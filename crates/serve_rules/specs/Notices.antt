@@ -3,7 +3,7 @@ use Rattle.std.specs.Prelude.{Bool, true, List, [], ◌∷◌, flat_map}
 use Rattle.input_pdu.specs.declared.event.Event.{Event}
 use Rattle.conn_rules.specs.declared.conn_step.ConnStep.{ConnStep}
 use Rattle.conn_rules.specs.declared.conn_step.ConnStep.TheVariants as step
-use Rattle.serve_rules.specs.declared.told.Told.{Told}
+use Rattle.serve_rules.specs.declared.noted.Noted.{Noted}
 
 -- the input event of a step, if it is one
 abbrev pub event_in : ConnStep → List Event
@@ -43,5 +43,5 @@ notice_after_all n [] = n
 notice_after_all n (x ∷ xs) = notice_after_all (notice_after n x) xs
 
 -- what the read side has noted of it
-abbrev pub notice_in : Told → Notice
+abbrev pub notice_in : Noted → Notice
 notice_in t = record { bye = t.bye; shutdown = t.shutdown; quiet = t.quiet }

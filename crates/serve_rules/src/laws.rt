@@ -4,6 +4,7 @@ ghost use Rattle.std.specs.Prelude.{◌≡◌, ℕ, Bool, true, List, [], ◌∷
 ghost use Rattle.input_pdu.specs.declared.event.Event.{Event};
 ghost use Rattle.session_rules.specs.declared.entry.Entry.{Entry};
 ghost use Rattle.session_rules.specs.Journal.{Head};
+ghost use Rattle.edge_io.specs.Outside.{Input};
 ghost use Rattle.grow_lock.specs.Journal.{StartsWith};
 ghost use Rattle.grow_lock.specs.Shares.{left_half, right_half, both, HoldsShare};
 ghost use Rattle.conn_rules.specs.declared.conn_step.ConnStep.{ConnStep};
@@ -13,7 +14,7 @@ ghost use Rattle.serve_rules.specs.Events.{Act, HappenFrom, places_of, Ascend, A
 ghost use Rattle.serve_rules.specs.Reading.{ReadsOn};
 ghost use Rattle.serve_rules.specs.declared.ends.SideEnd.{SideEnd};
 ghost use Rattle.serve_rules.specs.declared.ends.SideEnd.TheVariants.{Stopped};
-ghost use Rattle.serve_rules.specs.declared.told.Told.{Told};
+ghost use Rattle.serve_rules.specs.declared.noted.Noted.{Noted};
 
 /// Events are handled one after the other: none, one in a turn of its own, and some after others; and a turn in which nothing is appended handles none.
 pub fn events_are_handled_in_turns()
@@ -41,11 +42,11 @@ pub fn places_of_events_ascend()
 
 /// A read side goes on after a stretch that went well; and what it did stays so for the pass in which it meets that of a side that appended nothing and has its half of the lock.
 pub fn reading_goes_on()
-    ensures after { (head : Head) (v : ℕ) (rest : List ConnStep) (flagged : Bool) (conn mid last : Hearing) (p q r : SessionPass) (told noted written : Told)
-        (left less least : Option (List ℕ)) (f f' f'' : ℕ) (end : SideEnd) → ReadsOn head v rest true conn mid p q told noted left less f f' Stopped
-        → ReadsOn head v [] flagged mid last q r noted written less least f' f'' end → ReadsOn head v rest flagged conn last p r told written left least f f'' end }
-    ensures met { (head : Head) (v : ℕ) (rest : List ConnStep) (flagged : Bool) (conn last : Hearing) (split p mine theirs met : SessionPass) (told noted : Told)
-        (left less : Option (List ℕ)) (f f' : ℕ) (end : SideEnd) → split ≡ record p { share = left_half p.share } → ReadsOn head v rest flagged conn last split mine told noted left less f f' end
+    ensures after { (head : Head) (v : ℕ) (rest : List ConnStep) (flagged : Bool) (conn mid last : Hearing) (p q r : SessionPass) (a b c : Noted)
+        (before between after : Input) (end : SideEnd) → ReadsOn head v rest true conn mid p q a b before between Stopped
+        → ReadsOn head v [] flagged mid last q r b c between after end → ReadsOn head v rest flagged conn last p r a c before after end }
+    ensures met { (head : Head) (v : ℕ) (rest : List ConnStep) (flagged : Bool) (conn last : Hearing) (split p mine theirs met : SessionPass) (a b : Noted)
+        (before after : Input) (end : SideEnd) → split ≡ record p { share = left_half p.share } → ReadsOn head v rest flagged conn last split mine a b before after end
         → StartsWith met.seen mine.seen → met.found ≡ mine.found ++ theirs.found → met.mine ≡ mine.mine ++ theirs.mine → theirs.mine ≡ []
-        → met.share ≡ both mine.share theirs.share → HoldsShare theirs.share (right_half p.share) → ReadsOn head v rest flagged conn last p met told noted left less f f' end }
+        → met.share ≡ both mine.share theirs.share → HoldsShare theirs.share (right_half p.share) → ReadsOn head v rest flagged conn last p met a b before after end }
 {}

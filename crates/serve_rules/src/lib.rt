@@ -6,10 +6,10 @@
 
 mod ends;
 pub mod laws;
+mod noted;
 mod places;
-mod told;
 
 pub use ends::{ConnEnd, SideEnd};
+pub use noted::{ConnReport, Noted};
 pub use places::Places;
-pub use told::{ConnReport, Told};
 pub use wire_num::OutOfMemory;

@@ -10,16 +10,22 @@ use session_core::{Invite, OutOfMemory, Role, Session};
 use std::alloc::Global;
 use std::process::Abort;
 
-/// The picture that the sample client asks for.
+/// The picture of the session.
 pub const SIZE: Size = Size { w: 64, h: 48 };
 
 /// The names of the two who are invited,
-pub const OWNER: [u8; 3] = *b"ann";
+pub fn owner() -> Name {
+    Name::new(b"ann")
+}
 
-pub const VIEWER: [u8; 3] = *b"ben";
+pub fn viewer() -> Name {
+    Name::new(b"ben")
+}
 
 /// and that of somebody else.
-pub const STRANGER: [u8; 3] = *b"eve";
+pub fn stranger() -> Name {
+    Name::new(b"eve")
+}
 
 /// The port that a gate in memory is asked for.
 pub const PORT: u16 = 3389;
@@ -62,7 +68,7 @@ pub fn must_be_reported(rt: &impl Abort, served: &Served, link: usize, viewer: u
     }
 }
 
-/// Where the sample client presses the mouse, in pixels, and the ink of the board.
+/// Where a client presses the mouse, in pixels, and the ink of the board.
 pub const X: u32 = 20;
 
 pub const Y: u32 = 20;

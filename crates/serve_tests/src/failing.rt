@@ -4,7 +4,7 @@
 //! the answer, a frame of a board with nothing on it, and one with the dot.
 
 use crate::checks::{
-    OWNER, SIZE, WHITE, X, Y, must_be_front, must_be_reported, must_be_written, must_count,
+    SIZE, WHITE, X, Y, must_be_front, must_be_reported, must_be_written, must_count, owner,
 };
 use crate::client::{ANSWER, PRESS, packets, whole};
 use crate::planned::{served, written};
@@ -36,7 +36,7 @@ fn served_with<R: Threads + Wait + Sync>(
     reads: &[u32],
     writes: &[u32],
 ) -> Result<(Served, PlanGate), OutOfMemory> {
-    let mut bytes = whole(alloc, OWNER)?;
+    let mut bytes = whole(alloc, &owner())?;
     bytes.extend_from_slice(&packets(alloc, &[PRESS])?)?;
     let pieces = vec![in alloc; PIECE; bytes.len()]?;
     let link = MemLink {
@@ -100,7 +100,7 @@ fn viewer_by(answered: bool) -> u32 {
 fn each_read_that_fails_ends_the_link_and_leaves_whole_frames(rt: HostRuntime) -> Result<(), Fail> {
     let alloc = rt.alloc();
     let told = unfailing(&rt, alloc)?;
-    let ready = whole(alloc, OWNER)?.len();
+    let ready = whole(alloc, &owner())?.len();
     let mut handed = 0_usize;
     for call in 1..=MOST_CALLS {
         let (served, gate) = served_with(&rt, alloc, &[call], &[])?;

@@ -1,7 +1,7 @@
 //! Links that are served beside each other, each by two sides.
 
 use crate::checks::{
-    OWNER, PORT, VIEWER, must_be_pressed, must_count, must_have_left, new_session,
+    PORT, must_be_pressed, must_count, must_have_left, new_session, owner, viewer,
 };
 use crate::client::{Data, PRESS, REFRESH_ALL, STOP_OUTPUT, hello, packets, ready, whole};
 use crate::cue_gate::{CueGate, CueLink};
@@ -51,10 +51,10 @@ fn a_link_is_served_while_another_one_waits(rt: HostRuntime) -> Result<(), Fail>
     let marks = Arc::new(alloc, Marks::new())?;
     let shown = Cue::Marks(Nth::Second, 1);
     let first = [
-        part(alloc, Cue::Nothing, hello(alloc, OWNER)?),
-        part(alloc, shown, ready(alloc)?),
+        part(alloc, Cue::Nothing, hello(alloc, &owner())?),
+        part(alloc, shown, ready(alloc, &owner())?),
     ];
-    let second = [part(alloc, Cue::Nothing, whole(alloc, VIEWER)?)];
+    let second = [part(alloc, Cue::Nothing, whole(alloc, &viewer())?)];
     let links = [
         CueLink::new(alloc, &marks, Nth::First, Vec::from_array(alloc, first)?)?,
         CueLink::new(alloc, &marks, Nth::Second, Vec::from_array(alloc, second)?)?,
@@ -72,12 +72,12 @@ fn what_one_draws_is_shown_to_another_who_stays(rt: HostRuntime) -> Result<(), F
     let shown = Cue::Marks(Nth::Second, 1);
     let shown_more = Cue::Marks(Nth::Second, 2);
     let first = [
-        part(alloc, Cue::Nothing, whole(alloc, OWNER)?),
+        part(alloc, Cue::Nothing, whole(alloc, &owner())?),
         data(alloc, shown, &[PRESS])?,
         end(alloc, shown_more),
     ];
     let second = [
-        part(alloc, Cue::Nothing, whole(alloc, VIEWER)?),
+        part(alloc, Cue::Nothing, whole(alloc, &viewer())?),
         end(alloc, shown_more),
     ];
     let links = [
@@ -98,7 +98,7 @@ fn a_client_is_shown_what_it_asks_for_and_nothing_once_it_wants_nothing(
     let alloc = rt.alloc();
     let marks = Arc::new(alloc, Marks::new())?;
     let only = [
-        part(alloc, Cue::Nothing, whole(alloc, OWNER)?),
+        part(alloc, Cue::Nothing, whole(alloc, &owner())?),
         data(alloc, Cue::Marks(Nth::First, 1), &[REFRESH_ALL])?,
         data(alloc, Cue::Marks(Nth::First, 2), &[STOP_OUTPUT, PRESS])?,
         end(alloc, Cue::Looks(A_WHILE)),

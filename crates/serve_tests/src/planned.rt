@@ -1,12 +1,13 @@
 //! Links that hold a client's bytes, some of which fail as planned.
 
 use crate::checks::{
-    OWNER, PORT, STRANGER, must_be_reported, must_be_written, must_count, must_have_left,
-    new_session,
+    PORT, must_be_reported, must_be_written, must_count, must_have_left, new_session, owner,
+    stranger,
 };
 use crate::client::{ANSWER, whole};
 use edge_io::{MemLink, OutOfMemory, PlanGate, PlanSink, PlanSource};
 use gate_run::{Served, serve_gate};
+use info_lic::Name;
 use serve_rules::ConnEnd;
 use std::alloc::Global;
 use std::sync::Wait;
@@ -17,7 +18,7 @@ use std::thread::Threads;
 const ULTIMATUM: [u8; 9] = [0x03, 0x00, 0x00, 0x09, 0x02, 0xF0, 0x80, 0x20, 0x80];
 
 /// A link with the stream of a client of this name, whose writer fails in these calls.
-fn link(alloc: Global, name: [u8; 3], fails: &[u32]) -> Result<MemLink, OutOfMemory> {
+fn link(alloc: Global, name: &Name, fails: &[u32]) -> Result<MemLink, OutOfMemory> {
     let bytes = whole(alloc, name)?;
     Ok(MemLink {
         reader: PlanSource::new(bytes, Vec::new(alloc), Vec::new(alloc)),
@@ -52,7 +53,7 @@ fn written_from(gate: &PlanGate, link: usize, place: usize) -> &[u8] {
 #[test]
 fn a_client_that_sends_no_more_has_left(rt: HostRuntime) -> Result<(), Fail> {
     let alloc = rt.alloc();
-    let links = Vec::from_array(alloc, [link(alloc, OWNER, &[])?])?;
+    let links = Vec::from_array(alloc, [link(alloc, &owner(), &[])?])?;
     let (served, _gate) = served(&rt, alloc, links)?;
     must_have_left(&rt, &served, 1);
     must_be_reported(&rt, &served, 0, 1, ConnEnd::Left);
@@ -63,7 +64,7 @@ fn a_client_that_sends_no_more_has_left(rt: HostRuntime) -> Result<(), Fail> {
 #[test]
 fn a_write_that_fails_ends_its_connection(rt: HostRuntime) -> Result<(), Fail> {
     let alloc = rt.alloc();
-    let links = [link(alloc, OWNER, &[1])?, link(alloc, OWNER, &[2])?];
+    let links = [link(alloc, &owner(), &[1])?, link(alloc, &owner(), &[2])?];
     let (served, gate) = served(&rt, alloc, Vec::from_array(alloc, links)?)?;
     must_count(&rt, served.reports.len() as u64, 2);
     must_be_reported(&rt, &served, 0, 0, ConnEnd::WriteFault);
@@ -76,7 +77,7 @@ fn a_write_that_fails_ends_its_connection(rt: HostRuntime) -> Result<(), Fail> {
 #[test]
 fn a_client_whose_name_has_no_row_is_told_to_go(rt: HostRuntime) -> Result<(), Fail> {
     let alloc = rt.alloc();
-    let links = [link(alloc, OWNER, &[])?, link(alloc, STRANGER, &[])?];
+    let links = [link(alloc, &owner(), &[])?, link(alloc, &stranger(), &[])?];
     let (served, gate) = served(&rt, alloc, Vec::from_array(alloc, links)?)?;
     must_count(&rt, served.reports.len() as u64, 2);
     must_be_reported(&rt, &served, 0, 1, ConnEnd::Left);

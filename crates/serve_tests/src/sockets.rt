@@ -1,6 +1,6 @@
 //! Two clients over the loopback interface.
 
-use crate::checks::{OWNER, SIZE, VIEWER, WHITE, X, Y, must_have_left, new_session};
+use crate::checks::{SIZE, WHITE, X, Y, must_have_left, new_session, owner, viewer};
 use crate::client::{ANSWER, PRESS, packets, whole};
 use caps_sets::preset;
 use client_view::Client;
@@ -40,7 +40,7 @@ fn local(port: u16) -> SocketAddr {
 }
 
 /// A port that was free a moment ago.
-fn free_port<R: Net<Listener = TcpListener, Stream = TcpStream>>(rt: &R) -> Result<u16, Fail> {
+pub fn free_port<R: Net<Listener = TcpListener, Stream = TcpStream>>(rt: &R) -> Result<u16, Fail> {
     let listener = TcpListener::bind(rt, local(ANY_PORT))?;
     Ok(listener.local_addr()?.port())
 }
@@ -177,16 +177,16 @@ fn must_show_the_same(rt: &impl Abort, one: &Client, other: &Client) {
 fn two_clients_are_shown_what_the_owner_draws(rt: HostRuntime) -> Result<(), Fail> {
     let alloc = rt.alloc();
     let port = free_port(&rt)?;
-    let mut owner = whole(alloc, OWNER)?;
-    owner.extend_from_slice(&packets(alloc, &[PRESS])?)?;
-    let viewer = whole(alloc, VIEWER)?;
+    let mut first = whole(alloc, &owner())?;
+    first.extend_from_slice(&packets(alloc, &[PRESS])?)?;
+    let second = whole(alloc, &viewer())?;
     let ((one, other), served) = thread::join(
         &rt,
         || {
             thread::join(
                 &rt,
-                || attend(&rt, alloc, port, &owner),
-                || attend(&rt, alloc, port, &viewer),
+                || attend(&rt, alloc, port, &first),
+                || attend(&rt, alloc, port, &second),
             )
         },
         || served(&rt, alloc, port),

@@ -3,6 +3,7 @@ use Rattle.std.proofs.Common.{◌≡◌, ℕ, ◌+◌, ◌-◌, ◌*◌, ◌/◌
 use Rattle.std.specs.Prelude.{Ok, Some, Result}
 use Rattle.std.specs.List.{AllByRecursion, slice_range}
 use Rattle.std.proofs.Math.Seq.{take-length, drop-append_seam}
+use Rattle.px_core.specs.declared.depth.Depth.TheVariants.{Bits24}
 use Rattle.px_core.specs.declared.surface.Size.{Size}
 use Rattle.wire_num.specs.declared.range.Range.{Range}
 use Rattle.wire_num.specs.Field.{Read, bind, then_read, map_read}
@@ -103,7 +104,7 @@ body_is body = last_part (before_body body) body
 -- ---- the packets up to the joins
 
 abbrev pub client : Client
-client = record { channels = 3; width = 64; height = 48; build = 0 }
+client = record { channels = 3; width = 64; height = 48; build = 0; depth = Bits24 }
 
 abbrev pub first_nine : List (List ℕ)
 first_nine =
@@ -136,7 +137,7 @@ info_small name h =
     omega (arith, short, units, both)
 
 abbrev pub welcome : List ℕ → Judged
-welcome name = Ok (record { reply = reply.Welcome client; news = news.Step (step.Named name); next = stage.Shares 3 phase.Confirm })
+welcome name = Ok (record { reply = reply.Welcome client; news = news.Step (step.Named name); next = stage.Shares 3 (phase.Confirm Bits24) })
 
 pub info_judged_so : (name : List ℕ) → IsName name → packet_judged (stage.Joins client true true) (client_info the_user name) ≡ welcome name
 unfolding mcs_headers
@@ -151,22 +152,22 @@ info_judged_so name h =
 -- ---- Confirm Active and the finalisation
 
 confirm_seen : (c : Confirmed) (bs gs : List CacheSize)
-    → packet_judged (stage.Shares 3 phase.Confirm) (confirm_active the_user (with_caches c (cells 3 bs) (cells 10 gs)))
-    ≡ deed_judged 3 7 the_user phase.Confirm 15 (bind (sets_read 21 (confirmed_of (confirm_fields (with_caches c (cells 3 bs) (cells 10 gs))))) (λ k. Ok (Some (deed.Confirm k))))
+    → packet_judged (stage.Shares 3 (phase.Confirm Bits24)) (confirm_active the_user (with_caches c (cells 3 bs) (cells 10 gs)))
+    ≡ deed_judged 3 7 the_user (phase.Confirm Bits24) 15 (bind (sets_read 21 (confirmed_of Bits24 (confirm_fields (with_caches c (cells 3 bs) (cells 10 gs))))) (λ k. Ok (Some (deed.Confirm k))))
 unfolding mcs_headers passing_at exactly_at send_data_request total_length control_header client_pdu_at
 confirm_seen c bs gs = refl
 
 abbrev pub Seen : Confirmed → Type 0
-Seen c = packet_judged (stage.Shares 3 phase.Confirm) (confirm_active the_user c)
-    ≡ deed_judged 3 7 the_user phase.Confirm 15 (bind (sets_read 21 (confirmed_of (confirm_fields c))) (λ k. Ok (Some (deed.Confirm k))))
+Seen c = packet_judged (stage.Shares 3 (phase.Confirm Bits24)) (confirm_active the_user c)
+    ≡ deed_judged 3 7 the_user (phase.Confirm Bits24) 15 (bind (sets_read 21 (confirmed_of Bits24 (confirm_fields c))) (λ k. Ok (Some (deed.Confirm k))))
 
 pub confirm_judged : (c : Confirmed) → IsConfirmable c
-    → packet_judged (stage.Shares 3 phase.Confirm) (confirm_active the_user c) ≡ goes_to (stage.Shares 3 (phase.Finish c final.Synchronize))
+    → packet_judged (stage.Shares 3 (phase.Confirm Bits24)) (confirm_active the_user c) ≡ goes_to (stage.Shares 3 (phase.Finish c final.Synchronize))
 confirm_judged c h =
     let seen : Seen c =
     subst (λ (xs : List CacheSize). Seen (with_caches c xs c.glyphs)) (cells_are 3 c.bitmaps h.bitmaps)
     (subst (λ (ys : List CacheSize). Seen (with_caches c (cells 3 c.bitmaps) ys)) (cells_are 10 c.glyphs h.glyphs) (confirm_seen c c.bitmaps c.glyphs)) in
-    seen ∙ ap (λ r. deed_judged 3 7 the_user phase.Confirm 15 (bind (sets_read 21 r) (λ k. Ok (Some (deed.Confirm k))))) (confirmed_back c h)
+    seen ∙ ap (λ r. deed_judged 3 7 the_user (phase.Confirm Bits24) 15 (bind (sets_read 21 r) (λ k. Ok (Some (deed.Confirm k))))) (confirmed_back c h)
 
 abbrev pub last_four : List (List ℕ)
 last_four = synchronize the_user ∷ cooperate the_user ∷ request_control the_user ∷ font_list the_user ∷ []
@@ -184,7 +185,7 @@ four_heard size place c = refl
 -- ---- all packets
 
 abbrev pub two_answers : Size → List ℕ
-two_answers size = send_data_indication licence ++ send_data_indication (demand_active size false)
+two_answers size = send_data_indication licence ++ send_data_indication (demand_active size Bits24 false)
 
 abbrev pub last_place : List ℕ → Confirmed → ℕ
 last_place name c =
@@ -196,7 +197,7 @@ all_heard size name c =
 
 -- up to Client Info
 pub ten_heard : (size : Size) (name : List ℕ) → IsName name → packets_heard (first_hearing size) (first_nine ++ client_info the_user name ∷ [])
-    ≡ heard_as (first_answers ++ (two_answers size ++ [])) (step.Named name ∷ []) (stands size (stage.Shares 3 phase.Confirm) (place_behind 435 (length (client_info the_user name))))
+    ≡ heard_as (first_answers ++ (two_answers size ++ [])) (step.Named name ∷ []) (stands size (stage.Shares 3 (phase.Confirm Bits24)) (place_behind 435 (length (client_info the_user name))))
 ten_heard size name n =
     let at_info : Hearing = stands size (stage.Joins client true true) 435 in
     packets_then (first_hearing size) first_nine (client_info the_user name ∷ [])
@@ -208,7 +209,7 @@ pub packets_are_heard : (size : Size) (name : List ℕ) (c : Confirmed) → IsNa
 packets_are_heard size name c n h =
     let at_info : Hearing = stands size (stage.Joins client true true) 435 in
     let confirm_place : ℕ = place_behind 435 (length (client_info the_user name)) in
-    let at_confirm : Hearing = stands size (stage.Shares 3 phase.Confirm) confirm_place in
+    let at_confirm : Hearing = stands size (stage.Shares 3 (phase.Confirm Bits24)) confirm_place in
     let at_finals : Hearing = stands size (stage.Shares 3 (phase.Finish c final.Synchronize)) (place_behind confirm_place (length (confirm_active the_user c))) in
     let nine : Heard = heard_as first_answers [] at_info in
     let info : Heard = heard_as (two_answers size) (step.Named name ∷ []) at_confirm in

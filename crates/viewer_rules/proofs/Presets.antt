@@ -52,6 +52,9 @@ bitmap_set k s c h fits = record {
   level = h.level;
   bitmap_sizes = All-set IsSized c.bitmaps k s fits h.bitmap_sizes;
   glyph_sizes = h.glyph_sizes;
+  depth = h.depth;
+  slow = h.slow;
+  pointers = h.pointers;
 }
 
 glyph_set : (k : ℕ) (s : CacheSize) (c : Confirmed) → IsConfirmable c → IsSized s → IsConfirmable (with_glyph_cache k s c)
@@ -61,6 +64,9 @@ glyph_set k s c h fits = record {
   level = h.level;
   bitmap_sizes = h.bitmap_sizes;
   glyph_sizes = All-set IsSized c.glyphs k s fits h.glyph_sizes;
+  depth = h.depth;
+  slow = h.slow;
+  pointers = h.pointers;
 }
 
 cache_found : (c : Confirmed) (kind : List ℕ) (k : ℕ) (s : CacheSize) → IsConfirmable c → IsSized s → IfSome (with_cache c kind k s) IsConfirmable
@@ -83,7 +89,7 @@ override_found c (a ∷ b ∷ k ∷ sign ∷ rest) h = by (is_ascii_digit k && (
     by false = tt
 
 cautious_too : (c : Confirmed) → IsConfirmable c → IsConfirmable (record c { cautious = true })
-cautious_too c h = record { bitmaps = h.bitmaps; glyphs = h.glyphs; level = h.level; bitmap_sizes = h.bitmap_sizes; glyph_sizes = h.glyph_sizes }
+cautious_too c h = record { bitmaps = h.bitmaps; glyphs = h.glyphs; level = h.level; bitmap_sizes = h.bitmap_sizes; glyph_sizes = h.glyph_sizes; depth = h.depth; slow = h.slow; pointers = h.pointers }
 
 word_found : (c : Confirmed) (word : List ℕ) → IsConfirmable c → IfSome (overridden_word c word) IsConfirmable
 word_found c word h = by (is_same_word word (codes "cautious"))
@@ -105,10 +111,10 @@ none_fit : (n : ℕ) → Fits (replicate n (sized 0 0))
 none_fit n = All-replicate IsSized n (sized 0 0) (omega arith, omega arith)
 
 plain_too : IsConfirmable plain
-plain_too = record { bitmaps = refl; glyphs = refl; level = omega arith; bitmap_sizes = none_fit 3; glyph_sizes = none_fit 10 }
+plain_too = record { bitmaps = refl; glyphs = refl; level = omega arith; bitmap_sizes = none_fit 3; glyph_sizes = none_fit 10; depth = refl; slow = refl; pointers = refl }
 
 bare_too : IsConfirmable bare
-bare_too = record { bitmaps = refl; glyphs = refl; level = omega arith; bitmap_sizes = none_fit 3; glyph_sizes = none_fit 10 }
+bare_too = record { bitmaps = refl; glyphs = refl; level = omega arith; bitmap_sizes = none_fit 3; glyph_sizes = none_fit 10; depth = refl; slow = refl; pointers = refl }
 
 full_bitmaps : Fits full.bitmaps
 full_bitmaps = All-from_recursion IsSized full.bitmaps ((omega arith, omega arith), ((omega arith, omega arith), ((omega arith, omega arith), tt)))
@@ -135,10 +141,10 @@ full_glyphs = All-from_recursion IsSized full.glyphs (
 )
 
 full_too : IsConfirmable full
-full_too = record { bitmaps = refl; glyphs = refl; level = omega arith; bitmap_sizes = full_bitmaps; glyph_sizes = full_glyphs }
+full_too = record { bitmaps = refl; glyphs = refl; level = omega arith; bitmap_sizes = full_bitmaps; glyph_sizes = full_glyphs; depth = refl; slow = refl; pointers = refl }
 
 marked_too : IsConfirmable marked
-marked_too = record { bitmaps = refl; glyphs = refl; level = omega arith; bitmap_sizes = full_bitmaps; glyph_sizes = full_glyphs }
+marked_too = record { bitmaps = refl; glyphs = refl; level = omega arith; bitmap_sizes = full_bitmaps; glyph_sizes = full_glyphs; depth = refl; slow = refl; pointers = refl }
 
 preset_found : (word : List ℕ) → IfSome (preset_named presets word) IsConfirmable
 preset_found word = by (is_same_word word (codes "plain")) (is_same_word word (codes "full")) (is_same_word word (codes "marked")) (is_same_word word (codes "bare"))

@@ -1,6 +1,7 @@
 //! The laws.
 
 ghost use Rattle.std.specs.Prelude.{◌≡◌, ◌++◌, [], None, Some, IfSome, Ok, List, ℕ, IsTrue};
+ghost use Rattle.px_core.specs.declared.depth.Depth.TheVariants.{Bits24};
 ghost use Rattle.px_core.specs.declared.surface.Size.{Size};
 ghost use Rattle.px_core.specs.Rectangle.{is_session_size};
 ghost use Rattle.caps_sets.specs.declared.confirmed.Confirmed.{Confirmed};
@@ -23,7 +24,7 @@ pub fn hosts_bytes_are_heard_in_any_pieces()
 
 /// The host reads in a viewer's Confirm Active just what the viewer was given to confirm.
 pub fn what_is_confirmed_is_read()
-    ensures { (c : Confirmed) → IsConfirmable c → confirmed_of (confirm_fields c) ≡ Ok c }
+    ensures { (c : Confirmed) → IsConfirmable c → confirmed_of Bits24 (confirm_fields c) ≡ Ok c }
 {}
 
 /// Whatever preset words confirm has as many caches as a viewer confirms, and numbers of two bytes.

@@ -11,6 +11,7 @@ use Rattle.mcs_dom.specs.ChannelJoin.{channel_join_confirm}
 use Rattle.mcs_dom.specs.SendData.{send_data_indication}
 use Rattle.gcc_per.specs.ServerData.{create_response}
 use Rattle.info_lic.specs.Licence.{licence}
+use Rattle.px_core.specs.declared.depth.Depth.TheVariants.{Bits24}
 use Rattle.caps_sets.specs.Confirmed.{plain}
 use Rattle.caps_sets.specs.DemandActive.{before_bitmap, after_bitmap, demand_active}
 use Rattle.share_pdu.specs.declared.finals.Final.TheVariants as final
@@ -74,7 +75,7 @@ licence_is : refusals (stage.Licence 1007) (send_data_indication licence)
 unfolding passing_at exactly_at connection_confirm server_blocks_answer conference_answer user_data_answer response_answer connect_response_answer attach_answer join_answer indication_start indicated licence_answer behind_height later_answer height_and_later width_and_later demand_answer share_data_answer final_answer connect_response create_response before_bitmap after_bitmap demand_active
 licence_is = refl
 
-demand_is : refusals (stage.Demand 1007) (send_data_indication (demand_active (record { w = 64; h = 48 }) false))
+demand_is : refusals (stage.Demand 1007) (send_data_indication (demand_active (record { w = 64; h = 48 }) Bits24 false))
     ≡ places (any 4 ∷ field 3 4 ∷ field 1 7 ∷ field 2 8 ∷ field 2 10 ∷ field 1 12 ∷ field 1 14 ∷ field 1 15 ∷ field 2 15 ∷ field 2 17 ∷ field 2 19 ∷ field 4 21 ∷ field 2 25 ∷ field 2 27 ∷ field 4 29 ∷ field 4 33 ∷ field 24 37 ∷ field 12 61 ∷ field 2 73 ∷ any 1 ∷ field 1 75 ∷ field 2 77 ∷ any 2 ∷ field 8 81 ∷ field 4 89 ∷ field 20 93 ∷ field 12 113 ∷ field 32 125 ∷ field 12 157 ∷ field 8 169 ∷ field 10 177 ∷ field 8 187 ∷ field 80 195 ∷ field 8 275 ∷ field 8 283 ∷ field 8 291 ∷ field 4 299 ∷ [])
 unfolding passing_at exactly_at connection_confirm server_blocks_answer conference_answer user_data_answer response_answer connect_response_answer attach_answer join_answer indication_start indicated licence_answer behind_height later_answer height_and_later width_and_later demand_answer share_data_answer final_answer connect_response create_response before_bitmap after_bitmap demand_active
 demand_is = refl

@@ -2,7 +2,7 @@ use Rattle.caps_sets.proofs.ConfirmText.{confirm_is_text, text_is_confirm, first
 use Rattle.caps_sets.proofs.confirm_active.confirms_are_read_exactly.Goals as goal
 
 pub returns-clause-exact : goal.returns-clause-exact
-returns-clause-exact c = λ bytes confirmed. (confirm_is_text bytes confirmed, text_is_confirm bytes confirmed)
+returns-clause-exact c = λ depth bytes confirmed. (confirm_is_text depth bytes confirmed, text_is_confirm depth bytes confirmed)
 
 pub returns-clause-refused : goal.returns-clause-refused
-returns-clause-refused c = λ bytes fault. (first_fault bytes fault, fault_is_told bytes fault)
+returns-clause-refused c = λ depth bytes fault. (first_fault depth bytes fault, fault_is_told depth bytes fault)

@@ -8,9 +8,9 @@ use Rattle.conn_core.proofs.replies.welcome.Goals as goal
 pub returns-in_err-license-clause-memory : goal.returns-in_err-license-clause-memory
 returns-in_err-license-clause-memory c =
     let p = err_from_is_err_and c.from_residual.result c.from_residual.ensures.1 in
-    rw p.1 (front_before _ (send_data_indication licence) (send_data_indication (demand_active c.args.size c.args.resizes)) _ c.in_err-license.ensures.memory)
+    rw p.1 (front_before _ (send_data_indication licence) (send_data_indication (demand_active c.args.size c.args.depth c.args.resizes)) _ c.in_err-license.ensures.memory)
 
 pub returns-in_err-demand-clause-memory : goal.returns-in_err-demand-clause-memory
 returns-in_err-demand-clause-memory c =
     let p = err_from_is_err_and c.from_residual-in_err-demand.result c.from_residual-in_err-demand.ensures.1 in
-    rw p.1 (front_after _ (send_data_indication licence) (send_data_indication (demand_active c.args.size c.args.resizes)) _ _ c.in_ok-license.ensures.ok c.in_err-demand.ensures.memory)
+    rw p.1 (front_after _ (send_data_indication licence) (send_data_indication (demand_active c.args.size c.args.depth c.args.resizes)) _ _ c.in_ok-license.ensures.ok c.in_err-demand.ensures.memory)

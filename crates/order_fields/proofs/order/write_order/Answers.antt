@@ -7,14 +7,14 @@ use Rattle.order_fields.proofs.OrderBack.{order_back}
 use Rattle.order_fields.proofs.order.write_order.Goals as goal
 
 pub returns-in_err-put_order-clause-read_back : goal.returns-in_err-put_order-clause-read_back
-returns-in_err-put_order-clause-read_back c rest =
+returns-in_err-put_order-clause-read_back c depth rest =
     let are = subst AreRegisters c.regs.view_is c.regs.invariant.0 in
-    order_back c.args.regs.now c.args.zero_bounds c.args.o.now (edges_of_optional c.args.bounds) rest are c.values-values.ensures.fits c.requires
+    order_back depth c.args.regs.now c.args.zero_bounds c.args.o.now (edges_of_optional c.args.bounds) rest are c.values-values.ensures.fits c.requires
 
 pub returns-clause-read_back : goal.returns-clause-read_back
-returns-clause-read_back c rest =
+returns-clause-read_back c depth rest =
     let are = subst AreRegisters c.regs.view_is c.regs.invariant.0 in
-    order_back c.args.regs.now c.args.zero_bounds c.args.o.now (edges_of_optional c.args.bounds) rest are c.values-values.ensures.fits c.requires
+    order_back depth c.args.regs.now c.args.zero_bounds c.args.o.now (edges_of_optional c.args.bounds) rest are c.values-values.ensures.fits c.requires
 
 pub invariant_of-regs : goal.invariant_of-regs
 invariant_of-regs c =

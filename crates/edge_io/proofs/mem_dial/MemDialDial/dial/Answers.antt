@@ -1,6 +1,5 @@
-use Rattle.std.proofs.Common.{◌≡◌, ◌+◌, ◌∷◌, [], ℕ, drop, false, Some, arith, add-one, ap, refl, subst, sym, ◌∙◌}
+use Rattle.std.proofs.Common.{◌≡◌, ◌∷◌, [], ℕ, drop, false, arith, add-one, ap, refl, subst, sym, ◌∙◌}
 use Rattle.std.specs.Option.{option_to_list}
-use Rattle.edge_io.specs.declared.mem_link.MemLink.{MemLink}
 use Rattle.edge_io.specs.Faults.{Rose}
 use Rattle.edge_io.specs.Plan.{CallPlan, next_fails}
 use Rattle.edge_io.specs.PlannedDial.{PlannedDial}

@@ -1,0 +1,6 @@
+pub mod Sizes
+pub mod Heads
+pub mod Mixed
+pub mod Written
+pub mod OneByOne
+pub mod SamplePackets
