@@ -233,7 +233,7 @@ unless_refused (Err place) = Err Broken
 -- the pixels of raw or packed bytes, rows from the bottom up
 abbrev pub wire_pixels : Bool → ℕ → ℕ → List ℕ → Result (List ℕ) Fault
 wire_pixels false w h bytes = needs (length bytes == 3 * (w * h)) Broken (Ok (pixels_of Bits24 bytes))
-wire_pixels true w h bytes = unless_refused (unrle bytes w h)
+wire_pixels true w h bytes = unless_refused (unrle Bits24 bytes w h)
 
 -- the flags of a cached bitmap: 0 where it is raw, NO_BITMAP_COMPRESSION_HDR where it is packed
 abbrev pub bitmap_flags : Bool → ℕ

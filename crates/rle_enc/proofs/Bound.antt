@@ -10,7 +10,7 @@ use Rattle.px_core.specs.declared.depth.Depth.{Depth}
 use Rattle.px_core.specs.declared.depth.Depth.TheVariants.{Bits24, Bits16}
 use Rattle.px_core.specs.Depth.{bytes_in}
 use Rattle.px_core.specs.Pixels.{pixel_bytes}
-use Rattle.px_core.proofs.Pixels.{length-pixel_bytes, length-pixels_bytes}
+use Rattle.px_core.proofs.Pixels.{length-pixels_bytes}
 use Rattle.run_lengths.proofs.Runs.{pixels, chosen}
 use Rattle.run_lengths.proofs.Stretches.{pixels-zip}
 
