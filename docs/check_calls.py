@@ -7,7 +7,7 @@ contract is a law.
 
 Names stand in backticks: `crate::call` or `crate::Type::call`. Each that a page cites must be a public call, and labels behind it those of
 its clauses. What docs/faults.md cites is of a crate that one of the programs stands on, and a law is called so. The laws that docs/claims.md
-names by crates must be theirs.
+names by crates must be theirs. A field of a record that docs/index.md has, `Record.field`, must be one of that record.
 
 python3 docs/check_calls.py
 """
@@ -25,16 +25,17 @@ START = re.compile(r'\bghost\b|\b(?P<trait>(?:pub\s+)?trait)\s+(?P<named>\w+)|\b
                    r'|(?P<pub>\bpub(?P<within>\([^)]*\))?\s+)?(?:\bconst\s+)?(?:\bunsafe\s+)?\bfn\s+(?P<call>\w+)')
 CLAUSE = re.compile(r'\s*(requires|ensures)\*?\s*(\w*)\s*\{')
 CITED = re.compile(r'`([a-z_0-9]+)::([\w:]+)`(?:(?:(?: and|,) `\w+`)?, clauses? ((?:`\w+`(?:, | and )?)+))?')
+OF_RECORD = re.compile(r'`([A-Z]\w*)\.(\w+)`')
 LAW = re.compile(r'\blaws? (`[\w:]+`(,| and) )*$')
 QUOTED = re.compile(r"b?'(\\.[^']*|[^'\\])'")
 
 
 class Call:
     """A call of a source file: where its name stands; its type or trait, or None; the trait that it is of, or None; what it gives; labels
-    of its clauses."""
-    def __init__(self, file, place, owner, kind, of, name, public, gives, labels, is_law):
+    of its clauses, and the text of these."""
+    def __init__(self, file, place, owner, kind, of, name, public, gives, labels, contract, is_law):
         self.file, self.place, self.owner, self.kind, self.of, self.name = file, place, owner, kind, of, name
-        self.public, self.gives, self.labels, self.is_law = public, gives, labels, is_law
+        self.public, self.gives, self.labels, self.contract, self.is_law = public, gives, labels, contract, is_law
 
     def path(self):
         return f'{self.owner}::{self.name}' if self.owner else self.name
@@ -88,8 +89,8 @@ def head_of(text, i):
 
 
 def function(text, i):
-    """What a function from i on gives, its labels, its body or None, and where it ends."""
-    end = head_of(text, i)
+    """What a function from i on gives, its labels, its clauses, its body or None, and where it ends."""
+    start = end = head_of(text, i)
     gives = text[i:end].rsplit('->', 1)[1].strip() if '->' in text[i:end] else ''
     labels = []
     while True:
@@ -99,12 +100,13 @@ def function(text, i):
         if clause.group(1) == 'ensures':
             labels.append(clause.group(2))
         end = closing(text, clause.end() - 1) + 1
+    contract = text[start:end]
     while text[end].isspace():
         end += 1
     if text[end] == ';':
-        return gives, labels, None, end + 1
+        return gives, labels, contract, None, end + 1
     close = closing(text, end)
-    return gives, labels, text[end + 1:close], close + 1
+    return gives, labels, contract, text[end + 1:close], close + 1
 
 
 def without_generics(head):
@@ -125,10 +127,10 @@ def calls_in(file, text, low, high, owner=None, kind='function', of=None):
         if found is None:
             return
         if found.group('call'):
-            gives, labels, body, low = function(text, found.end())
+            gives, labels, contract, body, low = function(text, found.end())
             public = bool(found.group('pub')) and not found.group('within')
             is_law = body is not None and not body.strip() and bool(labels) and owner is None
-            yield Call(file, found.start('call'), owner, kind, of, found.group('call'), public, gives, labels, is_law)
+            yield Call(file, found.start('call'), owner, kind, of, found.group('call'), public, gives, labels, contract, is_law)
             continue
         stop = found.end() - 1
         while text[stop] not in '{;':
@@ -233,6 +235,16 @@ def laws_named(calls):
                     yield f'docs/{page}, line {number}: {crate}::{name} is no law'
 
 
+def fields_named(found):
+    """What is wrong with the fields that the pages of docs/ name, of records that docs/index.md has."""
+    fields = {name: [field for _, group in record.fields for field in group] for (_, _, name), record in found.items()}
+    for page in sorted((TOP / 'docs').glob('*.md')):
+        for number, line in enumerate(page.read_text().splitlines(), 1):
+            for name, field in OF_RECORD.findall(line):
+                if name in fields and field not in fields[name]:
+                    yield f'docs/{page.name}, line {number}: {name} has no field {field}'
+
+
 def listed_crates():
     """The crates of crates.txt in their order, each with what it stands on."""
     return {line.split(':')[0].split()[0]: line.split(':')[1].split() for line in (TOP / 'crates.txt').read_text().splitlines()
@@ -241,10 +253,12 @@ def listed_crates():
 
 def main():
     import index
+    import records
     crates = listed_crates()
     calls = {crate: public_calls(crate) for crate in crates}
     run = stood_on(crates)
     faults = [fault for page in CITING for fault in citations(page, calls, run)] + list(laws_named(calls))
+    faults.extend(fields_named(records.records_of(calls)))
     if not index.is_written():
         faults.append("docs/index.md isn't up to date: python3 docs/index.py")
     for fault in faults:

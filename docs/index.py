@@ -1,6 +1,7 @@
 #!/usr/bin/env python3
-"""Writes docs/index.md: each public call of each crate of crates.txt, what it may answer and the labels of its clauses, and each type of
-answer with what its own comment says of it. Everything in it comes from the sources, by the reader of contracts in check_calls.py.
+"""Writes docs/index.md: each public call of each crate of crates.txt, what it may answer and the labels of its clauses, each type of answer
+with what its own comment says of it, and the records to which clauses of links come. Everything in it comes from the sources, by the
+reader of contracts in check_calls.py and that of specs/ in records.py.
 
 python3 docs/index.py            writes it
 python3 docs/index.py --check    says whether the written one is up to date, and ends with 1 where it isn't
@@ -9,11 +10,12 @@ import re
 import sys
 
 import check_calls
+import records
 from check_calls import TOP, blanked, closing
 
 WRITTEN = TOP / 'docs' / 'index.md'
 
-HEAD = '''# Index of the public calls
+HEAD = '''# Index of public calls and records
 
 Every call that can be reached from outside of its crate: functions that a crate exports, methods of types and calls of traits that it exports (a type that has the trait answers by the same clauses), and the copies (`clone`) of `edge_io`. `python3 docs/index.py` writes this page from the sources; `--check` says whether it is up to date.
 
@@ -27,6 +29,12 @@ BELOW = '''
 
 By crates, the lowest first, with what runs them. A line has calls of one type that may answer the same (`→`; `None` is that of an `Option`) and have clauses of the same labels. The clauses stand in a call's contract in the source; *one* is an only clause, which has no label, and a dash is none. What follows the labels is the call's own comment on what stands after a refusal or want of memory. Where nothing follows, the call only borrows what it is given, or makes a value, which an `Err` doesn't have, or its clauses say it. `docs/errors.md` says what a place is, and lists what no clause tells.
 
+'''
+
+RECORDS = '''
+## Records
+
+What clauses of links come to: the records in `specs/` of these crates that a clause of a public call there names, and those of which these are made. A record stands behind its module, with what the source says of it and the fields of which it says no more; the rows below have what it says of the others. `docs/threads.md` says what they come to together.
 '''
 
 ENUM = re.compile(r'\bpub\s+enum\s+(\w+)[^{;]*\{')
@@ -181,6 +189,19 @@ def lists_of(calls, answers):
         yield 'One clause each, and no refusal: ' + '; '.join(names_of(owner, names) for owner, names in plain.items()) + '.\n'
 
 
+def tables_of(found):
+    """A table for the records of each crate: a row for a record, and one for each remark among its fields."""
+    crate_before = None
+    for (crate, module, name), record in found.items():
+        if crate != crate_before:
+            yield f'\n### Records of `{crate}`\n\n| record | fields | in the words of the source |\n|---|---|---|\n'
+            crate_before = crate
+        groups = record.fields if not record.fields[0][0] else [('', [])] + record.fields
+        for place, (remark, fields) in enumerate(groups):
+            head, said = (f'`{module}.{name}`', record.remark) if place == 0 else ('', remark)
+            yield f'| {head} | {", ".join(f"`{field}`" for field in fields)} | {cell(said)} |\n'
+
+
 def where(crate, runs):
     """Which programs run a crate, of the crates that each of them stands on."""
     found = [f'`{program}`' for program, stood_on in zip(check_calls.PROGRAMS, runs) if crate in stood_on]
@@ -226,7 +247,7 @@ def page():
         for place, (name, comment) in enumerate(told):
             also = ', `OutOfMemory`' if place == 0 and len(told) < len(kind.variants) else ''
             lines.append(f'| {f"`{kind.crate}::{kind.name}`{also}" if place == 0 else ""} | `{name}` | {cell(comment)} |')
-    return HEAD + '\n' + '\n'.join(lines) + '\n' + BELOW + '\n'.join(parts)
+    return HEAD + '\n' + '\n'.join(lines) + '\n' + BELOW + '\n'.join(parts) + RECORDS + ''.join(tables_of(records.records_of(calls_of)))
 
 
 def is_written():

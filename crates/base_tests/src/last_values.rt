@@ -1,15 +1,9 @@
 //! Orders that say only what differs from the registers, worked out by hand.
 
 use crate::checks::are_written;
-use order_fields::{Fields, Regs, write_order};
+use order_fields::{Fields, OPAQUE_RECT, Regs, SCR_BLT, write_order};
 use px_core::Rect;
 use std::test::Fail;
-
-/// The type of a filled rectangle (MS-RDPEGDI, 2.2.2.2.1.1.2.5).
-const OPAQUE_RECT: u8 = 0x0A;
-
-/// The type of a copy within the picture (2.2.2.2.1.1.2.7).
-const SCR_BLT: u8 = 0x02;
 
 /// The orders of a black surface of 64 by 48 and of three fills: the second is the first again, the third lies 128 columns further.
 #[test]

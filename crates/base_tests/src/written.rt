@@ -2,16 +2,13 @@
 
 use crate::checks::are_written;
 use bitmap_upd::write_tile;
-use order_fields::{Fields, Regs, write_bounds};
+use order_fields::{Fields, GLYPH_INDEX, Regs, write_bounds};
 use order_prim::glyph_index;
 use px_core::Rect;
 use std::alloc::Global;
 use std::process::Abort;
 use std::test::Fail;
 use wire_num::{OutOfMemory, put_per_len, put_u16_be, put_u32_le};
-
-/// The type of a run of glyphs (MS-RDPEGDI, 2.2.2.2.1.1.2.13).
-const GLYPH_INDEX: u8 = 0x1B;
 
 /// Pairs of an entry and a delta.
 const PAIRS: [u8; 6] = [0, 0, 1, 8, 2, 8];

@@ -8,18 +8,17 @@
 
 ghost use Rattle.std.specs.Prelude.{◌≡◌, ◌≤◌, ◌*◌, ◌%◌, ◌++◌, [], length, OnOk, OnErr, IfOk, IsTrue, false};
 ghost use Rattle.wire_num.specs.Written.{AppendsFront};
-ghost use Rattle.wire_num.specs.Pixels.{pixel_bytes, pixels_bytes};
+ghost use Rattle.px_core.specs.declared.depth.Depth.TheVariants.{Bits24};
+ghost use Rattle.px_core.specs.Pixels.{pixel_bytes, pixels_bytes};
 ghost use Rattle.px_core.specs.Colors.{are_colors};
 ghost use Rattle.order_means.specs.WirePixels.{data_of, pixel_data, turned_over};
 ghost use Rattle.bitmap_upd.specs.Packed.{data_with};
 
 use crate::OutOfMemory;
+use px_core::{Depth, bytes_in};
 use rle_enc::{Packed, pack};
 use std::alloc::Global;
 use std::marker::Model;
-
-/// The bytes of a pixel.
-const BYTES: usize = 3;
 
 /// The bytes of pixels, and whether they are packed.
 #[derive(Drop)]
@@ -54,8 +53,8 @@ impl PixelBytes {
 
 /// Puts a pixel at the end: blue, green, red.
 fn put_pixel(out: &mut Vec<u8>, color: u32) -> Result<(), OutOfMemory>
-    ensures ok { OnOk result (out.new.items ≡ out.old.items ++ pixel_bytes color) }
-    ensures memory { OnErr result (AppendsFront out.old.items (pixel_bytes color) out.new.items) }
+    ensures ok { OnOk result (out.new.items ≡ out.old.items ++ pixel_bytes Bits24 color) }
+    ensures memory { OnErr result (AppendsFront out.old.items (pixel_bytes Bits24 color) out.new.items) }
 {
     let [blue, green, red, _] = color.to_le_bytes();
     out.extend_from_slice(&[blue, green, red])?;
@@ -64,8 +63,8 @@ fn put_pixel(out: &mut Vec<u8>, color: u32) -> Result<(), OutOfMemory>
 
 /// Puts four pixels at the end.
 fn put_four(out: &mut Vec<u8>, a: u32, b: u32, c: u32, d: u32) -> Result<(), OutOfMemory>
-    ensures ok { OnOk result (out.new.items ≡ out.old.items ++ (pixel_bytes a ++ pixel_bytes b ++ pixel_bytes c ++ pixel_bytes d)) }
-    ensures memory { OnErr result (AppendsFront out.old.items (pixel_bytes a ++ pixel_bytes b ++ pixel_bytes c ++ pixel_bytes d) out.new.items) }
+    ensures ok { OnOk result (out.new.items ≡ out.old.items ++ (pixel_bytes Bits24 a ++ pixel_bytes Bits24 b ++ pixel_bytes Bits24 c ++ pixel_bytes Bits24 d)) }
+    ensures memory { OnErr result (AppendsFront out.old.items (pixel_bytes Bits24 a ++ pixel_bytes Bits24 b ++ pixel_bytes Bits24 c ++ pixel_bytes Bits24 d) out.new.items) }
 {
     let [a_blue, a_green, a_red, _] = a.to_le_bytes();
     let [b_blue, b_green, b_red, _] = b.to_le_bytes();
@@ -80,8 +79,8 @@ fn put_four(out: &mut Vec<u8>, a: u32, b: u32, c: u32, d: u32) -> Result<(), Out
 
 /// Puts pixels at the end, one by one. An `Err` leaves a front of them there.
 fn put_each(out: &mut Vec<u8>, pixels: &[u32]) -> Result<(), OutOfMemory>
-    ensures ok { OnOk result (out.new.items ≡ out.old.items ++ pixels_bytes pixels.now) }
-    ensures memory { OnErr result (AppendsFront out.old.items (pixels_bytes pixels.now) out.new.items) }
+    ensures ok { OnOk result (out.new.items ≡ out.old.items ++ pixels_bytes Bits24 pixels.now) }
+    ensures memory { OnErr result (AppendsFront out.old.items (pixels_bytes Bits24 pixels.now) out.new.items) }
 {
     for pixel in pixels {
         put_pixel(out, *pixel)?;
@@ -91,8 +90,8 @@ fn put_each(out: &mut Vec<u8>, pixels: &[u32]) -> Result<(), OutOfMemory>
 
 /// Puts pixels at the end; four at once while there are so many. An `Err` leaves a front of them there.
 fn put_pixels(out: &mut Vec<u8>, pixels: &[u32]) -> Result<(), OutOfMemory>
-    ensures ok { OnOk result (out.new.items ≡ out.old.items ++ pixels_bytes pixels.now) }
-    ensures memory { OnErr result (AppendsFront out.old.items (pixels_bytes pixels.now) out.new.items) }
+    ensures ok { OnOk result (out.new.items ≡ out.old.items ++ pixels_bytes Bits24 pixels.now) }
+    ensures memory { OnErr result (AppendsFront out.old.items (pixels_bytes Bits24 pixels.now) out.new.items) }
 {
     let mut rest = pixels;
     while let [a, b, c, d, others @ ..] = rest {
@@ -106,8 +105,8 @@ fn put_pixels(out: &mut Vec<u8>, pixels: &[u32]) -> Result<(), OutOfMemory>
 /// front of them there.
 pub fn put_turned(out: &mut Vec<u8>, pixels: &[u32], w: usize, h: usize) -> Result<(), OutOfMemory>
     requires { length pixels.now ≡ w * h }
-    ensures ok { OnOk result (out.new.items ≡ out.old.items ++ pixels_bytes (turned_over w h pixels.now)) }
-    ensures memory { OnErr result (AppendsFront out.old.items (pixels_bytes (turned_over w h pixels.now)) out.new.items) }
+    ensures ok { OnOk result (out.new.items ≡ out.old.items ++ pixels_bytes Bits24 (turned_over w h pixels.now)) }
+    ensures memory { OnErr result (AppendsFront out.old.items (pixels_bytes Bits24 (turned_over w h pixels.now)) out.new.items) }
 {
     let mut above = pixels;
     for y in 0..h {
@@ -120,17 +119,17 @@ pub fn put_turned(out: &mut Vec<u8>, pixels: &[u32], w: usize, h: usize) -> Resu
 
 /// Three bytes for each pixel.
 pub fn raw_bytes(alloc: Global, pixels: &[u32]) -> Result<Vec<u8>, OutOfMemory>
-    ensures value { IfOk result (λ bytes. bytes.items ≡ pixels_bytes pixels.now) }
+    ensures value { IfOk result (λ bytes. bytes.items ≡ pixels_bytes Bits24 pixels.now) }
     ensures number { IfOk result (λ bytes. length bytes.items ≡ 3 * length pixels.now) }
 {
-    let mut out = Vec::with_capacity(alloc, pixels.len().saturating_mul(BYTES))?;
+    let mut out = Vec::with_capacity(alloc, pixels.len().saturating_mul(bytes_in(Depth::Bits24)))?;
     put_pixels(&mut out, pixels)?;
     Ok(out)
 }
 
 /// The bytes of pixels as three bytes each.
 fn raw_data(alloc: Global, pixels: &[u32]) -> Result<PixelBytes, OutOfMemory>
-    ensures value { IfOk result (λ data_. data_ ≡ pixel_data false (pixels_bytes pixels.now)) }
+    ensures value { IfOk result (λ data_. data_ ≡ pixel_data false (pixels_bytes Bits24 pixels.now)) }
     ensures bound { IfOk result (λ data_. length data_.bytes ≤ 3 * length pixels.now) }
 {
     let bytes = raw_bytes(alloc, pixels)?;
@@ -153,7 +152,7 @@ pub fn packed_pixels(
     requires some { 1 ≤ length pixels.now }
     requires few { length pixels.now ≤ 4096 }
     requires colors { IsTrue (are_colors pixels.now) }
-    ensures value { IfOk result (λ packed. data_with packed (pixels_bytes pixels.now) ≡ data_of no_header w pixels.now) }
+    ensures value { IfOk result (λ packed. data_with packed (pixels_bytes Bits24 pixels.now) ≡ data_of no_header w pixels.now) }
     ensures bound { IfOk result (λ packed. length (data_with packed []).bytes ≤ 3 * length pixels.now) }
 {
     if !no_header {

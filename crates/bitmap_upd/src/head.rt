@@ -20,11 +20,10 @@ ghost use Rattle.px_core.specs.Picture.{nat_of};
 ghost use Rattle.order_means.specs.WirePixels.{pixel_data};
 ghost use Rattle.order_means.specs.UpdateBodies.{tile_flags, tile_data_bytes};
 
+use px_core::{Depth, bits_in};
+
 /// BITMAP_COMPRESSION and NO_BITMAP_COMPRESSION_HDR.
 const PACKED: u16 = 0x0401;
-
-/// How many bits a pixel has.
-const BITS_PER_PIXEL: u8 = 24;
 
 /// A place of a rectangle that is updated.
 pub(crate) fn place(at: i32) -> u16
@@ -52,6 +51,7 @@ pub(crate) fn tile_head(left: u16, top: u16, w: u16, h: u16, is_packed: bool, si
     let [bottom, bottom_high] = (top + h - 1).to_le_bytes();
     let [w_low, w_high] = w.to_le_bytes();
     let [h_low, h_high] = h.to_le_bytes();
+    let [bits, bits_high] = bits_in(Depth::Bits24).to_le_bytes();
     let [flags, flags_high] = flags_of(is_packed).to_le_bytes();
     let [low, high] = size.to_le_bytes();
     [
@@ -71,8 +71,8 @@ pub(crate) fn tile_head(left: u16, top: u16, w: u16, h: u16, is_packed: bool, si
         w_high,
         h_low,
         h_high,
-        BITS_PER_PIXEL,
-        0,
+        bits,
+        bits_high,
         flags,
         flags_high,
         low,

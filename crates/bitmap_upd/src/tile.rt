@@ -2,8 +2,9 @@
 
 ghost use Rattle.std.specs.Prelude.{◌≡◌, ◌≤◌, ◌*◌, ◌++◌, [], length, List, ℕ, IfOk, OnOk, OnErr, IsTrue};
 ghost use Rattle.wire_num.specs.Written.{AppendsFront};
+ghost use Rattle.px_core.specs.declared.depth.Depth.TheVariants.{Bits24};
 ghost use Rattle.px_core.specs.Colors.{are_colors};
-ghost use Rattle.wire_num.specs.Pixels.{pixels_bytes};
+ghost use Rattle.px_core.specs.Pixels.{pixels_bytes};
 ghost use Rattle.order_means.specs.WirePixels.{data_of, turned_over};
 ghost use Rattle.bitmap_upd.specs.Packed.{data_with};
 ghost use Rattle.order_means.specs.UpdateBodies.{tile_body};
@@ -11,12 +12,9 @@ ghost use Rattle.bitmap_upd.specs.Place.{IsUpdated};
 
 use crate::head::{place, tile_head};
 use crate::{OutOfMemory, packed_pixels, put_both, put_turned, turn_over};
-use px_core::Rect;
+use px_core::{Depth, Rect, bytes_in};
 use std::alloc::Global;
 use std::marker::Model;
-
-/// The bytes of a pixel.
-const BYTES: usize = 3;
 
 /// The packed pixels of a tile, whose pixels go row by row from the top; `None` where they go as three bytes a pixel.
 fn packed_tile(
@@ -32,7 +30,7 @@ fn packed_tile(
     requires low { h ≤ 64 }
     requires number { length pixels.now ≡ w * h }
     requires colors { IsTrue (are_colors pixels.now) }
-    ensures value { IfOk result (λ packed. data_with packed (pixels_bytes (turned_over w h pixels.now)) ≡ data_of no_header w (turned_over w h pixels.now)) }
+    ensures value { IfOk result (λ packed. data_with packed (pixels_bytes Bits24 (turned_over w h pixels.now)) ≡ data_of no_header w (turned_over w h pixels.now)) }
     ensures bound { IfOk result (λ packed. length (data_with packed []).bytes ≤ 12288) }
 {
     if !no_header {
@@ -55,13 +53,14 @@ pub struct TileBody<'a> {
 
 impl<'a> Model for TileBody<'a> {
     ghost use Rattle.std.specs.Prelude.{◌≡◌, ◌≤◌, ◌*◌, ◌++◌, List, [], ℕ, length};
-    ghost use Rattle.wire_num.specs.Pixels.{pixels_bytes};
+    ghost use Rattle.px_core.specs.declared.depth.Depth.TheVariants.{Bits24};
+    ghost use Rattle.px_core.specs.Pixels.{pixels_bytes};
     ghost use Rattle.order_means.specs.WirePixels.{turned_over};
     ghost use Rattle.bitmap_upd.specs.Packed.{data_with};
 
     ghost Value = { List ℕ };
 
-    ghost view = { λ s. s.head ++ (data_with s.packed (pixels_bytes (turned_over s.w s.h s.pixels.now))).bytes };
+    ghost view = { λ s. s.head ++ (data_with s.packed (pixels_bytes Bits24 (turned_over s.w s.h s.pixels.now))).bytes };
 
     ghost invariant = { λ s. (length s.head ≡ 22) × (length s.pixels.now ≡ s.w * s.h) × (length s.pixels.now ≤ 4096) × (length (data_with s.packed []).bytes ≤ 12288) };
 }
@@ -149,7 +148,7 @@ fn bytes_of(packed: &Option<Vec<u8>>, pixels: usize) -> u16
 {
     match packed {
         Some(bytes) => bytes.len() as u16,
-        None => (BYTES * pixels) as u16,
+        None => (bytes_in(Depth::Bits24) * pixels) as u16,
     }
 }
 
@@ -162,8 +161,8 @@ fn put_raw(
     h: usize,
 ) -> Result<(), OutOfMemory>
     requires { length pixels.now ≡ w * h }
-    ensures ok { OnOk result (out.new.items ≡ out.old.items ++ (head.now ++ pixels_bytes (turned_over w h pixels.now))) }
-    ensures memory { OnErr result (AppendsFront out.old.items (head.now ++ pixels_bytes (turned_over w h pixels.now)) out.new.items) }
+    ensures ok { OnOk result (out.new.items ≡ out.old.items ++ (head.now ++ pixels_bytes Bits24 (turned_over w h pixels.now))) }
+    ensures memory { OnErr result (AppendsFront out.old.items (head.now ++ pixels_bytes Bits24 (turned_over w h pixels.now)) out.new.items) }
 {
     out.extend_from_slice(head)?;
     put_turned(out, pixels, w, h)

@@ -8,6 +8,7 @@ ghost use Rattle.client_caches.specs.Stored.{is_cached_bitmap};
 
 use crate::wire::upright_pixels;
 use crate::{KeptImage, ObeyFault};
+use px_core::{Depth, bits_in};
 use std::alloc::Global;
 
 /// The most pixels of a side.
@@ -15,9 +16,6 @@ const MOST_SIDE: u16 = 64;
 
 /// The width is a multiple of this.
 const WIDTH_UNIT: u16 = 4;
-
-/// The bits of a pixel.
-const DEPTH: u16 = 24;
 
 /// How many bitmap caches there are.
 const BITMAP_CACHES: u8 = 3;
@@ -41,7 +39,7 @@ pub struct CachedBitmap {
 pub fn is_bitmap(w: u16, h: u16, depth: u16) -> bool
     ensures { result ≡ is_bitmap w h depth }
 {
-    is_side(w) && is_side(h) && w % WIDTH_UNIT == 0 && depth == DEPTH
+    is_side(w) && is_side(h) && w % WIDTH_UNIT == 0 && depth == bits_in(Depth::Bits24)
 }
 
 /// Whether a bitmap may have a side of so many pixels.

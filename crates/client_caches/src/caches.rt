@@ -17,7 +17,7 @@ use crate::slots::{no_slots, set_slot};
 use crate::{KeptImage, ObeyFault};
 use caps_sets::{CacheSize, Confirmed};
 use draw_ops::{Brush, Glyph};
-use px_core::{Rect, Size, is_inside};
+use px_core::{Depth, Rect, Size, bytes_in, is_inside};
 use std::alloc::Global;
 use std::marker::Model;
 use wire_num::OutOfMemory;
@@ -31,9 +31,6 @@ const FIRST_GLYPH_CACHE: u8 = 3;
 const BITMAP_CACHES: u16 = 3;
 
 const GLYPH_CACHES: u8 = 10;
-
-/// The bytes of a pixel in a cell.
-const PIXEL_SIZE: usize = 3;
 
 /// The caches of a client: three of bitmaps, ten of glyphs and one of brushes, each with as many entries as were confirmed.
 #[derive(Drop)]
@@ -84,7 +81,7 @@ impl ClientCaches {
         }
         let image = image_of(alloc, bitmap, bytes)?;
         let cache = usize::from(bitmap.cache);
-        let cell = PIXEL_SIZE * (usize::from(bitmap.w) * usize::from(bitmap.h));
+        let cell = bytes_in(Depth::Bits24) * (usize::from(bitmap.w) * usize::from(bitmap.h));
         if !holds(
             size_of(confirmed.bitmaps.sizes(), cache),
             bitmap.index,

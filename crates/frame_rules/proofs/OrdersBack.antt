@@ -2,6 +2,7 @@
 use Rattle.std.proofs.Common.{◌≡◌, ℕ, ◌^◌, ◌<◌, List, [], ◌∷◌, ◌++◌, length, map, refl, ap, ◌∙◌, arith, Bool, true, false}
 use Rattle.std.specs.Prelude.{Ok, None}
 use Rattle.caps_sets.specs.declared.confirmed.Confirmed.{Confirmed}
+use Rattle.px_core.specs.declared.depth.Depth.TheVariants.{Bits24}
 use Rattle.order_fields.specs.OrderTable.{Registers, AreRegisters}
 use Rattle.order_fields.specs.OrderStream.{seen, seen_others, order_at, then_orders, with_orders, orders_in}
 use Rattle.order_fields.specs.OrderDelta.{edges_of_optional}
@@ -9,7 +10,7 @@ use Rattle.order_fields.specs.Secondary.Cached.{Bitmap}
 use Rattle.order_fields.proofs.OrderBack.{order_back}
 use Rattle.order_fields.specs.NamedDrawing.{drawing_fields}
 use Rattle.order_means.specs.WirePixels.{pixel_data, padded_image, padded_glyph, turned_over}
-use Rattle.wire_num.specs.Pixels.{pixels_bytes}
+use Rattle.px_core.specs.Pixels.{pixels_bytes}
 use Rattle.order_means.specs.CacheOrders.{cache_bitmap_body, cache_bitmap_data}
 use Rattle.order_means.specs.ClientState.{bitmap_flags}
 use Rattle.byteorder.specs.Endian.{little_bytes}
@@ -19,7 +20,7 @@ use Rattle.frame_rules.specs.FrameOrders.SentOrder.{Drawn, CacheImage, CacheGlyp
 use Rattle.frame_rules.specs.FrameBytes.{bytes_of_order, registers_after_order, bytes_of_orders, registers_after_orders, joined_bytes}
 use Rattle.frame_rules.specs.FrameRead.{image_data, as_read, FitsOrder, FitOrders}
 use Rattle.frame_rules.proofs.SecondaryBack.{secondary_back, bitmap_back, glyph_order_back, brush_back}
-use Rattle.wire_num.proofs.Pixels.{length-pixels_bytes}
+use Rattle.px_core.proofs.Pixels.{length-pixels_bytes}
 use Rattle.frame_rules.proofs.RegistersKept.{registers_kept}
 
 bitmap_order_back : (regs : Registers) (cache index w h : ℕ) (packed : Bool) (bytes rest : List ℕ) → index < 2 ^ 16 → length bytes < 2 ^ 15
@@ -42,9 +43,9 @@ sent_back c regs (CacheGlyph cache index glyph) rest are fits =
     (omega arith) (omega arith) (omega arith)
     (glyph_order_back cache index glyph.x glyph.y glyph.cx glyph.cy (padded_glyph glyph).bits fits.index_fits fits.x fits.y fits.wide fits.high fits.bits)
 sent_back c regs (CacheBrush entry brush) rest are fits =
-    let count = length-pixels_bytes (turned_over 8 8 brush) in
+    let count = length-pixels_bytes Bits24 (turned_over 8 8 brush) in
     let whole = fits.whole in
-    secondary_back regs 0 7 (entry ∷ 5 ∷ 8 ∷ 8 ∷ 0 ∷ 192 ∷ pixels_bytes (turned_over 8 8 brush)) _ rest (omega arith) (omega arith) (omega arith) (brush_back entry (turned_over 8 8 brush) fits.whole fits.colors)
+    secondary_back regs 0 7 (entry ∷ 5 ∷ 8 ∷ 8 ∷ 0 ∷ 192 ∷ pixels_bytes Bits24 (turned_over 8 8 brush)) _ rest (omega arith) (omega arith) (omega arith) (brush_back entry (turned_over 8 8 brush) fits.whole fits.colors)
 sent_back c regs (FrameMarker true) rest are fits = refl
 sent_back c regs (FrameMarker false) rest are fits = refl
 

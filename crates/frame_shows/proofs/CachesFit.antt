@@ -20,7 +20,8 @@ use Rattle.frame_rules.specs.FrameOrders.SentOrder.{CacheImage, CacheGlyph, Cach
 use Rattle.frame_rules.specs.FrameRead.{image_data}
 use Rattle.frame_laws.specs.Sound.{AreColors, IsSoundImage}
 use Rattle.frame_laws.proofs.TurnedOver.{length-turned_over, colors_turned_over, padded_facts}
-use Rattle.wire_num.proofs.Pixels.{length-pixels_bytes}
+use Rattle.px_core.specs.declared.depth.Depth.TheVariants.{Bits24}
+use Rattle.px_core.proofs.Pixels.{length-pixels_bytes}
 use Rattle.frame_laws.proofs.WireBack.{data_short}
 use Rattle.frame_laws.specs.SoundState.{IsSoundGlyph}
 use Rattle.frame_shows.proofs.OrderValues.{GoesWhole, AllGoWhole, whole_append, coordinate}
@@ -69,7 +70,7 @@ all_colors (x ∷ xs) h (suc k) d below = all_colors xs h.1 k d (omega (arith, b
 pub brush_whole : (c : Confirmed) (entry : ℕ) (brush : List ℕ) → length brush ≡ 64 → AreColors brush → GoesWhole c (CacheBrush entry brush)
 brush_whole c entry brush whole colors =
     let n = length-turned_over 8 8 brush whole in
-    let bytes = length-pixels_bytes (turned_over 8 8 brush) in
+    let bytes = length-pixels_bytes Bits24 (turned_over 8 8 brush) in
     record {
       fits = record { whole = n; colors = all_colors (turned_over 8 8 brush) (colors_turned_over 8 8 brush colors) };
       short = λ regs. omega (arith, n, bytes);

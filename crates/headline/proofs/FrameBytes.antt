@@ -14,7 +14,7 @@ use Rattle.wire_num.specs.Length.{per_len_of}
 use Rattle.tpkt_x224.specs.Tpkt.{packet_of}
 use Rattle.tpkt_x224.specs.Data.{data_header}
 use Rattle.mcs_dom.specs.SendData.{indication_start}
-use Rattle.share_pdu.specs.Share.{share_headers, share_bytes}
+use Rattle.share_pdu.specs.Share.{data_headers, share_bytes}
 use Rattle.share_pdu.specs.Packet.{update_packet}
 use Rattle.order_fields.specs.OrderTable.{Registers}
 use Rattle.order_means.specs.WirePixels.{turned_over, PixelData, data_of}
@@ -31,12 +31,12 @@ use Rattle.headline.proofs.OrderBytes.{bytes_nil, bytes_cons, bytes_append, byte
 
 -- ---- packets
 
-share_are_bytes : (body : List ℕ) → AreBytes body → AreBytes (share_bytes body)
+share_are_bytes : (body : List ℕ) → AreBytes body → AreBytes (share_bytes 2 body)
 share_are_bytes body h =
     let n = length body in
     let count = little_bytes 2 (4 + n) in
     let rest = count ++ 2 ∷ 0 ∷ 0 ∷ 0 ∷ [] in
-    bytes_append (share_headers n) body
+    bytes_append (data_headers 2 n) body
     (bytes_append (little_bytes 2 (18 + n)) (0x17 ∷ 0 ∷ 0xEA ∷ 3 ∷ 0xEA ∷ 3 ∷ 1 ∷ 0 ∷ 0 ∷ 1 ∷ rest) (little_are_bytes 2 (18 + n))
     (bytes_after (0x17 ∷ 0 ∷ 0xEA ∷ 3 ∷ 0xEA ∷ 3 ∷ 1 ∷ 0 ∷ 0 ∷ 1 ∷ []) rest refl
     (bytes_append count (2 ∷ 0 ∷ 0 ∷ 0 ∷ []) (little_are_bytes 2 (4 + n)) (bytes_after (2 ∷ 0 ∷ 0 ∷ 0 ∷ []) [] refl bytes_nil))))
@@ -56,7 +56,7 @@ packet_are_bytes carried h =
 
 update_are_bytes : (body : List ℕ) → AreBytes body → AreBytes (update_packet body)
 update_are_bytes body h =
-    let user = share_bytes body in
+    let user = share_bytes 2 body in
     let counted = per_len_of (length user) ++ user in
     packet_are_bytes (data_header ++ (indication_start ++ counted))
     (bytes_after data_header (indication_start ++ counted) refl

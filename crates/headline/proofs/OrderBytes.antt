@@ -8,13 +8,14 @@ use Rattle.px_core.specs.Picture.{nat_of}
 use Rattle.run_lengths.specs.RunLength.{Run}
 use Rattle.run_lengths.specs.RunLength.Run.{Background, Foreground, Mask, Color, Image, Dithered}
 use Rattle.run_lengths.specs.Packer.{length_bytes, run_bytes, packed_runs, first_stretch, later_stretch, packed}
+use Rattle.px_core.specs.declared.depth.Depth.TheVariants.{Bits24}
 use Rattle.order_fields.specs.declared.kind.FieldKind.{FieldKind}
 use Rattle.order_fields.specs.declared.kind.FieldKind.TheVariants.{Coordinate, Number, Signed, Color as ColorKind}
 use Rattle.order_fields.specs.declared.change.Change.{Change}
 use Rattle.order_fields.specs.declared.change.Change.TheVariants.{Same, Moved, Anew}
 use Rattle.byteorder.specs.Endian.{little_bytes}
 use Rattle.wire_num.specs.Number.{unsigned, little_signed}
-use Rattle.wire_num.specs.Pixels.{pixel_bytes, pixels_bytes}
+use Rattle.px_core.specs.Pixels.{pixel_bytes, pixels_bytes}
 use Rattle.wire_num.proofs.Numbers.{little_are_bytes, big_are_bytes}
 use Rattle.order_fields.specs.OrderTable.{Row, row_of, row_in, chosen_row, table, Registers, Values, Edges}
 use Rattle.order_fields.specs.OrderDelta.{Field, is_unchanged, value_bytes, unless_same, field_bytes, present_bytes, shown, flags_of, change, is_anew, is_moved}
@@ -198,8 +199,8 @@ row_are_bytes (Some r) regs confirmed vs bounds small h few =
 
 -- ---- pixels
 
-pixels_are_bytes : (pixels : List ℕ) → AreBytes (pixels_bytes pixels)
-pixels_are_bytes pixels = flat_are_bytes pixel_bytes pixels (λ color. little_are_bytes 3 color)
+pixels_are_bytes : (pixels : List ℕ) → AreBytes (pixels_bytes Bits24 pixels)
+pixels_are_bytes pixels = flat_are_bytes (pixel_bytes Bits24) pixels (λ color. little_are_bytes 3 color)
 
 length_are_bytes : (code long_code n : ℕ) → code ≤ 128 → long_code < 256 → AreBytes (length_bytes code long_code n)
 length_are_bytes code long_code n low small = by (nat_lt n 32) refl (nat_lt n 288) refl
@@ -212,23 +213,23 @@ length_are_bytes code long_code n low small = by (nat_lt n 32) refl (nat_lt n 28
         bytes_cons code ((n - 32) ∷ []) (omega (arith, low)) (bytes_cons (n - 32) [] (omega (arith, short)) bytes_nil)
     by false e false f = bytes_cons long_code (little_bytes 2 n) small (little_are_bytes 2 n)
 
-run_are_bytes : (r : Run) → AreBytes (run_bytes r)
+run_are_bytes : (r : Run) → AreBytes (run_bytes Bits24 r)
 run_are_bytes (Background n) = length_are_bytes 0x00 0xF0 n (omega arith) (omega arith)
 run_are_bytes (Color n color) =
-    bytes_append (length_bytes 0x60 0xF3 n) (pixel_bytes color) (length_are_bytes 0x60 0xF3 n (omega arith) (omega arith)) (little_are_bytes 3 color)
+    bytes_append (length_bytes 0x60 0xF3 n) (pixel_bytes Bits24 color) (length_are_bytes 0x60 0xF3 n (omega arith) (omega arith)) (little_are_bytes 3 color)
 run_are_bytes (Image colors) =
-    bytes_append (length_bytes 0x80 0xF4 (length colors)) (pixels_bytes colors)
+    bytes_append (length_bytes 0x80 0xF4 (length colors)) (pixels_bytes Bits24 colors)
     (length_are_bytes 0x80 0xF4 (length colors) (omega arith) (omega arith)) (pixels_are_bytes colors)
 run_are_bytes (Foreground n) = bytes_nil
 run_are_bytes (Mask bits) = bytes_nil
 run_are_bytes (Dithered n first second) = bytes_nil
 
-packed_are_bytes : (w : ℕ) (pixels : List ℕ) → AreBytes (packed w pixels)
+packed_are_bytes : (w : ℕ) (pixels : List ℕ) → AreBytes (packed Bits24 w pixels)
 packed_are_bytes w pixels =
     let first = packed_runs (first_stretch w pixels) in
     let later = packed_runs (later_stretch w pixels) in
-    bytes_append (flat_map run_bytes first) (flat_map run_bytes later) (flat_are_bytes run_bytes first run_are_bytes)
-    (flat_are_bytes run_bytes later run_are_bytes)
+    bytes_append (flat_map (run_bytes Bits24) first) (flat_map (run_bytes Bits24) later) (flat_are_bytes (run_bytes Bits24) first run_are_bytes)
+    (flat_are_bytes (run_bytes Bits24) later run_are_bytes)
 
 shorter_are_bytes : (a b : List ℕ) → AreBytes a → AreBytes b → AreBytes (packed_if_shorter a b).bytes
 shorter_are_bytes a b ha hb = by (nat_lt (length a) (length b))
@@ -241,7 +242,7 @@ shorter_are_bytes a b ha hb = by (nat_lt (length a) (length b))
 
 pub data_are_bytes : (no_header : Bool) (w : ℕ) (pixels : List ℕ) → AreBytes (data_of no_header w pixels).bytes
 data_are_bytes false w pixels = pixels_are_bytes pixels
-data_are_bytes true w pixels = shorter_are_bytes (packed w pixels) (pixels_bytes pixels) (packed_are_bytes w pixels) (pixels_are_bytes pixels)
+data_are_bytes true w pixels = shorter_are_bytes (packed Bits24 w pixels) (pixels_bytes Bits24 pixels) (packed_are_bytes w pixels) (pixels_are_bytes pixels)
 
 -- ---- secondary orders
 
@@ -304,7 +305,7 @@ order_are_bytes c regs (CacheGlyph cache index glyph) h =
     let rest = i ++ (x ++ (y ++ (wide ++ (high ++ bits)))) in
     secondary_are_bytes 0 3 (cache ∷ 1 ∷ rest) (omega arith) (bytes_cons cache (1 ∷ rest) h.0 (bytes_cons 1 rest (omega arith) body))
 order_are_bytes c regs (CacheBrush entry brush) h =
-    let pixels = pixels_bytes (turned_over 8 8 brush) in
+    let pixels = pixels_bytes Bits24 (turned_over 8 8 brush) in
     secondary_are_bytes 0 7 (entry ∷ 5 ∷ 8 ∷ 8 ∷ 0 ∷ 192 ∷ pixels) (omega arith)
     (bytes_cons entry (5 ∷ 8 ∷ 8 ∷ 0 ∷ 192 ∷ pixels) h (bytes_cons 5 (8 ∷ 8 ∷ 0 ∷ 192 ∷ pixels) (omega arith) (bytes_cons 8 (8 ∷ 0 ∷ 192 ∷ pixels) (omega arith)
     (bytes_cons 8 (0 ∷ 192 ∷ pixels) (omega arith)

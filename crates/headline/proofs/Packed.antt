@@ -2,8 +2,9 @@
 use Rattle.std.proofs.Common.{◌≡◌, ℕ, List, [], ◌∷◌, length, refl, ap}
 use Rattle.std.specs.Prelude.{Bool, true, false, ◌&&◌, nat_lt, if◌then◌else◌}
 use Rattle.caps_sets.specs.declared.confirmed.Confirmed.{Confirmed}
+use Rattle.px_core.specs.declared.depth.Depth.TheVariants.{Bits24}
 use Rattle.run_lengths.specs.Packer.{packed}
-use Rattle.wire_num.specs.Pixels.{pixels_bytes}
+use Rattle.px_core.specs.Pixels.{pixels_bytes}
 use Rattle.cache_plan.specs.CacheUse.{misses, cache_index, uses_of}
 use Rattle.order_means.specs.WirePixels.{PixelData, pixel_data, data_of}
 use Rattle.frame_rules.specs.FrameOrders.{SentOrder, Uses, use_by, entries_of, use_of}
@@ -38,20 +39,20 @@ module _ (c : Confirmed) (uses : Uses) (cache key : ℕ) (content : ℕ → Sent
 
 module _ (w : ℕ) (pixels : List ℕ) where
   abbrev shorter : Bool
-  shorter = nat_lt (length (packed w pixels)) (length (pixels_bytes pixels))
+  shorter = nat_lt (length (packed Bits24 w pixels)) (length (pixels_bytes Bits24 pixels))
 
   abbrev chosen : Bool → PixelData
-  chosen b = if b then pixel_data true (packed w pixels) else pixel_data false (pixels_bytes pixels)
+  chosen b = if b then pixel_data true (packed Bits24 w pixels) else pixel_data false (pixels_bytes Bits24 pixels)
 
   chosen_packed : (b : Bool) → (chosen b).is_packed ≡ b
   chosen_packed true = refl
   chosen_packed false = refl
 
-  chosen_so : (b : Bool) → (chosen b).is_packed ≡ true → (chosen b).bytes ≡ packed w pixels
+  chosen_so : (b : Bool) → (chosen b).is_packed ≡ true → (chosen b).bytes ≡ packed Bits24 w pixels
   chosen_so true h = refl
   chosen_so false h = absurd (cc h)
 
-  chosen_not : (b : Bool) → (chosen b).is_packed ≡ false → (chosen b).bytes ≡ pixels_bytes pixels
+  chosen_not : (b : Bool) → (chosen b).is_packed ≡ false → (chosen b).bytes ≡ pixels_bytes Bits24 pixels
   chosen_not true h = absurd (cc h)
   chosen_not false h = refl
 
@@ -59,10 +60,10 @@ module _ (w : ℕ) (pixels : List ℕ) where
   packed_where true = chosen_packed shorter
   packed_where false = refl
 
-  pub as_packed : (no_header : Bool) → (data_of no_header w pixels).is_packed ≡ true → (data_of no_header w pixels).bytes ≡ packed w pixels
+  pub as_packed : (no_header : Bool) → (data_of no_header w pixels).is_packed ≡ true → (data_of no_header w pixels).bytes ≡ packed Bits24 w pixels
   as_packed true h = chosen_so shorter h
   as_packed false h = absurd (cc h)
 
-  pub as_they_are : (no_header : Bool) → (data_of no_header w pixels).is_packed ≡ false → (data_of no_header w pixels).bytes ≡ pixels_bytes pixels
+  pub as_they_are : (no_header : Bool) → (data_of no_header w pixels).is_packed ≡ false → (data_of no_header w pixels).bytes ≡ pixels_bytes Bits24 pixels
   as_they_are true h = chosen_not shorter h
   as_they_are false h = refl

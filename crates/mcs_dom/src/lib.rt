@@ -17,5 +17,5 @@ pub use bad_domain::BadDomain;
 pub use channel_join::write_join;
 pub use domain_pdu::{DomainPdu, read_domain};
 pub use laws::domain_pdus_are_read_exactly;
-pub use send_data::write_indication;
+pub use send_data::{put_indication_headers, write_indication};
 pub use ultimatum::write_end;

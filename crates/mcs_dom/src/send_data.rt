@@ -75,14 +75,15 @@ pub fn write_indication(out: &mut Vec<u8>, body: &[u8]) -> Result<(), OutOfMemor
     ensures ok { OnOk result (out.new.items ≡ out.old.items ++ send_data_indication body.now) }
     ensures memory { OnErr result (AppendsFront out.old.items (send_data_indication body.now) out.new.items) }
 {
-    put_headers(out, body.len() as u16)?;
+    put_indication_headers(out, body.len() as u16)?;
     out.extend_from_slice(body)?;
     Ok(())
 }
 
-/// Writes what stands before a body of so many bytes.
+/// Writes what stands before a body of so many bytes in a Send Data Indication of the server on the I/O channel at the end. An `Err`
+/// leaves a front of it there.
 #[tactic(auto, unfolding(crate::specs::SendData::indication_headers))]
-fn put_headers(out: &mut Vec<u8>, length: u16) -> Result<(), OutOfMemory>
+pub fn put_indication_headers(out: &mut Vec<u8>, length: u16) -> Result<(), OutOfMemory>
     requires { length ≤ 16383 }
     ensures ok { OnOk result (out.new.items ≡ out.old.items ++ indication_headers length) }
     ensures memory { OnErr result (AppendsFront out.old.items (indication_headers length) out.new.items) }

@@ -43,15 +43,15 @@ pub update_cut : (at : ℕ) (body more : List ℕ) → 18 + length body < 16384 
     updates_from (cutting at Between) (update_packet body ++ more)
     ≡ before_updates (record { place = (at + length (update_packet body)) - length body; bytes = body } ∷ []) (updates_from (cutting (at + length (update_packet body)) Between) more)
 update_cut at body more h =
-    let mcs = carried body in
+    let mcs = carried 2 body in
     let tail = 0xF0 ∷ 0x80 ∷ mcs in
     let whole = 4 + length (2 ∷ tail) in
-    let user = length_share body in
-    let per = per_short (length (share_bytes body)) in
-    let inner = length-append (per_len_of (length (share_bytes body))) (share_bytes body) in
+    let user = length_share 2 body in
+    let per = per_short (length (share_bytes 2 body)) in
+    let inner = length-append (per_len_of (length (share_bytes 2 body))) (share_bytes 2 body) in
     let small : whole < 65536 = omega (arith, user, per, inner, h) in
     let total : 256 * ((whole / 256) % 256) + whole % 256 ≡ 5 + length tail = high_low whole small ∙ omega arith in
     let enough : 2 ≤ length tail = omega arith in
     packet_cut at 0 ((whole / 256) % 256) (whole % 256) 2 tail more total enough
-    ∙ ap (λ r. before_updates (whole_packet (at + (5 + length tail)) r).bodies (updates_from (whole_packet (at + (5 + length tail)) r).next more)) (indication_back body h)
+    ∙ ap (λ r. before_updates (whole_packet (at + (5 + length tail)) r).bodies (updates_from (whole_packet (at + (5 + length tail)) r).next more)) (indication_back 2 body h)
     ∙ ap (λ n. before_updates (record { place = (at + n) - length body; bytes = body } ∷ []) (updates_from (cutting (at + n) Between) more)) (omega arith)

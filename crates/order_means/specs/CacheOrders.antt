@@ -2,7 +2,8 @@
 use Rattle.std.specs.Prelude.{ℕ, ◌-◌, Bool, List, ◌∷◌, ◌++◌, length, if◌then◌else◌}
 use Rattle.byteorder.specs.Endian.{little_bytes}
 use Rattle.wire_num.specs.Number.{little_signed}
-use Rattle.wire_num.specs.Pixels.{pixels_bytes}
+use Rattle.px_core.specs.declared.depth.Depth.TheVariants.{Bits24}
+use Rattle.px_core.specs.Pixels.{pixels_bytes}
 use Rattle.draw_ops.specs.Content.{ImageOf, GlyphOf}
 use Rattle.order_fields.specs.OrderDelta.{bit}
 use Rattle.order_means.specs.WirePixels.{turned_over, padded_image, padded_glyph, PixelData, data_of}
@@ -31,7 +32,7 @@ cache_glyph_bytes cache index glyph =
 
 -- a brush for an entry of the brush cache (2.2.2.2.1.2.7)
 abbrev pub cache_brush_bytes : ℕ → List ℕ → List ℕ
-cache_brush_bytes entry pixels = secondary_bytes 0 7 (entry ∷ 5 ∷ 8 ∷ 8 ∷ 0 ∷ 192 ∷ pixels_bytes (turned_over 8 8 pixels))
+cache_brush_bytes entry pixels = secondary_bytes 0 7 (entry ∷ 5 ∷ 8 ∷ 8 ∷ 0 ∷ 192 ∷ pixels_bytes Bits24 (turned_over 8 8 pixels))
 
 -- a frame marker, of a frame's begin or its end (2.2.2.2.1.3.7)
 abbrev pub frame_marker_bytes : Bool → List ℕ

@@ -13,7 +13,8 @@ use Rattle.draw_ops.specs.Content.{ImageOf, GlyphOf}
 use Rattle.draw_ops.specs.Slots.{Slots, empty_slots, filled_slot, lookup}
 use Rattle.draw_ops.specs.Formulas.{Operand, solid, rastered, replaced, absent, brushed, shifted, imaged, image_rows, run_area, run_cells, joint_of, Painting, over_rect, picture_after}
 use Rattle.wire_num.specs.Field.{bind}
-use Rattle.wire_num.specs.Pixels.{pixels_of}
+use Rattle.px_core.specs.Pixels.{pixels_of}
+use Rattle.px_core.specs.declared.depth.Depth.TheVariants.{Bits24}
 use Rattle.order_fields.specs.OrderTable.{Edges, Registers, first_registers}
 use Rattle.order_fields.specs.Secondary.{Cached, BitmapOrder, GlyphOrder, BrushOrder}
 use Rattle.order_fields.specs.Secondary.Cached.{Bitmap, Glyph, Brush, Marker}
@@ -231,8 +232,8 @@ unless_refused (Err place) = Err Broken
 
 -- the pixels of raw or packed bytes, rows from the bottom up
 abbrev pub wire_pixels : Bool → ℕ → ℕ → List ℕ → Result (List ℕ) Fault
-wire_pixels false w h bytes = needs (length bytes == 3 * (w * h)) Broken (Ok (pixels_of bytes))
-wire_pixels true w h bytes = unless_refused (unrle bytes w h)
+wire_pixels false w h bytes = needs (length bytes == 3 * (w * h)) Broken (Ok (pixels_of Bits24 bytes))
+wire_pixels true w h bytes = unless_refused (unrle Bits24 bytes w h)
 
 -- the flags of a cached bitmap: 0 where it is raw, NO_BITMAP_COMPRESSION_HDR where it is packed
 abbrev pub bitmap_flags : Bool → ℕ
@@ -271,7 +272,7 @@ client_after_cached confirmed c (Marker ends) = Ok c
 
 -- the client after an order, or why it is refused
 abbrev pub client_after_order : Confirmed → Size → ClientState → Order → Result ClientState Fault
-client_after_order confirmed size c (Primary o bounds) = bind (found (drawing_of o) Broken) (client_after_drawing confirmed size bounds c)
+client_after_order confirmed size c (Primary o bounds) = bind (found (drawing_of Bits24 o) Broken) (client_after_drawing confirmed size bounds c)
 client_after_order confirmed size c (Other o) = client_after_cached confirmed c o
 
 -- the client after orders, one by one

@@ -9,6 +9,7 @@ use Rattle.caps_sets.specs.declared.confirmed.Confirmed.{Confirmed}
 use Rattle.draw_ops.specs.Formulas.{replaced, imaged, Painting, over_rect}
 use Rattle.wire_num.specs.Field.{Read, bind, then_read, map_read, bytes_at, wanted, all_of}
 use Rattle.wire_num.specs.Number.{little_at}
+use Rattle.px_core.specs.declared.depth.Depth.TheVariants.{Bits24}
 use Rattle.order_fields.specs.OrderTable.{Registers}
 use Rattle.order_fields.specs.Secondary.{Cached}
 use Rattle.order_fields.specs.Secondary.Cached.{Bitmap, Glyph, Brush, Marker}
@@ -179,7 +180,7 @@ view_after_stream confirmed size body v s = obeyed confirmed size body v s s.ref
 
 -- a Synchronize update is the mark of a viewer without frame markers
 abbrev pub view_after_update : Confirmed → Size → Body → View → Update → Result View Refusal
-view_after_update confirmed size body v (Orders count bytes) = view_after_stream confirmed size body v (orders_in bytes count v.client.registers)
+view_after_update confirmed size body v (Orders count bytes) = view_after_stream confirmed size body v (orders_in Bits24 bytes count v.client.registers)
 view_after_update confirmed size body v (Tiles ts) = meant body.place (view_after_tiles size v ts)
 view_after_update confirmed size body v Synchronize = Ok (marked_if (not confirmed.marker) v)
 

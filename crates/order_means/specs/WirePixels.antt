@@ -1,10 +1,11 @@
 -- Pixels as they go over the wire: rows from the bottom up, a width of a multiple of four, three bytes a pixel or packed.
 use Rattle.std.specs.Prelude.{ℕ, ◌+◌, ◌-◌, ◌*◌, ◌/◌, nat_lt, Bool, true, false, List, [], ◌∷◌, ◌++◌, length, map, replicate, if◌then◌else◌}
+use Rattle.px_core.specs.declared.depth.Depth.TheVariants.{Bits24}
 use Rattle.px_core.specs.Picture.{item, rows_of}
+use Rattle.px_core.specs.Pixels.{pixels_bytes}
 use Rattle.draw_ops.specs.Content.{ImageOf, GlyphOf}
 use Rattle.draw_ops.specs.Formulas.{image_rows}
 use Rattle.run_lengths.specs.Packer.{packed}
-use Rattle.wire_num.specs.Pixels.{pixels_bytes}
 
 -- ---- rows from the bottom up
 
@@ -63,5 +64,5 @@ packed_if_shorter packed raw = if nat_lt (length packed) (length raw) then pixel
 
 -- pixels from the bottom up in rows of w: packed exactly where the viewer confirmed bitmaps without a header and that is shorter than three bytes a pixel
 abbrev pub data_of : Bool → ℕ → List ℕ → PixelData
-data_of false w pixels = pixel_data false (pixels_bytes pixels)
-data_of true w pixels = packed_if_shorter (packed w pixels) (pixels_bytes pixels)
+data_of false w pixels = pixel_data false (pixels_bytes Bits24 pixels)
+data_of true w pixels = packed_if_shorter (packed Bits24 w pixels) (pixels_bytes Bits24 pixels)

@@ -1,4 +1,5 @@
 ghost use Rattle.std.specs.Prelude.{◌≡◌, ◌<◌, ◌+◌, ◌-◌, ◌++◌, ◌∷◌, [], length, ℕ, suc, Bool, List, Option};
+ghost use Rattle.px_core.specs.declared.depth.Depth.{Depth};
 ghost use Rattle.px_core.specs.declared.surface.Size.{Size};
 ghost use Rattle.caps_sets.specs.declared.confirmed.Confirmed.{Confirmed};
 ghost use Rattle.wire_num.specs.Field.{bind};
@@ -30,6 +31,6 @@ pub fn update_is_read_from_its_packet()
 
 /// A primary order that is written at the front of an update's orders is read there with its fields and bounds, and the others with the registers after it.
 pub fn order_is_read_before_others()
-    ensures { (regs : Registers) (zero_bounds : Bool) (o : FieldList) (bounds : Option Edges) (n : ℕ) (rest : List ℕ) → AreRegisters regs → IsFieldList o → FitBounds bounds →
-        orders_in (order_bytes regs zero_bounds o bounds ++ rest) (suc n) regs ≡ with_orders (Primary o bounds ∷ []) (orders_in rest n (registers_after regs o bounds)) }
+    ensures { (depth : Depth) (regs : Registers) (zero_bounds : Bool) (o : FieldList) (bounds : Option Edges) (n : ℕ) (rest : List ℕ) → AreRegisters regs → IsFieldList o → FitBounds bounds →
+        orders_in depth (order_bytes regs zero_bounds o bounds ++ rest) (suc n) regs ≡ with_orders (Primary o bounds ∷ []) (orders_in depth rest n (registers_after regs o bounds)) }
 {}

@@ -14,29 +14,18 @@
 //! | 2 | cacheIndex | the image's entry | none | place 8 | place 15 |
 
 ghost use Rattle.std.specs.Prelude.{◌≡◌};
+ghost use Rattle.px_core.specs.declared.depth.Depth.TheVariants.{Bits24};
 ghost use Rattle.order_fields.specs.OrderTable.{IsFieldList};
 ghost use Rattle.order_fields.specs.NamedDrawing.{drawing_fields};
 ghost use Rattle.order_fields.specs.NamedDrawing.NamedDrawing.{Pat, Mem, Mem3};
 
-use order_fields::Fields;
-use px_core::Rect;
-
-/// The type of PatBlt.
-const PAT_BLT: u8 = 1;
-
-/// The type of MemBlt.
-const MEM_BLT: u8 = 13;
-
-/// The type of Mem3Blt.
-const MEM3_BLT: u8 = 14;
-
-/// The style of a brush of the cache: TS_CACHED_BRUSH with 24 bits a pixel.
-const CACHED_BRUSH: i64 = 0x85;
+use order_fields::{Fields, MEM_BLT, MEM3_BLT, PAT_BLT};
+use px_core::{Depth, Rect, cached_brush_style};
 
 /// PatBlt: a raster operation with the brush of an entry of the cache as its pattern.
 pub fn pat_blt(r: Rect, rop: u8, entry: u8) -> Fields
-    requires { IsFieldList (drawing_fields r (Pat r rop entry)) }
-    ensures { result ≡ drawing_fields r (Pat r rop entry) }
+    requires { IsFieldList (drawing_fields Bits24 r (Pat r rop entry)) }
+    ensures { result ≡ drawing_fields Bits24 r (Pat r rop entry) }
 {
     Fields::plain(
         PAT_BLT,
@@ -50,7 +39,7 @@ pub fn pat_blt(r: Rect, rop: u8, entry: u8) -> Fields
             0,
             0,
             0,
-            CACHED_BRUSH,
+            i64::from(cached_brush_style(Depth::Bits24)),
             i64::from(entry),
             0,
         ],
@@ -59,8 +48,8 @@ pub fn pat_blt(r: Rect, rop: u8, entry: u8) -> Fields
 
 /// MemBlt: a raster operation with a cached image as its source, of which (sx, sy) belongs to the rectangle's upper left pixel.
 pub fn mem_blt(cache: u8, index: u16, r: Rect, rop: u8, sx: i32, sy: i32) -> Fields
-    requires { IsFieldList (drawing_fields r (Mem cache index r rop sx sy)) }
-    ensures { result ≡ drawing_fields r (Mem cache index r rop sx sy) }
+    requires { IsFieldList (drawing_fields Bits24 r (Mem cache index r rop sx sy)) }
+    ensures { result ≡ drawing_fields Bits24 r (Mem cache index r rop sx sy) }
 {
     Fields::plain(
         MEM_BLT,
@@ -80,8 +69,8 @@ pub fn mem_blt(cache: u8, index: u16, r: Rect, rop: u8, sx: i32, sy: i32) -> Fie
 
 /// Mem3Blt: a raster operation with a cached image as its source and the brush of an entry of the cache as its pattern.
 pub fn mem3_blt(cache: u8, index: u16, r: Rect, rop: u8, sx: i32, sy: i32, entry: u8) -> Fields
-    requires { IsFieldList (drawing_fields r (Mem3 cache index r rop sx sy entry)) }
-    ensures { result ≡ drawing_fields r (Mem3 cache index r rop sx sy entry) }
+    requires { IsFieldList (drawing_fields Bits24 r (Mem3 cache index r rop sx sy entry)) }
+    ensures { result ≡ drawing_fields Bits24 r (Mem3 cache index r rop sx sy entry) }
 {
     Fields::plain(
         MEM3_BLT,
@@ -98,7 +87,7 @@ pub fn mem3_blt(cache: u8, index: u16, r: Rect, rop: u8, sx: i32, sy: i32, entry
             0,
             0,
             0,
-            CACHED_BRUSH,
+            i64::from(cached_brush_style(Depth::Bits24)),
             i64::from(entry),
             0,
             i64::from(index),

@@ -16,17 +16,15 @@
 //! | | 1, and so many | VariableBytes | their count, and pairs of a glyph's entry and its delta |
 
 ghost use Rattle.std.specs.Prelude.{◌≡◌, IfOk};
+ghost use Rattle.px_core.specs.declared.depth.Depth.TheVariants.{Bits24};
 ghost use Rattle.order_fields.specs.OrderTable.{IsFieldList};
 ghost use Rattle.order_fields.specs.NamedDrawing.{drawing_fields};
 ghost use Rattle.order_fields.specs.NamedDrawing.NamedDrawing.{Glyphs};
 
-use order_fields::Fields;
+use order_fields::{Fields, GLYPH_INDEX};
 use px_core::Rect;
 use std::alloc::Global;
 use wire_num::OutOfMemory;
-
-/// The type of GlyphIndex.
-const GLYPH_INDEX: u8 = 27;
 
 /// SO_FLAG_DEFAULT_PLACEMENT and SO_HORIZONTAL.
 const ACCELERATED: i64 = 3;
@@ -41,8 +39,8 @@ pub fn glyph_index(
     area: Rect,
     run: &[u8],
 ) -> Result<Fields, OutOfMemory>
-    requires { IsFieldList (drawing_fields area (Glyphs cache x y color run.now)) }
-    ensures { IfOk result (λ fields. fields ≡ drawing_fields area (Glyphs cache x y color run.now)) }
+    requires { IsFieldList (drawing_fields Bits24 area (Glyphs cache x y color run.now)) }
+    ensures { IfOk result (λ fields. fields ≡ drawing_fields Bits24 area (Glyphs cache x y color run.now)) }
 {
     let run = Vec::from_slice(alloc, run)?;
     Ok(glyph_index_of(cache, x, y, color, area, run))
@@ -50,8 +48,8 @@ pub fn glyph_index(
 
 /// The same of a run whose vector it takes over.
 pub fn glyph_index_of(cache: u8, x: i32, y: i32, color: u32, area: Rect, run: Vec<u8>) -> Fields
-    requires { IsFieldList (drawing_fields area (Glyphs cache x y color run.items)) }
-    ensures { result ≡ drawing_fields area (Glyphs cache x y color run.items) }
+    requires { IsFieldList (drawing_fields Bits24 area (Glyphs cache x y color run.items)) }
+    ensures { result ≡ drawing_fields Bits24 area (Glyphs cache x y color run.items) }
 {
     Fields::holding(
         GLYPH_INDEX,

@@ -10,15 +10,13 @@
 //! | 5 | 1 | Operation | 0 saves, 1 restores |
 
 ghost use Rattle.std.specs.Prelude.{◌≡◌, [], ◌∷◌, ◌++◌, pos, ◌+ℤ◌, ◌-ℤ◌};
+ghost use Rattle.px_core.specs.declared.depth.Depth.TheVariants.{Bits24};
 ghost use Rattle.order_fields.specs.OrderTable.{IsFieldList, field_list};
 ghost use Rattle.order_fields.specs.NamedDrawing.{drawing_fields, closed_box};
 ghost use Rattle.order_prim.specs.Saved.{saved_or_restored};
 
-use order_fields::Fields;
+use order_fields::{Fields, SAVE_BITMAP};
 use px_core::Rect;
-
-/// The type of SaveBitmap.
-const SAVE_BITMAP: u8 = 11;
 
 /// The operation that saves a rectangle.
 const SAVE: u8 = 0;
@@ -28,8 +26,8 @@ const RESTORE: u8 = 1;
 
 /// SaveBitmap: saves the rectangle's pixels at a place, or restores those that were saved there.
 pub fn save_bitmap(position: u32, r: Rect, restore: bool) -> Fields
-    requires { IsFieldList (drawing_fields r (saved_or_restored position r restore)) }
-    ensures { result ≡ drawing_fields r (saved_or_restored position r restore) }
+    requires { IsFieldList (drawing_fields Bits24 r (saved_or_restored position r restore)) }
+    ensures { result ≡ drawing_fields Bits24 r (saved_or_restored position r restore) }
 {
     if restore {
         block_fields(position, r, RESTORE)

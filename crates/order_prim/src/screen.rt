@@ -11,26 +11,18 @@
 //! | 6 | 2, or 1 | nYSrc, or Blue | none | the source's top row | blue |
 
 ghost use Rattle.std.specs.Prelude.{◌≡◌};
+ghost use Rattle.px_core.specs.declared.depth.Depth.TheVariants.{Bits24};
 ghost use Rattle.order_fields.specs.OrderTable.{IsFieldList};
 ghost use Rattle.order_fields.specs.NamedDrawing.{drawing_fields};
 ghost use Rattle.order_fields.specs.NamedDrawing.NamedDrawing.{Dst, Scr, Opaque};
 
-use order_fields::Fields;
+use order_fields::{DST_BLT, Fields, OPAQUE_RECT, SCR_BLT};
 use px_core::Rect;
-
-/// The type of DstBlt.
-const DST_BLT: u8 = 0;
-
-/// The type of ScrBlt.
-const SCR_BLT: u8 = 2;
-
-/// The type of OpaqueRect.
-const OPAQUE_RECT: u8 = 10;
 
 /// DstBlt: a raster operation on the rectangle alone, by its code.
 pub fn dst_blt(r: Rect, rop: u8) -> Fields
-    requires { IsFieldList (drawing_fields r (Dst r rop)) }
-    ensures { result ≡ drawing_fields r (Dst r rop) }
+    requires { IsFieldList (drawing_fields Bits24 r (Dst r rop)) }
+    ensures { result ≡ drawing_fields Bits24 r (Dst r rop) }
 {
     Fields::plain(
         DST_BLT,
@@ -46,8 +38,8 @@ pub fn dst_blt(r: Rect, rop: u8) -> Fields
 
 /// ScrBlt: a raster operation with the picture itself as its source, of which (sx, sy) belongs to the rectangle's upper left pixel.
 pub fn scr_blt(r: Rect, rop: u8, sx: i32, sy: i32) -> Fields
-    requires { IsFieldList (drawing_fields r (Scr r rop sx sy)) }
-    ensures { result ≡ drawing_fields r (Scr r rop sx sy) }
+    requires { IsFieldList (drawing_fields Bits24 r (Scr r rop sx sy)) }
+    ensures { result ≡ drawing_fields Bits24 r (Scr r rop sx sy) }
 {
     Fields::plain(
         SCR_BLT,
@@ -65,8 +57,8 @@ pub fn scr_blt(r: Rect, rop: u8, sx: i32, sy: i32) -> Fields
 
 /// OpaqueRect: the rectangle in one colour.
 pub fn opaque_rect(r: Rect, color: u32) -> Fields
-    requires { IsFieldList (drawing_fields r (Opaque r color)) }
-    ensures { result ≡ drawing_fields r (Opaque r color) }
+    requires { IsFieldList (drawing_fields Bits24 r (Opaque r color)) }
+    ensures { result ≡ drawing_fields Bits24 r (Opaque r color) }
 {
     Fields::plain(
         OPAQUE_RECT,

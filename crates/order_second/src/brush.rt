@@ -20,13 +20,11 @@ ghost use Rattle.order_means.specs.CacheOrders.{cache_brush_bytes};
 use crate::OutOfMemory;
 use bitmap_upd::{put_both, raw_bytes, turn_over};
 use draw_ops::Brush;
+use px_core::{Depth, brush_bytes, brush_format};
 use std::alloc::Global;
 
 /// The order's type.
 const CACHE_BRUSH: u8 = 7;
-
-/// BMF_24BPP.
-const BITS_24: u8 = 5;
 
 /// The columns, and the rows, of a brush.
 const SIDE: usize = 8;
@@ -45,6 +43,20 @@ pub fn cache_brush(
 {
     let wire = turn_over(alloc, brush.pixels(), SIDE, SIDE)?;
     let bytes = raw_bytes(alloc, &wire)?;
-    let head = [3, 191, 0, 0, 0, CACHE_BRUSH, entry, BITS_24, 8, 8, 0, 192];
+    let size = brush_bytes(Depth::Bits24);
+    let head = [
+        3,
+        size - 1,
+        0,
+        0,
+        0,
+        CACHE_BRUSH,
+        entry,
+        brush_format(Depth::Bits24),
+        8,
+        8,
+        0,
+        size,
+    ];
     put_both(out, &head, &bytes)
 }

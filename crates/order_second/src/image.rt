@@ -25,6 +25,7 @@ ghost use Rattle.order_means.specs.CacheOrders.{secondary_bytes, cache_bitmap_bo
 use crate::OutOfMemory;
 use bitmap_upd::{pad_rows, padded_width, pixel_data, put_both, turn_over};
 use draw_ops::Image;
+use px_core::{Depth, bits_in};
 use std::alloc::Global;
 
 /// The type of a raw bitmap.
@@ -35,9 +36,6 @@ const PACKED: u8 = 2;
 
 /// NO_BITMAP_COMPRESSION_HDR.
 const NO_HEADER: u16 = 0x0400;
-
-/// How many bits a pixel has.
-const BITS_PER_PIXEL: u8 = 24;
 
 /// How many bytes orderLength counts besides the pixels'.
 const BESIDES: u16 = 2;
@@ -62,7 +60,7 @@ fn order_head(flags: u16, kind: u8, cache: u8, index: u16, w: u8, h: u8, size: u
         0,
         w,
         h,
-        BITS_PER_PIXEL,
+        bits_in(Depth::Bits24) as u8,
         low,
         high,
         entry,

@@ -1,5 +1,6 @@
 -- Pixels drawn at the end of others.
 use Rattle.std.specs.Prelude.{ℕ, Bool, List, [], ◌∷◌, ◌++◌, length, map, replicate, slice_index, Result, Ok, Err, if◌then◌else◌}
+use Rattle.px_core.specs.declared.depth.Depth.{Depth}
 use Rattle.run_lengths.specs.declared.strokes.Stroke.{Stroke}
 use Rattle.run_lengths.specs.declared.strokes.Stroke.TheVariants.{Plain, Above, Crossed}
 use Rattle.run_lengths.specs.RunLength.{Order, Drawn, drawn_pixel, strokes_from, nothing_drawn, run_orders_in}
@@ -29,5 +30,5 @@ drawn_rest w d pixels (Ok os) = Ok (drawn_onto w (strokes_from w d os) pixels)
 drawn_rest w d pixels (Err refused) = Err refused
 
 -- what a whole stream draws
-abbrev pub drawn_whole : ℕ → ℕ → List ℕ → Result (List ℕ) (List ℕ)
-drawn_whole w count bytes = drawn_rest w nothing_drawn [] (run_orders_in count bytes)
+abbrev pub drawn_whole : Depth → ℕ → ℕ → List ℕ → Result (List ℕ) (List ℕ)
+drawn_whole depth w count bytes = drawn_rest w (nothing_drawn depth) [] (run_orders_in depth count bytes)

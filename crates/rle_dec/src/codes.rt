@@ -2,6 +2,7 @@
 ghost use Rattle.std.specs.Prelude.{◌≡◌, ◌≤◌, IfSome};
 ghost use Rattle.run_lengths.specs.Codes.{row, row_of};
 
+use px_core::{Depth, white};
 use run_lengths::{Length, Row, RunKind};
 
 const RUN: Length = Length::InCode(1, 32);
@@ -16,13 +17,11 @@ const MASK_OF_FIRST: u8 = 0x03;
 
 const MASK_OF_SECOND: u8 = 0x05;
 
-const WHITE: u32 = 0xFFFFFF;
-
 const BLACK: u32 = 0;
 
 /// The row of a code, or none.
-pub fn find_row(code: u8) -> Option<Row>
-    ensures is { result ≡ row_of code }
+pub fn find_row(code: u8, depth: Depth) -> Option<Row>
+    ensures is { result ≡ row_of depth code }
     ensures first { IfSome result (λ r. r.first ≤ code) }
 {
     match code {
@@ -60,7 +59,7 @@ pub fn find_row(code: u8) -> Option<Row>
             0xFD,
             0xFD,
             false,
-            RunKind::FixedColor(WHITE),
+            RunKind::FixedColor(white(depth)),
             Length::Fixed(1),
         )),
         0xFE => Some(table_row(

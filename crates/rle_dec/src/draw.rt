@@ -1,11 +1,13 @@
 //! Draws runs of pixels after the first `at` of a bitmap, which are drawn ([MS-RDPBCGR] 3.1.9).
 ghost use Rattle.std.specs.Prelude.{◌≡◌, ◌+◌, ◌*◌, ◌<◌, ◌≤◌, [], ◌∷◌, ◌++◌, length, replicate, take};
-ghost use Rattle.wire_num.specs.Pixels.{pixels_of};
+ghost use Rattle.px_core.specs.declared.depth.Depth.TheVariants.{Bits24, Bits16};
+ghost use Rattle.px_core.specs.Pixels.{pixels_of};
 ghost use Rattle.run_lengths.specs.RunLength.{background_stroke, bits_of, dithered_strokes, follows_background, foreground_stroke, mask_bits};
 ghost use Rattle.rle_dec.specs.Drawing.{drawn_onto, masked, pixels_before};
 
 use crate::copies::copy_back;
-use crate::reads::pixel;
+use crate::reads::{narrow_pixel, pixel};
+use px_core::Depth;
 use run_lengths::{Before, Stroke};
 
 /// The bits of a byte.
@@ -201,10 +203,22 @@ pub fn draw_mask(
     next
 }
 
-/// The pixels of bytes, three of each, four pixels at once while there are so many; how many pixels are drawn then.
-pub fn draw_image(out: &mut [u32], at: usize, image: &[u8]) -> usize
-    requires { at + length (pixels_of image.now) ≤ length out.old }
-    ensures drawn { take result out.new ≡ take at out.old ++ pixels_of image.now }
+/// The pixels of bytes; how many pixels are drawn then.
+pub fn draw_image(out: &mut [u32], at: usize, image: &[u8], depth: Depth) -> usize
+    requires { at + length (pixels_of depth image.now) ≤ length out.old }
+    ensures drawn { take result out.new ≡ take at out.old ++ pixels_of depth image.now }
+    ensures within { result ≤ length out.old }
+{
+    match depth {
+        Depth::Bits24 => draw_wide_image(out, at, image),
+        Depth::Bits16 => draw_narrow_image(out, at, image),
+    }
+}
+
+/// The pixels of 24 bits of bytes, four pixels at once while there are so many; how many pixels are drawn then.
+fn draw_wide_image(out: &mut [u32], at: usize, image: &[u8]) -> usize
+    requires { at + length (pixels_of Bits24 image.now) ≤ length out.old }
+    ensures drawn { take result out.new ≡ take at out.old ++ pixels_of Bits24 image.now }
     ensures within { result ≤ length out.old }
 {
     let mut next = at;
@@ -224,16 +238,32 @@ pub fn draw_image(out: &mut [u32], at: usize, image: &[u8]) -> usize
     draw_pixels(out, next, bytes)
 }
 
-/// The pixels of bytes, one by one; how many pixels are drawn then.
+/// The pixels of 24 bits of bytes, one by one; how many pixels are drawn then.
 fn draw_pixels(out: &mut [u32], at: usize, image: &[u8]) -> usize
-    requires { at + length (pixels_of image.now) ≤ length out.old }
-    ensures drawn { take result out.new ≡ take at out.old ++ pixels_of image.now }
+    requires { at + length (pixels_of Bits24 image.now) ≤ length out.old }
+    ensures drawn { take result out.new ≡ take at out.old ++ pixels_of Bits24 image.now }
     ensures within { result ≤ length out.old }
 {
     let mut next = at;
     let mut bytes = image;
     while let [blue, green, red, rest @ ..] = bytes {
         out[next] = pixel(*blue, *green, *red);
+        next += 1;
+        bytes = rest;
+    }
+    next
+}
+
+/// The pixels of 16 bits of bytes, one by one; how many pixels are drawn then.
+fn draw_narrow_image(out: &mut [u32], at: usize, image: &[u8]) -> usize
+    requires { at + length (pixels_of Bits16 image.now) ≤ length out.old }
+    ensures drawn { take result out.new ≡ take at out.old ++ pixels_of Bits16 image.now }
+    ensures within { result ≤ length out.old }
+{
+    let mut next = at;
+    let mut bytes = image;
+    while let [low, high, rest @ ..] = bytes {
+        out[next] = narrow_pixel(*low, *high);
         next += 1;
         bytes = rest;
     }

@@ -5,7 +5,8 @@ ghost use Rattle.rle_dec.specs.Orders.{order_of, run_of};
 ghost use Rattle.rle_dec.specs.Reads.{itself, option_of, read_of};
 
 use crate::codes::find_row;
-use crate::reads::{Read, read_bytes, read_length, read_pixel};
+use crate::reads::{Read, read_bytes, read_length, read_pixel, size_of};
+use px_core::Depth;
 use run_lengths::RunKind;
 
 /// The most pixels of a bitmap: 64 by 64.
@@ -21,7 +22,7 @@ pub enum Run<'a> {
     /// A pixel for each bit of one byte, from the lowest on.
     Bits(u8),
     Color(u32),
-    /// The pixels in three bytes each.
+    /// The bytes of the pixels.
     Image(&'a [u8]),
     Dithered(u32, u32),
 }
@@ -35,31 +36,37 @@ pub struct Order<'a> {
 }
 
 /// The next order of a stream, where `left` pixels are left.
-pub fn read_order(stream: &[u8], left: usize) -> Read<'_, Order<'_>>
+pub fn read_order(stream: &[u8], left: usize, depth: Depth) -> Read<'_, Order<'_>>
     requires { left ≤ MOST_PIXELS }
-    ensures is { read_of order_of result ≡ order_at left stream.now }
+    ensures is { read_of (order_of depth) result ≡ order_at depth left stream.now }
     ensures most { IfOk result (λ v. v.0.length ≤ left) }
 {
     match stream {
-        [code, rest @ ..] => read_in_table(*code, left, stream, rest),
+        [code, rest @ ..] => read_in_table(*code, left, stream, rest, depth),
         [] => Err(stream),
     }
 }
 
 /// An order of any code; `stream` begins with it, `rest` after it.
-fn read_in_table<'a>(code: u8, left: usize, stream: &'a [u8], rest: &'a [u8]) -> Read<'a, Order<'a>>
+fn read_in_table<'a>(
+    code: u8,
+    left: usize,
+    stream: &'a [u8],
+    rest: &'a [u8],
+    depth: Depth,
+) -> Read<'a, Order<'a>>
     requires left { left ≤ MOST_PIXELS }
     requires code { stream.now ≡ code ∷ rest.now }
-    ensures is { read_of order_of result ≡ order_at left stream.now }
+    ensures is { read_of (order_of depth) result ≡ order_at depth left stream.now }
     ensures most { IfOk result (λ v. v.0.length ≤ left) }
 {
-    let Some(row) = find_row(code) else {
+    let Some(row) = find_row(code, depth) else {
         return Err(stream);
     };
     let greatest = longest(row.kind, left);
     let (length, rest) = read_length(row.length, code - row.first, greatest, stream, rest)?;
-    let (foreground, rest) = read_foreground(row.sets_foreground, rest)?;
-    let (run, rest) = read_run(row.kind, length, rest)?;
+    let (foreground, rest) = read_foreground(row.sets_foreground, rest, depth)?;
+    let (run, rest) = read_run(row.kind, length, rest, depth)?;
     Ok((
         Order {
             foreground,
@@ -82,20 +89,20 @@ fn longest(kind: RunKind, left: usize) -> usize
 }
 
 /// The foreground that an order sets.
-fn read_foreground(sets: bool, stream: &[u8]) -> Read<'_, Option<u32>>
-    ensures { read_of option_of result ≡ foreground_at sets stream.now }
+fn read_foreground(sets: bool, stream: &[u8], depth: Depth) -> Read<'_, Option<u32>>
+    ensures { read_of option_of result ≡ foreground_at depth sets stream.now }
 {
     if !sets {
         return Ok((None, stream));
     }
-    let (foreground, rest) = read_pixel(stream)?;
+    let (foreground, rest) = read_pixel(stream, depth)?;
     Ok((Some(foreground), rest))
 }
 
 /// What an order of a kind and a length draws.
-fn read_run(kind: RunKind, length: usize, stream: &[u8]) -> Read<'_, Run<'_>>
+fn read_run(kind: RunKind, length: usize, stream: &[u8], depth: Depth) -> Read<'_, Run<'_>>
     requires { length ≤ MOST_PIXELS }
-    ensures { read_of (run_of length) result ≡ run_at kind length stream.now }
+    ensures { read_of (run_of depth length) result ≡ run_at depth kind length stream.now }
 {
     match kind {
         RunKind::BackgroundRun => Ok((Run::Background, stream)),
@@ -105,16 +112,16 @@ fn read_run(kind: RunKind, length: usize, stream: &[u8]) -> Read<'_, Run<'_>>
             Ok((Run::Mask(mask), rest))
         }
         RunKind::ColorRun => {
-            let (color, rest) = read_pixel(stream)?;
+            let (color, rest) = read_pixel(stream, depth)?;
             Ok((Run::Color(color), rest))
         }
         RunKind::ColorImage => {
-            let (image, rest) = read_bytes(stream, 3 * length)?;
+            let (image, rest) = read_bytes(stream, size_of(length, depth))?;
             Ok((Run::Image(image), rest))
         }
         RunKind::DitheredRun => {
-            let (first, rest) = read_pixel(stream)?;
-            let (second, rest) = read_pixel(rest)?;
+            let (first, rest) = read_pixel(stream, depth)?;
+            let (second, rest) = read_pixel(rest, depth)?;
             Ok((Run::Dithered(first, second), rest))
         }
         RunKind::FixedMask(bits) => Ok((Run::Bits(bits), stream)),

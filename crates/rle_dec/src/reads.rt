@@ -1,10 +1,12 @@
 //! Reads the fields of orders from the front of a stream. A refusal carries the bytes from the refused field on.
-ghost use Rattle.std.specs.Prelude.{◌≡◌, ◌≤◌, [], ◌∷◌, IfOk};
+ghost use Rattle.std.specs.Prelude.{◌≡◌, ◌≤◌, ◌*◌, [], ◌∷◌, IfOk};
 ghost use Rattle.wire_num.specs.Number.{little_at, little_value};
 ghost use Rattle.wire_num.specs.Field.{bytes_at};
+ghost use Rattle.px_core.specs.Depth.{bytes_in};
 ghost use Rattle.run_lengths.specs.RunLength.{length_if, length_at};
 ghost use Rattle.rle_dec.specs.Reads.{read_of, itself, list_of};
 
+use px_core::{Depth, bytes_in};
 use run_lengths::Length;
 
 /// A value and the bytes after it, or the bytes from the refused field on.
@@ -40,8 +42,18 @@ pub fn read_two_bytes(stream: &[u8]) -> Read<'_, u16>
     }
 }
 
-/// A pixel: blue, green, red.
-pub fn read_pixel(stream: &[u8]) -> Read<'_, u32>
+/// A pixel.
+pub fn read_pixel(stream: &[u8], depth: Depth) -> Read<'_, u32>
+    ensures { read_of itself result ≡ little_at (bytes_in depth) stream.now }
+{
+    match depth {
+        Depth::Bits24 => read_wide_pixel(stream),
+        Depth::Bits16 => read_narrow_pixel(stream),
+    }
+}
+
+/// A pixel of 24 bits: blue, green, red.
+fn read_wide_pixel(stream: &[u8]) -> Read<'_, u32>
     ensures { read_of itself result ≡ little_at 3 stream.now }
 {
     match stream {
@@ -50,11 +62,36 @@ pub fn read_pixel(stream: &[u8]) -> Read<'_, u32>
     }
 }
 
-/// The number of a pixel.
+/// A pixel of 16 bits, the low byte first.
+fn read_narrow_pixel(stream: &[u8]) -> Read<'_, u32>
+    ensures { read_of itself result ≡ little_at 2 stream.now }
+{
+    match stream {
+        [low, high, rest @ ..] => Ok((narrow_pixel(*low, *high), rest)),
+        _ => Err(stream),
+    }
+}
+
+/// The number of a pixel of 24 bits.
 pub fn pixel(blue: u8, green: u8, red: u8) -> u32
     ensures { result ≡ little_value (blue ∷ green ∷ red ∷ []) }
 {
     u32::from(blue) + 256 * (u32::from(green) + 256 * u32::from(red))
+}
+
+/// The number of a pixel of 16 bits.
+pub fn narrow_pixel(low: u8, high: u8) -> u32
+    ensures { result ≡ little_value (low ∷ high ∷ []) }
+{
+    u32::from(low) + 256 * u32::from(high)
+}
+
+/// How many bytes so many pixels have.
+pub fn size_of(pixels: usize, depth: Depth) -> usize
+    requires { pixels ≤ 4096 }
+    ensures { result ≡ bytes_in depth * pixels }
+{
+    bytes_in(depth) * pixels
 }
 
 /// A length that stands in the code's low bits or after the code; `stream` begins with the code, `rest` after it.

@@ -1,13 +1,15 @@
 //! Reads and draws the shortest orders at once, of which a stream has most: background runs, colour runs and colour images with their length in the code.
 ghost use Rattle.std.specs.Prelude.{◌≡◌, ◌+◌, ◌-◌, ◌<◌, ◌≤◌, ◌∷◌, ◌++◌, IfNone, IfSome, length, replicate, take};
 ghost use Rattle.run_lengths.specs.declared.strokes.Stroke.TheVariants.{Above};
+ghost use Rattle.px_core.specs.declared.depth.Depth.TheVariants.{Bits24};
 ghost use Rattle.rle_dec.specs.Drawing.{drawn_onto};
 ghost use Rattle.rle_dec.specs.Steps.{IsFront, IsShortStep};
 
 use crate::draw::{
     draw_above, draw_color, draw_image, draw_pixel, draw_three, draw_two, follows_run,
 };
-use crate::reads::{pixel, read_pixel};
+use crate::reads::{pixel, read_pixel, size_of};
+use px_core::Depth;
 use run_lengths::{Before, Stroke};
 
 /// How many codes each kind of these orders has: the length stands in their low bits.
@@ -36,10 +38,11 @@ pub fn draw_short<'a>(
     w: usize,
     before: &mut Before,
     stream: &'a [u8],
+    depth: Depth,
 ) -> Option<Step<'a>>
     requires wide { 1 ≤ w }
     requires more { at < length out.old }
-    ensures step { IfSome result (IsShortStep w at before.old out.old stream.now before.new out.new) }
+    ensures step { IfSome result (IsShortStep depth w at before.old out.old stream.now before.new out.new) }
     ensures none { IfNone result (out.new ≡ out.old) }
     ensures before { IfNone result (before.new ≡ before.old) }
 {
@@ -52,8 +55,8 @@ pub fn draw_short<'a>(
     }
     match *code / LENGTHS {
         BACKGROUND_RUN => draw_short_background(out, at, w, before, *code, n, rest),
-        COLOR_RUN => draw_short_color(out, at, w, before, *code, n, rest),
-        COLOR_IMAGE => draw_short_image(out, at, w, before, *code, n, rest),
+        COLOR_RUN => draw_short_color(out, at, w, before, *code, n, rest, depth),
+        COLOR_IMAGE => draw_short_image(out, at, w, before, *code, n, rest, depth),
         _ => None,
     }
 }
@@ -74,7 +77,7 @@ fn draw_short_background<'a>(
     requires room { at + n ≤ length out.old }
     requires code { (1 ≤ code) × (code ≤ 0x1F) }
     requires n { n ≡ code }
-    ensures step { IfSome result (IsShortStep w at before.old out.old (code ∷ rest.now) before.new out.new) }
+    ensures step { (depth : Depth) → IfSome result (IsShortStep depth w at before.old out.old (code ∷ rest.now) before.new out.new) }
     ensures none { IfNone result (out.new ≡ out.old) }
     ensures before { IfNone result (before.new ≡ before.old) }
 {
@@ -114,17 +117,18 @@ fn draw_short_color<'a>(
     code: u8,
     n: usize,
     bytes: &'a [u8],
+    depth: Depth,
 ) -> Option<Step<'a>>
     requires wide { 1 ≤ w }
     requires more { at < length out.old }
     requires room { at + n ≤ length out.old }
     requires code { (0x61 ≤ code) × (code ≤ 0x7F) }
     requires n { n ≡ code - 0x60 }
-    ensures step { IfSome result (IsShortStep w at before.old out.old (code ∷ bytes.now) before.new out.new) }
+    ensures step { IfSome result (IsShortStep depth w at before.old out.old (code ∷ bytes.now) before.new out.new) }
     ensures none { IfNone result (out.new ≡ out.old) }
     ensures before { IfNone result (before.new ≡ before.old) }
 {
-    match read_pixel(bytes) {
+    match read_pixel(bytes, depth) {
         Ok((color, rest)) => {
             draw_few(out, at, n, color);
             *before = Before::Other;
@@ -157,17 +161,18 @@ fn draw_short_image<'a>(
     code: u8,
     n: usize,
     bytes: &'a [u8],
+    depth: Depth,
 ) -> Option<Step<'a>>
     requires wide { 1 ≤ w }
     requires more { at < length out.old }
     requires room { at + n ≤ length out.old }
     requires code { (0x81 ≤ code) × (code ≤ 0x9F) }
     requires n { n ≡ code - 0x80 }
-    ensures step { IfSome result (IsShortStep w at before.old out.old (code ∷ bytes.now) before.new out.new) }
+    ensures step { IfSome result (IsShortStep depth w at before.old out.old (code ∷ bytes.now) before.new out.new) }
     ensures none { IfNone result (out.new ≡ out.old) }
     ensures before { IfNone result (before.new ≡ before.old) }
 {
-    match draw_front(out, at, n, bytes) {
+    match draw_front(out, at, n, bytes, depth) {
         Some(rest) => {
             *before = Before::Other;
             Some(Step { at: at + n, rest })
@@ -176,18 +181,38 @@ fn draw_short_image<'a>(
     }
 }
 
-/// The first `n` pixels of bytes, mostly two or three, and the bytes after them; nothing where there aren't so many.
+/// The first `n` pixels of bytes, and the bytes after them; nothing where there aren't so many.
 #[inline(always)]
-fn draw_front<'a>(out: &mut [u32], at: usize, n: usize, bytes: &'a [u8]) -> Option<&'a [u8]>
+fn draw_front<'a>(
+    out: &mut [u32],
+    at: usize,
+    n: usize,
+    bytes: &'a [u8],
+    depth: Depth,
+) -> Option<&'a [u8]>
     requires few { n ≤ 31 }
     requires room { at + n ≤ length out.old }
-    ensures drawn { IfSome result (λ rest. IsFront n at out.old bytes.now out.new rest.now) }
+    ensures drawn { IfSome result (λ rest. IsFront depth n at out.old bytes.now out.new rest.now) }
+    ensures none { IfNone result (out.new ≡ out.old) }
+{
+    match depth {
+        Depth::Bits24 => draw_wide_front(out, at, n, bytes),
+        Depth::Bits16 => draw_front_image(out, at, n, bytes, depth),
+    }
+}
+
+/// The same of pixels of 24 bits, mostly two or three.
+#[inline(always)]
+fn draw_wide_front<'a>(out: &mut [u32], at: usize, n: usize, bytes: &'a [u8]) -> Option<&'a [u8]>
+    requires few { n ≤ 31 }
+    requires room { at + n ≤ length out.old }
+    ensures drawn { IfSome result (λ rest. IsFront Bits24 n at out.old bytes.now out.new rest.now) }
     ensures none { IfNone result (out.new ≡ out.old) }
 {
     match n {
         2 => draw_front_two(out, at, bytes),
         3 => draw_front_three(out, at, bytes),
-        _ => draw_front_image(out, at, n, bytes),
+        _ => draw_front_image(out, at, n, bytes, Depth::Bits24),
     }
 }
 
@@ -195,7 +220,7 @@ fn draw_front<'a>(out: &mut [u32], at: usize, n: usize, bytes: &'a [u8]) -> Opti
 #[inline(always)]
 fn draw_front_two<'a>(out: &mut [u32], at: usize, bytes: &'a [u8]) -> Option<&'a [u8]>
     requires { at + 2 ≤ length out.old }
-    ensures drawn { IfSome result (λ rest. IsFront 2 at out.old bytes.now out.new rest.now) }
+    ensures drawn { IfSome result (λ rest. IsFront Bits24 2 at out.old bytes.now out.new rest.now) }
     ensures none { IfNone result (out.new ≡ out.old) }
 {
     match bytes {
@@ -211,7 +236,7 @@ fn draw_front_two<'a>(out: &mut [u32], at: usize, bytes: &'a [u8]) -> Option<&'a
 #[inline(always)]
 fn draw_front_three<'a>(out: &mut [u32], at: usize, bytes: &'a [u8]) -> Option<&'a [u8]>
     requires { at + 3 ≤ length out.old }
-    ensures drawn { IfSome result (λ rest. IsFront 3 at out.old bytes.now out.new rest.now) }
+    ensures drawn { IfSome result (λ rest. IsFront Bits24 3 at out.old bytes.now out.new rest.now) }
     ensures none { IfNone result (out.new ≡ out.old) }
 {
     match bytes {
@@ -230,15 +255,21 @@ fn draw_front_three<'a>(out: &mut [u32], at: usize, bytes: &'a [u8]) -> Option<&
 }
 
 /// The same of any number of pixels.
-fn draw_front_image<'a>(out: &mut [u32], at: usize, n: usize, bytes: &'a [u8]) -> Option<&'a [u8]>
+fn draw_front_image<'a>(
+    out: &mut [u32],
+    at: usize,
+    n: usize,
+    bytes: &'a [u8],
+    depth: Depth,
+) -> Option<&'a [u8]>
     requires few { n ≤ 31 }
     requires room { at + n ≤ length out.old }
-    ensures drawn { IfSome result (λ rest. IsFront n at out.old bytes.now out.new rest.now) }
+    ensures drawn { IfSome result (λ rest. IsFront depth n at out.old bytes.now out.new rest.now) }
     ensures none { IfNone result (out.new ≡ out.old) }
 {
-    match bytes.split_at_checked(3 * n) {
+    match bytes.split_at_checked(size_of(n, depth)) {
         Some((image, rest)) => {
-            draw_image(out, at, image);
+            draw_image(out, at, image, depth);
             Some(rest)
         }
         None => None,

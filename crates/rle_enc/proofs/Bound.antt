@@ -1,4 +1,4 @@
--- The packer's bytes are at most six for each run of equal colour.
+-- The packer's bytes are at most three and a pixel's for each run of equal colour, at any depth.
 use Rattle.std.proofs.Common.{◌≡◌, ℕ, zero, suc, ◌+◌, ◌-◌, ◌*◌, ◌≤◌, Bool, true, false, cond, List, [], ◌∷◌, length, take, drop, refl, ap, sym, subst, ◌∙◌, arith, length-append, lit≤, ◌/◌, ◌%◌}
 use Rattle.std.specs.Prelude.{flat_map, nat_lt, ◌==◌, replicate}
 use Rattle.std.proofs.lemmas.Bool.Decides.{nat_tests}
@@ -6,10 +6,13 @@ use Rattle.std.proofs.lemmas.List.{length-replicate, length-drop, take_all, drop
 use Rattle.run_lengths.specs.RunLength.{Run, run_size}
 use Rattle.run_lengths.specs.RunLength.Run.{Background, Foreground, Mask, Color, Image, Dithered}
 use Rattle.run_lengths.specs.Packer.{Spot, background_count, color_count, first_run, runs_past, onto_runs, joined_images, packed_runs, first_stretch, later_stretch, packed, run_bytes, length_bytes, color_runs, color_runs_after, color_runs_in}
-use Rattle.wire_num.specs.Pixels.{pixel_bytes}
-use Rattle.wire_num.proofs.Pixels.{length-pixels_bytes}
-use Rattle.rle_enc.proofs.Runs.{pixels, chosen}
-use Rattle.rle_enc.proofs.Stretches.{pixels-zip}
+use Rattle.px_core.specs.declared.depth.Depth.{Depth}
+use Rattle.px_core.specs.declared.depth.Depth.TheVariants.{Bits24, Bits16}
+use Rattle.px_core.specs.Depth.{bytes_in}
+use Rattle.px_core.specs.Pixels.{pixel_bytes}
+use Rattle.px_core.proofs.Pixels.{length-pixels_bytes}
+use Rattle.run_lengths.proofs.Runs.{pixels, chosen}
+use Rattle.run_lengths.proofs.Stretches.{pixels-zip}
 
 -- how many runs of equal colour a run of the packer ends, at least
 abbrev pub weight : Run → ℕ
@@ -44,17 +47,31 @@ short_length code long n = by_tests (nat_lt n 32) (nat_lt n 288) where
   by_tests false true = lit≤ tt
   by_tests false false = lit≤ tt
 
-run_bytes_few : (r : Run) → IsFull r → length (run_bytes r) ≤ 6 * weight r
-run_bytes_few (Background n) h = omega (arith, short_length 0 240 n)
-run_bytes_few (Color n c) h = omega (arith, short_length 96 243 n, length-append (length_bytes 96 243 n) (pixel_bytes c))
-run_bytes_few (Image cs) h = omega (arith, h, short_length 128 244 (length cs), length-append (length_bytes 128 244 (length cs)) (flat_map pixel_bytes cs), length-pixels_bytes cs)
-run_bytes_few (Foreground n) h = omega arith
-run_bytes_few (Mask bits) h = omega arith
-run_bytes_few (Dithered n a b) h = omega arith
+-- three bytes of a length, and the pixels
+length_within : (depth : Depth) (r : Run) → IsFull r → length (run_bytes depth r) ≤ 3 + bytes_in depth * weight r
+length_within Bits24 (Background n) h = omega (arith, short_length 0 240 n)
+length_within Bits16 (Background n) h = omega (arith, short_length 0 240 n)
+length_within Bits24 (Color n c) h = omega (arith, short_length 96 243 n, length-append (length_bytes 96 243 n) (pixel_bytes Bits24 c))
+length_within Bits16 (Color n c) h = omega (arith, short_length 96 243 n, length-append (length_bytes 96 243 n) (pixel_bytes Bits16 c))
+length_within Bits24 (Image cs) h = omega (arith, short_length 128 244 (length cs), length-append (length_bytes 128 244 (length cs)) (flat_map (pixel_bytes Bits24) cs), length-pixels_bytes Bits24 cs)
+length_within Bits16 (Image cs) h = omega (arith, short_length 128 244 (length cs), length-append (length_bytes 128 244 (length cs)) (flat_map (pixel_bytes Bits16) cs), length-pixels_bytes Bits16 cs)
+length_within depth (Foreground n) h = omega arith
+length_within depth (Mask bits) h = omega arith
+length_within depth (Dithered n a b) h = omega arith
 
-runs_bytes_few : (rs : List Run) → AllFull rs → length (flat_map run_bytes rs) ≤ 6 * weights rs
-runs_bytes_few [] h = omega arith
-runs_bytes_few (r ∷ rs) h = omega (arith, length-append (run_bytes r) (flat_map run_bytes rs), run_bytes_few r h.0, runs_bytes_few rs h.1)
+some_weight : (r : Run) → IsFull r → 1 ≤ weight r
+some_weight (Background n) h = omega arith
+some_weight (Color n c) h = omega arith
+some_weight (Image cs) h = h
+some_weight (Foreground n) h = omega arith
+some_weight (Mask bits) h = omega arith
+some_weight (Dithered n a b) h = omega arith
+
+runs_bytes_few : (depth : Depth) (rs : List Run) → AllFull rs → length (flat_map (run_bytes depth) rs) ≤ (3 + bytes_in depth) * weights rs
+runs_bytes_few Bits24 [] h = omega arith
+runs_bytes_few Bits16 [] h = omega arith
+runs_bytes_few Bits24 (r ∷ rs) h = omega (arith, length-append (run_bytes Bits24 r) (flat_map (run_bytes Bits24) rs), length_within Bits24 r h.0, some_weight r h.0, runs_bytes_few Bits24 rs h.1)
+runs_bytes_few Bits16 (r ∷ rs) h = omega (arith, length-append (run_bytes Bits16 r) (flat_map (run_bytes Bits16) rs), length_within Bits16 r h.0, some_weight r h.0, runs_bytes_few Bits16 rs h.1)
 
 -- joining images keeps their weight
 pub record SameWeight (rs ss : List Run) : Type 0 where
@@ -150,15 +167,31 @@ runs_past_light zero (s ∷ spots) =
     let covered : color_count s.0 spots ≤ run_size r - 1 = omega (arith, first.all, same_color s.0 spots s refl) in
     record { full = (first.full, rest.full); few = omega (arith, first.one, rest.few, one_run_fewer (run_size r - 1) s spots covered) }
 
-stretch_few : (spots : List Spot) → length (flat_map run_bytes (packed_runs spots)) ≤ 6 * color_runs (pixels spots)
-stretch_few spots =
+stretch_light : (spots : List Spot) → IsLight spots (packed_runs spots)
+stretch_light spots =
     let runs = runs_past_light 0 spots in
     let same = joined_weight (runs_past 0 spots) in
-    omega (arith, runs_bytes_few (packed_runs spots) (same.full runs.full), same.same, runs.few)
+    record { full = same.full runs.full; few = omega (arith, same.same, runs.few) }
 
--- at most six bytes for each run of equal colour
-pub packed_few : (w : ℕ) (ps : List ℕ) → length (packed w ps) ≤ 6 * color_runs_in w ps
-packed_few w ps =
+-- two numbers of parts, and the parts of their lists, at most as many each
+few_of : (depth : Depth) (n m : ℕ) → n ≤ m → (3 + bytes_in depth) * n ≤ (3 + bytes_in depth) * m
+few_of Bits24 n m le = omega (arith, le)
+few_of Bits16 n m le = omega (arith, le)
+
+both_of : (depth : Depth) (n m : ℕ) → (3 + bytes_in depth) * (n + m) ≡ (3 + bytes_in depth) * n + (3 + bytes_in depth) * m
+both_of Bits24 n m = omega arith
+both_of Bits16 n m = omega arith
+
+stretch_few : (depth : Depth) (spots : List Spot) → length (flat_map (run_bytes depth) (packed_runs spots)) ≤ (3 + bytes_in depth) * color_runs (pixels spots)
+stretch_few depth spots =
+    let light = stretch_light spots in
+    omega (arith, runs_bytes_few depth (packed_runs spots) light.full, few_of depth (weights (packed_runs spots)) (color_runs (pixels spots)) light.few)
+
+-- at most three bytes and a pixel for each run of equal colour
+pub packed_few : (depth : Depth) (w : ℕ) (ps : List ℕ) → length (packed depth w ps) ≤ (3 + bytes_in depth) * color_runs_in w ps
+packed_few depth w ps =
     let early : pixels (first_stretch w ps) ≡ take w ps = pixels-zip ps (replicate w 0) ∙ ap (λ n. take n ps) (length-replicate w 0) in
     let late : pixels (later_stretch w ps) ≡ drop w ps = pixels-zip (drop w ps) ps ∙ take_all (length ps) (drop w ps) (omega (arith, length-drop w ps)) in
-    omega (arith, length-append (flat_map run_bytes (packed_runs (first_stretch w ps))) (flat_map run_bytes (packed_runs (later_stretch w ps))), stretch_few (first_stretch w ps), stretch_few (later_stretch w ps), ap color_runs early, ap color_runs late)
+    let early_few : length (flat_map (run_bytes depth) (packed_runs (first_stretch w ps))) ≤ (3 + bytes_in depth) * color_runs (take w ps) = subst (λ xs. length (flat_map (run_bytes depth) (packed_runs (first_stretch w ps))) ≤ (3 + bytes_in depth) * color_runs xs) early (stretch_few depth (first_stretch w ps)) in
+    let late_few : length (flat_map (run_bytes depth) (packed_runs (later_stretch w ps))) ≤ (3 + bytes_in depth) * color_runs (drop w ps) = subst (λ xs. length (flat_map (run_bytes depth) (packed_runs (later_stretch w ps))) ≤ (3 + bytes_in depth) * color_runs xs) late (stretch_few depth (later_stretch w ps)) in
+    omega (arith, length-append (flat_map (run_bytes depth) (packed_runs (first_stretch w ps))) (flat_map (run_bytes depth) (packed_runs (later_stretch w ps))), early_few, late_few, both_of depth (color_runs (take w ps)) (color_runs (drop w ps)))

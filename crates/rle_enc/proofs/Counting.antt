@@ -7,8 +7,8 @@ use Rattle.std.proofs.lemmas.List.{drop_more, drop_all, take_more, take_all, len
 use Rattle.run_lengths.specs.Packer.{Spot, background_count, color_count, chosen_run}
 use Rattle.run_lengths.specs.RunLength.Run.{Background, Color, Image}
 use Rattle.rle_enc.specs.Stretch.{leading, HasItems, spots_in}
-use Rattle.rle_enc.proofs.Runs.{pixels}
-use Rattle.rle_enc.proofs.Stretches.{pixels-zip}
+use Rattle.run_lengths.proofs.Runs.{pixels}
+use Rattle.run_lengths.proofs.Stretches.{pixels-zip}
 
 same_test : (a b : ℕ) → a ≡ b → (a == b) ≡ true
 same_test a b e = grind (arith, nat_tests, e)

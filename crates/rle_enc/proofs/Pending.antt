@@ -2,11 +2,12 @@
 use Rattle.std.proofs.Common.{◌≡◌, ℕ, zero, suc, ◌+◌, ◌-◌, ◌<◌, ◌≤◌, List, [], ◌∷◌, ◌++◌, length, take, drop, replicate, get_or, refl, ap, sym, subst, ◌∙◌, arith, append_assoc, append-nil}
 use Rattle.std.specs.Prelude.{zip, flat_map, Option, Some, None, Result, Ok, Err, OnOk}
 use Rattle.std.proofs.lemmas.List.{drop_all, take_more, length-drop, drop-replicate, get_or-drop, drop-drop}
+use Rattle.px_core.specs.declared.depth.Depth.{Depth}
 use Rattle.run_lengths.specs.RunLength.{Run, run_size}
 use Rattle.run_lengths.specs.RunLength.Run.{Background, Foreground, Mask, Color, Image, Dithered}
 use Rattle.run_lengths.specs.Packer.{Spot, background_count, color_count, chosen_run, first_run, runs_past, onto_runs, joined_images, packed_runs, run_bytes}
 use Rattle.rle_enc.specs.Stretch.{StandAlone, StartsRun, after_literals, leading, literal_bytes, spots_in, HasItems, dropped}
-use Rattle.rle_enc.proofs.Runs.{pixels, pixels-drop, length-pixels, drop_first, chosen}
+use Rattle.run_lengths.proofs.Runs.{pixels, pixels-drop, length-pixels, drop_first, chosen}
 use Rattle.rle_enc.proofs.Counting.{piece_literal, pixels_of_spots}
 
 image_onto : (cs ds : List ℕ) (rs : List Run) → onto_runs (Image cs) (onto_runs (Image ds) rs) ≡ onto_runs (Image (cs ++ ds)) rs
@@ -25,17 +26,17 @@ more_literals (c ∷ cs) [] rs = ap (λ us. after_literals us rs) (sym (append-n
 more_literals (c ∷ cs) (d ∷ ds) rs = image_onto (c ∷ cs) (d ∷ ds) rs
 
 -- the bytes of pixels that stand for themselves go before those of another run
-literals_then : (cs : List ℕ) (n : ℕ) (rs : List Run) → flat_map run_bytes (after_literals cs (Background n ∷ rs)) ≡ literal_bytes cs ++ (run_bytes (Background n) ++ flat_map run_bytes rs)
-literals_then [] n rs = refl
-literals_then (c ∷ cs) n rs = refl
+literals_then : (depth : Depth) (cs : List ℕ) (n : ℕ) (rs : List Run) → flat_map (run_bytes depth) (after_literals cs (Background n ∷ rs)) ≡ literal_bytes depth cs ++ (run_bytes depth (Background n) ++ flat_map (run_bytes depth) rs)
+literals_then depth [] n rs = refl
+literals_then depth (c ∷ cs) n rs = refl
 
-literals_then_color : (cs : List ℕ) (n x : ℕ) (rs : List Run) → flat_map run_bytes (after_literals cs (Color n x ∷ rs)) ≡ literal_bytes cs ++ (run_bytes (Color n x) ++ flat_map run_bytes rs)
-literals_then_color [] n x rs = refl
-literals_then_color (c ∷ cs) n x rs = refl
+literals_then_color : (depth : Depth) (cs : List ℕ) (n x : ℕ) (rs : List Run) → flat_map (run_bytes depth) (after_literals cs (Color n x ∷ rs)) ≡ literal_bytes depth cs ++ (run_bytes depth (Color n x) ++ flat_map (run_bytes depth) rs)
+literals_then_color depth [] n x rs = refl
+literals_then_color depth (c ∷ cs) n x rs = refl
 
-literals_last : (cs : List ℕ) → flat_map run_bytes (after_literals cs []) ≡ literal_bytes cs
-literals_last [] = refl
-literals_last (c ∷ cs) = append-nil (run_bytes (Image (c ∷ cs)))
+literals_last : (depth : Depth) (cs : List ℕ) → flat_map (run_bytes depth) (after_literals cs []) ≡ literal_bytes depth cs
+literals_last depth [] = refl
+literals_last depth (c ∷ cs) = append-nil (run_bytes depth (Image (c ∷ cs)))
 
 -- ---- the runs from a place on
 
@@ -84,33 +85,33 @@ front_at row ps at x r lt h e f =
     front_of (drop at spots) x r (omega (arith, long, lt)) first g ∙ ap (λ ss. onto_runs r (joined_images (runs_past 0 ss))) (drop-drop (run_size r) at spots)
 
 -- a background run after pixels that stand for themselves
-pub background_step : (row : Option (List ℕ)) (ps : List ℕ) (at x n : ℕ) (lits p p1 q whole : List ℕ) → at < length ps → HasItems (length ps) row → x ≡ get_or ps at 0 → Background n ≡ chosen_run (background_count (spots_in (dropped at row) (drop at ps))) (color_count x (spots_in (dropped at row) (drop at ps))) x →
-    p1 ≡ p ++ literal_bytes lits → q ≡ p1 ++ run_bytes (Background n) →
-    p ++ flat_map run_bytes (after_literals lits (joined_images (runs_past 0 (drop at (spots_in row ps))))) ≡ whole →
-    q ++ flat_map run_bytes (joined_images (runs_past 0 (drop (at + n) (spots_in row ps)))) ≡ whole
-background_step row ps at x n lits p p1 q whole lt h e f g i w =
+pub background_step : (depth : Depth) (row : Option (List ℕ)) (ps : List ℕ) (at x n : ℕ) (lits p p1 q whole : List ℕ) → at < length ps → HasItems (length ps) row → x ≡ get_or ps at 0 → Background n ≡ chosen_run (background_count (spots_in (dropped at row) (drop at ps))) (color_count x (spots_in (dropped at row) (drop at ps))) x →
+    p1 ≡ p ++ literal_bytes depth lits → q ≡ p1 ++ run_bytes depth (Background n) →
+    p ++ flat_map (run_bytes depth) (after_literals lits (joined_images (runs_past 0 (drop at (spots_in row ps))))) ≡ whole →
+    q ++ flat_map (run_bytes depth) (joined_images (runs_past 0 (drop (at + n) (spots_in row ps)))) ≡ whole
+background_step depth row ps at x n lits p p1 q whole lt h e f g i w =
     let rest : List Run = joined_images (runs_past 0 (drop (at + n) (spots_in row ps))) in
     let front : joined_images (runs_past 0 (drop at (spots_in row ps))) ≡ Background n ∷ rest = front_at row ps at x (Background n) lt h e f in
-    ap (λ us. us ++ flat_map run_bytes rest) (i ∙ ap (λ us. us ++ run_bytes (Background n)) g)
-    ∙ append_assoc (p ++ literal_bytes lits) (run_bytes (Background n)) (flat_map run_bytes rest)
-    ∙ append_assoc p (literal_bytes lits) (run_bytes (Background n) ++ flat_map run_bytes rest)
-    ∙ ap (λ us. p ++ us) (sym (literals_then lits n rest))
-    ∙ ap (λ rs. p ++ flat_map run_bytes (after_literals lits rs)) (sym front)
+    ap (λ us. us ++ flat_map (run_bytes depth) rest) (i ∙ ap (λ us. us ++ run_bytes depth (Background n)) g)
+    ∙ append_assoc (p ++ literal_bytes depth lits) (run_bytes depth (Background n)) (flat_map (run_bytes depth) rest)
+    ∙ append_assoc p (literal_bytes depth lits) (run_bytes depth (Background n) ++ flat_map (run_bytes depth) rest)
+    ∙ ap (λ us. p ++ us) (sym (literals_then depth lits n rest))
+    ∙ ap (λ rs. p ++ flat_map (run_bytes depth) (after_literals lits rs)) (sym front)
     ∙ w
 
 -- a colour run after pixels that stand for themselves
-pub color_step : (row : Option (List ℕ)) (ps : List ℕ) (at x n : ℕ) (lits p p1 q whole : List ℕ) → at < length ps → HasItems (length ps) row → x ≡ get_or ps at 0 → Color n x ≡ chosen_run (background_count (spots_in (dropped at row) (drop at ps))) (color_count x (spots_in (dropped at row) (drop at ps))) x →
-    p1 ≡ p ++ literal_bytes lits → q ≡ p1 ++ run_bytes (Color n x) →
-    p ++ flat_map run_bytes (after_literals lits (joined_images (runs_past 0 (drop at (spots_in row ps))))) ≡ whole →
-    q ++ flat_map run_bytes (joined_images (runs_past 0 (drop (at + n) (spots_in row ps)))) ≡ whole
-color_step row ps at x n lits p p1 q whole lt h e f g i w =
+pub color_step : (depth : Depth) (row : Option (List ℕ)) (ps : List ℕ) (at x n : ℕ) (lits p p1 q whole : List ℕ) → at < length ps → HasItems (length ps) row → x ≡ get_or ps at 0 → Color n x ≡ chosen_run (background_count (spots_in (dropped at row) (drop at ps))) (color_count x (spots_in (dropped at row) (drop at ps))) x →
+    p1 ≡ p ++ literal_bytes depth lits → q ≡ p1 ++ run_bytes depth (Color n x) →
+    p ++ flat_map (run_bytes depth) (after_literals lits (joined_images (runs_past 0 (drop at (spots_in row ps))))) ≡ whole →
+    q ++ flat_map (run_bytes depth) (joined_images (runs_past 0 (drop (at + n) (spots_in row ps)))) ≡ whole
+color_step depth row ps at x n lits p p1 q whole lt h e f g i w =
     let rest : List Run = joined_images (runs_past 0 (drop (at + n) (spots_in row ps))) in
     let front : joined_images (runs_past 0 (drop at (spots_in row ps))) ≡ Color n x ∷ rest = front_at row ps at x (Color n x) lt h e f in
-    ap (λ us. us ++ flat_map run_bytes rest) (i ∙ ap (λ us. us ++ run_bytes (Color n x)) g)
-    ∙ append_assoc (p ++ literal_bytes lits) (run_bytes (Color n x)) (flat_map run_bytes rest)
-    ∙ append_assoc p (literal_bytes lits) (run_bytes (Color n x) ++ flat_map run_bytes rest)
-    ∙ ap (λ us. p ++ us) (sym (literals_then_color lits n x rest))
-    ∙ ap (λ rs. p ++ flat_map run_bytes (after_literals lits rs)) (sym front)
+    ap (λ us. us ++ flat_map (run_bytes depth) rest) (i ∙ ap (λ us. us ++ run_bytes depth (Color n x)) g)
+    ∙ append_assoc (p ++ literal_bytes depth lits) (run_bytes depth (Color n x)) (flat_map (run_bytes depth) rest)
+    ∙ append_assoc p (literal_bytes depth lits) (run_bytes depth (Color n x) ++ flat_map (run_bytes depth) rest)
+    ∙ ap (λ us. p ++ us) (sym (literals_then_color depth lits n x rest))
+    ∙ ap (λ rs. p ++ flat_map (run_bytes depth) (after_literals lits rs)) (sym front)
     ∙ w
 
 -- one pixel more at the front that stands for itself
@@ -162,16 +163,16 @@ starts_behind row rows others ps qs us at n e d f g starts =
     starts
 
 -- pixels that stand for themselves, once they are written
-pub literals_step : (row rows : Option (List ℕ)) (ps qs : List ℕ) (at n k : ℕ) (p q whole : List ℕ) → rows ≡ dropped at row → qs ≡ drop at ps → k ≡ n → q ≡ p ++ literal_bytes (take k (drop at ps)) → StandAlone n qs (spots_in rows qs) →
-    p ++ flat_map run_bytes (packed_runs (drop at (spots_in row ps))) ≡ whole →
-    (q ≡ p ++ literal_bytes (take n (drop at ps))) × (p ++ flat_map run_bytes (after_literals (take n (drop at ps)) (packed_runs (drop (at + n) (spots_in row ps)))) ≡ whole)
-literals_step row rows ps qs at n k p q whole e d same g alone w =
+pub literals_step : (depth : Depth) (row rows : Option (List ℕ)) (ps qs : List ℕ) (at n k : ℕ) (p q whole : List ℕ) → rows ≡ dropped at row → qs ≡ drop at ps → k ≡ n → q ≡ p ++ literal_bytes depth (take k (drop at ps)) → StandAlone n qs (spots_in rows qs) →
+    p ++ flat_map (run_bytes depth) (packed_runs (drop at (spots_in row ps))) ≡ whole →
+    (q ≡ p ++ literal_bytes depth (take n (drop at ps))) × (p ++ flat_map (run_bytes depth) (after_literals (take n (drop at ps)) (packed_runs (drop (at + n) (spots_in row ps)))) ≡ whole)
+literals_step depth row rows ps qs at n k p q whole e d same g alone w =
     let here : spots_in rows qs ≡ drop at (spots_in row ps) = spots_there row rows ps qs at e d in
     let front : packed_runs (drop at (spots_in row ps)) ≡ after_literals (take n (drop at ps)) (packed_runs (drop (at + n) (spots_in row ps))) =
     ap packed_runs (sym here) ∙ alone ∙ ap (λ ss. after_literals (take n qs) (packed_runs (drop n ss))) here
     ∙ ap (λ us. after_literals (take n us) (packed_runs (drop n (drop at (spots_in row ps))))) d
     ∙ ap (λ ss. after_literals (take n (drop at ps)) (packed_runs ss)) (drop-drop n at (spots_in row ps)) in
-    (g ∙ ap (λ m. p ++ literal_bytes (take m (drop at ps))) same, ap (λ rs. p ++ flat_map run_bytes rs) (sym front) ∙ w)
+    (g ∙ ap (λ m. p ++ literal_bytes depth (take m (drop at ps))) same, ap (λ rs. p ++ flat_map (run_bytes depth) rs) (sym front) ∙ w)
 
 -- no spot is left behind the last pixel
 none_behind : (row : Option (List ℕ)) (ps : List ℕ) (at : ℕ) → length ps ≤ at → HasItems (length ps) row → drop at (spots_in row ps) ≡ []
@@ -180,19 +181,19 @@ none_behind row ps at end h =
     drop_all at (spots_in row ps) (omega (arith, long, end))
 
 -- pixels that stand for themselves end a stretch
-pub literals_end : (row : Option (List ℕ)) (ps : List ℕ) (at : ℕ) (lits p q whole : List ℕ) → length ps ≤ at → HasItems (length ps) row → q ≡ p ++ literal_bytes lits →
-    p ++ flat_map run_bytes (after_literals lits (packed_runs (drop at (spots_in row ps)))) ≡ whole →
-    q ++ flat_map run_bytes (packed_runs (drop at (spots_in row ps))) ≡ whole
-literals_end row ps at lits p q whole end h e w =
+pub literals_end : (depth : Depth) (row : Option (List ℕ)) (ps : List ℕ) (at : ℕ) (lits p q whole : List ℕ) → length ps ≤ at → HasItems (length ps) row → q ≡ p ++ literal_bytes depth lits →
+    p ++ flat_map (run_bytes depth) (after_literals lits (packed_runs (drop at (spots_in row ps)))) ≡ whole →
+    q ++ flat_map (run_bytes depth) (packed_runs (drop at (spots_in row ps))) ≡ whole
+literals_end depth row ps at lits p q whole end h e w =
     let none : drop at (spots_in row ps) ≡ [] = none_behind row ps at end h in
-    ap (λ ss. q ++ flat_map run_bytes (packed_runs ss)) none ∙ append-nil q ∙ e
-    ∙ ap (λ us. p ++ us) (sym (literals_last lits))
-    ∙ ap (λ ss. p ++ flat_map run_bytes (after_literals lits (packed_runs ss))) (sym none)
+    ap (λ ss. q ++ flat_map (run_bytes depth) (packed_runs ss)) none ∙ append-nil q ∙ e
+    ∙ ap (λ us. p ++ us) (sym (literals_last depth lits))
+    ∙ ap (λ ss. p ++ flat_map (run_bytes depth) (after_literals lits (packed_runs ss))) (sym none)
     ∙ w
 
 -- the end of a stretch
-pub stretch_end : (row : Option (List ℕ)) (ps : List ℕ) (at : ℕ) (p whole : List ℕ) → length ps ≤ at → HasItems (length ps) row → p ++ flat_map run_bytes (packed_runs (drop at (spots_in row ps))) ≡ whole → p ≡ whole
-stretch_end row ps at p whole end h w = sym (append-nil p) ∙ ap (λ ss. p ++ flat_map run_bytes (packed_runs ss)) (sym (none_behind row ps at end h)) ∙ w
+pub stretch_end : (depth : Depth) (row : Option (List ℕ)) (ps : List ℕ) (at : ℕ) (p whole : List ℕ) → length ps ≤ at → HasItems (length ps) row → p ++ flat_map (run_bytes depth) (packed_runs (drop at (spots_in row ps))) ≡ whole → p ≡ whole
+stretch_end depth row ps at p whole end h w = sym (append-nil p) ∙ ap (λ ss. p ++ flat_map (run_bytes depth) (packed_runs ss)) (sym (none_behind row ps at end h)) ∙ w
 
 -- what an Ok says may be said otherwise
 pub on_ok_as : {T E : Type 0} (P Q : Type 0) (r : Result T E) → OnOk r P → (P → Q) → OnOk r Q

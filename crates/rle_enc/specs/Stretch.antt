@@ -1,6 +1,7 @@
 -- A stretch of pixels and the row before it, as the packer's code has them.
 use Rattle.std.specs.Prelude.{◌≡◌, ℕ, suc, ◌≤◌, ◌==◌, List, [], ◌∷◌, length, take, drop, replicate, slice_index, zip, Option, Some, None, if◌then◌else◌}
 use denote.Ref.{Bor}
+use Rattle.px_core.specs.declared.depth.Depth.{Depth}
 use Rattle.run_lengths.specs.RunLength as runs
 use Rattle.run_lengths.specs.Packer.{Spot, background_count, chosen_run, color_count, onto_runs, packed_runs, run_bytes}
 use Rattle.rle_enc.specs.declared.counts.Piece.{Piece}
@@ -62,9 +63,9 @@ IsFirst (Background n) pixels spots = runs.Run.Background n ≡ run_there (slice
 IsFirst (Color n) pixels spots = runs.Run.Color n (slice_index pixels 0) ≡ run_there (slice_index pixels 0) spots
 
 -- the bytes of pixels that stand for themselves
-abbrev pub literal_bytes : List ℕ → List ℕ
-literal_bytes [] = []
-literal_bytes (c ∷ cs) = run_bytes (runs.Run.Image (c ∷ cs))
+abbrev pub literal_bytes : Depth → List ℕ → List ℕ
+literal_bytes depth [] = []
+literal_bytes depth (c ∷ cs) = run_bytes depth (runs.Run.Image (c ∷ cs))
 
 -- how many pixels a piece is
 abbrev pub piece_size : Piece → ℕ

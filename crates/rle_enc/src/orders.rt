@@ -1,10 +1,11 @@
 //! Writes the orders of the packer: background runs, colour runs and colour images.
-ghost use Rattle.std.specs.Prelude.{◌≡◌, ◌/◌, ◌%◌, ◌<◌, ◌≤◌, ◌++◌, OnOk, flat_map, length};
+ghost use Rattle.std.specs.Prelude.{◌≡◌, ◌/◌, ◌%◌, ◌<◌, ◌≤◌, [], ◌∷◌, ◌++◌, OnOk, length};
 ghost use Rattle.run_lengths.specs.Packer.{length_bytes, run_bytes};
-ghost use Rattle.wire_num.specs.Pixels.{pixel_bytes};
+ghost use Rattle.px_core.specs.Pixels.{pixel_bytes, pixels_bytes};
 ghost use Rattle.rle_enc.specs.Stretch.{literal_bytes};
 ghost use Rattle.run_lengths.specs.RunLength as runs;
 
+use px_core::Depth;
 use std::alloc::AllocError;
 
 const BACKGROUND_RUN: u8 = 0x00;
@@ -53,135 +54,208 @@ fn write_far_length(out: &mut Vec<u8>, code: u8, long_code: u8, n: usize) -> Res
 }
 
 /// The first byte of a pixel.
-fn blue(color: u32) -> u8
+fn first_byte(color: u32) -> u8
     ensures { result ≡ color % 256 }
 {
     (color % 256) as u8
 }
 
 /// The second byte of a pixel.
-fn green(color: u32) -> u8
+fn second_byte(color: u32) -> u8
     ensures { result ≡ color / 256 % 256 }
 {
     (color / 256 % 256) as u8
 }
 
 /// The third byte of a pixel.
-fn red(color: u32) -> u8
+fn third_byte(color: u32) -> u8
     ensures { result ≡ color / 65536 % 256 }
 {
     (color / 65536 % 256) as u8
 }
 
-/// A pixel as blue, green, red.
-fn write_pixel(out: &mut Vec<u8>, color: u32) -> Result<(), AllocError>
-    ensures { OnOk result (out.new.items ≡ out.old.items ++ pixel_bytes color) }
+/// A pixel.
+fn write_pixel(out: &mut Vec<u8>, color: u32, depth: Depth) -> Result<(), AllocError>
+    ensures { OnOk result (out.new.items ≡ out.old.items ++ pixel_bytes depth color) }
 {
-    out.extend_from_slice(&[blue(color), green(color), red(color)])
+    match depth {
+        Depth::Bits24 => {
+            out.extend_from_slice(&[first_byte(color), second_byte(color), third_byte(color)])
+        }
+        Depth::Bits16 => out.extend_from_slice(&[first_byte(color), second_byte(color)]),
+    }
 }
 
-/// A background run.
+/// A code and a pixel.
+fn write_coded(out: &mut Vec<u8>, code: u8, color: u32, depth: Depth) -> Result<(), AllocError>
+    ensures { OnOk result (out.new.items ≡ out.old.items ++ code ∷ pixel_bytes depth color) }
+{
+    match depth {
+        Depth::Bits24 => out.extend_from_slice(&[
+            code,
+            first_byte(color),
+            second_byte(color),
+            third_byte(color),
+        ]),
+        Depth::Bits16 => out.extend_from_slice(&[code, first_byte(color), second_byte(color)]),
+    }
+}
+
+/// A background run, which is the same at each depth.
 pub fn write_background(out: &mut Vec<u8>, n: usize) -> Result<(), AllocError>
     requires { n < 65536 }
-    ensures { OnOk result (out.new.items ≡ out.old.items ++ run_bytes (runs.Run.Background n)) }
+    ensures { OnOk result (out.new.items ≡ out.old.items ++ length_bytes 0x00 0xF0 n) }
 {
     write_length(out, BACKGROUND_RUN, LONG_BACKGROUND_RUN, n)
 }
 
 /// A colour run.
-pub fn write_color(out: &mut Vec<u8>, n: usize, color: u32) -> Result<(), AllocError>
+pub fn write_color(out: &mut Vec<u8>, n: usize, color: u32, depth: Depth) -> Result<(), AllocError>
     requires { n < 65536 }
-    ensures { OnOk result (out.new.items ≡ out.old.items ++ run_bytes (runs.Run.Color n color)) }
+    ensures { OnOk result (out.new.items ≡ out.old.items ++ run_bytes depth (runs.Run.Color n color)) }
 {
     if n < NEXT_BYTE {
-        return out.extend_from_slice(&[COLOR_RUN + n as u8, blue(color), green(color), red(color)]);
+        return write_coded(out, COLOR_RUN + n as u8, color, depth);
     }
     write_length(out, COLOR_RUN, LONG_COLOR_RUN, n)?;
-    write_pixel(out, color)
+    write_pixel(out, color, depth)
 }
 
 /// A colour image of pixels, or nothing where there are none; one of few pixels, as most are, is appended at once.
-pub fn write_literals(out: &mut Vec<u8>, pixels: &[u32]) -> Result<(), AllocError>
+pub fn write_literals(out: &mut Vec<u8>, pixels: &[u32], depth: Depth) -> Result<(), AllocError>
     requires { length pixels.now < 65536 }
-    ensures { OnOk result (out.new.items ≡ out.old.items ++ literal_bytes pixels.now) }
+    ensures { OnOk result (out.new.items ≡ out.old.items ++ literal_bytes depth pixels.now) }
 {
     match pixels {
         [] => Ok(()),
-        [a] => out.extend_from_slice(&[COLOR_IMAGE + 1, blue(*a), green(*a), red(*a)]),
-        [a, b] => out.extend_from_slice(&[
+        [a] => write_coded(out, COLOR_IMAGE + 1, *a, depth),
+        [a, b] => write_two(out, *a, *b, depth),
+        [a, b, c] => write_three(out, *a, *b, *c, depth),
+        _ => write_image(out, pixels, depth),
+    }
+}
+
+/// A colour image of two pixels.
+fn write_two(out: &mut Vec<u8>, a: u32, b: u32, depth: Depth) -> Result<(), AllocError>
+    ensures { OnOk result (out.new.items ≡ out.old.items ++ literal_bytes depth (a ∷ b ∷ [])) }
+{
+    match depth {
+        Depth::Bits24 => out.extend_from_slice(&[
             COLOR_IMAGE + 2,
-            blue(*a),
-            green(*a),
-            red(*a),
-            blue(*b),
-            green(*b),
-            red(*b),
+            first_byte(a),
+            second_byte(a),
+            third_byte(a),
+            first_byte(b),
+            second_byte(b),
+            third_byte(b),
         ]),
-        [a, b, c] => out.extend_from_slice(&[
+        Depth::Bits16 => out.extend_from_slice(&[
+            COLOR_IMAGE + 2,
+            first_byte(a),
+            second_byte(a),
+            first_byte(b),
+            second_byte(b),
+        ]),
+    }
+}
+
+/// A colour image of three pixels.
+fn write_three(out: &mut Vec<u8>, a: u32, b: u32, c: u32, depth: Depth) -> Result<(), AllocError>
+    ensures { OnOk result (out.new.items ≡ out.old.items ++ literal_bytes depth (a ∷ b ∷ c ∷ [])) }
+{
+    match depth {
+        Depth::Bits24 => out.extend_from_slice(&[
             COLOR_IMAGE + 3,
-            blue(*a),
-            green(*a),
-            red(*a),
-            blue(*b),
-            green(*b),
-            red(*b),
-            blue(*c),
-            green(*c),
-            red(*c),
+            first_byte(a),
+            second_byte(a),
+            third_byte(a),
+            first_byte(b),
+            second_byte(b),
+            third_byte(b),
+            first_byte(c),
+            second_byte(c),
+            third_byte(c),
         ]),
-        _ => write_image(out, pixels),
+        Depth::Bits16 => out.extend_from_slice(&[
+            COLOR_IMAGE + 3,
+            first_byte(a),
+            second_byte(a),
+            first_byte(b),
+            second_byte(b),
+            first_byte(c),
+            second_byte(c),
+        ]),
     }
 }
 
 /// A colour image of pixels.
 #[inline(never)]
-fn write_image(out: &mut Vec<u8>, pixels: &[u32]) -> Result<(), AllocError>
+fn write_image(out: &mut Vec<u8>, pixels: &[u32], depth: Depth) -> Result<(), AllocError>
     requires some { 0 < length pixels.now }
     requires few { length pixels.now < 65536 }
-    ensures { OnOk result (out.new.items ≡ out.old.items ++ literal_bytes pixels.now) }
+    ensures { OnOk result (out.new.items ≡ out.old.items ++ literal_bytes depth pixels.now) }
 {
     write_length(out, COLOR_IMAGE, LONG_COLOR_IMAGE, pixels.len())?;
-    write_pixels(out, pixels)
+    write_pixels(out, pixels, depth)
 }
 
-/// Pixels as blue, green, red; four at once while there are so many.
-fn write_pixels(out: &mut Vec<u8>, pixels: &[u32]) -> Result<(), AllocError>
-    ensures { OnOk result (out.new.items ≡ out.old.items ++ flat_map pixel_bytes pixels.now) }
+/// Pixels one after the other; four at once while there are so many.
+fn write_pixels(out: &mut Vec<u8>, pixels: &[u32], depth: Depth) -> Result<(), AllocError>
+    ensures { OnOk result (out.new.items ≡ out.old.items ++ pixels_bytes depth pixels.now) }
 {
     let mut rest = pixels;
     while let [a, b, c, d, others @ ..] = rest {
-        write_four(out, *a, *b, *c, *d)?;
+        write_four(out, *a, *b, *c, *d, depth)?;
         rest = others;
     }
-    write_each(out, rest)
+    write_each(out, rest, depth)
 }
 
-/// Pixels as blue, green, red, one by one.
-fn write_each(out: &mut Vec<u8>, pixels: &[u32]) -> Result<(), AllocError>
-    ensures { OnOk result (out.new.items ≡ out.old.items ++ flat_map pixel_bytes pixels.now) }
+/// Pixels one after the other, one by one.
+fn write_each(out: &mut Vec<u8>, pixels: &[u32], depth: Depth) -> Result<(), AllocError>
+    ensures { OnOk result (out.new.items ≡ out.old.items ++ pixels_bytes depth pixels.now) }
 {
     for pixel in pixels {
-        write_pixel(out, *pixel)?;
+        write_pixel(out, *pixel, depth)?;
     }
     Ok(())
 }
 
-/// Four pixels as blue, green, red.
-fn write_four(out: &mut Vec<u8>, a: u32, b: u32, c: u32, d: u32) -> Result<(), AllocError>
-    ensures { OnOk result (out.new.items ≡ out.old.items ++ (pixel_bytes a ++ pixel_bytes b ++ pixel_bytes c ++ pixel_bytes d)) }
+/// Four pixels.
+fn write_four(
+    out: &mut Vec<u8>,
+    a: u32,
+    b: u32,
+    c: u32,
+    d: u32,
+    depth: Depth,
+) -> Result<(), AllocError>
+    ensures { OnOk result (out.new.items ≡ out.old.items ++ (pixel_bytes depth a ++ pixel_bytes depth b ++ pixel_bytes depth c ++ pixel_bytes depth d)) }
 {
-    out.extend_from_slice(&[
-        blue(a),
-        green(a),
-        red(a),
-        blue(b),
-        green(b),
-        red(b),
-        blue(c),
-        green(c),
-        red(c),
-        blue(d),
-        green(d),
-        red(d),
-    ])
+    match depth {
+        Depth::Bits24 => out.extend_from_slice(&[
+            first_byte(a),
+            second_byte(a),
+            third_byte(a),
+            first_byte(b),
+            second_byte(b),
+            third_byte(b),
+            first_byte(c),
+            second_byte(c),
+            third_byte(c),
+            first_byte(d),
+            second_byte(d),
+            third_byte(d),
+        ]),
+        Depth::Bits16 => out.extend_from_slice(&[
+            first_byte(a),
+            second_byte(a),
+            first_byte(b),
+            second_byte(b),
+            first_byte(c),
+            second_byte(c),
+            first_byte(d),
+            second_byte(d),
+        ]),
+    }
 }

@@ -5,8 +5,10 @@ use Rattle.std.proofs.lemmas.Bool.Decides.{nat_tests}
 use Rattle.std.specs.Prelude.{flat_map, IfOk, IfErr, MatchResult, nat_le, nat_lt, ◌&&◌}
 use Rattle.wire_num.specs.Field.{Read, then_read, map_read, given, taken, bytes_at}
 use Rattle.wire_num.specs.Number.{little_at, little_value}
-use Rattle.wire_num.specs.Pixels.{pixels_of}
-use Rattle.wire_num.proofs.Pixels.{length-pixels_of}
+use Rattle.px_core.specs.declared.depth.Depth.{Depth}
+use Rattle.px_core.specs.Depth.{bytes_in}
+use Rattle.px_core.specs.Pixels.{pixels_of}
+use Rattle.px_core.proofs.Pixels.{length-pixels_of}
 use Rattle.run_lengths.specs.Codes.{row_of}
 use Rattle.run_lengths.specs.declared.codes.RunKind.{RunKind}
 use Rattle.run_lengths.specs.declared.codes.Length.{Length}
@@ -113,43 +115,43 @@ leaves_length (InCode scale more) (suc low) greatest code rest = leaves_length_i
 leaves_length TwoBytes low greatest code rest = leaves_then (Any {A = ℕ}) (InRange greatest) (length rest) (little_at 2 rest) (λ n after. length_if greatest n after rest) (leaves_number 2 (length rest) rest (omega arith)) (λ n after t le. leaves_length_if greatest n after rest (length rest) le (omega arith))
 leaves_length (Fixed n) low greatest code rest = leaves_length_if greatest n rest (code ∷ rest) (length rest) (omega arith) (omega arith)
 
-leaves_foreground : (sets : Bool) (n : ℕ) (bytes : List ℕ) → length bytes ≤ n → Leaves (Any {A = Option ℕ}) n (foreground_at sets bytes)
-leaves_foreground true n bytes le = leaves_map (Any {A = ℕ}) (Any {A = Option ℕ}) n (wire_pixel_at bytes) (λ c. Some c) (leaves_number 3 n bytes le) (λ c t. tt)
-leaves_foreground false n bytes le = (tt, le)
+leaves_foreground : (depth : Depth) (sets : Bool) (n : ℕ) (bytes : List ℕ) → length bytes ≤ n → Leaves (Any {A = Option ℕ}) n (foreground_at depth sets bytes)
+leaves_foreground depth true n bytes le = leaves_map (Any {A = ℕ}) (Any {A = Option ℕ}) n (wire_pixel_at depth bytes) (λ c. Some c) (leaves_number (bytes_in depth) n bytes le) (λ c t. tt)
+leaves_foreground depth false n bytes le = (tt, le)
 
 -- the run draws at least one pixel and no more than are left
 abbrev pub Draws : ℕ → Run → Type 0
 Draws left run = InRange left (run_size run)
 
-leaves_run : (kind : RunKind) (left n m : ℕ) (bytes : List ℕ) → InRange (greatest_length kind left) n → length bytes ≤ m → Leaves (Draws left) m (run_at kind n bytes)
-leaves_run BackgroundRun left n m bytes h le = (h, le)
-leaves_run ForegroundRun left n m bytes h le = (h, le)
-leaves_run MaskImage left n m bytes h le = leaves_map (λ xs. length xs ≡ (n + 7) / 8) (Draws left) m (bytes_at ((n + 7) / 8) bytes) (λ ms. Mask (mask_bits n ms)) (leaves_bytes ((n + 7) / 8) m bytes bytes le le) (λ xs e. let f = length-mask_bits n xs e in (omega (arith, f, h.0), omega (arith, f, h.1)))
-leaves_run ColorRun left n m bytes h le = leaves_map (Any {A = ℕ}) (Draws left) m (wire_pixel_at bytes) (λ c. Color n c) (leaves_number 3 m bytes le) (λ c t. h)
-leaves_run ColorImage left n m bytes h le = leaves_map (λ xs. length xs ≡ 3 * n) (Draws left) m (bytes_at (3 * n) bytes) (λ xs. Image (pixels_of xs)) (leaves_bytes (3 * n) m bytes bytes le le) (λ xs e. let f = length-pixels_of n xs e in (omega (arith, f, h.0), omega (arith, f, h.1)))
-leaves_run DitheredRun left n m bytes h le =
+leaves_run : (depth : Depth) (kind : RunKind) (left n m : ℕ) (bytes : List ℕ) → InRange (greatest_length kind left) n → length bytes ≤ m → Leaves (Draws left) m (run_at depth kind n bytes)
+leaves_run depth BackgroundRun left n m bytes h le = (h, le)
+leaves_run depth ForegroundRun left n m bytes h le = (h, le)
+leaves_run depth MaskImage left n m bytes h le = leaves_map (λ xs. length xs ≡ (n + 7) / 8) (Draws left) m (bytes_at ((n + 7) / 8) bytes) (λ ms. Mask (mask_bits n ms)) (leaves_bytes ((n + 7) / 8) m bytes bytes le le) (λ xs e. let f = length-mask_bits n xs e in (omega (arith, f, h.0), omega (arith, f, h.1)))
+leaves_run depth ColorRun left n m bytes h le = leaves_map (Any {A = ℕ}) (Draws left) m (wire_pixel_at depth bytes) (λ c. Color n c) (leaves_number (bytes_in depth) m bytes le) (λ c t. h)
+leaves_run depth ColorImage left n m bytes h le = leaves_map (λ xs. length xs ≡ bytes_in depth * n) (Draws left) m (bytes_at (bytes_in depth * n) bytes) (λ xs. Image (pixels_of depth xs)) (leaves_bytes (bytes_in depth * n) m bytes bytes le le) (λ xs e. let f = length-pixels_of depth n xs e in (omega (arith, f, h.0), omega (arith, f, h.1)))
+leaves_run depth DitheredRun left n m bytes h le =
     let draws : (a b : ℕ) → Draws left (Dithered n a b) = λ a b. (omega (arith, h.0), omega (arith, h.1)) in
-    leaves_then (Any {A = ℕ}) (Draws left) m (wire_pixel_at bytes) (λ a rest. map_read (λ b. Dithered n a b) (wire_pixel_at rest)) (leaves_number 3 m bytes le) (λ a rest t less. leaves_map (Any {A = ℕ}) (Draws left) m (wire_pixel_at rest) (λ b. Dithered n a b) (leaves_number 3 m rest less) (λ b u. draws a b))
-leaves_run (FixedMask x) left n m bytes h le = let f = length-bits_of n x in ((omega (arith, f, h.0), omega (arith, f, h.1)), le)
-leaves_run (FixedColor c) left n m bytes h le = (h, le)
+    leaves_then (Any {A = ℕ}) (Draws left) m (wire_pixel_at depth bytes) (λ a rest. map_read (λ b. Dithered n a b) (wire_pixel_at depth rest)) (leaves_number (bytes_in depth) m bytes le) (λ a rest t less. leaves_map (Any {A = ℕ}) (Draws left) m (wire_pixel_at depth rest) (λ b. Dithered n a b) (leaves_number (bytes_in depth) m rest less) (λ b u. draws a b))
+leaves_run depth (FixedMask x) left n m bytes h le = let f = length-bits_of n x in ((omega (arith, f, h.0), omega (arith, f, h.1)), le)
+leaves_run depth (FixedColor c) left n m bytes h le = (h, le)
 
 abbrev pub OrderDraws : ℕ → Order → Type 0
 OrderDraws left o = Draws left o.run
 
-leaves_row : (r : Option Row) (left code : ℕ) (bytes : List ℕ) → Leaves (OrderDraws left) (length bytes) (order_in_row r left code bytes)
-leaves_row None left code bytes = omega arith
-leaves_row (Some r) left code bytes =
+leaves_row : (depth : Depth) (r : Option Row) (left code : ℕ) (bytes : List ℕ) → Leaves (OrderDraws left) (length bytes) (order_in_row depth r left code bytes)
+leaves_row depth None left code bytes = omega arith
+leaves_row depth (Some r) left code bytes =
     let n = length bytes in
     leaves_then (InRange (greatest_length r.kind left)) (OrderDraws left) n (length_at r.length (code - r.first) (greatest_length r.kind left) (code ∷ bytes) bytes) (λ n rest.
-    then_read (foreground_at r.sets_foreground rest) (λ f more.
-    map_read (λ d. record { foreground = f; run = d }) (run_at r.kind n more))) (leaves_length r.length (code - r.first) (greatest_length r.kind left) code bytes) (λ k rest in_range le.
-    leaves_then (Any {A = Option ℕ}) (OrderDraws left) n (foreground_at r.sets_foreground rest) (λ f more.
-    map_read (λ d. record { foreground = f; run = d }) (run_at r.kind k more)) (leaves_foreground r.sets_foreground n rest le) (λ f more t less.
-    leaves_map (Draws left) (OrderDraws left) n (run_at r.kind k more) (λ d. record { foreground = f; run = d }) (leaves_run r.kind left k n more in_range less) (λ d e. e)))
+    then_read (foreground_at depth r.sets_foreground rest) (λ f more.
+    map_read (λ d. record { foreground = f; run = d }) (run_at depth r.kind n more))) (leaves_length r.length (code - r.first) (greatest_length r.kind left) code bytes) (λ k rest in_range le.
+    leaves_then (Any {A = Option ℕ}) (OrderDraws left) n (foreground_at depth r.sets_foreground rest) (λ f more.
+    map_read (λ d. record { foreground = f; run = d }) (run_at depth r.kind k more)) (leaves_foreground depth r.sets_foreground n rest le) (λ f more t less.
+    leaves_map (Draws left) (OrderDraws left) n (run_at depth r.kind k more) (λ d. record { foreground = f; run = d }) (leaves_run depth r.kind left k n more in_range less) (λ d e. e)))
 
 -- an order draws at least one pixel and no more than are left, and fewer bytes are left after it; a refused field begins within its bytes
-pub order_leaves : (left code : ℕ) (bytes : List ℕ) → Leaves (OrderDraws left) (length bytes) (order_at left (code ∷ bytes))
-order_leaves left code bytes = leaves_row (row_of code) left code bytes
+pub order_leaves : (depth : Depth) (left code : ℕ) (bytes : List ℕ) → Leaves (OrderDraws left) (length bytes) (order_at depth left (code ∷ bytes))
+order_leaves depth left code bytes = leaves_row depth (row_of depth code) left code bytes
 
 -- ---- orders one after the other
 
@@ -159,24 +161,24 @@ same_after left n (Ok v) f g h e = ap (λ os. onto_orders v.0 os) (e (left - run
 same_after left n (Err refused) f g h e = refl
 
 -- as many orders as there are bytes are enough
-orders_within_enough : (most more left : ℕ) (bytes : List ℕ) → length bytes ≤ most → length bytes ≤ more → orders_within most left bytes ≡ orders_within more left bytes
-orders_within_enough most more zero [] h g = refl
-orders_within_enough most more zero (b ∷ bytes) h g = refl
-orders_within_enough zero zero (suc left) [] h g = refl
-orders_within_enough zero (suc more) (suc left) [] h g = refl
-orders_within_enough (suc most) zero (suc left) [] h g = refl
-orders_within_enough (suc most) (suc more) (suc left) [] h g = refl
-orders_within_enough zero more (suc left) (b ∷ bytes) h g = absurd (omega (arith, h))
-orders_within_enough (suc most) zero (suc left) (b ∷ bytes) h g = absurd (omega (arith, g))
-orders_within_enough (suc most) (suc more) (suc left) (b ∷ bytes) h g =
-    same_after (suc left) (length bytes) (order_at (suc left) (b ∷ bytes)) (orders_within most) (orders_within more) (order_leaves (suc left) b bytes) (λ l rest le. orders_within_enough most more l rest (omega (arith, h, le)) (omega (arith, g, le)))
+orders_within_enough : (depth : Depth) (most more left : ℕ) (bytes : List ℕ) → length bytes ≤ most → length bytes ≤ more → orders_within depth most left bytes ≡ orders_within depth more left bytes
+orders_within_enough depth most more zero [] h g = refl
+orders_within_enough depth most more zero (b ∷ bytes) h g = refl
+orders_within_enough depth zero zero (suc left) [] h g = refl
+orders_within_enough depth zero (suc more) (suc left) [] h g = refl
+orders_within_enough depth (suc most) zero (suc left) [] h g = refl
+orders_within_enough depth (suc most) (suc more) (suc left) [] h g = refl
+orders_within_enough depth zero more (suc left) (b ∷ bytes) h g = absurd (omega (arith, h))
+orders_within_enough depth (suc most) zero (suc left) (b ∷ bytes) h g = absurd (omega (arith, g))
+orders_within_enough depth (suc most) (suc more) (suc left) (b ∷ bytes) h g =
+    same_after (suc left) (length bytes) (order_at depth (suc left) (b ∷ bytes)) (orders_within depth most) (orders_within depth more) (order_leaves depth (suc left) b bytes) (λ l rest le. orders_within_enough depth most more l rest (omega (arith, h, le)) (omega (arith, g, le)))
 
 -- where pixels are left, the orders are the next one and those after it
-pub orders_in_next : (left : ℕ) (bytes : List ℕ) → 1 ≤ left → run_orders_in left bytes ≡ orders_after left (order_at left bytes) run_orders_in
-orders_in_next zero bytes h = absurd (omega (arith, h))
-orders_in_next (suc left) [] h = refl
-orders_in_next (suc left) (b ∷ bytes) h =
-    same_after (suc left) (length bytes) (order_at (suc left) (b ∷ bytes)) (orders_within (length bytes)) run_orders_in (order_leaves (suc left) b bytes) (λ l rest le. orders_within_enough (length bytes) (length rest) l rest le (omega arith))
+pub orders_in_next : (depth : Depth) (left : ℕ) (bytes : List ℕ) → 1 ≤ left → run_orders_in depth left bytes ≡ orders_after left (order_at depth left bytes) (run_orders_in depth)
+orders_in_next depth zero bytes h = absurd (omega (arith, h))
+orders_in_next depth (suc left) [] h = refl
+orders_in_next depth (suc left) (b ∷ bytes) h =
+    same_after (suc left) (length bytes) (order_at depth (suc left) (b ∷ bytes)) (orders_within depth (length bytes)) (run_orders_in depth) (order_leaves depth (suc left) b bytes) (λ l rest le. orders_within_enough depth (length bytes) (length rest) l rest le (omega arith))
 
 -- the number of pixels that orders draw
 abbrev pub drawn_size : List Order → ℕ
@@ -191,16 +193,16 @@ after_sized : (left n : ℕ) (r : Read Order) (others : ℕ → List ℕ → Res
 after_sized left n (Ok v) others h e = onto_sized v.0 left (others (left - run_size v.0.run) v.1) h.0.1 (e (left - run_size v.0.run) v.1)
 after_sized left n (Err refused) others h e = tt
 
-orders_sized : (most left : ℕ) (bytes : List ℕ) → IfOk (orders_within most left bytes) (λ os. drawn_size os ≡ left)
-orders_sized most zero [] = refl
-orders_sized most zero (b ∷ bytes) = tt
-orders_sized zero (suc left) bytes = tt
-orders_sized (suc most) (suc left) [] = tt
-orders_sized (suc most) (suc left) (b ∷ bytes) = after_sized (suc left) (length bytes) (order_at (suc left) (b ∷ bytes)) (orders_within most) (order_leaves (suc left) b bytes) (λ l rest. orders_sized most l rest)
+orders_sized : (depth : Depth) (most left : ℕ) (bytes : List ℕ) → IfOk (orders_within depth most left bytes) (λ os. drawn_size os ≡ left)
+orders_sized depth most zero [] = refl
+orders_sized depth most zero (b ∷ bytes) = tt
+orders_sized depth zero (suc left) bytes = tt
+orders_sized depth (suc most) (suc left) [] = tt
+orders_sized depth (suc most) (suc left) (b ∷ bytes) = after_sized (suc left) (length bytes) (order_at depth (suc left) (b ∷ bytes)) (orders_within depth most) (order_leaves depth (suc left) b bytes) (λ l rest. orders_sized depth most l rest)
 
 -- the orders of a stream draw just so many pixels
-pub orders_draw_all : (count : ℕ) (bytes : List ℕ) (os : List Order) → run_orders_in count bytes ≡ Ok os → drawn_size os ≡ count
-orders_draw_all count bytes os e = let P : Result (List Order) (List ℕ) → Type 0 = λ r. IfOk r (λ os. drawn_size os ≡ count) in subst P e (orders_sized (length bytes) count bytes)
+pub orders_draw_all : (depth : Depth) (count : ℕ) (bytes : List ℕ) (os : List Order) → run_orders_in depth count bytes ≡ Ok os → drawn_size os ≡ count
+orders_draw_all depth count bytes os e = let P : Result (List Order) (List ℕ) → Type 0 = λ r. IfOk r (λ os. drawn_size os ≡ count) in subst P e (orders_sized depth (length bytes) count bytes)
 
 abbrev pub IsWithin : ℕ → Result (List Order) (List ℕ) → Type 0
 IsWithin n r = IfErr r (λ refused. length refused ≤ n)
@@ -213,16 +215,16 @@ after_within : (left n : ℕ) (r : Read Order) (others : ℕ → List ℕ → Re
 after_within left n (Ok v) others h e = onto_within v.0 (length v.1) (suc n) (others (left - run_size v.0.run) v.1) (omega (arith, h.1)) (e (left - run_size v.0.run) v.1)
 after_within left n (Err refused) others h e = h
 
-refused_within : (most left : ℕ) (bytes : List ℕ) → IsWithin (length bytes) (orders_within most left bytes)
-refused_within most zero [] = tt
-refused_within most zero (b ∷ bytes) = omega arith
-refused_within zero (suc left) bytes = omega arith
-refused_within (suc most) (suc left) [] = omega arith
-refused_within (suc most) (suc left) (b ∷ bytes) = after_within (suc left) (length bytes) (order_at (suc left) (b ∷ bytes)) (orders_within most) (order_leaves (suc left) b bytes) (λ l rest. refused_within most l rest)
+refused_within : (depth : Depth) (most left : ℕ) (bytes : List ℕ) → IsWithin (length bytes) (orders_within depth most left bytes)
+refused_within depth most zero [] = tt
+refused_within depth most zero (b ∷ bytes) = omega arith
+refused_within depth zero (suc left) bytes = omega arith
+refused_within depth (suc most) (suc left) [] = omega arith
+refused_within depth (suc most) (suc left) (b ∷ bytes) = after_within (suc left) (length bytes) (order_at depth (suc left) (b ∷ bytes)) (orders_within depth most) (order_leaves depth (suc left) b bytes) (λ l rest. refused_within depth most l rest)
 
 -- a refused field stands within the stream, or at its end
-pub refused_is_within : (count : ℕ) (bytes refused : List ℕ) → run_orders_in count bytes ≡ Err refused → length refused ≤ length bytes
-refused_is_within count bytes refused e = let P : Result (List Order) (List ℕ) → Type 0 = λ r. IsWithin (length bytes) r in subst P e (refused_within (length bytes) count bytes)
+pub refused_is_within : (depth : Depth) (count : ℕ) (bytes refused : List ℕ) → run_orders_in depth count bytes ≡ Err refused → length refused ≤ length bytes
+refused_is_within depth count bytes refused e = let P : Result (List Order) (List ℕ) → Type 0 = λ r. IsWithin (length bytes) r in subst P e (refused_within depth (length bytes) count bytes)
 
 length-background_strokes : (follows : Bool) (n : ℕ) (g f : Stroke) → length (background_strokes follows n g f) ≡ n
 length-background_strokes true zero g f = refl
@@ -281,35 +283,35 @@ pub drawn_pixels_unique : (w : ℕ) (strokes : List Stroke) (xs ys : List ℕ) �
 drawn_pixels_unique w strokes xs ys h e f = drawn_once strokes (replicate w 0) xs ys (let wide : length (replicate {A = ℕ} w 0) ≡ w = length-replicate w 0 in omega (arith, h, wide)) e f
 
 -- the pixels that the function gives are those of the stream
-pub unrle_decompresses : (bytes : List ℕ) (w h : ℕ) (pixels : List ℕ) → unrle bytes w h ≡ Ok pixels → Decompresses bytes w h pixels
-unrle_decompresses bytes w h pixels e = by_orders (run_orders_in (w * h) bytes) refl e where
-  by_orders : (r : Result (List Order) (List ℕ)) → run_orders_in (w * h) bytes ≡ r → pixels_of_orders bytes w h r ≡ Ok pixels → Decompresses bytes w h pixels
+pub unrle_decompresses : (depth : Depth) (bytes : List ℕ) (w h : ℕ) (pixels : List ℕ) → unrle depth bytes w h ≡ Ok pixels → Decompresses depth bytes w h pixels
+unrle_decompresses depth bytes w h pixels e = by_orders (run_orders_in depth (w * h) bytes) refl e where
+  by_orders : (r : Result (List Order) (List ℕ)) → run_orders_in depth (w * h) bytes ≡ r → pixels_of_orders depth bytes w h r ≡ Ok pixels → Decompresses depth bytes w h pixels
   by_orders (Ok os) cut e =
-      let same : pixels_drawn w h (strokes_of w os) ≡ pixels = cc in
-      let all : length (strokes_of w os) ≡ w * h = length-strokes_from w nothing_drawn os ∙ orders_draw_all (w * h) bytes os cut in
-      let P : List ℕ → Type 0 = λ xs. AreDrawn w (strokes_of w os) xs in
-      record { orders = os; cut = cut; drawn = subst P same (pixels_are_drawn w h (strokes_of w os) all) }
+      let same : pixels_drawn w h (strokes_of depth w os) ≡ pixels = cc in
+      let all : length (strokes_of depth w os) ≡ w * h = length-strokes_from w (nothing_drawn depth) os ∙ orders_draw_all depth (w * h) bytes os cut in
+      let P : List ℕ → Type 0 = λ xs. AreDrawn w (strokes_of depth w os) xs in
+      record { orders = os; cut = cut; drawn = subst P same (pixels_are_drawn w h (strokes_of depth w os) all) }
   by_orders (Err refused) cut e = cc
 
 -- the pixels of a stream are those that the function gives
-pub decompressed_is_unrle : (bytes : List ℕ) (w h : ℕ) (pixels : List ℕ) → 1 ≤ w → Decompresses bytes w h pixels → unrle bytes w h ≡ Ok pixels
-decompressed_is_unrle bytes w h pixels some d =
-    let all : length (strokes_of w d.orders) ≡ w * h = length-strokes_from w nothing_drawn d.orders ∙ orders_draw_all (w * h) bytes d.orders d.cut in
-    let same : pixels_drawn w h (strokes_of w d.orders) ≡ pixels = drawn_pixels_unique w (strokes_of w d.orders) (pixels_drawn w h (strokes_of w d.orders)) pixels some (pixels_are_drawn w h (strokes_of w d.orders) all) d.drawn in
-    ap (pixels_of_orders bytes w h) d.cut ∙ ap Ok same
+pub decompressed_is_unrle : (depth : Depth) (bytes : List ℕ) (w h : ℕ) (pixels : List ℕ) → 1 ≤ w → Decompresses depth bytes w h pixels → unrle depth bytes w h ≡ Ok pixels
+decompressed_is_unrle depth bytes w h pixels some d =
+    let all : length (strokes_of depth w d.orders) ≡ w * h = length-strokes_from w (nothing_drawn depth) d.orders ∙ orders_draw_all depth (w * h) bytes d.orders d.cut in
+    let same : pixels_drawn w h (strokes_of depth w d.orders) ≡ pixels = drawn_pixels_unique w (strokes_of depth w d.orders) (pixels_drawn w h (strokes_of depth w d.orders)) pixels some (pixels_are_drawn w h (strokes_of depth w d.orders) all) d.drawn in
+    ap (pixels_of_orders depth bytes w h) d.cut ∙ ap Ok same
 
 -- a stream has w * h pixels
-pub length-decompressed : (bytes : List ℕ) (w h : ℕ) (pixels : List ℕ) → 1 ≤ w → Decompresses bytes w h pixels → length pixels ≡ w * h
-length-decompressed bytes w h pixels some d =
-    let all : length (strokes_of w d.orders) ≡ w * h = length-strokes_from w nothing_drawn d.orders ∙ orders_draw_all (w * h) bytes d.orders d.cut in
+pub length-decompressed : (depth : Depth) (bytes : List ℕ) (w h : ℕ) (pixels : List ℕ) → 1 ≤ w → Decompresses depth bytes w h pixels → length pixels ≡ w * h
+length-decompressed depth bytes w h pixels some d =
+    let all : length (strokes_of depth w d.orders) ≡ w * h = length-strokes_from w (nothing_drawn depth) d.orders ∙ orders_draw_all depth (w * h) bytes d.orders d.cut in
     let wide : length (replicate {A = ℕ} w 0) ≡ w = length-replicate w 0 in
-    let e : length pixels ≡ min (length (strokes_of w d.orders)) (length (replicate w 0 ++ pixels)) = ap length d.drawn ∙ length-drawn_over_least (strokes_of w d.orders) (replicate w 0 ++ pixels) in
+    let e : length pixels ≡ min (length (strokes_of depth w d.orders)) (length (replicate w 0 ++ pixels)) = ap length d.drawn ∙ length-drawn_over_least (strokes_of depth w d.orders) (replicate w 0 ++ pixels) in
     omega (arith, e, all, wide, length-append (replicate w 0) pixels)
 
 -- the function refuses exactly at the place of the first bad field
-pub unrle_refuses : (bytes : List ℕ) (w h place : ℕ) → first_bad_run bytes w h ≡ Some place → unrle bytes w h ≡ Err place
-unrle_refuses bytes w h place e = by_orders (run_orders_in (w * h) bytes) e where
-  by_orders : (r : Result (List Order) (List ℕ)) → refused_place bytes r ≡ Some place → pixels_of_orders bytes w h r ≡ Err place
+pub unrle_refuses : (depth : Depth) (bytes : List ℕ) (w h place : ℕ) → first_bad_run depth bytes w h ≡ Some place → unrle depth bytes w h ≡ Err place
+unrle_refuses depth bytes w h place e = by_orders (run_orders_in depth (w * h) bytes) e where
+  by_orders : (r : Result (List Order) (List ℕ)) → refused_place bytes r ≡ Some place → pixels_of_orders depth bytes w h r ≡ Err place
   by_orders (Ok os) e = cc
   by_orders (Err refused) e = cc
 

@@ -1,2 +1,5 @@
 pub mod Laws
+pub mod ReadBack
+pub mod Runs
+pub mod Stretches
 pub mod Worked

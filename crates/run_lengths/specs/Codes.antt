@@ -1,5 +1,7 @@
--- The codes of run-length orders ([MS-RDPBCGR] 2.2.9.1.1.3.1.2.4), as data.
+-- The codes of run-length orders of a depth's pixels ([MS-RDPBCGR] 2.2.9.1.1.3.1.2.4), as data.
 use Rattle.std.specs.Prelude.{ℕ, ◌&&◌, nat_le, Bool, true, false, List, [], ◌∷◌, Option, Some, None, if◌then◌else◌}
+use Rattle.px_core.specs.declared.depth.Depth.{Depth}
+use Rattle.px_core.specs.Depth.{white}
 use Rattle.run_lengths.specs.declared.codes.RunKind.{RunKind}
 use Rattle.run_lengths.specs.declared.codes.RunKind.TheVariants.{BackgroundRun, ForegroundRun, MaskImage, ColorRun, ColorImage, DitheredRun, FixedMask, FixedColor}
 use Rattle.run_lengths.specs.declared.codes.Length.{Length}
@@ -10,7 +12,6 @@ use Rattle.run_lengths.specs.declared.codes.Row.{Row}
 abbrev pub row : ℕ → ℕ → Bool → RunKind → Length → Row
 row a b sets k l = record { first = a; last = b; sets_foreground = sets; kind = k; length = l }
 
--- the lengths of runs, of masks, and of both in the lite forms
 -- the lengths of runs, of masks, and of both in the lite forms
 abbrev pub run : Length
 run = InCode 1 32
@@ -24,14 +25,11 @@ lite_run = InCode 1 16
 abbrev pub lite_mask : Length
 lite_mask = InCode 8 1
 
-abbrev pub white : ℕ
-white = 0xFFFFFF
-
 abbrev pub black : ℕ
 black = 0
 
-abbrev pub code_table : List Row
-code_table =
+abbrev pub code_table : Depth → List Row
+code_table depth =
     row 0x00 0x1F false BackgroundRun run
     ∷ row 0x20 0x3F false ForegroundRun run
     ∷ row 0x40 0x5F false MaskImage mask
@@ -50,7 +48,7 @@ code_table =
     ∷ row 0xF8 0xF8 false DitheredRun TwoBytes
     ∷ row 0xF9 0xF9 false (FixedMask 0x03) (Fixed 8)
     ∷ row 0xFA 0xFA false (FixedMask 0x05) (Fixed 8)
-    ∷ row 0xFD 0xFD false (FixedColor white) (Fixed 1)
+    ∷ row 0xFD 0xFD false (FixedColor (white depth)) (Fixed 1)
     ∷ row 0xFE 0xFE false (FixedColor black) (Fixed 1)
     ∷ []
 
@@ -59,5 +57,5 @@ abbrev pub row_among : List Row → ℕ → Option Row
 row_among [] code = None
 row_among (r ∷ rows) code = if nat_le r.first code && nat_le code r.last then Some r else row_among rows code
 
-abbrev pub row_of : ℕ → Option Row
-row_of code = row_among code_table code
+abbrev pub row_of : Depth → ℕ → Option Row
+row_of depth code = row_among (code_table depth) code

@@ -1,7 +1,8 @@
--- The packer (profile): the bytes that stand for pixels of rows of w, the bottom row first.
+-- The packer (profile): the bytes that stand for a depth's pixels of rows of w, the bottom row first.
 use Rattle.std.specs.Prelude.{ℕ, zero, suc, ◌+◌, ◌-◌, ◌==◌, nat_lt, nat_le, ◌&&◌, List, [], ◌∷◌, ◌++◌, length, flat_map, take, drop, zip, replicate, if◌then◌else◌}
 use Rattle.byteorder.specs.Endian.{little_bytes}
-use Rattle.wire_num.specs.Pixels.{pixel_bytes, pixels_bytes}
+use Rattle.px_core.specs.declared.depth.Depth.{Depth}
+use Rattle.px_core.specs.Pixels.{pixel_bytes, pixels_bytes}
 use Rattle.run_lengths.specs.RunLength.{Run, run_size}
 use Rattle.run_lengths.specs.RunLength.Run.{Background, Foreground, Mask, Color, Image, Dithered}
 
@@ -55,13 +56,13 @@ length_bytes code long_code n =
     else (if nat_lt n 288 then code ∷ (n - 32) ∷ [] else long_code ∷ little_bytes 2 n)
 
 -- the bytes of a run; the packer writes three kinds alone
-abbrev pub run_bytes : Run → List ℕ
-run_bytes (Background n) = length_bytes 0x00 0xF0 n
-run_bytes (Color n color) = length_bytes 0x60 0xF3 n ++ pixel_bytes color
-run_bytes (Image colors) = length_bytes 0x80 0xF4 (length colors) ++ pixels_bytes colors
-run_bytes (Foreground n) = []
-run_bytes (Mask bits) = []
-run_bytes (Dithered n first second) = []
+abbrev pub run_bytes : Depth → Run → List ℕ
+run_bytes depth (Background n) = length_bytes 0x00 0xF0 n
+run_bytes depth (Color n color) = length_bytes 0x60 0xF3 n ++ pixel_bytes depth color
+run_bytes depth (Image colors) = length_bytes 0x80 0xF4 (length colors) ++ pixels_bytes depth colors
+run_bytes depth (Foreground n) = []
+run_bytes depth (Mask bits) = []
+run_bytes depth (Dithered n first second) = []
 
 -- the first row, over black, and the rest, over the row before
 abbrev pub first_stretch : ℕ → List ℕ → List Spot
@@ -71,8 +72,8 @@ abbrev pub later_stretch : ℕ → List ℕ → List Spot
 later_stretch w pixels = zip (drop w pixels) pixels
 
 -- the packer's bytes for pixels in rows of w; no order crosses from the first row to the rest
-abbrev pub packed : ℕ → List ℕ → List ℕ
-packed w pixels = flat_map run_bytes (packed_runs (first_stretch w pixels)) ++ flat_map run_bytes (packed_runs (later_stretch w pixels))
+abbrev pub packed : Depth → ℕ → List ℕ → List ℕ
+packed depth w pixels = flat_map (run_bytes depth) (packed_runs (first_stretch w pixels)) ++ flat_map (run_bytes depth) (packed_runs (later_stretch w pixels))
 
 -- the number of runs of equal colour
 abbrev pub color_runs_after : ℕ → List ℕ → ℕ

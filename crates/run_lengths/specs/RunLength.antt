@@ -1,9 +1,11 @@
--- Run-length bitmaps ([MS-RDPBCGR] 2.2.9.1.1.3.1.2.4 and 3.1.9): the orders that a byte stream is cut into, and the pixels that they draw, the bottom row first.
+-- Run-length bitmaps ([MS-RDPBCGR] 2.2.9.1.1.3.1.2.4 and 3.1.9): the orders that a byte stream of a depth's pixels is cut into, and the pixels that they draw, the bottom row first.
 use Rattle.std.specs.Prelude.{◌≡◌, ℕ, zero, suc, ◌+◌, ◌-◌, ◌*◌, ◌/◌, ◌%◌, ◌==◌, nat_lt, nat_le, Bool, true, false, ◌&&◌, List, [], ◌∷◌, ◌++◌, length, map, flat_map, take, drop, replicate, Option, Some, None, unwrap_or, Result, Ok, Err, bit_xor, if◌then◌else◌}
 use Rattle.wire_num.specs.Field.{Read, then_read, map_read, given, bytes_at, place_in}
 use Rattle.wire_num.specs.Number.{little_at}
-use Rattle.wire_num.specs.Pixels.{pixels_of}
-use Rattle.run_lengths.specs.Codes.{row_of, white}
+use Rattle.px_core.specs.declared.depth.Depth.{Depth}
+use Rattle.px_core.specs.Depth.{bytes_in, white}
+use Rattle.px_core.specs.Pixels.{pixels_of}
+use Rattle.run_lengths.specs.Codes.{row_of}
 use Rattle.run_lengths.specs.declared.codes.RunKind.{RunKind}
 use Rattle.run_lengths.specs.declared.codes.Length.{Length}
 use Rattle.run_lengths.specs.declared.codes.Row.{Row}
@@ -70,38 +72,38 @@ length_at (InCode scale more) (suc low) greatest stream rest = length_if greates
 length_at TwoBytes low greatest stream rest = then_read (little_at 2 rest) (λ n after. length_if greatest n after rest)
 length_at (Fixed n) low greatest stream rest = length_if greatest n rest stream
 
--- a pixel in its three bytes
-abbrev pub wire_pixel_at : List ℕ → Read ℕ
-wire_pixel_at bytes = little_at 3 bytes
+-- a pixel in its bytes
+abbrev pub wire_pixel_at : Depth → List ℕ → Read ℕ
+wire_pixel_at depth bytes = little_at (bytes_in depth) bytes
 
 -- the foreground that an order sets
-abbrev pub foreground_at : Bool → List ℕ → Read (Option ℕ)
-foreground_at true bytes = map_read (λ c. Some c) (wire_pixel_at bytes)
-foreground_at false bytes = Ok (None, bytes)
+abbrev pub foreground_at : Depth → Bool → List ℕ → Read (Option ℕ)
+foreground_at depth true bytes = map_read (λ c. Some c) (wire_pixel_at depth bytes)
+foreground_at depth false bytes = Ok (None, bytes)
 
 -- what an order of this kind and length draws; the bytes of a mask are one field, and so are the pixels of an image
-abbrev pub run_at : RunKind → ℕ → List ℕ → Read Run
-run_at BackgroundRun n bytes = Ok (Background n, bytes)
-run_at ForegroundRun n bytes = Ok (Foreground n, bytes)
-run_at MaskImage n bytes = map_read (λ ms. Mask (mask_bits n ms)) (bytes_at ((n + 7) / 8) bytes)
-run_at ColorRun n bytes = map_read (λ c. Color n c) (wire_pixel_at bytes)
-run_at ColorImage n bytes = map_read (λ bs. Image (pixels_of bs)) (bytes_at (3 * n) bytes)
-run_at DitheredRun n bytes = then_read (wire_pixel_at bytes) (λ a rest. map_read (λ b. Dithered n a b) (wire_pixel_at rest))
-run_at (FixedMask m) n bytes = Ok (Mask (bits_of n m), bytes)
-run_at (FixedColor c) n bytes = Ok (Color n c, bytes)
+abbrev pub run_at : Depth → RunKind → ℕ → List ℕ → Read Run
+run_at depth BackgroundRun n bytes = Ok (Background n, bytes)
+run_at depth ForegroundRun n bytes = Ok (Foreground n, bytes)
+run_at depth MaskImage n bytes = map_read (λ ms. Mask (mask_bits n ms)) (bytes_at ((n + 7) / 8) bytes)
+run_at depth ColorRun n bytes = map_read (λ c. Color n c) (wire_pixel_at depth bytes)
+run_at depth ColorImage n bytes = map_read (λ bs. Image (pixels_of depth bs)) (bytes_at (bytes_in depth * n) bytes)
+run_at depth DitheredRun n bytes = then_read (wire_pixel_at depth bytes) (λ a rest. map_read (λ b. Dithered n a b) (wire_pixel_at depth rest))
+run_at depth (FixedMask m) n bytes = Ok (Mask (bits_of n m), bytes)
+run_at depth (FixedColor c) n bytes = Ok (Color n c, bytes)
 
 -- an order of a row of the table
-abbrev pub order_in_row : Option Row → ℕ → ℕ → List ℕ → Read Order
-order_in_row None left code bytes = Err (code ∷ bytes)
-order_in_row (Some r) left code bytes =
+abbrev pub order_in_row : Depth → Option Row → ℕ → ℕ → List ℕ → Read Order
+order_in_row depth None left code bytes = Err (code ∷ bytes)
+order_in_row depth (Some r) left code bytes =
     then_read (length_at r.length (code - r.first) (greatest_length r.kind left) (code ∷ bytes) bytes) (λ n rest.
-    then_read (foreground_at r.sets_foreground rest) (λ f more.
-    map_read (λ d. record { foreground = f; run = d }) (run_at r.kind n more)))
+    then_read (foreground_at depth r.sets_foreground rest) (λ f more.
+    map_read (λ d. record { foreground = f; run = d }) (run_at depth r.kind n more)))
 
 -- the next order, where so many pixels are left
-abbrev pub order_at : ℕ → List ℕ → Read Order
-order_at left [] = Err []
-order_at left (code ∷ bytes) = order_in_row (row_of code) left code bytes
+abbrev pub order_at : Depth → ℕ → List ℕ → Read Order
+order_at depth left [] = Err []
+order_at depth left (code ∷ bytes) = order_in_row depth (row_of depth code) left code bytes
 
 -- an order before the others
 abbrev pub onto_orders : Order → Result (List Order) (List ℕ) → Result (List Order) (List ℕ)
@@ -114,15 +116,15 @@ orders_after left (Ok v) others = onto_orders v.0 (others (left - run_size v.0.r
 orders_after left (Err refused) others = Err refused
 
 -- at most so many orders, which draw just the pixels that are left
-abbrev pub orders_within : ℕ → ℕ → List ℕ → Result (List Order) (List ℕ)
-orders_within most zero [] = Ok []
-orders_within most zero (b ∷ bytes) = Err (b ∷ bytes)
-orders_within zero (suc left) bytes = Err bytes
-orders_within (suc most) (suc left) bytes = orders_after (suc left) (order_at (suc left) bytes) (orders_within most)
+abbrev pub orders_within : Depth → ℕ → ℕ → List ℕ → Result (List Order) (List ℕ)
+orders_within depth most zero [] = Ok []
+orders_within depth most zero (b ∷ bytes) = Err (b ∷ bytes)
+orders_within depth zero (suc left) bytes = Err bytes
+orders_within depth (suc most) (suc left) bytes = orders_after (suc left) (order_at depth (suc left) bytes) (orders_within depth most)
 
 -- the orders of a stream that draws so many pixels, or the bytes from the refused field on; each order has a byte at least
-abbrev pub run_orders_in : ℕ → List ℕ → Result (List Order) (List ℕ)
-run_orders_in count bytes = orders_within (length bytes) count bytes
+abbrev pub run_orders_in : Depth → ℕ → List ℕ → Result (List Order) (List ℕ)
+run_orders_in depth count bytes = orders_within depth (length bytes) count bytes
 
 -- ---- pixels
 
@@ -203,11 +205,11 @@ abbrev pub strokes_from : ℕ → Drawn → List Order → List Stroke
 strokes_from w d [] = []
 strokes_from w d (o ∷ os) = order_strokes w d o ++ strokes_from w (drawn_after w d o) os
 
-abbrev pub nothing_drawn : Drawn
-nothing_drawn = record { count = 0; foreground = white; before = Other }
+abbrev pub nothing_drawn : Depth → Drawn
+nothing_drawn depth = record { count = 0; foreground = white depth; before = Other }
 
-abbrev pub strokes_of : ℕ → List Order → List Stroke
-strokes_of w os = strokes_from w nothing_drawn os
+abbrev pub strokes_of : Depth → ℕ → List Order → List Stroke
+strokes_of depth w os = strokes_from w (nothing_drawn depth) os
 
 -- the pixels that strokes draw, by the pixels one row earlier
 abbrev pub drawn_over : List Stroke → List ℕ → List ℕ
@@ -220,10 +222,10 @@ abbrev pub AreDrawn : ℕ → List Stroke → List ℕ → Type 0
 AreDrawn w strokes pixels = pixels ≡ drawn_over strokes (replicate w 0 ++ pixels)
 
 -- the pixels of w by h are those of a stream
-pub record Decompresses (bytes : List ℕ) (w h : ℕ) (pixels : List ℕ) : Type 0 where
+pub record Decompresses (depth : Depth) (bytes : List ℕ) (w h : ℕ) (pixels : List ℕ) : Type 0 where
   pub orders : List Order
-  pub cut : run_orders_in (w * h) bytes ≡ Ok orders
-  pub drawn : AreDrawn w (strokes_of w orders) pixels
+  pub cut : run_orders_in depth (w * h) bytes ≡ Ok orders
+  pub drawn : AreDrawn w (strokes_of depth w orders) pixels
 
 -- a row, and then so many rows, each drawn from the one before
 abbrev pub rows_from : ℕ → ℕ → List ℕ → List Stroke → List ℕ
@@ -234,18 +236,18 @@ rows_from (suc h) w row strokes = row ++ rows_from h w (drawn_over (take w strok
 abbrev pub pixels_drawn : ℕ → ℕ → List Stroke → List ℕ
 pixels_drawn w h strokes = drop w (rows_from h w (replicate w 0) strokes)
 
-abbrev pub pixels_of_orders : List ℕ → ℕ → ℕ → Result (List Order) (List ℕ) → Result (List ℕ) ℕ
-pixels_of_orders bytes w h (Ok os) = Ok (pixels_drawn w h (strokes_of w os))
-pixels_of_orders bytes w h (Err refused) = Err (place_in bytes refused)
+abbrev pub pixels_of_orders : Depth → List ℕ → ℕ → ℕ → Result (List Order) (List ℕ) → Result (List ℕ) ℕ
+pixels_of_orders depth bytes w h (Ok os) = Ok (pixels_drawn w h (strokes_of depth w os))
+pixels_of_orders depth bytes w h (Err refused) = Err (place_in bytes refused)
 
 -- the pixels of w by h that a stream stands for, or the place of the first field that breaks its rule
-abbrev pub unrle : List ℕ → ℕ → ℕ → Result (List ℕ) ℕ
-unrle bytes w h = pixels_of_orders bytes w h (run_orders_in (w * h) bytes)
+abbrev pub unrle : Depth → List ℕ → ℕ → ℕ → Result (List ℕ) ℕ
+unrle depth bytes w h = pixels_of_orders depth bytes w h (run_orders_in depth (w * h) bytes)
 
 abbrev pub refused_place : List ℕ → Result (List Order) (List ℕ) → Option ℕ
 refused_place bytes (Ok os) = None
 refused_place bytes (Err refused) = Some (place_in bytes refused)
 
 -- the place of the first field of a stream of w by h pixels that breaks its rule
-abbrev pub first_bad_run : List ℕ → ℕ → ℕ → Option ℕ
-first_bad_run bytes w h = refused_place bytes (run_orders_in (w * h) bytes)
+abbrev pub first_bad_run : Depth → List ℕ → ℕ → ℕ → Option ℕ
+first_bad_run depth bytes w h = refused_place bytes (run_orders_in depth (w * h) bytes)

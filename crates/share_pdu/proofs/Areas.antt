@@ -1,6 +1,6 @@
 -- Areas one by one.
 use Rattle.std.proofs.Common.{◌≡◌, ℕ, zero, suc, ◌+◌, ◌<◌, ◌-◌, List, [], ◌∷◌, ◌++◌, refl, ap, ◌∙◌, sym, subst, arith}
-use Rattle.std.specs.Prelude.{Option, Some, None, option_to_list, slice_get, slice_index, Ok, Err, IsOk, IsErr}
+use Rattle.std.specs.Prelude.{Option, Some, None, option_to_list, slice_get, slice_index, Ok, Err, IsOk}
 use Rattle.wire_num.specs.Field.{Read, then_read, map_read}
 use Rattle.wire_num.specs.Layout.{fields_at}
 use Rattle.px_core.specs.declared.rectangle.Rect.{Rect}

@@ -10,3 +10,4 @@ pub mod Split
 pub mod BodiesRead
 pub mod Text
 pub mod Fault
+pub mod PacketHeaders

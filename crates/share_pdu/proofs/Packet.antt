@@ -1,4 +1,4 @@
--- The packet of an update that is written is read.
+-- The packet of a share data PDU that is written is read.
 use Rattle.std.proofs.Common.{◌≡◌, ℕ, ◌+◌, ◌-◌, ◌*◌, ◌/◌, ◌%◌, ◌<◌, ◌≤◌, List, [], ◌∷◌, ◌++◌, length, refl, ap, ◌∙◌, arith, Bool, true, false}
 use Rattle.std.specs.Prelude.{Ok, nat_lt, ◌==◌, if◌then◌else◌}
 use Rattle.std.proofs.lemmas.Bool.Decides.{nat_tests}
@@ -7,7 +7,7 @@ use Rattle.wire_num.specs.Field.{then_read}
 use Rattle.wire_num.specs.Length.{per_len_of, per_len_at}
 use Rattle.mcs_dom.specs.SendData.{indication_start}
 use Rattle.share_pdu.specs.Share.{share_bytes}
-use Rattle.share_pdu.specs.Packet.{counted_share, indication_at}
+use Rattle.share_pdu.specs.Packet.{counted_data, data_indication_at}
 use Rattle.share_pdu.proofs.Share.{length_share, share_back}
 
 -- ---- packed lengths
@@ -33,21 +33,21 @@ per_short n = by (nat_lt n 128)
     by true = omega arith
     by false = omega arith
 
--- ---- an update
+-- ---- a share data PDU
 
-counted_back : (body : List ℕ) → 18 + length body < 65536 →
-    counted_share (length (share_bytes body)) (share_bytes body) ≡ Ok (record { bytes = body; behind = length body }, [])
-counted_back body h =
-    let same : (length (share_bytes body) == length (share_bytes body)) ≡ true = grind (arith, nat_tests) in
-    rw same (share_back body h)
+counted_back : (kind : ℕ) (body : List ℕ) → 18 + length body < 65536 →
+    counted_data kind (length (share_bytes kind body)) (share_bytes kind body) ≡ Ok (record { bytes = body; behind = length body }, [])
+counted_back kind body h =
+    let same : (length (share_bytes kind body) == length (share_bytes kind body)) ≡ true = grind (arith, nat_tests) in
+    rw same (share_back kind body h)
 
 -- what a packet carries in its X.224 data
-abbrev pub carried : List ℕ → List ℕ
-carried body = indication_start ++ (per_len_of (length (share_bytes body)) ++ share_bytes body)
+abbrev pub carried : ℕ → List ℕ → List ℕ
+carried kind body = indication_start ++ (per_len_of (length (share_bytes kind body)) ++ share_bytes kind body)
 
-pub indication_back : (body : List ℕ) → 18 + length body < 16384 →
-    indication_at (2 ∷ 0xF0 ∷ 0x80 ∷ carried body) ≡ Ok (record { bytes = body; behind = length body }, [])
-indication_back body h =
-    let n : length (share_bytes body) < 16384 = rw (length_share body) h in
+pub indication_back : (kind : ℕ) (body : List ℕ) → 18 + length body < 16384 →
+    data_indication_at kind (2 ∷ 0xF0 ∷ 0x80 ∷ carried kind body) ≡ Ok (record { bytes = body; behind = length body }, [])
+indication_back kind body h =
+    let n : length (share_bytes kind body) < 16384 = rw (length_share kind body) h in
     let few : 18 + length body < 65536 = omega (arith, h) in
-    ap (λ r. then_read r (λ m f. counted_share m f)) (per_back (length (share_bytes body)) (share_bytes body) n) ∙ counted_back body few
+    ap (λ r. then_read r (λ m f. counted_data kind m f)) (per_back (length (share_bytes kind body)) (share_bytes kind body) n) ∙ counted_back kind body few

@@ -3,7 +3,7 @@ use Rattle.std.specs.Prelude.{ℕ, List, [], ◌∷◌, ◌++◌}
 use Rattle.byteorder.specs.Endian.{little_bytes}
 use Rattle.share_pdu.specs.declared.finals.Final.{Final}
 use Rattle.share_pdu.specs.declared.finals.Final.TheVariants.{Synchronize, Cooperate, Granted, FontMap}
-use Rattle.share_pdu.specs.Data.{data_bytes}
+use Rattle.share_pdu.specs.Share.{share_bytes}
 
 -- pduType2: 1F Synchronize, 14 Control, 28 Font Map
 abbrev pub final_kind : Final → ℕ
@@ -21,4 +21,4 @@ final_body FontMap user = 0 ∷ 0 ∷ 0 ∷ 0 ∷ 3 ∷ 0 ∷ 4 ∷ 0 ∷ []
 
 -- the answer to the client of this user channel
 abbrev pub final_bytes : Final → ℕ → List ℕ
-final_bytes which user = data_bytes (final_kind which) (final_body which user)
+final_bytes which user = share_bytes (final_kind which) (final_body which user)

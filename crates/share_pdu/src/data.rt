@@ -2,18 +2,18 @@
 
 ghost use Rattle.std.specs.Prelude.{◌≡◌, ◌≤◌, ◌++◌, length, OnOk, OnErr};
 ghost use Rattle.wire_num.specs.Written.{AppendsFront};
-ghost use Rattle.share_pdu.specs.Data.{data_bytes};
+ghost use Rattle.share_pdu.specs.Share.{share_bytes};
 
-use crate::headers::put_data_headers;
+use crate::headers::data_headers;
 use wire_num::OutOfMemory;
 
 /// Writes a share data PDU of this pduType2 with this body at the end. An `Err` leaves a front of it there.
 pub fn write_data(out: &mut Vec<u8>, kind: u8, body: &[u8]) -> Result<(), OutOfMemory>
     requires { length body.now ≤ 16365 }
-    ensures ok { OnOk result (out.new.items ≡ out.old.items ++ data_bytes kind body.now) }
-    ensures memory { OnErr result (AppendsFront out.old.items (data_bytes kind body.now) out.new.items) }
+    ensures ok { OnOk result (out.new.items ≡ out.old.items ++ share_bytes kind body.now) }
+    ensures memory { OnErr result (AppendsFront out.old.items (share_bytes kind body.now) out.new.items) }
 {
-    put_data_headers(out, kind, body.len() as u16)?;
+    out.extend_from_slice(&data_headers(kind, body.len() as u16))?;
     out.extend_from_slice(body)?;
     Ok(())
 }

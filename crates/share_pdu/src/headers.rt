@@ -12,29 +12,23 @@
 //! | 15 | 3 | compressedType, compressedLength | `00 00 00`, not compressed |
 //! | 18 | | the body | to the end |
 
-ghost use Rattle.std.specs.Prelude.{◌≡◌, ◌≤◌, ◌++◌, OnOk, OnErr};
-ghost use Rattle.wire_num.specs.Written.{AppendsFront};
-ghost use Rattle.share_pdu.specs.Data.{data_headers};
-
-use wire_num::OutOfMemory;
+ghost use Rattle.std.specs.Prelude.{◌≡◌, ◌≤◌};
+ghost use Rattle.share_pdu.specs.Share.{data_headers};
 
 /// How many bytes stand before the body.
-const HEADERS: u16 = 18;
+pub const HEADERS: u16 = 18;
 
 /// How many of them stand from pduType2 on.
 const FROM_TYPE: u16 = 4;
 
-/// Writes the headers before a body of so many bytes, of a PDU of this pduType2, at the end. An `Err` leaves a front of them
-/// there.
-pub fn put_data_headers(out: &mut Vec<u8>, kind: u8, length: u16) -> Result<(), OutOfMemory>
+/// The headers before a body of so many bytes, of a PDU of this pduType2.
+pub fn data_headers(kind: u8, length: u16) -> [u8; 18]
     requires { length ≤ 65517 }
-    ensures ok { OnOk result (out.new.items ≡ out.old.items ++ data_headers kind length) }
-    ensures memory { OnErr result (AppendsFront out.old.items (data_headers kind length) out.new.items) }
+    ensures { result ≡ data_headers kind length }
 {
     let [total, total_high] = (HEADERS + length).to_le_bytes();
     let [part, part_high] = (FROM_TYPE + length).to_le_bytes();
-    out.extend_from_slice(&[
+    [
         total, total_high, 0x17, 0, 0xEA, 3, 0xEA, 3, 1, 0, 0, 1, part, part_high, kind, 0, 0, 0,
-    ])?;
-    Ok(())
+    ]
 }

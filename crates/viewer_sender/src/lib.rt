@@ -7,7 +7,6 @@ mod caches;
 mod drawing;
 mod fault;
 mod frame;
-mod packet;
 mod plain;
 mod sender;
 mod text;

@@ -17,7 +17,7 @@ ghost use Rattle.px_core.specs.Colors.{are_colors};
 ghost use Rattle.draw_ops.specs.Fits.{image_rule, glyph_rule};
 ghost use Rattle.order_fields.specs.OrderTable.{FitBounds, registers_after};
 ghost use Rattle.order_fields.specs.OrderDelta.{order_bytes, edges_of_optional};
-ghost use Rattle.share_pdu.specs.Share.{share_headers, share_bytes};
+ghost use Rattle.share_pdu.specs.Share.{data_headers, share_bytes};
 ghost use Rattle.share_pdu.specs.Packet.{update_packet};
 ghost use Rattle.order_means.specs.UpdateBodies.{orders_head, orders_body, orders_packet, tile_body, tile_packet, synchronize_packet};
 ghost use Rattle.order_means.specs.CacheOrders.{cache_bitmap_bytes, cache_glyph_bytes, cache_brush_bytes, frame_marker_bytes};
@@ -25,13 +25,13 @@ ghost use Rattle.bitmap_upd.specs.Place.{IsUpdated};
 ghost use Rattle.viewer_sender.specs.Gathering.{Gathering, gathering, nothing_gathered, closed, packets_if, packets_of, with_order, after_order, with_packet, orders_in};
 
 use crate::OutOfMemory;
-use crate::packet::{put_packet_headers, share_headers};
 use bitmap_upd::TileBody;
 use draw_ops::{Brush, Glyph, Image};
 use mcs_dom::write_indication;
 use order_fields::{Fields, Regs, write_order};
 use order_second::{cache_bitmap, cache_brush, cache_glyph, frame_marker};
 use px_core::Rect;
+use share_pdu::{data_headers, put_packet_headers};
 use std::alloc::Global;
 use std::marker::Model;
 use std::mem;
@@ -44,6 +44,9 @@ const BEFORE_BODY: usize = 18;
 
 /// The most bytes of user data in one packet (profile).
 const MOST_USER_DATA: usize = 16_383;
+
+/// PDUTYPE2_UPDATE, the pduType2 of an update.
+const UPDATE: u8 = 2;
 
 /// SYNCHRONIZE, the updateType of an update that is only a mark.
 const SYNCHRONIZE: u8 = 3;
@@ -182,7 +185,7 @@ impl Updates {
     {
         let body = TileBody::new(alloc, r, pixels, no_header)?;
         let size = body.size();
-        put_packet_headers(&mut self.packets, size)?;
+        put_packet_headers(&mut self.packets, UPDATE, size)?;
         body.put(&mut self.packets)
     }
 
@@ -265,9 +268,9 @@ fn orders_head(count: u16) -> [u8; 8]
 fn put_headers(user: &mut [u8])
     requires room { 18 ≤ length user.old }
     requires few { length user.old ≤ 16383 }
-    ensures { user.new ≡ share_bytes (drop 18 user.old) }
+    ensures { user.new ≡ share_bytes 2 (drop 18 user.old) }
 {
-    let headers = share_headers((user.len() - BEFORE_BODY) as u16);
+    let headers = data_headers(UPDATE, (user.len() - BEFORE_BODY) as u16);
     user[..BEFORE_BODY].copy_from_slice(&headers);
 }
 
@@ -285,7 +288,7 @@ fn write_user_data(packets: &mut Vec<u8>, user: &mut [u8]) -> Result<(), OutOfMe
 fn put_orders_head(user: &mut [u8], count: u16)
     requires room { 26 ≤ length user.old }
     requires few { length user.old ≤ 16383 }
-    ensures { user.new ≡ share_bytes (orders_body count (drop 26 user.old)) }
+    ensures { user.new ≡ share_bytes 2 (orders_body count (drop 26 user.old)) }
 {
     let head = orders_head(count);
     user[BEFORE_BODY..BEFORE_ORDERS].copy_from_slice(&head);

@@ -1,24 +1,6 @@
-use Rattle.std.proofs.Common.{◌≡◌, length, ap, arith}
-use Rattle.run_lengths.specs.Packer.{packed}
-use Rattle.rle_enc.proofs.Whole.{bytes_are_packed, bytes_read_back, bytes_are_few, at_least_a_row}
+use Rattle.std.proofs.Common.{◌∙◌}
+use Rattle.px_core.proofs.Pixels.{are_pixels-colors}
 use Rattle.rle_enc.proofs.bitmap.pack.Goals as goal
 
-pub returns-then-len-pixels-clause-packed : goal.returns-then-len-pixels-clause-packed
-returns-then-len-pixels-clause-packed c =
-    let bytes : c.pack_stretch-2.new.out.items ≡ packed c.args.w c.args.pixels.now = bytes_are_packed c.args.w c.args.pixels.now c.split_at.result.0.now c.split_at.result.1.now c.in_ok-out.out.items c.pack_stretch.new.out.items c.pack_stretch-2.new.out.items c.in_ok-out.ensures.items (at_least_a_row (length c.args.pixels.now) c.args.w c.requires.wide c.requires.some c.requires.rows) c.split_at.ensures.front c.split_at.ensures.back c.in_ok-pack_stretch.ensures c.in_ok-pack_stretch-2.ensures in
-    (bytes, omega (arith, c.if-len-pixels.true, c.len.ensures))
-
-pub returns-then-len-pixels-clause-reads_back : goal.returns-then-len-pixels-clause-reads_back
-returns-then-len-pixels-clause-reads_back c =
-    let bytes : c.pack_stretch-2.new.out.items ≡ packed c.args.w c.args.pixels.now = bytes_are_packed c.args.w c.args.pixels.now c.split_at.result.0.now c.split_at.result.1.now c.in_ok-out.out.items c.pack_stretch.new.out.items c.pack_stretch-2.new.out.items c.in_ok-out.ensures.items (at_least_a_row (length c.args.pixels.now) c.args.w c.requires.wide c.requires.some c.requires.rows) c.split_at.ensures.front c.split_at.ensures.back c.in_ok-pack_stretch.ensures c.in_ok-pack_stretch-2.ensures in
-    bytes_read_back c.args.w c.args.pixels.now c.pack_stretch-2.new.out.items c.requires.wide c.requires.rows c.requires.some c.requires.few c.requires.colors bytes
-
-pub returns-then-len-pixels-clause-bound : goal.returns-then-len-pixels-clause-bound
-returns-then-len-pixels-clause-bound c =
-    let bytes : c.pack_stretch-2.new.out.items ≡ packed c.args.w c.args.pixels.now = bytes_are_packed c.args.w c.args.pixels.now c.split_at.result.0.now c.split_at.result.1.now c.in_ok-out.out.items c.pack_stretch.new.out.items c.pack_stretch-2.new.out.items c.in_ok-out.ensures.items (at_least_a_row (length c.args.pixels.now) c.args.w c.requires.wide c.requires.some c.requires.rows) c.split_at.ensures.front c.split_at.ensures.back c.in_ok-pack_stretch.ensures c.in_ok-pack_stretch-2.ensures in
-    bytes_are_few c.args.w c.args.pixels.now c.pack_stretch-2.new.out.items bytes
-
-pub returns-else-len-pixels-clause-packed : goal.returns-else-len-pixels-clause-packed
-returns-else-len-pixels-clause-packed c =
-    let bytes : c.pack_stretch-2.new.out.items ≡ packed c.args.w c.args.pixels.now = bytes_are_packed c.args.w c.args.pixels.now c.split_at.result.0.now c.split_at.result.1.now c.in_ok-out.out.items c.pack_stretch.new.out.items c.pack_stretch-2.new.out.items c.in_ok-out.ensures.items (at_least_a_row (length c.args.pixels.now) c.args.w c.requires.wide c.requires.some c.requires.rows) c.split_at.ensures.front c.split_at.ensures.back c.in_ok-pack_stretch.ensures c.in_ok-pack_stretch-2.ensures in
-    omega (arith, c.if-len-pixels.false, c.len.ensures, ap length bytes)
+pub pack_at-requires-clause-pixels : goal.pack_at-requires-clause-pixels
+pack_at-requires-clause-pixels c = are_pixels-colors c.args.pixels.now ∙ c.requires.colors

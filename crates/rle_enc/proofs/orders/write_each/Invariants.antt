@@ -1,7 +1,7 @@
 use Rattle.std.proofs.Common.{◌≡◌, ◌++◌, take}
 use Rattle.std.specs.Prelude.{flat_map}
-use Rattle.wire_num.specs.Pixels.{pixel_bytes}
+use Rattle.px_core.specs.Pixels.{pixel_bytes}
 use Rattle.rle_enc.proofs.orders.write_each.Given as goal
 
 abbrev pub invariant-loop-pixel : goal.invariant-loop-pixel
-invariant-loop-pixel l = l.out.items ≡ l.fn.out.items ++ flat_map pixel_bytes (take l.pixel-index l.pixels)
+invariant-loop-pixel l = l.out.items ≡ l.fn.out.items ++ flat_map (pixel_bytes l.depth) (take l.pixel-index l.pixels)

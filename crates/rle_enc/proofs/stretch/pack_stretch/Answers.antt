@@ -21,10 +21,10 @@ loop-at-preserved-in-Background c =
     let at : ℕ = c.loop-at.at in
     let l : ℕ = c.count_alone-literals.result in
     let n : ℕ = c.in-Background.n in
-    let whole : List ℕ = c.args.out.now.items ++ flat_map run_bytes (packed_runs (spots_of c.args.aboves ps)) in
-    let lits = literals_step (row_of c.args.aboves) (row_of c.rows_from.result) ps (take (length ps - at) (drop at ps)) at l ((at + l) - at) c.loop-at.out.items c.write_literals.new.out.items whole c.rows_from.ensures (take_rest ps at) (omega arith) c.in_ok-write_literals.ensures c.count_alone-literals.ensures.is c.loop-at.invariant.1 in (
+    let whole : List ℕ = c.args.out.now.items ++ flat_map (run_bytes c.args.depth) (packed_runs (spots_of c.args.aboves ps)) in
+    let lits = literals_step c.args.depth (row_of c.args.aboves) (row_of c.rows_from.result) ps (take (length ps - at) (drop at ps)) at l ((at + l) - at) c.loop-at.out.items c.write_literals.new.out.items whole c.rows_from.ensures (take_rest ps at) (omega arith) c.in_ok-write_literals.ensures c.count_alone-literals.ensures.is c.loop-at.invariant.1 in (
       omega (arith, c.in-Background.ensures.within, c.if-at-pixels.true),
-      background_step (row_of c.args.aboves) ps (at + l) (get_or ps (at + l) 0) n (take l (drop at ps)) c.loop-at.out.items c.write_literals.new.out.items c.write_background.new.out.items whole c.if-at-pixels.true c.requires.row refl (piece_at (row_of c.args.aboves) (row_of c.rows_from-then-at-pixels.result) ps (take (length ps - (at + l)) (drop (at + l) ps)) (at + l) (λ x. Background n) c.rows_from-then-at-pixels.ensures (take_rest ps (at + l)) c.in-Background.ensures.is) lits.0 c.in_ok-write_background-in-Background.ensures lits.1,
+      background_step c.args.depth (row_of c.args.aboves) ps (at + l) (get_or ps (at + l) 0) n (take l (drop at ps)) c.loop-at.out.items c.write_literals.new.out.items c.write_background.new.out.items whole c.if-at-pixels.true c.requires.row refl (piece_at (row_of c.args.aboves) (row_of c.rows_from-then-at-pixels.result) ps (take (length ps - (at + l)) (drop (at + l) ps)) (at + l) (λ x. Background n) c.rows_from-then-at-pixels.ensures (take_rest ps (at + l)) c.in-Background.ensures.is) lits.0 c.in_ok-write_background-in-Background.ensures lits.1,
     )
 
 pub loop-at-preserved-in-Color : goal.loop-at-preserved-in-Color
@@ -33,10 +33,10 @@ loop-at-preserved-in-Color c =
     let at : ℕ = c.loop-at.at in
     let l : ℕ = c.count_alone-literals.result in
     let n : ℕ = c.in-Color.n in
-    let whole : List ℕ = c.args.out.now.items ++ flat_map run_bytes (packed_runs (spots_of c.args.aboves ps)) in
-    let lits = literals_step (row_of c.args.aboves) (row_of c.rows_from.result) ps (take (length ps - at) (drop at ps)) at l ((at + l) - at) c.loop-at.out.items c.write_literals.new.out.items whole c.rows_from.ensures (take_rest ps at) (omega arith) c.in_ok-write_literals.ensures c.count_alone-literals.ensures.is c.loop-at.invariant.1 in (
+    let whole : List ℕ = c.args.out.now.items ++ flat_map (run_bytes c.args.depth) (packed_runs (spots_of c.args.aboves ps)) in
+    let lits = literals_step c.args.depth (row_of c.args.aboves) (row_of c.rows_from.result) ps (take (length ps - at) (drop at ps)) at l ((at + l) - at) c.loop-at.out.items c.write_literals.new.out.items whole c.rows_from.ensures (take_rest ps at) (omega arith) c.in_ok-write_literals.ensures c.count_alone-literals.ensures.is c.loop-at.invariant.1 in (
       omega (arith, c.in-Color.ensures.within, c.if-at-pixels.true),
-      color_step (row_of c.args.aboves) ps (at + l) (get_or ps (at + l) 0) n (take l (drop at ps)) c.loop-at.out.items c.write_literals.new.out.items c.write_color.new.out.items whole c.if-at-pixels.true c.requires.row refl (piece_at (row_of c.args.aboves) (row_of c.rows_from-then-at-pixels.result) ps (take (length ps - (at + l)) (drop (at + l) ps)) (at + l) (λ x. Color n x) c.rows_from-then-at-pixels.ensures (take_rest ps (at + l)) c.in-Color.ensures.is) lits.0 c.in_ok-write_color-in-Color.ensures lits.1,
+      color_step c.args.depth (row_of c.args.aboves) ps (at + l) (get_or ps (at + l) 0) n (take l (drop at ps)) c.loop-at.out.items c.write_literals.new.out.items c.write_color.new.out.items whole c.if-at-pixels.true c.requires.row refl (piece_at (row_of c.args.aboves) (row_of c.rows_from-then-at-pixels.result) ps (take (length ps - (at + l)) (drop (at + l) ps)) (at + l) (λ x. Color n x) c.rows_from-then-at-pixels.ensures (take_rest ps (at + l)) c.in-Color.ensures.is) lits.0 c.in_ok-write_color-in-Color.ensures lits.1,
     )
 
 pub loop-at-preserved : goal.loop-at-preserved
@@ -44,12 +44,12 @@ loop-at-preserved c =
     let ps : List ℕ = c.args.pixels.now in
     let at : ℕ = c.loop-at.at in
     let l : ℕ = c.count_alone-literals.result in
-    let whole : List ℕ = c.args.out.now.items ++ flat_map run_bytes (packed_runs (spots_of c.args.aboves ps)) in
-    let lits = literals_step (row_of c.args.aboves) (row_of c.rows_from.result) ps (take (length ps - at) (drop at ps)) at l ((at + l) - at) c.loop-at.out.items c.write_literals.new.out.items whole c.rows_from.ensures (take_rest ps at) (omega arith) c.in_ok-write_literals.ensures c.count_alone-literals.ensures.is c.loop-at.invariant.1 in
+    let whole : List ℕ = c.args.out.now.items ++ flat_map (run_bytes c.args.depth) (packed_runs (spots_of c.args.aboves ps)) in
+    let lits = literals_step c.args.depth (row_of c.args.aboves) (row_of c.rows_from.result) ps (take (length ps - at) (drop at ps)) at l ((at + l) - at) c.loop-at.out.items c.write_literals.new.out.items whole c.rows_from.ensures (take_rest ps at) (omega arith) c.in_ok-write_literals.ensures c.count_alone-literals.ensures.is c.loop-at.invariant.1 in
     let few : at + l ≤ length ps = omega (arith, c.count_alone-literals.ensures.within, ap length (take_rest ps at), length-drop at ps, c.loop-at.invariant.0) in
-    (few, literals_end (row_of c.args.aboves) ps (at + l) (take l (drop at ps)) c.loop-at.out.items c.write_literals.new.out.items whole (omega (arith, c.if-at-pixels.false)) c.requires.row lits.0 lits.1)
+    (few, literals_end c.args.depth (row_of c.args.aboves) ps (at + l) (take l (drop at ps)) c.loop-at.out.items c.write_literals.new.out.items whole (omega (arith, c.if-at-pixels.false)) c.requires.row lits.0 lits.1)
 
 pub returns : goal.returns
 returns c =
     let ps : List ℕ = c.args.pixels.now in
-    stretch_end (row_of c.args.aboves) ps c.loop-at.at c.loop-at.out.items (c.args.out.now.items ++ flat_map run_bytes (packed_runs (spots_of c.args.aboves ps))) (omega (arith, c.loop-at-test.false)) c.requires.row c.loop-at.invariant.1
+    stretch_end c.args.depth (row_of c.args.aboves) ps c.loop-at.at c.loop-at.out.items (c.args.out.now.items ++ flat_map (run_bytes c.args.depth) (packed_runs (spots_of c.args.aboves ps))) (omega (arith, c.loop-at-test.false)) c.requires.row c.loop-at.invariant.1

@@ -7,7 +7,7 @@ use Rattle.rle_enc.proofs.stretch.pack_stretch.Given as goal
 abbrev pub invariant-loop-at : goal.invariant-loop-at
 invariant-loop-at l =
     (l.at ≤ length l.pixels)
-    × (l.out.items ++ flat_map run_bytes (packed_runs (drop l.at (spots_of l.aboves l.pixels))) ≡ l.fn.out.items ++ flat_map run_bytes (packed_runs (spots_of l.aboves l.pixels)))
+    × (l.out.items ++ flat_map (run_bytes l.depth) (packed_runs (drop l.at (spots_of l.aboves l.pixels))) ≡ l.fn.out.items ++ flat_map (run_bytes l.depth) (packed_runs (spots_of l.aboves l.pixels)))
 
 abbrev pub decreases-loop-at : goal.decreases-loop-at
 decreases-loop-at l = length l.pixels - l.at

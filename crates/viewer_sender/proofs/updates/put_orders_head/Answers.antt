@@ -7,5 +7,5 @@ pub returns : goal.returns
 returns c =
     let room = c.requires.room in
     c.put_headers.ensures
-    ∙ (ap share_bytes (head_put c.args.user.now c.copy_from_slice.new.self room (ap length c.copy_from_slice.ensures.after ∙ ap length c.orders_head-head.ensures))
-    ∙ ap (λ h. share_bytes (h ++ drop 26 c.args.user.now)) (c.copy_from_slice.ensures.after ∙ c.orders_head-head.ensures))
+    ∙ (ap (share_bytes 2) (head_put c.args.user.now c.copy_from_slice.new.self room (ap length c.copy_from_slice.ensures.after ∙ ap length c.orders_head-head.ensures))
+    ∙ ap (λ h. share_bytes 2 (h ++ drop 26 c.args.user.now)) (c.copy_from_slice.ensures.after ∙ c.orders_head-head.ensures))

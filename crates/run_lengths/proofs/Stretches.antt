@@ -11,10 +11,10 @@ use Rattle.run_lengths.specs.RunLength.{Run, Order, run_size, run_strokes, drawn
 use Rattle.run_lengths.specs.RunLength.Run.{Background, Foreground, Mask, Color, Image, Dithered}
 use Rattle.run_lengths.specs.Packer.{Spot, background_count, color_count, chosen_run, first_run, runs_past, onto_runs, joined_images, packed_runs, first_stretch, later_stretch, packed, run_bytes}
 use Rattle.run_lengths.proofs.Laws.{drawn_over-append, drawn_over_front, length-run_strokes}
-use Rattle.px_core.specs.Colors.{is_color, are_colors}
-use Rattle.px_core.proofs.Colors.{are_colors-drop}
-use Rattle.rle_enc.proofs.ReadBack.{IsPacked, AllPacked, sizes, plain, runs_back}
-use Rattle.rle_enc.proofs.Runs.{pixels, aboves, Keeps, AllColored, AllFair, IsFair, Packs, chosen, runs_strokes, packed_runs_packs, length-pixels}
+use Rattle.px_core.specs.declared.depth.Depth.{Depth}
+use Rattle.px_core.specs.Pixels.{is_pixel, are_pixels}
+use Rattle.run_lengths.proofs.ReadBack.{IsPacked, AllPacked, sizes, plain, runs_back}
+use Rattle.run_lengths.proofs.Runs.{pixels, aboves, Keeps, AllColored, AllFair, IsFair, Packs, chosen, runs_strokes, packed_runs_packs, length-pixels}
 
 -- ---- background runs stand apart
 
@@ -144,45 +144,45 @@ length-runs_strokes : (b f : Stroke) (rs : List Run) → length (runs_strokes b 
 length-runs_strokes b f [] = refl
 length-runs_strokes b f (r ∷ rs) = length-append (run_strokes r false b f) (runs_strokes b f rs) ∙ omega (arith, length-run_strokes r false b f, length-runs_strokes b f rs)
 
-fair_size : (r : Run) → IsFair r → 1 ≤ run_size r
-fair_size (Background n) h = h
-fair_size (Color n c) h = h.0
-fair_size (Image cs) h = h.0
-fair_size (Foreground n) h = absurd h
-fair_size (Mask bits) h = absurd h
-fair_size (Dithered n a b) h = absurd h
+fair_size : (depth : Depth) (r : Run) → IsFair depth r → 1 ≤ run_size r
+fair_size depth (Background n) h = h
+fair_size depth (Color n c) h = h.0
+fair_size depth (Image cs) h = h.0
+fair_size depth (Foreground n) h = absurd h
+fair_size depth (Mask bits) h = absurd h
+fair_size depth (Dithered n a b) h = absurd h
 
-fair_packed : (r : Run) → IsFair r → run_size r < 65536 → IsPacked r
-fair_packed (Background n) h lt = (h, lt)
-fair_packed (Color n c) h lt = (h.0, lt, h.1)
-fair_packed (Image cs) h lt = (h.0, lt, h.1)
-fair_packed (Foreground n) h lt = absurd h
-fair_packed (Mask bits) h lt = absurd h
-fair_packed (Dithered n a b) h lt = absurd h
+fair_packed : (depth : Depth) (r : Run) → IsFair depth r → run_size r < 65536 → IsPacked depth r
+fair_packed depth (Background n) h lt = (h, lt)
+fair_packed depth (Color n c) h lt = (h.0, lt, h.1)
+fair_packed depth (Image cs) h lt = (h.0, lt, h.1)
+fair_packed depth (Foreground n) h lt = absurd h
+fair_packed depth (Mask bits) h lt = absurd h
+fair_packed depth (Dithered n a b) h lt = absurd h
 
-all_packed : (rs : List Run) → AllFair rs → sizes rs < 65536 → AllPacked rs
-all_packed [] h lt = tt
-all_packed (r ∷ rs) h lt = (fair_packed r h.0 (omega (arith, lt)), all_packed rs h.1 (omega (arith, lt)))
+all_packed : (depth : Depth) (rs : List Run) → AllFair depth rs → sizes rs < 65536 → AllPacked depth rs
+all_packed depth [] h lt = tt
+all_packed depth (r ∷ rs) h lt = (fair_packed depth r h.0 (omega (arith, lt)), all_packed depth rs h.1 (omega (arith, lt)))
 
-all_packed-append : (rs ss : List Run) → AllPacked rs → AllPacked ss → AllPacked (rs ++ ss)
-all_packed-append [] ss h k = k
-all_packed-append (r ∷ rs) ss h k = (h.0, all_packed-append rs ss h.1 k)
+all_packed-append : (depth : Depth) (rs ss : List Run) → AllPacked depth rs → AllPacked depth ss → AllPacked depth (rs ++ ss)
+all_packed-append depth [] ss h k = k
+all_packed-append depth (r ∷ rs) ss h k = (h.0, all_packed-append depth rs ss h.1 k)
 
 sizes-append : (rs ss : List Run) → sizes (rs ++ ss) ≡ sizes rs + sizes ss
 sizes-append [] ss = omega arith
 sizes-append (r ∷ rs) ss = omega (arith, sizes-append rs ss)
 
-bytes-append : (rs ss : List Run) → flat_map run_bytes (rs ++ ss) ≡ flat_map run_bytes rs ++ flat_map run_bytes ss
-bytes-append [] ss = refl
-bytes-append (r ∷ rs) ss = ap (λ bs. run_bytes r ++ bs) (bytes-append rs ss) ∙ sym (append_assoc (run_bytes r) (flat_map run_bytes rs) (flat_map run_bytes ss))
+bytes-append : (depth : Depth) (rs ss : List Run) → flat_map (run_bytes depth) (rs ++ ss) ≡ flat_map (run_bytes depth) rs ++ flat_map (run_bytes depth) ss
+bytes-append depth [] ss = refl
+bytes-append depth (r ∷ rs) ss = ap (λ bs. run_bytes depth r ++ bs) (bytes-append depth rs ss) ∙ sym (append_assoc (run_bytes depth r) (flat_map (run_bytes depth) rs) (flat_map (run_bytes depth) ss))
 
-first_begin : (w at : ℕ) (rs : List Run) → AllFair rs → at + sizes rs ≤ w → AllBegin w true at rs
-first_begin w at [] h le = tt
-first_begin w at (r ∷ rs) h le =
-    let some : 1 ≤ run_size r = fair_size r h.0 in
+first_begin : (depth : Depth) (w at : ℕ) (rs : List Run) → AllFair depth rs → at + sizes rs ≤ w → AllBegin w true at rs
+first_begin depth w at [] h le = tt
+first_begin depth w at (r ∷ rs) h le =
+    let some : 1 ≤ run_size r = fair_size depth r h.0 in
     let lt : at < w = omega (arith, some, le) in
     let test : nat_lt at w ≡ true = grind (arith, nat_tests, lt) in
-    (test, first_begin w (at + run_size r) rs h.1 (omega (arith, le)))
+    (test, first_begin depth w (at + run_size r) rs h.1 (omega (arith, le)))
 
 later_begin : (w at : ℕ) (rs : List Run) → w ≤ at → AllBegin w false at rs
 later_begin w at [] le = tt
@@ -224,26 +224,31 @@ keeps_above : (spots : List Spot) → Keeps Above spots
 keeps_above [] = tt
 keeps_above (s ∷ spots) = (refl, keeps_above spots)
 
-zip_colored : (xs ys : List ℕ) → are_colors xs ≡ true → AllColored (zip xs ys)
-zip_colored [] ys h = tt
-zip_colored (x ∷ xs) [] h = tt
-zip_colored (x ∷ xs) (y ∷ ys) h = let k = and_parts (is_color x) (are_colors xs) h in (k.0, zip_colored xs ys k.1)
+are_pixels-drop : (depth : Depth) (n : ℕ) (cs : List ℕ) → are_pixels depth cs ≡ true → are_pixels depth (drop n cs) ≡ true
+are_pixels-drop depth zero cs h = h
+are_pixels-drop depth (suc n) [] h = refl
+are_pixels-drop depth (suc n) (c ∷ cs) h = are_pixels-drop depth n cs (and_parts (is_pixel depth c) (are_pixels depth cs) h).1
+
+zip_colored : (depth : Depth) (xs ys : List ℕ) → are_pixels depth xs ≡ true → AllColored depth (zip xs ys)
+zip_colored depth [] ys h = tt
+zip_colored depth (x ∷ xs) [] h = tt
+zip_colored depth (x ∷ xs) (y ∷ ys) h = let k = and_parts (is_pixel depth x) (are_pixels depth xs) h in (k.0, zip_colored depth xs ys k.1)
 
 -- the packer's bytes stand for the pixels
-pub packed_decompresses : (w h : ℕ) (ps : List ℕ) → 1 ≤ w → w ≤ length ps → length ps ≡ w * h → length ps < 65536 → are_colors ps ≡ true → Decompresses (packed w ps) w h ps
-packed_decompresses w h ps some wide count small colors =
+pub packed_decompresses : (depth : Depth) (w h : ℕ) (ps : List ℕ) → 1 ≤ w → w ≤ length ps → length ps ≡ w * h → length ps < 65536 → are_pixels depth ps ≡ true → Decompresses depth (packed depth w ps) w h ps
+packed_decompresses depth w h ps some wide count small colors =
     let black : List ℕ = replicate w 0 in
     let long : length black ≡ w = length-replicate w 0 in
     let early : List Spot = first_stretch w ps in
     let late : List Spot = later_stretch w ps in
     let rs : List Run = packed_runs early in
     let ss : List Run = packed_runs late in
-    let d : Drawn = drawn_past true nothing_drawn rs in
+    let d : Drawn = drawn_past true (nothing_drawn depth) rs in
     let b : Stroke = Plain 0 in
-    let f : Stroke = foreground_stroke true nothing_drawn.foreground in
+    let f : Stroke = foreground_stroke true (nothing_drawn depth).foreground in
     let g : Stroke = foreground_stroke false d.foreground in
-    let first : Packs b f early rs = packed_runs_packs b f early (keeps_black ps w) (zip_colored ps black colors) in
-    let second : Packs Above g late ss = packed_runs_packs Above g late (keeps_above late) (zip_colored (drop w ps) ps (are_colors-drop w ps colors)) in
+    let first : Packs depth b f early rs = packed_runs_packs depth b f early (keeps_black ps w) (zip_colored depth ps black colors) in
+    let second : Packs depth Above g late ss = packed_runs_packs depth Above g late (keeps_above late) (zip_colored depth (drop w ps) ps (are_pixels-drop depth w ps colors)) in
     let rest : length (drop w ps) ≡ length ps - w = length-drop w ps in
     let early_pixels : pixels early ≡ take w ps = pixels-zip ps black ∙ ap (λ n. take n ps) long in
     let early_aboves : aboves early ≡ black = aboves-zip ps black ∙ take_all (length ps) black (omega (arith, long, wide)) in
@@ -252,13 +257,13 @@ packed_decompresses w h ps some wide count small colors =
     let early_size : sizes rs ≡ w = first.all ∙ sym (length-pixels early) ∙ ap length early_pixels ∙ length-take-le w ps wide in
     let late_size : sizes ss ≡ length ps - w = second.all ∙ sym (length-pixels late) ∙ ap length late_pixels ∙ rest in
     let total : sizes (rs ++ ss) ≡ w * h = sizes-append rs ss ∙ omega (arith, early_size, late_size, count, wide) in
-    let whole : AllPacked (rs ++ ss) = all_packed-append rs ss (all_packed rs first.fair (omega (arith, early_size, small, wide))) (all_packed ss second.fair (omega (arith, late_size, small))) in
-    let cut : run_orders_in (w * h) (packed w ps) ≡ Ok (map plain (rs ++ ss)) = ap (run_orders_in (w * h)) (sym (bytes-append rs ss)) ∙ ap (λ n. run_orders_in n (flat_map run_bytes (rs ++ ss))) (sym total) ∙ runs_back (rs ++ ss) whole in
+    let whole : AllPacked depth (rs ++ ss) = all_packed-append depth rs ss (all_packed depth rs first.fair (omega (arith, early_size, small, wide))) (all_packed depth ss second.fair (omega (arith, late_size, small))) in
+    let cut : run_orders_in depth (w * h) (packed depth w ps) ≡ Ok (map plain (rs ++ ss)) = ap (run_orders_in depth (w * h)) (sym (bytes-append depth rs ss)) ∙ ap (λ n. run_orders_in depth n (flat_map (run_bytes depth) (rs ++ ss))) (sym total) ∙ runs_back depth (rs ++ ss) whole in
     let S : List Stroke = runs_strokes b f rs in
     let T : List Stroke = runs_strokes Above g ss in
-    let at : d.count ≡ w = past_count true nothing_drawn rs ∙ omega (arith, early_size) in
-    let tail : strokes_from w d (map plain ss) ≡ T = ap (strokes_from w d) (sym (append-nil (map plain ss))) ∙ stretch_strokes w false d ss [] (later_begin w d.count ss (omega (arith, at))) (λ e. past_is_early nothing_drawn rs refl) (packed_runs_apart late) ∙ append-nil T in
-    let strokes : strokes_of w (map plain (rs ++ ss)) ≡ S ++ T = ap (strokes_of w) (map-append plain rs ss) ∙ stretch_strokes w true nothing_drawn rs (map plain ss) (first_begin w 0 rs first.fair (omega (arith, early_size))) (λ e. refl) (packed_runs_apart early) ∙ ap (λ ts. S ++ ts) tail in
+    let at : d.count ≡ w = past_count true (nothing_drawn depth) rs ∙ omega (arith, early_size) in
+    let tail : strokes_from w d (map plain ss) ≡ T = ap (strokes_from w d) (sym (append-nil (map plain ss))) ∙ stretch_strokes w false d ss [] (later_begin w d.count ss (omega (arith, at))) (λ e. past_is_early (nothing_drawn depth) rs refl) (packed_runs_apart late) ∙ append-nil T in
+    let strokes : strokes_of depth w (map plain (rs ++ ss)) ≡ S ++ T = ap (strokes_of depth w) (map-append plain rs ss) ∙ stretch_strokes w true (nothing_drawn depth) rs (map plain ss) (first_begin depth w 0 rs first.fair (omega (arith, early_size))) (λ e. refl) (packed_runs_apart early) ∙ ap (λ ts. S ++ ts) tail in
     let S_size : length S ≡ w = length-runs_strokes b f rs ∙ early_size in
     let T_size : length T ≡ length ps - w = length-runs_strokes Above g ss ∙ late_size in
     let short : length (take (length ps - w) ps) ≡ length ps - w = length-take-le (length ps - w) ps (omega arith) in

@@ -1,6 +1,6 @@
 use Rattle.std.proofs.Common.{arith}
 use Rattle.std.proofs.lemmas.Grind.{common_steps}
-use Rattle.rle_dec.proofs.reads.read_pixel.Goals as goal
+use Rattle.rle_dec.proofs.reads.read_wide_pixel.Goals as goal
 
 pub returns-in-len3-up : goal.returns-in-len3-up
 returns-in-len3-up c = grind (arith, common_steps)

@@ -2,7 +2,7 @@
 use Rattle.std.proofs.Common.{◌≡◌, ℕ, zero, suc, ◌+◌, ◌-◌, ◌<◌, ◌≤◌, Bool, true, false, cond, List, [], ◌∷◌, ◌++◌, length, take, drop, map, replicate, refl, ap, sym, subst, ◌∙◌, arith, append_assoc, length-append, ⊎_elim, inl, inr, ◌⊎◌}
 use Rattle.std.specs.Prelude.{nat_le, ◌&&◌, ◌==◌}
 use Rattle.std.proofs.lemmas.Bool.Decides.{nat_tests}
-use Rattle.std.proofs.lemmas.Bool.{and_from, cases_lt}
+use Rattle.std.proofs.lemmas.Bool.{and_from, and_parts, cases_lt}
 use Rattle.std.proofs.lemmas.List.{length-drop, take-append-drop, length-take-le, map-append}
 use Rattle.run_lengths.specs.declared.strokes.Stroke.{Stroke}
 use Rattle.run_lengths.specs.declared.strokes.Stroke.TheVariants.{Plain}
@@ -10,9 +10,9 @@ use Rattle.run_lengths.specs.RunLength.{Run, run_size, run_strokes, drawn_pixel,
 use Rattle.run_lengths.specs.RunLength.Run.{Background, Foreground, Mask, Color, Image, Dithered}
 use Rattle.run_lengths.specs.Packer.{Spot, background_count, color_count, chosen_run, first_run, runs_past, onto_runs, joined_images, packed_runs}
 use Rattle.run_lengths.proofs.Laws.{drawn_over-append, drawn_over_front, length-run_strokes}
-use Rattle.px_core.specs.Colors.{is_color, are_colors}
-use Rattle.px_core.proofs.Colors.{are_colors-append}
-use Rattle.rle_enc.proofs.ReadBack.{sizes}
+use Rattle.px_core.specs.declared.depth.Depth.{Depth}
+use Rattle.px_core.specs.Pixels.{is_pixel, are_pixels}
+use Rattle.run_lengths.proofs.ReadBack.{sizes}
 
 -- the pixels of spots, and those one row earlier
 abbrev pub pixels : List Spot → List ℕ
@@ -85,30 +85,30 @@ chosen P b c color back run image = by_tests (nat_le 1 b && nat_le c b) (nat_le 
     other : (b < c) ⊎ (c ≤ b) → (b ≡ 0) ⊎ (b < c)
     other h = ⊎_elim (λ lt. inr lt) (λ le. inl (grind (arith, nat_tests, e, le))) h
 
--- a run of at least one pixel, of the packer's kinds, in colours
-abbrev pub IsFair : Run → Type 0
-IsFair (Background n) = 1 ≤ n
-IsFair (Color n c) = (1 ≤ n) × (is_color c ≡ true)
-IsFair (Image cs) = (1 ≤ length cs) × (are_colors cs ≡ true)
-IsFair (Foreground n) = ⊥
-IsFair (Mask bits) = ⊥
-IsFair (Dithered n a b) = ⊥
+-- a run of at least one pixel, of the packer's kinds
+abbrev pub IsFair : Depth → Run → Type 0
+IsFair depth (Background n) = 1 ≤ n
+IsFair depth (Color n c) = (1 ≤ n) × (is_pixel depth c ≡ true)
+IsFair depth (Image cs) = (1 ≤ length cs) × (are_pixels depth cs ≡ true)
+IsFair depth (Foreground n) = ⊥
+IsFair depth (Mask bits) = ⊥
+IsFair depth (Dithered n a b) = ⊥
 
 -- what the first run of a stretch is
-pub record Begins (back fore : Stroke) (spots : List Spot) (r : Run) : Type 0 where
+pub record Begins (depth : Depth) (back fore : Stroke) (spots : List Spot) (r : Run) : Type 0 where
   pub some : 1 ≤ run_size r
   pub within : run_size r ≤ length spots
-  pub fair : IsFair r
+  pub fair : IsFair depth r
   pub draws : drawn_over (run_strokes r false back fore) (aboves spots) ≡ take (run_size r) (pixels spots)
 
-pub first_run_begins : (back fore : Stroke) (s : Spot) (spots : List Spot) → Keeps back (s ∷ spots) → is_color s.0 ≡ true → Begins back fore (s ∷ spots) (first_run s spots)
-first_run_begins back fore s spots keeps color =
+pub first_run_begins : (depth : Depth) (back fore : Stroke) (s : Spot) (spots : List Spot) → Keeps back (s ∷ spots) → is_pixel depth s.0 ≡ true → Begins depth back fore (s ∷ spots) (first_run s spots)
+first_run_begins depth back fore s spots keeps color =
     let b : ℕ = background_count (s ∷ spots) in
     let c : ℕ = color_count s.0 (s ∷ spots) in
-    chosen (Begins back fore (s ∷ spots)) b c s.0
+    chosen (Begins depth back fore (s ∷ spots)) b c s.0
     (λ l m. record { some = l; within = background_count_within (s ∷ spots); fair = l; draws = background_draws back b (s ∷ spots) keeps (omega arith) })
     (λ l. record { some = omega (arith, l); within = color_count_within s.0 (s ∷ spots); fair = (omega (arith, l), color); draws = color_draws s.0 c (s ∷ spots) (omega arith) })
-    (λ h l. record { some = omega arith; within = omega arith; fair = (omega arith, and_from (is_color s.0) true color refl); draws = refl })
+    (λ h l. record { some = omega arith; within = omega arith; fair = (omega arith, and_from (is_pixel depth s.0) true color refl); draws = refl })
 
 -- ---- a stretch
 
@@ -116,9 +116,9 @@ abbrev pub runs_strokes : Stroke → Stroke → List Run → List Stroke
 runs_strokes back fore [] = []
 runs_strokes back fore (r ∷ rs) = run_strokes r false back fore ++ runs_strokes back fore rs
 
-abbrev pub AllFair : List Run → Type 0
-AllFair [] = Unit {0}
-AllFair (r ∷ rs) = IsFair r × AllFair rs
+abbrev pub AllFair : Depth → List Run → Type 0
+AllFair depth [] = Unit {0}
+AllFair depth (r ∷ rs) = IsFair depth r × AllFair depth rs
 
 keeps_drop : (back : Stroke) (n : ℕ) (spots : List Spot) → Keeps back spots → Keeps back (drop n spots)
 keeps_drop back zero spots keeps = keeps
@@ -136,14 +136,14 @@ pixels-drop (suc n) [] = refl
 pixels-drop (suc n) (s ∷ spots) = pixels-drop n spots
 
 -- what is known of the runs of a stretch whose first places are packed already
-pub record Packs (back fore : Stroke) (spots : List Spot) (rs : List Run) : Type 0 where
-  pub fair : AllFair rs
+pub record Packs (depth : Depth) (back fore : Stroke) (spots : List Spot) (rs : List Run) : Type 0 where
+  pub fair : AllFair depth rs
   pub all : sizes rs ≡ length spots
   pub draws : drawn_over (runs_strokes back fore rs) (aboves spots) ≡ pixels spots
 
 -- a first run and those after it
-packs_more : (back fore : Stroke) (spots : List Spot) (r : Run) (rs : List Run) → Begins back fore spots r → Packs back fore (drop (run_size r) spots) rs → Packs back fore spots (r ∷ rs)
-packs_more back fore spots r rs first rest =
+packs_more : (depth : Depth) (back fore : Stroke) (spots : List Spot) (r : Run) (rs : List Run) → Begins depth back fore spots r → Packs depth back fore (drop (run_size r) spots) rs → Packs depth back fore spots (r ∷ rs)
+packs_more depth back fore spots r rs first rest =
     let n : ℕ = run_size r in
     let here : List Stroke = run_strokes r false back fore in
     let long : length here ≡ n = length-run_strokes r false back fore in
@@ -161,58 +161,62 @@ packs_more back fore spots r rs first rest =
           ∙ take-append-drop n (pixels spots);
     }
 
-abbrev pub AllColored : List Spot → Type 0
-AllColored [] = Unit {0}
-AllColored (s ∷ spots) = (is_color s.0 ≡ true) × AllColored spots
+abbrev pub AllColored : Depth → List Spot → Type 0
+AllColored depth [] = Unit {0}
+AllColored depth (s ∷ spots) = (is_pixel depth s.0 ≡ true) × AllColored depth spots
 
 -- one place less, the first of a stretch being there
 pub drop_first : (n : ℕ) (s : Spot) (spots : List Spot) → 1 ≤ n → drop n (s ∷ spots) ≡ drop (n - 1) spots
 drop_first zero s spots h = absurd (omega (arith, h))
 drop_first (suc n) s spots h = ap (λ m. drop m spots) (omega arith)
 
-pub runs_past_packs : (back fore : Stroke) (packed : ℕ) (spots : List Spot) → Keeps back spots → AllColored spots → Packs back fore (drop packed spots) (runs_past packed spots)
-runs_past_packs back fore zero [] keeps colors = record { fair = tt; all = refl; draws = refl }
-runs_past_packs back fore (suc packed) [] keeps colors = record { fair = tt; all = refl; draws = refl }
-runs_past_packs back fore (suc packed) (s ∷ spots) keeps colors = runs_past_packs back fore packed spots keeps.1 colors.1
-runs_past_packs back fore zero (s ∷ spots) keeps colors =
+pub runs_past_packs : (depth : Depth) (back fore : Stroke) (packed : ℕ) (spots : List Spot) → Keeps back spots → AllColored depth spots → Packs depth back fore (drop packed spots) (runs_past packed spots)
+runs_past_packs depth back fore zero [] keeps colors = record { fair = tt; all = refl; draws = refl }
+runs_past_packs depth back fore (suc packed) [] keeps colors = record { fair = tt; all = refl; draws = refl }
+runs_past_packs depth back fore (suc packed) (s ∷ spots) keeps colors = runs_past_packs depth back fore packed spots keeps.1 colors.1
+runs_past_packs depth back fore zero (s ∷ spots) keeps colors =
     let r : Run = first_run s spots in
-    let first : Begins back fore (s ∷ spots) r = first_run_begins back fore s spots keeps colors.0 in
-    let P : List Spot → Type 0 = λ ss. Packs back fore ss (runs_past (run_size r - 1) spots) in
-    packs_more back fore (s ∷ spots) r (runs_past (run_size r - 1) spots) first (subst P (sym (drop_first (run_size r) s spots first.some)) (runs_past_packs back fore (run_size r - 1) spots keeps.1 colors.1))
+    let first : Begins depth back fore (s ∷ spots) r = first_run_begins depth back fore s spots keeps colors.0 in
+    let P : List Spot → Type 0 = λ ss. Packs depth back fore ss (runs_past (run_size r - 1) spots) in
+    packs_more depth back fore (s ∷ spots) r (runs_past (run_size r - 1) spots) first (subst P (sym (drop_first (run_size r) s spots first.some)) (runs_past_packs depth back fore (run_size r - 1) spots keeps.1 colors.1))
 
 -- ---- images joined
 
-pub record SameRuns (rs ss : List Run) : Type 0 where
+are_pixels-append : (depth : Depth) (front back : List ℕ) → are_pixels depth front ≡ true → are_pixels depth back ≡ true → are_pixels depth (front ++ back) ≡ true
+are_pixels-append depth [] back h k = k
+are_pixels-append depth (c ∷ front) back h k = let p = and_parts (is_pixel depth c) (are_pixels depth front) h in and_from _ _ p.0 (are_pixels-append depth front back p.1 k)
+
+pub record SameRuns (depth : Depth) (rs ss : List Run) : Type 0 where
   pub sizes_same : sizes ss ≡ sizes rs
-  pub fair : AllFair rs → AllFair ss
+  pub fair : AllFair depth rs → AllFair depth ss
   pub strokes : (back fore : Stroke) → runs_strokes back fore ss ≡ runs_strokes back fore rs
 
-itself_same : (rs : List Run) → SameRuns rs rs
-itself_same rs = record { sizes_same = refl; fair = λ h. h; strokes = λ back fore. refl }
+itself_same : (depth : Depth) (rs : List Run) → SameRuns depth rs rs
+itself_same depth rs = record { sizes_same = refl; fair = λ h. h; strokes = λ back fore. refl }
 
-onto_same : (r : Run) (rs : List Run) → SameRuns (r ∷ rs) (onto_runs r rs)
-onto_same (Background n) rs = itself_same (Background n ∷ rs)
-onto_same (Color n c) rs = itself_same (Color n c ∷ rs)
-onto_same (Foreground n) rs = itself_same (Foreground n ∷ rs)
-onto_same (Mask bits) rs = itself_same (Mask bits ∷ rs)
-onto_same (Dithered n a b) rs = itself_same (Dithered n a b ∷ rs)
-onto_same (Image cs) [] = itself_same (Image cs ∷ [])
-onto_same (Image cs) (Background n ∷ rs) = itself_same (Image cs ∷ Background n ∷ rs)
-onto_same (Image cs) (Color n c ∷ rs) = itself_same (Image cs ∷ Color n c ∷ rs)
-onto_same (Image cs) (Foreground n ∷ rs) = itself_same (Image cs ∷ Foreground n ∷ rs)
-onto_same (Image cs) (Mask bits ∷ rs) = itself_same (Image cs ∷ Mask bits ∷ rs)
-onto_same (Image cs) (Dithered n a b ∷ rs) = itself_same (Image cs ∷ Dithered n a b ∷ rs)
-onto_same (Image cs) (Image ds ∷ rs) = record {
+onto_same : (depth : Depth) (r : Run) (rs : List Run) → SameRuns depth (r ∷ rs) (onto_runs r rs)
+onto_same depth (Background n) rs = itself_same depth (Background n ∷ rs)
+onto_same depth (Color n c) rs = itself_same depth (Color n c ∷ rs)
+onto_same depth (Foreground n) rs = itself_same depth (Foreground n ∷ rs)
+onto_same depth (Mask bits) rs = itself_same depth (Mask bits ∷ rs)
+onto_same depth (Dithered n a b) rs = itself_same depth (Dithered n a b ∷ rs)
+onto_same depth (Image cs) [] = itself_same depth (Image cs ∷ [])
+onto_same depth (Image cs) (Background n ∷ rs) = itself_same depth (Image cs ∷ Background n ∷ rs)
+onto_same depth (Image cs) (Color n c ∷ rs) = itself_same depth (Image cs ∷ Color n c ∷ rs)
+onto_same depth (Image cs) (Foreground n ∷ rs) = itself_same depth (Image cs ∷ Foreground n ∷ rs)
+onto_same depth (Image cs) (Mask bits ∷ rs) = itself_same depth (Image cs ∷ Mask bits ∷ rs)
+onto_same depth (Image cs) (Dithered n a b ∷ rs) = itself_same depth (Image cs ∷ Dithered n a b ∷ rs)
+onto_same depth (Image cs) (Image ds ∷ rs) = record {
   sizes_same = omega (arith, length-append cs ds);
-  fair = λ h. ((omega (arith, h.0.0, length-append cs ds), are_colors-append cs ds h.0.1 h.1.0.1), h.1.1);
+  fair = λ h. ((omega (arith, h.0.0, length-append cs ds), are_pixels-append depth cs ds h.0.1 h.1.0.1), h.1.1);
   strokes = λ back fore. ap (λ ss. ss ++ runs_strokes back fore rs) (map-append (λ c. Plain c) cs ds) ∙ append_assoc (map (λ c. Plain c) cs) (map (λ c. Plain c) ds) (runs_strokes back fore rs);
 }
 
-pub joined_same : (rs : List Run) → SameRuns rs (joined_images rs)
-joined_same [] = itself_same []
-joined_same (r ∷ rs) =
-    let rest = joined_same rs in
-    let here = onto_same r (joined_images rs) in
+pub joined_same : (depth : Depth) (rs : List Run) → SameRuns depth rs (joined_images rs)
+joined_same depth [] = itself_same depth []
+joined_same depth (r ∷ rs) =
+    let rest = joined_same depth rs in
+    let here = onto_same depth r (joined_images rs) in
     record {
       sizes_same = here.sizes_same ∙ ap (λ n. run_size r + n) rest.sizes_same;
       fair = λ h. here.fair (h.0, rest.fair h.1);
@@ -220,8 +224,8 @@ joined_same (r ∷ rs) =
     }
 
 -- the runs of a stretch draw it
-pub packed_runs_packs : (back fore : Stroke) (spots : List Spot) → Keeps back spots → AllColored spots → Packs back fore spots (packed_runs spots)
-packed_runs_packs back fore spots keeps colors =
-    let runs = runs_past_packs back fore 0 spots keeps colors in
-    let same = joined_same (runs_past 0 spots) in
+pub packed_runs_packs : (depth : Depth) (back fore : Stroke) (spots : List Spot) → Keeps back spots → AllColored depth spots → Packs depth back fore spots (packed_runs spots)
+packed_runs_packs depth back fore spots keeps colors =
+    let runs = runs_past_packs depth back fore 0 spots keeps colors in
+    let same = joined_same depth (runs_past 0 spots) in
     record { fair = same.fair runs.fair; all = same.sizes_same ∙ runs.all; draws = ap (λ ss. drawn_over ss (aboves spots)) (same.strokes back fore) ∙ runs.draws }
