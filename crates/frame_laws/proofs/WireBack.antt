@@ -9,7 +9,9 @@ use Rattle.run_lengths.specs.Packer.{packed}
 use Rattle.run_lengths.proofs.Laws.{decompressed_is_unrle}
 use Rattle.rle_enc.proofs.Stretches.{packed_decompresses}
 use Rattle.wire_num.proofs.Pixels.{pixel_back, length-pixels_bytes}
-use Rattle.wire_num.specs.Pixels.{pixels_of, pixels_bytes}
+use Rattle.wire_num.specs.Pixels.{pixels_bytes}
+use Rattle.px_core.specs.declared.depth.Depth.TheVariants.{Bits24}
+use Rattle.px_core.specs.Pixels.{pixels_of}
 use Rattle.order_means.specs.WirePixels.{PixelData, pixel_data, packed_if_shorter, data_of}
 use Rattle.order_means.specs.ClientState.{needs, unless_refused, wire_pixels}
 use Rattle.order_means.specs.ClientState.Fault.{Broken}
@@ -19,16 +21,16 @@ all_colors : (cs : List ℕ) → AreColors cs → are_colors cs ≡ true
 all_colors [] h = refl
 all_colors (c ∷ cs) h = and_from _ _ (color_is c h.0) (all_colors cs h.1)
 
-colors_back : (cs : List ℕ) → AreColors cs → pixels_of (pixels_bytes cs) ≡ cs
+colors_back : (cs : List ℕ) → AreColors cs → pixels_of Bits24 (pixels_bytes cs) ≡ cs
 colors_back [] h = refl
 colors_back (c ∷ cs) h =
-    ap (λ x. x ∷ pixels_of (pixels_bytes cs)) (pixel_back c h.0) ∙ ap (λ xs. c ∷ xs) (colors_back cs h.1)
+    ap (λ x. x ∷ pixels_of Bits24 (pixels_bytes cs)) (pixel_back c h.0) ∙ ap (λ xs. c ∷ xs) (colors_back cs h.1)
 
 raw_back : (w h : ℕ) (ps : List ℕ) → length ps ≡ w * h → AreColors ps → wire_pixels false w h (pixels_bytes ps) ≡ Ok ps
 raw_back w h ps whole c =
     let count : length (pixels_bytes ps) ≡ 3 * (w * h) = length-pixels_bytes ps ∙ ap (λ n. 3 * n) whole in
     let test : (length (pixels_bytes ps) == 3 * (w * h)) ≡ true = grind (arith, nat_tests, count) in
-    ap (λ b. needs b Broken (Ok (pixels_of (pixels_bytes ps)))) test ∙ ap Ok (colors_back ps c)
+    ap (λ b. needs b Broken (Ok (pixels_of Bits24 (pixels_bytes ps)))) test ∙ ap Ok (colors_back ps c)
 
 packed_back : (w h : ℕ) (ps : List ℕ) → 0 < w → 0 < h → length ps ≡ w * h → length ps < 65536 → AreColors ps → wire_pixels true w h (packed w ps) ≡ Ok ps
 packed_back w h ps wide high whole small c =
