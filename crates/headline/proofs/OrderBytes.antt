@@ -8,6 +8,7 @@ use Rattle.px_core.specs.Picture.{nat_of}
 use Rattle.run_lengths.specs.RunLength.{Run}
 use Rattle.run_lengths.specs.RunLength.Run.{Background, Foreground, Mask, Color, Image, Dithered}
 use Rattle.run_lengths.specs.Packer.{length_bytes, run_bytes, packed_runs, first_stretch, later_stretch, packed}
+use Rattle.px_core.specs.declared.depth.Depth.TheVariants.{Bits24}
 use Rattle.order_fields.specs.declared.kind.FieldKind.{FieldKind}
 use Rattle.order_fields.specs.declared.kind.FieldKind.TheVariants.{Coordinate, Number, Signed, Color as ColorKind}
 use Rattle.order_fields.specs.declared.change.Change.{Change}
@@ -282,7 +283,7 @@ zeros_are_bytes (suc n) = bytes_cons 0 (replicate n 0) (omega arith) (zeros_are_
 
 pub order_are_bytes : (c : Confirmed) (regs : Registers) (o : SentOrder) → HoldsBytes o → AreBytes (bytes_of_order c regs o)
 order_are_bytes c regs (Drawn touched d bounds) h =
-    let o = drawing_fields touched d in
+    let o = drawing_fields Bits24 touched d in
     row_are_bytes (row_of o.code) regs c.zero_bounds o.values (edges_of_optional bounds) (row_is_small table o.code table_is_small) h.0 h.1
 order_are_bytes c regs (CacheImage cache index image) h =
     let p = padded_image image in
