@@ -14,5 +14,7 @@ pub mod Invited
 pub mod SecondLine
 pub mod SoloJoins
 pub mod Progressed
-pub mod Whole
+pub mod AllLines
 pub mod Captured
+pub mod Whole
+pub mod Hosting

@@ -20,7 +20,7 @@ use script_lines::LineRule;
 use std::alloc::Global;
 
 /// The number of the line that gives the size.
-const FIRST: u32 = 1;
+pub(crate) const FIRST: u32 = 1;
 
 /// What was done where a line was found.
 #[derive(Clone, Copy, Debug, PartialEq, Eq)]

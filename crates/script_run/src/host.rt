@@ -1,6 +1,7 @@
 //! A script's run in its course does the lines of the script, and writes its capture.
 use crate::OutOfMemory;
 use crate::course::Course;
+use crate::found::FIRST;
 use caps_sets::Confirmed;
 use px_core::Size;
 use script_host::ScriptHost;
@@ -13,9 +14,6 @@ const NOBODY: u32 = 0;
 
 /// What only the lines of joins have.
 const NO_PRESET: &[u8] = b"";
-
-/// The number of the line that gives the size.
-const FIRST: u32 = 1;
 
 impl Course for ScriptHost {
     ghost use Rattle.script_run.specs.Captures.{captures};
@@ -48,7 +46,8 @@ impl Course for ScriptHost {
     }
 
     fn invite(&mut self, name: &[u8], role: Role) -> Result<(), OutOfMemory> {
-        ScriptHost::invite(self, name, role)
+        ScriptHost::invite(self, name, role)?;
+        Ok(())
     }
 
     fn join(

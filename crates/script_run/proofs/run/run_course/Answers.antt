@@ -2,7 +2,7 @@ use Rattle.std.proofs.Common.{subst, sym, rules}
 use Rattle.std.proofs.lemmas.Result.{err_from_is_err_and}
 use Rattle.std.specs.Prelude.{Err}
 use Rattle.script_run.specs.Reading.{Opens, moment, RunsLines}
-use Rattle.script_run.proofs.Whole.{sized_run, broken_run, failed_run, nothing_run}
+use Rattle.script_run.proofs.AllLines.{sized_run, broken_run, failed_run, nothing_run}
 use Rattle.script_run.proofs.run.run_course.Goals as goal
 
 pub returns-in-Sized-clause-lines : goal.returns-in-Sized-clause-lines
