@@ -10,6 +10,8 @@ mod cached_entries;
 #[cfg(test)]
 mod checks;
 #[cfg(test)]
+mod fast_packets;
+#[cfg(test)]
 mod lanes;
 #[cfg(test)]
 mod last_values;

@@ -5,6 +5,7 @@ use Rattle.std.proofs.lemmas.Int.{ints}
 use Rattle.px_core.specs.Picture.{nat_of}
 use Rattle.std.proofs.lemmas.Bool.Decides.{nat_tests}
 use Rattle.px_core.specs.declared.rectangle.Rect.{Rect}
+use Rattle.px_core.specs.declared.depth.Depth.TheVariants.{Bits24}
 use Rattle.order_fields.specs.OrderTable.{OrderName, Row, table, row_of, row_in, chosen_row, FieldList, Values, fits_coordinate, IsBelow}
 use Rattle.order_fields.specs.OrderTable.OrderName.{DstBlt, PatBlt, ScrBlt, OpaqueRect, SaveBitmap, MemBlt, Mem3Blt, GlyphIndex}
 use Rattle.order_fields.specs.NamedDrawing.{NamedDrawing, drawing_of, drawing_of_values, drawing_in_row, drawing_if, save_if, save_or_restore}
@@ -58,7 +59,7 @@ no_save_if : (test : Bool) (operation position : ℕ) (r : Rect) → fill_in (sa
 no_save_if true operation position r = no_save operation position r
 no_save_if false operation position r = refl
 
-no_fill_named : (name : OrderName) (vs : List ℤ) (bytes : List ℕ) → is_opaque name ≡ false → fill_in (drawing_of_values name vs bytes) ≡ None
+no_fill_named : (name : OrderName) (vs : List ℤ) (bytes : List ℕ) → is_opaque name ≡ false → fill_in (drawing_of_values Bits24 name vs bytes) ≡ None
 no_fill_named DstBlt vs bytes e = no_fill_if _ _ refl
 no_fill_named PatBlt vs bytes e = no_fill_if _ _ refl
 no_fill_named ScrBlt vs bytes e = no_fill_if _ _ refl
@@ -83,7 +84,7 @@ row_named (x ∷ rows) code r h e = chosen_name (x.code == code) x (row_in rows 
 table_named : EachNamed table
 table_named = (refl, (refl, (refl, (refl, (refl, (refl, (refl, (refl, tt))))))))
 
-no_fill_by : (code : ℕ) (found : Option Row) (vs : Values) → row_of code ≡ found → (code ≡ 10 → ⊥) → fill_in (drawing_in_row found vs) ≡ None
+no_fill_by : (code : ℕ) (found : Option Row) (vs : Values) → row_of code ≡ found → (code ≡ 10 → ⊥) → fill_in (drawing_in_row Bits24 found vs) ≡ None
 no_fill_by code None vs e other = refl
 no_fill_by code (Some r) vs e other =
     let is : r.code ≡ code = code_of_row code r e in
@@ -91,7 +92,7 @@ no_fill_by code (Some r) vs e other =
     no_fill_named r.name vs.numbers vs.bytes (row_named table code r table_named e ∙ test)
 
 -- an order of another type is no fill
-pub no_fill : (o : FieldList) (kind : ℕ) → kind ≡ o.code → (kind ≡ 10 → ⊥) → fill_in (drawing_of o) ≡ None
+pub no_fill : (o : FieldList) (kind : ℕ) → kind ≡ o.code → (kind ≡ 10 → ⊥) → fill_in (drawing_of Bits24 o) ≡ None
 no_fill o kind is other = no_fill_by o.code (row_of o.code) o.values refl (λ e. other (is ∙ e))
 
 -- ---- the values of a fill

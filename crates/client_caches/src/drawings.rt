@@ -1,6 +1,7 @@
 //! The drawing that a primary order's fields say ([MS-RDPEGDI] 2.2.2.2.1.1.2).
 
 ghost use Rattle.std.specs.Prelude.{◌≡◌, ◌≤◌, ◌+◌, ◌*◌, ℕ, List, IfSome, length};
+ghost use Rattle.px_core.specs.declared.depth.Depth.TheVariants.{Bits24};
 ghost use Rattle.order_fields.specs.OrderTable.{FitKinds, dst_blt, pat_blt, scr_blt, opaque_rect, save_bitmap, mem_blt, mem3_blt, glyph_index};
 ghost use Rattle.order_fields.specs.OrderTable.OrderName.{DstBlt, PatBlt, ScrBlt, OpaqueRect, SaveBitmap, MemBlt, Mem3Blt, GlyphIndex};
 ghost use Rattle.order_fields.specs.NamedDrawing.{drawing_of, drawing_of_values};
@@ -12,24 +13,10 @@ use crate::values::{
     side_of,
 };
 use client_pixel::Color;
-use order_fields::Fields;
+use order_fields::{
+    DST_BLT, Fields, GLYPH_INDEX, MEM_BLT, MEM3_BLT, OPAQUE_RECT, PAT_BLT, SAVE_BITMAP, SCR_BLT,
+};
 use px_core::{Rect, has_pixel};
-
-const DST_BLT: u8 = 0x00;
-
-const PAT_BLT: u8 = 0x01;
-
-const SCR_BLT: u8 = 0x02;
-
-const OPAQUE_RECT: u8 = 0x0A;
-
-const SAVE_BITMAP: u8 = 0x0B;
-
-const MEM_BLT: u8 = 0x0D;
-
-const MEM3_BLT: u8 = 0x0E;
-
-const GLYPH_INDEX: u8 = 0x1B;
 
 /// The operations of SaveBitmap.
 const SAVE: u8 = 0;
@@ -38,7 +25,7 @@ const RESTORE: u8 = 1;
 
 /// The drawing that a primary order says; there is none where a side is below 1, or a brush, an operation or a run is none that is read.
 pub fn drawing_of(fields: &Fields) -> Option<Named>
-    ensures drawing { optional_drawing fields.now.values.bytes result ≡ drawing_of fields.now }
+    ensures drawing { optional_drawing fields.now.values.bytes result ≡ drawing_of Bits24 fields.now }
     ensures short { IfSome result (λ _. length fields.now.values.bytes ≤ 255) }
 {
     let kind = fields.kind();
@@ -58,7 +45,7 @@ pub fn drawing_of(fields: &Fields) -> Option<Named>
 
 /// The rectangle and the colour of an OpaqueRect order, which most orders are; `None` where its rectangle has no pixel, and for any other order.
 pub fn fill_of(fields: &Fields) -> Option<(Rect, Color)>
-    ensures { result ≡ fill_in (drawing_of fields.now) }
+    ensures { result ≡ fill_in (drawing_of Bits24 fields.now) }
 {
     if fields.kind() != OPAQUE_RECT {
         return None;
@@ -68,7 +55,7 @@ pub fn fill_of(fields: &Fields) -> Option<(Rect, Color)>
 
 fn dst_of(values: &[i64]) -> Option<Named>
     requires { FitKinds dst_blt.kinds values.now }
-    ensures { (run : List ℕ) → optional_drawing run result ≡ drawing_of_values DstBlt values.now run }
+    ensures { (run : List ℕ) → optional_drawing run result ≡ drawing_of_values Bits24 DstBlt values.now run }
 {
     let rect = rect_at(values, 0);
     if !has_pixel(rect) {
@@ -82,7 +69,7 @@ fn dst_of(values: &[i64]) -> Option<Named>
 
 fn pat_of(values: &[i64]) -> Option<Named>
     requires { FitKinds pat_blt.kinds values.now }
-    ensures { (run : List ℕ) → optional_drawing run result ≡ drawing_of_values PatBlt values.now run }
+    ensures { (run : List ℕ) → optional_drawing run result ≡ drawing_of_values Bits24 PatBlt values.now run }
 {
     let rect = rect_at(values, 0);
     if !has_pixel(rect) || !is_cached_brush(values, 7) {
@@ -97,7 +84,7 @@ fn pat_of(values: &[i64]) -> Option<Named>
 
 fn scr_of(values: &[i64]) -> Option<Named>
     requires { FitKinds scr_blt.kinds values.now }
-    ensures { (run : List ℕ) → optional_drawing run result ≡ drawing_of_values ScrBlt values.now run }
+    ensures { (run : List ℕ) → optional_drawing run result ≡ drawing_of_values Bits24 ScrBlt values.now run }
 {
     let rect = rect_at(values, 0);
     if !has_pixel(rect) {
@@ -113,7 +100,7 @@ fn scr_of(values: &[i64]) -> Option<Named>
 
 fn opaque_of(values: &[i64]) -> Option<Named>
     requires { FitKinds opaque_rect.kinds values.now }
-    ensures { (run : List ℕ) → optional_drawing run result ≡ drawing_of_values OpaqueRect values.now run }
+    ensures { (run : List ℕ) → optional_drawing run result ≡ drawing_of_values Bits24 OpaqueRect values.now run }
 {
     let (rect, color) = fill_values(values)?;
     Some(Named::Opaque { rect, color })
@@ -122,7 +109,7 @@ fn opaque_of(values: &[i64]) -> Option<Named>
 /// The rectangle and the colour of an OpaqueRect order's values, where the rectangle has a pixel.
 fn fill_values(values: &[i64]) -> Option<(Rect, Color)>
     requires { FitKinds opaque_rect.kinds values.now }
-    ensures { (run : List ℕ) → optional_fill result ≡ drawing_of_values OpaqueRect values.now run }
+    ensures { (run : List ℕ) → optional_fill result ≡ drawing_of_values Bits24 OpaqueRect values.now run }
 {
     let [left, top, width, height, red, green, blue] = values else {
         return None;
@@ -142,7 +129,7 @@ fn fill_values(values: &[i64]) -> Option<(Rect, Color)>
 
 fn save_of(values: &[i64]) -> Option<Named>
     requires { FitKinds save_bitmap.kinds values.now }
-    ensures { (run : List ℕ) → optional_drawing run result ≡ drawing_of_values SaveBitmap values.now run }
+    ensures { (run : List ℕ) → optional_drawing run result ≡ drawing_of_values Bits24 SaveBitmap values.now run }
 {
     let rect = closed_rect_at(values, 1);
     if !has_pixel(rect) {
@@ -158,7 +145,7 @@ fn save_of(values: &[i64]) -> Option<Named>
 
 fn mem_of(values: &[i64]) -> Option<Named>
     requires { FitKinds mem_blt.kinds values.now }
-    ensures { (run : List ℕ) → optional_drawing run result ≡ drawing_of_values MemBlt values.now run }
+    ensures { (run : List ℕ) → optional_drawing run result ≡ drawing_of_values Bits24 MemBlt values.now run }
 {
     let rect = rect_at(values, 1);
     if !has_pixel(rect) {
@@ -176,7 +163,7 @@ fn mem_of(values: &[i64]) -> Option<Named>
 
 fn mem3_of(values: &[i64]) -> Option<Named>
     requires { FitKinds mem3_blt.kinds values.now }
-    ensures { (run : List ℕ) → optional_drawing run result ≡ drawing_of_values Mem3Blt values.now run }
+    ensures { (run : List ℕ) → optional_drawing run result ≡ drawing_of_values Bits24 Mem3Blt values.now run }
 {
     let rect = rect_at(values, 1);
     if !has_pixel(rect) || !is_cached_brush(values, 10) {
@@ -195,7 +182,7 @@ fn mem3_of(values: &[i64]) -> Option<Named>
 
 fn glyphs_of(values: &[i64]) -> Option<Named>
     requires { FitKinds glyph_index.kinds values.now }
-    ensures { (run : List ℕ) → optional_drawing run result ≡ drawing_of_values GlyphIndex values.now run }
+    ensures { (run : List ℕ) → optional_drawing run result ≡ drawing_of_values Bits24 GlyphIndex values.now run }
 {
     if !is_cached_run(values) {
         return None;

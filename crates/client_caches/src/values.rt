@@ -3,14 +3,12 @@
 ghost use Rattle.std.specs.Prelude.{◌≡◌, ◌≤◌, true};
 ghost use Rattle.std.specs.Ordering.{int_eq};
 ghost use Rattle.px_core.specs.Picture.{nat_of};
+ghost use Rattle.px_core.specs.declared.depth.Depth.TheVariants.{Bits24};
 ghost use Rattle.order_fields.specs.OrderTable.{fits_coordinate};
 ghost use Rattle.order_fields.specs.NamedDrawing.{value, number, rect_at, closed_rect_at, side_between, is_cached_brush, is_cached_run, are_zero};
 ghost use Rattle.client_caches.specs.Named.{FitsAt, FitBox, IsNumberAt};
 
-use px_core::Rect;
-
-/// The style of a brush that is an entry of the brush cache: TS_CACHED_BRUSH with 24 bits a pixel.
-const CACHED_BRUSH: i64 = 0x85;
+use px_core::{Depth, Rect, cached_brush_style};
 
 /// The value at a place.
 pub fn value(values: &[i64], place: usize) -> i64
@@ -108,11 +106,15 @@ pub fn closed_rect_at(values: &[i64], place: usize) -> Rect
 /// Whether the brush from a place on is an entry of the brush cache: its origin is 0.
 pub fn is_cached_brush(values: &[i64], place: usize) -> bool
     requires { place ≤ 16 }
-    ensures { result ≡ is_cached_brush values.now place }
+    ensures { result ≡ is_cached_brush Bits24 values.now place }
 {
     is_value(values, place, 0)
         && is_value(values, 1 + place, 0)
-        && is_value(values, 2 + place, CACHED_BRUSH)
+        && is_value(
+            values,
+            2 + place,
+            i64::from(cached_brush_style(Depth::Bits24)),
+        )
 }
 
 /// Whether the value at a place is this one.
@@ -138,7 +140,7 @@ fn are_zero(values: &[i64], place: usize, count: usize) -> bool
 
 /// Whether a run is one of cached glyphs: flAccel 3, ulCharInc 0, fOpRedundant 1, foreColor 0, and the edges op and the brush 0.
 pub fn is_cached_run(values: &[i64]) -> bool
-    ensures { result ≡ is_cached_run values.now }
+    ensures { result ≡ is_cached_run Bits24 values.now }
 {
     is_value(values, 1, 3)
         && is_value(values, 2, 0)

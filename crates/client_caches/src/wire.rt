@@ -8,6 +8,7 @@ ghost use Rattle.client_caches.specs.Caches.{upright_pixels};
 
 use crate::ObeyFault;
 use order_read::{pixels_of, turned_over};
+use px_core::Depth;
 use rle_dec::{RleFault, unpack};
 use std::alloc::Global;
 
@@ -24,7 +25,7 @@ fn raw_pixels(alloc: Global, count: usize, bytes: &[u8]) -> Result<Vec<u32>, Obe
     if bytes.len() != PIXEL_SIZE * count {
         return Err(ObeyFault::Broken);
     }
-    let pixels = pixels_of(alloc, bytes)?;
+    let pixels = pixels_of(alloc, bytes, Depth::Bits24)?;
     Ok(pixels)
 }
 

@@ -10,6 +10,7 @@ use Rattle.wire_num.specs.Field.{bind}
 use Rattle.draw_ops.specs.Content.{ImageOf}
 use Rattle.draw_ops.specs.Formulas.{solid, brushed, shifted, imaged, image_rows, Painting, over_rect}
 use Rattle.caps_sets.specs.declared.confirmed.Confirmed.{Confirmed}
+use Rattle.px_core.specs.declared.depth.Depth.TheVariants.{Bits24}
 use Rattle.order_fields.specs.OrderTable.{Edges}
 use Rattle.order_fields.specs.Secondary.{Cached}
 use Rattle.order_fields.specs.Secondary.Cached.{Bitmap, Glyph, Brush, Marker}
@@ -64,7 +65,7 @@ stored_alike confirmed c (Brush b) = refl
 stored_alike confirmed c (Marker ends) = refl
 
 told_alike : (confirmed : Confirmed) (size : Size) (c : ClientState) (o : Order) → client_after_order confirmed size c o ≡ client_after_told confirmed size c (told_order o)
-told_alike confirmed size c (Primary o bounds) = bind_same (found (drawing_of o) Broken) _ _ (λ (d : NamedDrawing). drawn_alike confirmed size bounds c d)
+told_alike confirmed size c (Primary o bounds) = bind_same (found (drawing_of Bits24 o) Broken) _ _ (λ (d : NamedDrawing). drawn_alike confirmed size bounds c d)
 told_alike confirmed size c (Other o) = stored_alike confirmed c o
 
 mark_alike : (confirmed : Confirmed) (o : Cached) → is_mark confirmed o ≡ is_mark confirmed (upright o)

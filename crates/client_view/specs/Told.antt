@@ -8,6 +8,7 @@ use Rattle.rop3_core.specs.Palette.{client_colors}
 use Rattle.wire_num.specs.Field.{bind}
 use Rattle.draw_ops.specs.Formulas.{solid, brushed, shifted, imaged, image_rows, Painting, over_rect, picture_after}
 use Rattle.caps_sets.specs.declared.confirmed.Confirmed.{Confirmed}
+use Rattle.px_core.specs.declared.depth.Depth.TheVariants.{Bits24}
 use Rattle.order_fields.specs.Secondary.{Cached}
 use Rattle.order_fields.specs.Secondary.Cached.{Bitmap, Glyph, Brush, Marker}
 use Rattle.order_fields.specs.NamedDrawing.{NamedDrawing, drawing_of}
@@ -52,7 +53,7 @@ client_after_stored confirmed c (Brush b) = client_after_upright_brush confirmed
 client_after_stored confirmed c (Marker ends) = Ok c
 
 abbrev pub client_after_told : Confirmed → Size → ClientState → Told → Result ClientState Fault
-client_after_told confirmed size c (Drawn o clip) = bind (found (drawing_of o) Broken) (client_after_clipped confirmed size clip c)
+client_after_told confirmed size c (Drawn o clip) = bind (found (drawing_of Bits24 o) Broken) (client_after_clipped confirmed size clip c)
 client_after_told confirmed size c (Stored o) = client_after_stored confirmed c o
 
 -- a drawing is counted, and the mark of a viewer with frame markers is kept

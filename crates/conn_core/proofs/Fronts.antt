@@ -3,9 +3,7 @@ use Rattle.std.proofs.Common.{◌≡◌, ℕ, ◌+◌, ◌<◌, ◌≤◌, List,
 use Rattle.std.specs.Prelude.{map}
 use Rattle.std.proofs.Math.Seq.{drop-cons, drop-length}
 use Rattle.wire_num.specs.Written.{AppendsFront}
-use Rattle.input_pdu.specs.declared.event.Event.{Event}
 use Rattle.conn_rules.specs.declared.conn_step.ConnStep.{ConnStep}
-use Rattle.conn_rules.specs.declared.conn_step.ConnStep.TheVariants as step
 use Rattle.conn_core.specs.Feeds.{TellsFront}
 
 -- nothing was appended
@@ -64,18 +62,14 @@ whole_told old now whole left t e = t.given ∙ ap (λ xs. old ++ xs) (sym (t.ar
 pub front_told : (old now whole left : List ConnStep) → ToldSoFar old now whole left → TellsFront old whole now
 front_told old now whole left t = record { told = t.told; rest = left; whole = t.are; given = t.given }
 
--- ---- events
-
-abbrev steps_of : List Event → List ConnStep
-steps_of events = map (λ event. step.Event event) events
+-- ---- what is in a list, each as a step
 
 -- the next one, and those behind it
-pub event_left : (events : List Event) (i : ℕ) (d : Event) → i < length events → steps_of (drop i events) ≡ (step.Event (get_or events i d) ∷ []) ++ steps_of (drop (i + 1) events)
-event_left events i d h =
-    ap steps_of (drop-cons events i d h) ∙ ap (λ n. step.Event (get_or events i d) ∷ steps_of (drop n events)) (sym (add-one i))
+pub one_left : {A : Type 0} (f : A → ConnStep) (xs : List A) (i : ℕ) (d : A) → i < length xs → map f (drop i xs) ≡ (f (get_or xs i d) ∷ []) ++ map f (drop (i + 1) xs)
+one_left f xs i d h = ap (map f) (drop-cons xs i d h) ∙ ap (λ n. f (get_or xs i d) ∷ map f (drop n xs)) (sym (add-one i))
 
 -- none is left
-pub no_event_left : (events : List Event) (i : ℕ) → length events ≤ i → i ≤ length events → steps_of (drop i events) ≡ []
-no_event_left events i low high =
-    let e : i ≡ length events = omega (arith, low, high) in
-    ap (λ n. steps_of (drop n events)) e ∙ ap steps_of (drop-length events)
+pub none_left : {A : Type 0} (f : A → ConnStep) (xs : List A) (i : ℕ) → length xs ≤ i → i ≤ length xs → map f (drop i xs) ≡ []
+none_left f xs i low high =
+    let e : i ≡ length xs = omega (arith, low, high) in
+    ap (λ n. map f (drop n xs)) e ∙ ap (map f) (drop-length xs)

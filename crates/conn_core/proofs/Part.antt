@@ -1,6 +1,6 @@
 -- What is heard of a part of a packet.
 use Rattle.std.proofs.Common.{◌≡◌, ℕ, ◌≤◌, List, [], ◌∷◌, ◌++◌, length, refl, ap, ap₂, sym, ◌∙◌, append-nil, Bool, true, false, cond, arith}
-use Rattle.std.specs.Prelude.{Ok, Err}
+use Rattle.std.specs.Prelude.{Result, Ok, Err}
 use Rattle.tpkt_x224.specs.declared.tpkt.Packet.{Packet}
 use Rattle.tpkt_x224.specs.declared.tpkt.Packet.TheVariants.{Whole, Part, NotTpkt, BadLength}
 use Rattle.tpkt_x224.specs.Tpkt.{packet_at}
@@ -8,7 +8,9 @@ use Rattle.tpkt_x224.specs.Pieces.{cut_by, cut_from, packets_of}
 use Rattle.tpkt_x224.proofs.Cutting.{once, one_cut}
 use Rattle.tpkt_x224.proofs.Stream.{starts, none_left}
 use Rattle.conn_rules.specs.declared.conn_step.ConnStep.{ConnStep}
-use Rattle.conn_rules.specs.Answers.{Judged}
+use Rattle.conn_rules.specs.declared.answer.Answer.{Answer}
+use Rattle.conn_rules.specs.declared.refusal.Refusal.{Refusal}
+use Rattle.conn_rules.specs.Answers.{Telling}
 use Rattle.conn_rules.specs.Packets.{packet_judged}
 use Rattle.conn_rules.specs.Hearing.{Hearing, Heard, silent, then_heard, is_over, refused_here, judged_heard, packet_heard, packets_heard, between, with_head, with_rest, before_rest, cut_heard, heard}
 use Rattle.conn_rules.proofs.Pieces.{packets_between, over_heard}
@@ -33,8 +35,8 @@ rest_by false h e = ap (with_part h) (sym e)
 no_rest : (h : Hearing) → h.part ≡ [] → with_rest h [] ≡ h
 no_rest h e = rest_by (is_over h.stage) h e
 
-judged_between : (h : Hearing) (p : List ℕ) (j : Judged) → (judged_heard h p j).after.part ≡ []
-judged_between h p (Ok answer) = refl
+judged_between : (h : Hearing) (p : List ℕ) (j : Result (Telling Answer) Refusal) → (judged_heard h p j).after.part ≡ []
+judged_between h p (Ok found) = refl
 judged_between h p (Err refusal) = refl
 
 open_packet : (h : Hearing) (bytes : List ℕ) → is_over h.stage ≡ false → packet_heard h bytes ≡ judged_heard h bytes (packet_judged h.stage bytes)
@@ -66,11 +68,11 @@ bad_length h bytes o p = ap (cut_heard h) (uncut_by bytes BadLength p) ∙ rw (o
 
 -- ---- where a connection stands after bytes
 
-judged_size : (h : Hearing) (p : List ℕ) (j : Judged) → (judged_heard h p j).after.size ≡ h.size
-judged_size h p (Ok answer) = refl
+judged_size : (h : Hearing) (p : List ℕ) (j : Result (Telling Answer) Refusal) → (judged_heard h p j).after.size ≡ h.size
+judged_size h p (Ok found) = refl
 judged_size h p (Err refusal) = refl
 
-packet_size_by : (b : Bool) (h : Hearing) (p : List ℕ) (j : Judged) → (cond b (silent h) (judged_heard h p j)).after.size ≡ h.size
+packet_size_by : (b : Bool) (h : Hearing) (p : List ℕ) (j : Result (Telling Answer) Refusal) → (cond b (silent h) (judged_heard h p j)).after.size ≡ h.size
 packet_size_by true h p j = refl
 packet_size_by false h p j = judged_size h p j
 

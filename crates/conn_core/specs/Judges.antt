@@ -1,9 +1,14 @@
 -- What calls say that read a packet.
-use Rattle.std.specs.Prelude.{◌≡◌, ◌≤◌, ℕ, Result, Ok, Err}
+use Rattle.std.specs.Prelude.{◌≡◌, ◌≤◌, ℕ, List, ◌++◌, Result, Ok, Err}
 use Rattle.wire_num.specs.declared.range.Range.{Range}
+use Rattle.px_core.specs.declared.rectangle.Rect.{Rect}
+use Rattle.input_pdu.specs.declared.event.Event.{Event}
 use Rattle.conn_rules.specs.declared.answer.Reply.{Reply}
 use Rattle.conn_rules.specs.declared.answer.Reply.TheVariants.{Nothing, Confirm, Response, Attached, Joined, Welcome, Final}
+use Rattle.conn_rules.specs.declared.conn_step.ConnStep.{ConnStep}
 use Rattle.conn_rules.specs.declared.refusal.Refusal.{Refusal}
+use Rattle.conn_rules.specs.Answers.{Telling, telling}
+use Rattle.conn_rules.specs.Told.{event_steps, area_steps}
 use Rattle.conn_core.specs.declared.fault.Fault.{Fault}
 use Rattle.conn_core.specs.declared.fault.Fault.TheVariants.{Refused, OutOfMemory}
 
@@ -12,6 +17,16 @@ abbrev pub IsJudged : {A : Type 0} → Result A Fault → Result A Refusal → T
 IsJudged (Ok v) judged = judged ≡ Ok v
 IsJudged (Err (Refused refusal)) judged = judged ≡ Err refusal
 IsJudged (Err OutOfMemory) judged = Unit {0}
+
+-- the same with these steps beside it
+abbrev pub IsJudgedBeside : {A : Type 0} → List ConnStep → Result A Fault → Result (Telling A) Refusal → Type 0
+IsJudgedBeside told (Ok v) judged = judged ≡ Ok (telling v told)
+IsJudgedBeside told (Err (Refused refusal)) judged = judged ≡ Err refusal
+IsJudgedBeside told (Err OutOfMemory) judged = Unit {0}
+
+-- the steps of what was found
+abbrev pub found_steps : List Event → List Rect → List ConnStep
+found_steps events areas = event_steps events ++ area_steps areas
 
 -- a reply that the writers take: to no more static virtual channels than a client may have, and to a user channel
 abbrev pub IsWritable : Reply → Type 0

@@ -7,6 +7,7 @@ ghost use Rattle.conn_rules.specs.Hearing.{heard, first_hearing, end_of, end_by}
 ghost use Rattle.conn_core.specs.Kept.{Answers, Feeds, FeedsAppend};
 
 use crate::conn_fault::ConnFault;
+use crate::found::Found;
 use crate::hear::{Room, hear};
 use crate::talk::Talk;
 use conn_rules::{ConnStep, Stage};
@@ -19,6 +20,8 @@ use wire_num::OutOfMemory;
 const MOST_PACKET: usize = 65_535;
 /// The most events of a packet: its data have at most 16,383 bytes, of which 22 stand before the events of 12 bytes each.
 const MOST_EVENTS: usize = 1_364;
+/// The most areas of a packet: numberOfAreas is a byte.
+const MOST_AREAS: usize = 255;
 /// More bytes than the data of any packet have that is written here.
 const MOST_BODY: usize = 512;
 
@@ -58,7 +61,10 @@ impl Conn {
             },
             part: Vec::with_capacity(alloc, MOST_PACKET)?,
             room: Room {
-                events: Vec::with_capacity(alloc, MOST_EVENTS)?,
+                found: Found {
+                    events: Vec::with_capacity(alloc, MOST_EVENTS)?,
+                    areas: Vec::with_capacity(alloc, MOST_AREAS)?,
+                },
                 body: Vec::with_capacity(alloc, MOST_BODY)?,
             },
             spent: false,

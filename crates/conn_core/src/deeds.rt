@@ -21,7 +21,7 @@ pub fn judge_deed(
     place: usize,
     deed: Option<Deed>,
 ) -> Result<Answer, Refusal>
-    ensures exact { result ≡ deed_judged channels mcs_place initiator phase place (Ok deed) }
+    ensures exact { result ≡ deed_judged channels mcs_place initiator phase place deed }
     ensures writable { IfOk result (λ answer. IsWritable answer.reply) }
 {
     match deed {

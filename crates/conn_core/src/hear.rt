@@ -5,28 +5,29 @@ ghost use Rattle.tpkt_x224.specs.declared.tpkt.Packet.TheVariants.{Whole, Part};
 ghost use Rattle.tpkt_x224.specs.Tpkt.{packet_at};
 ghost use Rattle.conn_rules.specs.Hearing.{is_over, judged_heard, heard};
 ghost use Rattle.conn_rules.specs.Packets.{packet_judged};
+ghost use Rattle.conn_rules.specs.Answers.{telling};
 ghost use Rattle.conn_core.specs.Feeds.{Appends, AppendsSome};
 ghost use Rattle.conn_core.specs.Stream.{hearing, refused_talk, part_heard, IsStanding};
-ghost use Rattle.conn_core.specs.Judges.{IsWritable};
+ghost use Rattle.conn_core.specs.Judges.{IsWritable, found_steps};
 
 use crate::fault::Fault;
+use crate::found::Found;
+use crate::news::tell;
 use crate::packets::judge_packet;
 use crate::refusals::{BAD_LENGTH, NOT_TPKT};
 use crate::replies::write_reply;
 use crate::talk::Talk;
-use crate::told::tell;
 use conn_rules::{Answer, ConnStep, Stage};
-use input_pdu::Event;
 use tpkt_x224::{Packet, lacking, next_packet};
 use wire_num::OutOfMemory;
 
 /// The place of a packet's length in it.
 const LENGTH: u64 = 2;
 
-/// Vectors that are taken again and again: the events of an Input PDU, and the data of a packet that is written.
+/// Vectors that are taken again and again: for what is found in a packet, and for the data of a packet that is written.
 #[derive(Drop)]
 pub struct Room {
-    pub events: Vec<Event>,
+    pub found: Found,
     pub body: Vec<u8>,
 }
 
@@ -158,7 +159,7 @@ fn hear_packet(
     ensures memory { OnErr result (AppendsSome (judged_heard (hearing talk.old []) packet.now (packet_judged talk.old.stage packet.now)) out.old.items out.new.items steps.old.items steps.new.items) }
     ensures size { talk.new.size ≡ talk.old.size }
 {
-    match judge_packet(talk.stage, packet, &mut room.events) {
+    match judge_packet(talk.stage, packet, &mut room.found) {
         Ok(answer) => hear_answer(talk, packet, answer, room, out, steps),
         Err(Fault::Refused(refusal)) => {
             refuse(talk, refusal.k, refusal.at as u64);
@@ -168,7 +169,7 @@ fn hear_packet(
     }
 }
 
-/// Replies and tells what a packet was judged to be.
+/// Replies and tells what a packet was judged to be, with what was found in it.
 fn hear_answer(
     talk: &mut Talk,
     packet: &[u8],
@@ -180,13 +181,13 @@ fn hear_answer(
     requires wide { talk.old.size.w ≤ 65535 }
     requires high { talk.old.size.h ≤ 65535 }
     requires writable { IsWritable answer.reply }
-    ensures heard { OnOk result (hearing talk.new [] ≡ (judged_heard (hearing talk.old []) packet.now (Ok answer)).after) }
-    ensures appended { OnOk result (Appends (judged_heard (hearing talk.old []) packet.now (Ok answer)) out.old.items out.new.items steps.old.items steps.new.items) }
-    ensures memory { OnErr result (AppendsSome (judged_heard (hearing talk.old []) packet.now (Ok answer)) out.old.items out.new.items steps.old.items steps.new.items) }
+    ensures heard { OnOk result (hearing talk.new [] ≡ (judged_heard (hearing talk.old []) packet.now (Ok (telling answer (found_steps room.old.found.events.items room.old.found.areas.items)))).after) }
+    ensures appended { OnOk result (Appends (judged_heard (hearing talk.old []) packet.now (Ok (telling answer (found_steps room.old.found.events.items room.old.found.areas.items)))) out.old.items out.new.items steps.old.items steps.new.items) }
+    ensures memory { OnErr result (AppendsSome (judged_heard (hearing talk.old []) packet.now (Ok (telling answer (found_steps room.old.found.events.items room.old.found.areas.items)))) out.old.items out.new.items steps.old.items steps.new.items) }
     ensures size { talk.new.size ≡ talk.old.size }
 {
     write_reply(out, talk.size, &mut room.body, answer.reply)?;
-    tell(talk.stage, packet, answer.news, &mut room.events, steps)?;
+    tell(talk.stage, answer.news, &room.found, steps)?;
     talk.stage = answer.next;
     talk.place = talk.place.saturating_add(packet.len() as u64);
     Ok(())

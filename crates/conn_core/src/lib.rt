@@ -10,13 +10,14 @@ mod connecting;
 mod deeds;
 mod domain;
 mod fault;
+mod found;
 mod hear;
+mod news;
 mod packets;
 mod refusals;
 mod replies;
 mod shares;
 mod talk;
-mod told;
 
 pub use conn::Conn;
 pub use conn_fault::ConnFault;

@@ -13,7 +13,8 @@ ghost use Rattle.mcs_dom.specs.DomainPdu.{HasBodyAtEnd};
 ghost use Rattle.conn_rules.specs.Headers.{mcs_headers};
 ghost use Rattle.conn_rules.specs.Packets.{info_data, share_data, joins_judged, shares_judged, mcs_judged, behind_headers, packet_judged};
 ghost use Rattle.conn_rules.specs.Info.{welcomed};
-ghost use Rattle.conn_core.specs.Judges.{IsJudged, IsWritable, IsPart};
+ghost use Rattle.conn_rules.specs.Answers.{alone};
+ghost use Rattle.conn_core.specs.Judges.{IsJudgedBeside, found_steps, IsWritable, IsPart};
 
 use crate::connecting::{judge_initial, judge_request};
 use crate::deeds::judge_deed;
@@ -22,11 +23,11 @@ use crate::domain::{
     judge_early, judge_erect, judge_join, read_pdu, user_channel,
 };
 use crate::fault::Fault;
+use crate::found::{Found, forget};
 use crate::refusals::{BAD_INFO, BAD_TPDU};
 use crate::shares::read_deed;
 use conn_rules::{Answer, Client, ConnStep, News, Refusal, Reply, SharePhase, Stage};
 use info_lic::{InfoFault, Name, read_info};
-use input_pdu::Event;
 use mcs_dom::DomainPdu;
 use wire_num::{Cursor, Range, Short};
 
@@ -35,30 +36,47 @@ const TPKT_SIZE: usize = 4;
 /// The X.224 Data header: length indicator, code, end of the unit.
 const DATA_HEADER: [u8; 3] = [2, 0xF0, 0x80];
 
-/// What comes of a whole packet. `events` is taken for the events of an Input PDU.
-pub fn judge_packet(stage: Stage, packet: &[u8], events: &mut Vec<Event>) -> Result<Answer, Fault>
-    ensures exact { IsJudged result (packet_judged stage packet.now) }
+/// What comes of a whole packet. `found` takes what is found in the share PDU in it.
+pub fn judge_packet(stage: Stage, packet: &[u8], found: &mut Found) -> Result<Answer, Fault>
+    ensures exact { IsJudgedBeside (found_steps found.new.events.items found.new.areas.items) result (packet_judged stage packet.now) }
     ensures writable { IfOk result (λ answer. IsWritable answer.reply) }
 {
+    forget(found);
     match stage {
-        Stage::Request => Ok(judge_request(packet)?),
+        Stage::Request => alone(judge_request(packet), found),
         Stage::Initial { .. }
         | Stage::Erect { .. }
         | Stage::Attach { .. }
         | Stage::Joins { .. }
-        | Stage::Shares { .. } => judge_data(stage, packet, events),
-        Stage::Over | Stage::Refused { .. } => Ok(goes_to(stage)),
+        | Stage::Shares { .. } => judge_data(stage, packet, found),
+        Stage::Over | Stage::Refused { .. } => alone(Ok(goes_to(stage)), found),
+    }
+}
+
+/// What comes of a packet in which nothing is found.
+fn alone(judged: Result<Answer, Refusal>, found: &Found) -> Result<Answer, Fault>
+    requires events { found.now.events.items ≡ [] }
+    requires areas { found.now.areas.items ≡ [] }
+    requires writable { IfOk judged (λ answer. IsWritable answer.reply) }
+    ensures exact { IsJudgedBeside (found_steps found.now.events.items found.now.areas.items) result (alone judged) }
+    ensures writable { IfOk result (λ answer. IsWritable answer.reply) }
+{
+    match judged {
+        Ok(answer) => Ok(answer),
+        Err(refusal) => Err(Fault::Refused(refusal)),
     }
 }
 
 /// What comes of a packet with the X.224 Data header.
-fn judge_data(stage: Stage, packet: &[u8], events: &mut Vec<Event>) -> Result<Answer, Fault>
-    ensures exact { IsJudged result (behind_headers packet.now (fields_at mcs_headers packet.now) stage) }
+fn judge_data(stage: Stage, packet: &[u8], found: &mut Found) -> Result<Answer, Fault>
+    requires events { found.old.events.items ≡ [] }
+    requires areas { found.old.areas.items ≡ [] }
+    ensures exact { IsJudgedBeside (found_steps found.new.events.items found.new.areas.items) result (behind_headers packet.now (fields_at mcs_headers packet.now) stage) }
     ensures writable { IfOk result (λ answer. IsWritable answer.reply) }
 {
     let mut cursor = Cursor::new(packet);
     match read_headers(&mut cursor) {
-        Ok(()) => judge_mcs(stage, cursor.rest(), events),
+        Ok(()) => judge_mcs(stage, cursor.rest(), found),
         Err(_) => Err(Fault::Refused(Refusal {
             k: BAD_TPDU,
             at: cursor.at(),
@@ -68,7 +86,7 @@ fn judge_data(stage: Stage, packet: &[u8], events: &mut Vec<Event>) -> Result<An
 
 /// Goes past the headers before the MCS PDU.
 #[tactic(auto, unfolding(conn_rules::specs::Headers::mcs_headers))]
-pub fn read_headers(cursor: &mut Cursor<'_>) -> Result<(), Short>
+fn read_headers(cursor: &mut Cursor<'_>) -> Result<(), Short>
     ensures { ReadsFieldsAs (λ _. []) (fields_at mcs_headers) result cursor.old cursor.new }
 {
     cursor.bytes(TPKT_SIZE)?;
@@ -77,28 +95,30 @@ pub fn read_headers(cursor: &mut Cursor<'_>) -> Result<(), Short>
 }
 
 /// What comes of an MCS PDU.
-fn judge_mcs(stage: Stage, mcs: &[u8], events: &mut Vec<Event>) -> Result<Answer, Fault>
-    ensures exact { IsJudged result (mcs_judged stage mcs.now) }
+fn judge_mcs(stage: Stage, mcs: &[u8], found: &mut Found) -> Result<Answer, Fault>
+    requires events { found.old.events.items ≡ [] }
+    requires areas { found.old.areas.items ≡ [] }
+    ensures exact { IsJudgedBeside (found_steps found.new.events.items found.new.areas.items) result (mcs_judged stage mcs.now) }
     ensures writable { IfOk result (λ answer. IsWritable answer.reply) }
 {
     match stage {
-        Stage::Request | Stage::Over | Stage::Refused { .. } => Ok(goes_to(stage)),
-        Stage::Initial { asked } => Ok(judge_initial(asked, mcs)?),
+        Stage::Request | Stage::Over | Stage::Refused { .. } => alone(Ok(goes_to(stage)), found),
+        Stage::Initial { asked } => alone(judge_initial(asked, mcs), found),
         Stage::Erect { client } => {
             let pdu = read_pdu(mcs)?;
-            Ok(judge_erect(client, pdu)?)
+            alone(judge_erect(client, pdu), found)
         }
         Stage::Attach { client } => {
             let pdu = read_pdu(mcs)?;
-            Ok(judge_attach(client, pdu)?)
+            alone(judge_attach(client, pdu), found)
         }
         Stage::Joins { client, user, io } => {
             let pdu = read_pdu(mcs)?;
-            Ok(judge_joins(client, user, io, mcs, pdu)?)
+            alone(judge_joins(client, user, io, mcs, pdu), found)
         }
         Stage::Shares { channels, phase } => {
             let pdu = read_pdu(mcs)?;
-            judge_shares(channels, phase, mcs, pdu, events)
+            judge_shares(channels, phase, mcs, pdu, found)
         }
     }
 }
@@ -193,10 +213,12 @@ fn judge_shares(
     phase: SharePhase,
     mcs: &[u8],
     pdu: DomainPdu,
-    events: &mut Vec<Event>,
+    found: &mut Found,
 ) -> Result<Answer, Fault>
-    requires { HasBodyAtEnd (length mcs.now) pdu }
-    ensures exact { IsJudged result (shares_judged channels phase mcs.now pdu) }
+    requires body { HasBodyAtEnd (length mcs.now) pdu }
+    requires events { found.old.events.items ≡ [] }
+    requires areas { found.old.areas.items ≡ [] }
+    ensures exact { IsJudgedBeside (found_steps found.new.events.items found.new.areas.items) result (shares_judged channels phase mcs.now pdu) }
     ensures writable { IfOk result (λ answer. IsWritable answer.reply) }
 {
     match pdu {
@@ -207,8 +229,8 @@ fn judge_shares(
             user,
             channel,
             body,
-        } => judge_share(channels, phase, mcs, user, channel, body, events),
-        DomainPdu::Bye { .. } => Ok(LEAVES),
+        } => judge_share(channels, phase, mcs, user, channel, body, found),
+        DomainPdu::Bye { .. } => alone(Ok(LEAVES), found),
     }
 }
 
@@ -220,17 +242,19 @@ fn judge_share(
     initiator: u16,
     channel: u16,
     body: Range,
-    events: &mut Vec<Event>,
+    found: &mut Found,
 ) -> Result<Answer, Fault>
-    requires { IsPart (length mcs.now) body }
-    ensures exact { IsJudged result (share_data channels phase mcs.now initiator channel body) }
+    requires body { IsPart (length mcs.now) body }
+    requires events { found.old.events.items ≡ [] }
+    requires areas { found.old.areas.items ≡ [] }
+    ensures exact { IsJudgedBeside (found_steps found.new.events.items found.new.areas.items) result (share_data channels phase mcs.now initiator channel body) }
     ensures writable { IfOk result (λ answer. IsWritable answer.reply) }
 {
     if channel != IO_CHANNEL {
         let next = Stage::Shares { channels, phase };
-        return Ok(judge_dropped(channels, initiator, channel, next)?);
+        return alone(judge_dropped(channels, initiator, channel, next), found);
     }
     let place = MCS_PLACE.saturating_add(body.from);
-    let deed = read_deed(phase, place, &mcs[body.from..body.to], events)?;
+    let deed = read_deed(phase, place, &mcs[body.from..body.to], found)?;
     Ok(judge_deed(channels, initiator, phase, place, deed)?)
 }

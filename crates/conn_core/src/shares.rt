@@ -1,32 +1,39 @@
 //! What a client's share PDUs ask for, in their sequence and after the Font List ([MS-RDPBCGR] 1.3.1.1).
 
-ghost use Rattle.std.specs.Prelude.{◌≡◌, length};
+ghost use Rattle.std.specs.Prelude.{◌≡◌, [], length, Ok};
 ghost use Rattle.caps_sets.specs.ConfirmActive.{confirmed_of};
 ghost use Rattle.input_pdu.specs.Events.{events_of};
+ghost use Rattle.share_pdu.specs.Bodies.{areas_of};
 ghost use Rattle.share_pdu.specs.ClientPdu.{share_pdu_of, HasBodyWithin};
+ghost use Rattle.conn_rules.specs.Answers.{telling};
+ghost use Rattle.conn_rules.specs.Told.{area_steps};
 ghost use Rattle.conn_rules.specs.Shares.{early_deed, order_of, due, finish_deed, ready_deed, plain_deed, sets_read, confirm_deed, input_deed, deed_of, read_deed};
-ghost use Rattle.conn_core.specs.Judges.{IsJudged};
+ghost use Rattle.conn_core.specs.Judges.{IsJudgedBeside, found_steps};
 
 use crate::fault::Fault;
+use crate::found::{Found, find_refresh};
 use crate::refusals::{BAD_CAPS, BAD_INPUT, BAD_SHARE, COMPRESSED};
 use caps_sets::{CapsFault, Confirmed, read_confirm};
 use conn_rules::{Deed, Refusal, SharePhase};
-use input_pdu::{Event, InputFault, read_events};
+use input_pdu::{InputFault, read_events};
 use px_core::Depth;
 use share_pdu::{ClientPdu, Final, ShareFault, read_share};
+use wire_num::OutOfMemory;
 
-/// Reads what the share PDU in a body asks for, which begins at a place; none where it isn't expected. `events` is taken for the
-/// events of an Input PDU.
+/// Reads what the share PDU in a body asks for, which begins at a place; none where it isn't expected. `found` takes what is found in
+/// it.
 pub fn read_deed(
     phase: SharePhase,
     place: usize,
     body: &[u8],
-    events: &mut Vec<Event>,
+    found: &mut Found,
 ) -> Result<Option<Deed>, Fault>
-    ensures { IsJudged result (read_deed phase place body.now (share_pdu_of body.now)) }
+    requires events { found.old.events.items ≡ [] }
+    requires areas { found.old.areas.items ≡ [] }
+    ensures { IsJudgedBeside (found_steps found.new.events.items found.new.areas.items) result (read_deed phase place body.now (share_pdu_of body.now)) }
 {
     match read_share(body) {
-        Ok(pdu) => deed_of(phase, place, body, pdu, events),
+        Ok(pdu) => deed_of(phase, place, body, pdu, found),
         Err(ShareFault::BadShare { at }) => Err(Fault::Refused(Refusal {
             k: BAD_SHARE,
             at: place.saturating_add(at),
@@ -44,29 +51,33 @@ fn deed_of(
     place: usize,
     body: &[u8],
     pdu: ClientPdu,
-    events: &mut Vec<Event>,
+    found: &mut Found,
 ) -> Result<Option<Deed>, Fault>
-    requires { HasBodyWithin (length body.now) pdu }
-    ensures { IsJudged result (deed_of phase place body.now pdu) }
+    requires body { HasBodyWithin (length body.now) pdu }
+    requires events { found.old.events.items ≡ [] }
+    requires areas { found.old.areas.items ≡ [] }
+    ensures { IsJudgedBeside (found_steps found.new.events.items found.new.areas.items) result (deed_of phase place body.now pdu) }
 {
     match pdu {
-        ClientPdu::Confirm(part) => Ok(confirm_deed(
+        ClientPdu::Confirm(part) => confirm_deed(
             phase,
             place.saturating_add(part.from),
             &body[part.from..part.to],
-        )?),
+        ),
         ClientPdu::Input(part) => input_deed(
             plain_deed(phase, pdu),
             place.saturating_add(part.from),
             &body[part.from..part.to],
-            events,
+            found,
         ),
+        ClientPdu::Refresh(part) => {
+            refresh_deed(plain_deed(phase, pdu), &body[part.from..part.to], found)
+        }
         ClientPdu::Synchronize => Ok(plain_deed(phase, ClientPdu::Synchronize)),
         ClientPdu::Cooperate => Ok(plain_deed(phase, ClientPdu::Cooperate)),
         ClientPdu::Request => Ok(plain_deed(phase, ClientPdu::Request)),
         ClientPdu::FontList => Ok(plain_deed(phase, ClientPdu::FontList)),
         ClientPdu::KeyList => Ok(plain_deed(phase, ClientPdu::KeyList)),
-        ClientPdu::Refresh(part) => Ok(plain_deed(phase, ClientPdu::Refresh(part))),
         ClientPdu::Suppress(stop) => Ok(plain_deed(phase, ClientPdu::Suppress(stop))),
         ClientPdu::Shutdown => Ok(plain_deed(phase, ClientPdu::Shutdown)),
         ClientPdu::Other => Ok(plain_deed(phase, ClientPdu::Other)),
@@ -74,8 +85,8 @@ fn deed_of(
 }
 
 /// What a Confirm Active asks for, whose fields begin at a place. After the Font List it isn't read.
-fn confirm_deed(phase: SharePhase, place: usize, fields: &[u8]) -> Result<Option<Deed>, Refusal>
-    ensures { result ≡ confirm_deed phase place fields.now }
+fn confirm_deed(phase: SharePhase, place: usize, fields: &[u8]) -> Result<Option<Deed>, Fault>
+    ensures { IsJudgedBeside [] result (confirm_deed phase place fields.now) }
 {
     match phase {
         SharePhase::Confirm { depth } => {
@@ -95,18 +106,31 @@ fn input_deed(
     deed: Option<Deed>,
     place: usize,
     body: &[u8],
-    events: &mut Vec<Event>,
+    found: &mut Found,
 ) -> Result<Option<Deed>, Fault>
-    ensures { IsJudged result (input_deed deed place (events_of body.now)) }
+    requires events { found.old.events.items ≡ [] }
+    requires areas { found.old.areas.items ≡ [] }
+    ensures { IsJudgedBeside (found_steps found.new.events.items found.new.areas.items) result (input_deed deed place (events_of body.now)) }
 {
-    events.clear();
-    match read_events(body, events) {
+    match read_events(body, &mut found.events) {
         Ok(()) => Ok(deed),
         Err(InputFault::BadInput { at }) => Err(Fault::Refused(Refusal {
             k: BAD_INPUT,
             at: place.saturating_add(at),
         })),
         Err(InputFault::OutOfMemory) => Err(Fault::OutOfMemory),
+    }
+}
+
+/// What a Refresh Rect asks for, whose areas are found.
+fn refresh_deed(deed: Option<Deed>, body: &[u8], found: &mut Found) -> Result<Option<Deed>, Fault>
+    requires events { found.old.events.items ≡ [] }
+    requires areas { found.old.areas.items ≡ [] }
+    ensures { IsJudgedBeside (found_steps found.new.events.items found.new.areas.items) result (Ok (telling deed (area_steps (areas_of body.now)))) }
+{
+    match find_refresh(body, &mut found.areas) {
+        Ok(()) => Ok(deed),
+        Err(OutOfMemory) => Err(Fault::OutOfMemory),
     }
 }
 

@@ -2,7 +2,7 @@
 use Rattle.std.proofs.Common.{◌≡◌, ℕ, zero, suc, ◌+◌, ◌-◌, ◌*◌, ◌<◌, List, [], ◌∷◌, ◌++◌, length, take, drop, refl, subst, Bool, true, false, cond, arith}
 use Rattle.std.proofs.lemmas.List.Elements.{All-nil, All-cons, All-head, All-tail, All-append, All-take, All-drop}
 use Rattle.std.proofs.lemmas.Int.{ints}
-use Rattle.std.specs.Prelude.{⊤, All, map, ◌||◌, nat_lt, pos, Option, Some, None, option_to_list, slice_index, Result, Ok, Err}
+use Rattle.std.specs.Prelude.{⊤, All, ◌||◌, nat_lt, pos, Option, Some, None, option_to_list, slice_index, Result, Ok, Err}
 use Rattle.std.specs.List.{slice_range}
 use Rattle.wire_num.specs.Field.{Read, then_read, map_read}
 use Rattle.px_core.specs.declared.rectangle.Rect.{Rect}
@@ -15,31 +15,25 @@ use Rattle.tpkt_x224.specs.declared.tpkt.Packet.{Packet}
 use Rattle.tpkt_x224.specs.declared.tpkt.Packet.TheVariants.{Whole, Part, NotTpkt, BadLength}
 use Rattle.tpkt_x224.specs.Tpkt.{packet_at}
 use Rattle.tpkt_x224.specs.Pieces.{Cut, cut_by, cut_from, packets_of}
-use Rattle.mcs_dom.specs.declared.bad_domain.BadDomain.{BadDomain}
-use Rattle.mcs_dom.specs.declared.domain_pdu.DomainPdu.{DomainPdu}
-use Rattle.mcs_dom.specs.declared.domain_pdu.DomainPdu.TheVariants.{Erect, Attach, Join, Data, Bye}
-use Rattle.mcs_dom.specs.DomainPdu.{domain_pdu_of}
 use Rattle.input_pdu.specs.declared.event.Event.{Event}
-use Rattle.input_pdu.specs.Events.{events_of}
-use Rattle.share_pdu.specs.declared.client_pdu.ClientPdu.{ClientPdu}
-use Rattle.share_pdu.specs.declared.client_pdu.ClientPdu.TheVariants as pdu
-use Rattle.share_pdu.specs.declared.share_fault.ShareFault.{ShareFault}
 use Rattle.share_pdu.specs.Bodies.{rect_between, inclusive_area, area_at, areas_at, refresh_header, refresh_at, areas_by, areas_of}
-use Rattle.share_pdu.specs.ClientPdu.{share_pdu_of}
+use Rattle.conn_rules.specs.declared.answer.Answer.{Answer}
 use Rattle.conn_rules.specs.declared.answer.News.{News}
 use Rattle.conn_rules.specs.declared.answer.News.TheVariants as news
 use Rattle.conn_rules.specs.declared.conn_step.ConnStep.{ConnStep}
 use Rattle.conn_rules.specs.declared.conn_step.ConnStep.TheVariants as step
+use Rattle.conn_rules.specs.declared.refusal.Refusal.{Refusal}
 use Rattle.conn_rules.specs.declared.stage.Stage.{Stage}
-use Rattle.conn_rules.specs.Answers.{Judged}
+use Rattle.conn_rules.specs.Answers.{Telling}
 use Rattle.conn_rules.specs.Headers.{mcs_headers}
 use Rattle.conn_rules.specs.Packets.{packet_judged}
-use Rattle.conn_rules.specs.Told.{event_steps, area_steps, pdu_steps, share_steps, mcs_steps, behind_headers_steps, news_steps, end_steps, is_ready, told_steps}
+use Rattle.conn_rules.specs.Told.{event_steps, area_steps, news_steps, end_steps, is_ready, told_steps}
 use Rattle.conn_rules.specs.Hearing.{Hearing, Heard, silent, is_over, judged_heard, packet_heard, packets_heard, between, with_head, heard}
 use Rattle.conn_rules.specs.Progress.{Progress, progress_of}
 use Rattle.conn_rules.specs.Progress.Progress.{Connecting, Ready, Ended}
 use Rattle.conn_rules.specs.Placed.{AreBytes, IsStepPlaced, ArePlaced}
-use Rattle.conn_rules.proofs.Order.{NewsOf, Suits, packet_suits}
+use Rattle.conn_rules.proofs.Found.{Finds, Tells, packet_finds}
+use Rattle.conn_rules.proofs.Order.{NewsOf, TellingSuits, packet_suits}
 
 abbrev IsByte : ℕ → Type 0
 IsByte b = b < 256
@@ -145,45 +139,18 @@ area_steps_placed [] h = All-nil IsStepPlaced
 area_steps_placed (area ∷ areas) h =
     All-cons IsStepPlaced (step.Refresh area) (area_steps areas) (All-head IsPlaced area areas h) (area_steps_placed areas (All-tail IsPlaced area areas h))
 
-events_placed : (events : List Event) → ArePlaced (map (λ event. step.Event event) events)
+events_placed : (events : List Event) → ArePlaced (event_steps events)
 events_placed [] = All-nil IsStepPlaced
-events_placed (event ∷ events) = All-cons IsStepPlaced (step.Event event) (map (λ one. step.Event one) events) tt (events_placed events)
+events_placed (event ∷ events) = All-cons IsStepPlaced (step.Event event) (event_steps events) tt (events_placed events)
 
-event_steps_placed : (r : Result (List Event) ℕ) → ArePlaced (event_steps r)
-event_steps_placed (Ok events) = events_placed events
-event_steps_placed (Err at) = All-nil IsStepPlaced
-
-pdu_placed : (body : List ℕ) (p : ClientPdu) → AreBytes body → ArePlaced (pdu_steps body p)
-pdu_placed body (pdu.Confirm r) h = All-nil IsStepPlaced
-pdu_placed body pdu.Synchronize h = All-nil IsStepPlaced
-pdu_placed body pdu.Cooperate h = All-nil IsStepPlaced
-pdu_placed body pdu.Request h = All-nil IsStepPlaced
-pdu_placed body pdu.FontList h = All-nil IsStepPlaced
-pdu_placed body pdu.KeyList h = All-nil IsStepPlaced
-pdu_placed body (pdu.Input r) h = event_steps_placed (events_of (slice_range body r.from r.to))
-pdu_placed body (pdu.Refresh r) h =
-    let part = slice_range body r.from r.to in
-    area_steps_placed (areas_of part) (areas_of_read (refresh_at part) (body_placed part (range_bytes body r.from r.to h)))
-pdu_placed body (pdu.Suppress stop) h = All-nil IsStepPlaced
-pdu_placed body pdu.Shutdown h = All-nil IsStepPlaced
-pdu_placed body pdu.Other h = All-nil IsStepPlaced
-
-share_placed : (body : List ℕ) (r : Result ClientPdu ShareFault) → AreBytes body → ArePlaced (share_steps body r)
-share_placed body (Ok p) h = pdu_placed body p h
-share_placed body (Err fault) h = All-nil IsStepPlaced
-
-mcs_placed : (mcs : List ℕ) (r : Result DomainPdu BadDomain) → AreBytes mcs → ArePlaced (mcs_steps mcs r)
-mcs_placed mcs (Ok Erect) h = All-nil IsStepPlaced
-mcs_placed mcs (Ok Attach) h = All-nil IsStepPlaced
-mcs_placed mcs (Ok (Join user channel)) h = All-nil IsStepPlaced
-mcs_placed mcs (Ok (Data user channel body)) h =
-    let part = slice_range mcs body.from body.to in share_placed part (share_pdu_of part) (range_bytes mcs body.from body.to h)
-mcs_placed mcs (Ok (Bye reason)) h = All-nil IsStepPlaced
-mcs_placed mcs (Err fault) h = All-nil IsStepPlaced
-
-headers_placed : (packet : List ℕ) (r : Read (List ℕ)) → fields_at mcs_headers packet ≡ r → AreBytes packet → ArePlaced (behind_headers_steps r)
-headers_placed packet (Ok v) e h = mcs_placed v.1 (domain_pdu_of v.1) (left_bytes mcs_headers packet v.0 v.1 e h)
-headers_placed packet (Err left) e h = All-nil IsStepPlaced
+found_placed : Finds ArePlaced AreBytes
+found_placed = record {
+  none = All-nil IsStepPlaced;
+  events = events_placed;
+  areas = λ body h. area_steps_placed (areas_of body) (areas_of_read (refresh_at body) (body_placed body h));
+  part = range_bytes;
+  behind = λ packet values left e h. left_bytes mcs_headers packet values left e h;
+}
 
 one_placed : (one : ConnStep) → IsStepPlaced one → ArePlaced (one ∷ [])
 one_placed one p = All-cons IsStepPlaced one [] p (All-nil IsStepPlaced)
@@ -201,18 +168,18 @@ at_once_placed here after step.Shutdown p = tt
 at_once_placed here after step.Bye p = tt
 at_once_placed here after step.Packet p = tt
 
-news_placed : (here after : Progress) (packet : List ℕ) (what : News) → NewsOf here what after → AreBytes packet → ArePlaced (news_steps packet what)
-news_placed here after packet news.Nothing p h = All-nil IsStepPlaced
-news_placed here after packet (news.Step one) p h = one_placed one (at_once_placed here after one p)
-news_placed here after packet news.Pdu p h = headers_placed packet (fields_at mcs_headers packet) refl h
+news_placed : (here after : Progress) (found : List ConnStep) (what : News) → NewsOf here what after → ArePlaced found → ArePlaced (news_steps what found)
+news_placed here after found news.Nothing p h = All-nil IsStepPlaced
+news_placed here after found (news.Step one) p h = one_placed one (at_once_placed here after one p)
+news_placed here after found news.Pdu p h = h
 
 end_placed : (ready : Bool) → ArePlaced (end_steps ready)
 end_placed true = one_placed step.Packet tt
 end_placed false = All-nil IsStepPlaced
 
-told_placed : (s : Stage) (here after : Progress) (packet : List ℕ) (what : News) → NewsOf here what after → AreBytes packet → ArePlaced (told_steps s packet what)
-told_placed s here after packet what p h =
-    All-append IsStepPlaced (news_steps packet what) (end_steps (is_ready s)) (news_placed here after packet what p h) (end_placed (is_ready s))
+told_placed : (s : Stage) (here after : Progress) (found : List ConnStep) (what : News) → NewsOf here what after → ArePlaced found → ArePlaced (told_steps s what found)
+told_placed s here after found what p h =
+    All-append IsStepPlaced (news_steps what found) (end_steps (is_ready s)) (news_placed here after found what p h) (end_placed (is_ready s))
 
 -- ---- streams
 
@@ -223,14 +190,14 @@ IsNear x = ArePlaced x.steps × AreBytes x.after.part
 no_bytes : AreBytes []
 no_bytes = All-nil IsByte
 
-judged_near : (h : Hearing) (packet : List ℕ) (j : Judged) → Suits (progress_of h.stage) j → AreBytes packet → IsNear (judged_heard h packet j)
-judged_near h packet (Ok answer) p b = (told_placed h.stage (progress_of h.stage) (progress_of answer.next) packet answer.news p b, no_bytes)
+judged_near : (h : Hearing) (packet : List ℕ) (j : Result (Telling Answer) Refusal) → TellingSuits (progress_of h.stage) j → Tells ArePlaced j → IsNear (judged_heard h packet j)
+judged_near h packet (Ok found) p b = (told_placed h.stage (progress_of h.stage) (progress_of found.what.next) found.told found.what.news p b, no_bytes)
 judged_near h packet (Err refusal) p b = (All-nil IsStepPlaced, no_bytes)
 
 packet_by : (b : Bool) (h : Hearing) (packet : List ℕ) → is_over h.stage ≡ b → AreBytes h.part → AreBytes packet
     → IsNear (cond b (silent h) (judged_heard h packet (packet_judged h.stage packet)))
 packet_by true h packet o p q = (All-nil IsStepPlaced, p)
-packet_by false h packet o p q = judged_near h packet (packet_judged h.stage packet) (packet_suits h.stage packet o) q
+packet_by false h packet o p q = judged_near h packet (packet_judged h.stage packet) (packet_suits h.stage packet o) (packet_finds found_placed h.stage packet q)
 
 packets_near : (h : Hearing) (ps : List (List ℕ)) → AreBytes h.part → All AreBytes ps → IsNear (packets_heard h ps)
 packets_near h [] p q = (All-nil IsStepPlaced, p)

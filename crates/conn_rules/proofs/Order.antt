@@ -1,6 +1,6 @@
 -- The steps of a stream come in order.
 use Rattle.std.proofs.Common.{◌≡◌, ℕ, List, [], ◌∷◌, ◌++◌, refl, ap, sym, ◌∙◌, subst, append-nil, Bool, true, false, cond}
-use Rattle.std.specs.Prelude.{◌==◌, ⊤, map, Option, Some, None, Result, Ok, Err}
+use Rattle.std.specs.Prelude.{◌==◌, ⊤, Option, Some, None, Result, Ok, Err}
 use Rattle.std.specs.List.{slice_range}
 use Rattle.wire_num.specs.Field.{Read, bind}
 use Rattle.px_core.specs.declared.surface.Size.{Size}
@@ -20,10 +20,8 @@ use Rattle.gcc_per.specs.declared.client_data.ClientData.{ClientData}
 use Rattle.gcc_per.specs.declared.gcc_fault.GccFault.{GccFault}
 use Rattle.gcc_per.specs.declared.gcc_fault.GccFault.TheVariants.{BadGcc, DepthNotOffered, TooManyChannels}
 use Rattle.gcc_per.specs.ClientData.{client_data_of}
-use Rattle.mcs_dom.specs.declared.bad_domain.BadDomain.{BadDomain}
 use Rattle.mcs_dom.specs.declared.domain_pdu.DomainPdu.{DomainPdu}
 use Rattle.mcs_dom.specs.declared.domain_pdu.DomainPdu.TheVariants.{Erect, Attach, Join, Data, Bye}
-use Rattle.mcs_dom.specs.DomainPdu.{domain_pdu_of}
 use Rattle.info_lic.specs.declared.info_fault.InfoFault.{InfoFault}
 use Rattle.info_lic.specs.declared.info_fault.InfoFault.TheVariants.{BadInfo}
 use Rattle.info_lic.specs.ClientInfo.{name_of}
@@ -42,6 +40,7 @@ use Rattle.share_pdu.specs.declared.share_fault.ShareFault.{ShareFault}
 use Rattle.share_pdu.specs.declared.share_fault.ShareFault.TheVariants.{BadShare, Compressed}
 use Rattle.share_pdu.specs.Bodies.{areas_of}
 use Rattle.share_pdu.specs.ClientPdu.{share_pdu_of}
+use Rattle.conn_rules.specs.declared.answer.Answer.{Answer}
 use Rattle.conn_rules.specs.declared.answer.News.{News}
 use Rattle.conn_rules.specs.declared.answer.News.TheVariants as news
 use Rattle.conn_rules.specs.declared.conn_step.ConnStep.{ConnStep}
@@ -54,20 +53,21 @@ use Rattle.conn_rules.specs.declared.stage.Stage.{Stage}
 use Rattle.conn_rules.specs.declared.stage.Stage.TheVariants as stage
 use Rattle.conn_rules.specs.declared.stage.SharePhase.{SharePhase}
 use Rattle.conn_rules.specs.declared.stage.SharePhase.TheVariants as phase
-use Rattle.conn_rules.specs.Answers.{Judged}
+use Rattle.conn_rules.specs.Answers.{Judged, Telling, beside, alone}
 use Rattle.conn_rules.specs.Channels.{io_channel, user_channel, is_virtual_or_user}
 use Rattle.conn_rules.specs.Connecting.{request_judged, client_judged, initial_judged}
 use Rattle.conn_rules.specs.Domain.{erect_judged, attach_judged, own, joined, dropped, by_channel}
 use Rattle.conn_rules.specs.Info.{info_judged}
-use Rattle.conn_rules.specs.Shares.{order_of, due, sets_read, input_deed, deed_of, read_deed}
-use Rattle.conn_rules.specs.Deeds.{answered, done, deed_judged}
+use Rattle.conn_rules.specs.Shares.{order_of, due, sets_read, other_deed, input_deed, deed_of, read_deed}
+use Rattle.conn_rules.specs.Deeds.{answered, done, deed_judged, found_judged}
 use Rattle.conn_rules.specs.Numbers.{place_behind}
 use Rattle.conn_rules.specs.Headers.{mcs_headers}
 use Rattle.conn_rules.specs.Packets.{mcs_place, body_in, info_data, both, share_data, joins_judged, shares_judged, pdu_in, mcs_judged, behind_headers, packet_judged}
-use Rattle.conn_rules.specs.Told.{event_steps, area_steps, pdu_steps, share_steps, mcs_steps, behind_headers_steps, packet_steps, news_steps, told_steps}
+use Rattle.conn_rules.specs.Told.{event_steps, area_steps, news_steps, told_steps}
 use Rattle.conn_rules.specs.Hearing.{Hearing, Heard, silent, is_over, judged_heard, packet_heard, packets_heard, between, with_head, with_rest, heard, host_handshake, first_hearing}
 use Rattle.conn_rules.specs.Progress.{Progress, progress_of, StaysOrEnds, ComeInOrder}
 use Rattle.conn_rules.specs.Progress.Progress.{Connecting, Ready, Ended}
+use Rattle.conn_rules.proofs.Found.{Finds, Tells, packet_finds}
 
 -- ---- one after another
 
@@ -174,6 +174,22 @@ either_suits : (here : Progress) (b : Bool) (j k : Judged) → Suits here j → 
 either_suits here true j k p q = p
 either_suits here false j k p q = q
 
+-- an answer with steps beside it
+abbrev pub TellingSuits : Progress → Result (Telling Answer) Refusal → Type 0
+TellingSuits here (Ok found) = NewsOf here found.what.news (progress_of found.what.next)
+TellingSuits here (Err refusal) = ⊤
+
+beside_suits : (here : Progress) (told : List ConnStep) (j : Judged) → Suits here j → TellingSuits here (beside told j)
+beside_suits here told (Ok answer) p = p
+beside_suits here told (Err refusal) p = tt
+
+alone_suits : (here : Progress) (j : Judged) → Suits here j → TellingSuits here (alone j)
+alone_suits here j p = beside_suits here [] j p
+
+either_telling : (here : Progress) (b : Bool) (j k : Result (Telling Answer) Refusal) → TellingSuits here j → TellingSuits here k → TellingSuits here (cond b j k)
+either_telling here true j k p q = p
+either_telling here false j k p q = q
+
 own_suits : (here : Progress) (channels from user : ℕ) (j : Judged) → Suits here j → Suits here (own channels from user j)
 own_suits here channels from user j p = either_suits here (user == user_channel channels) j _ p tt
 
@@ -260,8 +276,8 @@ DeedOf (phase.Confirm depth) (Some deed.Shutdown) = ⊥
 DeedOf (phase.Finish before next) (Some deed.Shutdown) = ⊥
 DeedOf phase.Ready (Some deed.Shutdown) = ⊤
 
-abbrev ReadOf : SharePhase → Result (Option Deed) Refusal → Type 0
-ReadOf here (Ok what) = DeedOf here what
+abbrev ReadOf : SharePhase → Result (Telling (Option Deed)) Refusal → Type 0
+ReadOf here (Ok found) = DeedOf here found.what
 ReadOf here (Err refusal) = ⊤
 
 either_deed : (here : SharePhase) (b : Bool) (d e : Option Deed) → DeedOf here d → DeedOf here e → DeedOf here (cond b d e)
@@ -275,11 +291,11 @@ input_suits : (here : SharePhase) (wanted : Option Deed) (place : ℕ) (r : Resu
 input_suits here wanted place (Ok events) p = p
 input_suits here wanted place (Err at) p = tt
 
-sets_suit : (depth : Depth) (place : ℕ) (r : Result Confirmed CapsFault) → ReadOf (phase.Confirm depth) (bind (sets_read place r) (λ confirmed. Ok (Some (deed.Confirm confirmed))))
+sets_suit : (depth : Depth) (place : ℕ) (r : Result Confirmed CapsFault) → ReadOf (phase.Confirm depth) (bind (sets_read place r) (λ confirmed. other_deed (Some (deed.Confirm confirmed))))
 sets_suit depth place (Ok confirmed) = tt
 sets_suit depth place (Err (BadCaps at)) = tt
 
-sets_again : (before : Confirmed) (next : Final) (place : ℕ) (r : Result Confirmed CapsFault) → ReadOf (phase.Finish before next) (bind (sets_read place r) (λ confirmed. Ok None))
+sets_again : (before : Confirmed) (next : Final) (place : ℕ) (r : Result Confirmed CapsFault) → ReadOf (phase.Finish before next) (bind (sets_read place r) (λ confirmed. other_deed None))
 sets_again before next place (Ok confirmed) = tt
 sets_again before next place (Err (BadCaps at)) = tt
 
@@ -356,21 +372,29 @@ done_suits channels (phase.Confirm depth) deed.Shutdown p = absurd p
 done_suits channels (phase.Finish before next) deed.Shutdown p = absurd p
 done_suits channels phase.Ready deed.Shutdown p = refl
 
-judged_suits : (channels from user : ℕ) (here : SharePhase) (place : ℕ) (r : Result (Option Deed) Refusal) → ReadOf here r → Suits (so_far here) (deed_judged channels from user here place r)
-judged_suits channels from user here place (Ok (Some what)) p = own_suits (so_far here) channels from user (done channels here what) (done_suits channels here what p)
-judged_suits channels from user here place (Ok None) p = tt
-judged_suits channels from user here place (Err refusal) p = tt
+judged_suits : (channels from user : ℕ) (here : SharePhase) (place : ℕ) (wanted : Option Deed) → DeedOf here wanted → Suits (so_far here) (deed_judged channels from user here place wanted)
+judged_suits channels from user here place (Some what) p = own_suits (so_far here) channels from user (done channels here what) (done_suits channels here what p)
+judged_suits channels from user here place None p = tt
 
-share_suits : (channels : ℕ) (here : SharePhase) (mcs : List ℕ) (user channel : ℕ) (body : Range) → Suits (so_far here) (share_data channels here mcs user channel body)
-share_suits channels here mcs user channel body = by_channel_suits (so_far here) channels mcs_place user channel (stage.Shares channels here) _ (keeps_phase channels here)
-    (judged_suits channels mcs_place user here _ _ (read_suits here _ (body_in mcs body) (share_pdu_of (body_in mcs body))))
+found_suits : (channels from user : ℕ) (here : SharePhase) (place : ℕ) (r : Result (Telling (Option Deed)) Refusal) → ReadOf here r
+    → TellingSuits (so_far here) (found_judged channels from user here place r)
+found_suits channels from user here place (Ok found) p =
+    beside_suits (so_far here) found.told (deed_judged channels from user here place found.what) (judged_suits channels from user here place found.what p)
+found_suits channels from user here place (Err refusal) p = tt
+
+share_suits : (channels : ℕ) (here : SharePhase) (mcs : List ℕ) (user channel : ℕ) (body : Range) → TellingSuits (so_far here) (share_data channels here mcs user channel body)
+share_suits channels here mcs user channel body =
+    either_telling (so_far here) (channel == io_channel) _ _
+    (found_suits channels mcs_place user here _ _ (read_suits here _ (body_in mcs body) (share_pdu_of (body_in mcs body))))
+    (alone_suits (so_far here) (own channels mcs_place user (dropped channels mcs_place channel (stage.Shares channels here)))
+    (own_suits (so_far here) channels mcs_place user _ (dropped_suits (so_far here) channels mcs_place channel (stage.Shares channels here) (keeps_phase channels here))))
 
 leaves_suits : (here : SharePhase) → NewsOf (so_far here) (news.Step step.Bye) Ended
 leaves_suits (phase.Confirm depth) = refl
 leaves_suits (phase.Finish before next) = refl
 leaves_suits phase.Ready = refl
 
-shares_suits : (channels : ℕ) (here : SharePhase) (mcs : List ℕ) (p : DomainPdu) → Suits (so_far here) (shares_judged channels here mcs p)
+shares_suits : (channels : ℕ) (here : SharePhase) (mcs : List ℕ) (p : DomainPdu) → TellingSuits (so_far here) (shares_judged channels here mcs p)
 shares_suits channels here mcs Erect = tt
 shares_suits channels here mcs Attach = tt
 shares_suits channels here mcs (Join user channel) = tt
@@ -383,24 +407,31 @@ bind_suits : (here : Progress) (r : Result DomainPdu Refusal) (next : DomainPdu 
 bind_suits here (Ok p) next all = all p
 bind_suits here (Err refusal) next all = tt
 
-mcs_suits : (s : Stage) (mcs : List ℕ) → is_over s ≡ false → progress_of s ≡ progress_of s → Suits (progress_of s) (mcs_judged s mcs)
+bind_telling : (here : Progress) (r : Result DomainPdu Refusal) (next : DomainPdu → Result (Telling Answer) Refusal) → ((p : DomainPdu) → TellingSuits here (next p)) → TellingSuits here (bind r next)
+bind_telling here (Ok p) next all = all p
+bind_telling here (Err refusal) next all = tt
+
+mcs_suits : (s : Stage) (mcs : List ℕ) → is_over s ≡ false → progress_of s ≡ progress_of s → TellingSuits (progress_of s) (mcs_judged s mcs)
 mcs_suits stage.Request mcs e same = refl
-mcs_suits (stage.Initial asked) mcs e same = initial_suits asked mcs_place mcs (user_data_of mcs)
-mcs_suits (stage.Erect client) mcs e same = bind_suits Connecting (pdu_in mcs) _ (λ p. erect_suits client mcs_place p)
-mcs_suits (stage.Attach client) mcs e same = bind_suits Connecting (pdu_in mcs) _ (λ p. attach_suits client mcs_place p)
-mcs_suits (stage.Joins client user io) mcs e same = bind_suits Connecting (pdu_in mcs) _ (λ p. joins_suits client user io mcs p)
-mcs_suits (stage.Shares channels (phase.Confirm depth)) mcs e same = bind_suits Connecting (pdu_in mcs) _ (λ p. shares_suits channels (phase.Confirm depth) mcs p)
-mcs_suits (stage.Shares channels (phase.Finish before next)) mcs e same = bind_suits Connecting (pdu_in mcs) _ (λ p. shares_suits channels (phase.Finish before next) mcs p)
-mcs_suits (stage.Shares channels phase.Ready) mcs e same = bind_suits Ready (pdu_in mcs) _ (λ p. shares_suits channels phase.Ready mcs p)
+mcs_suits (stage.Initial asked) mcs e same = alone_suits Connecting (initial_judged asked mcs_place mcs (user_data_of mcs)) (initial_suits asked mcs_place mcs (user_data_of mcs))
+mcs_suits (stage.Erect client) mcs e same =
+    alone_suits Connecting (bind (pdu_in mcs) (λ p. erect_judged client mcs_place p)) (bind_suits Connecting (pdu_in mcs) _ (λ p. erect_suits client mcs_place p))
+mcs_suits (stage.Attach client) mcs e same =
+    alone_suits Connecting (bind (pdu_in mcs) (λ p. attach_judged client mcs_place p)) (bind_suits Connecting (pdu_in mcs) _ (λ p. attach_suits client mcs_place p))
+mcs_suits (stage.Joins client user io) mcs e same =
+    alone_suits Connecting (bind (pdu_in mcs) (λ p. joins_judged client user io mcs p)) (bind_suits Connecting (pdu_in mcs) _ (λ p. joins_suits client user io mcs p))
+mcs_suits (stage.Shares channels (phase.Confirm depth)) mcs e same = bind_telling Connecting (pdu_in mcs) _ (λ p. shares_suits channels (phase.Confirm depth) mcs p)
+mcs_suits (stage.Shares channels (phase.Finish before next)) mcs e same = bind_telling Connecting (pdu_in mcs) _ (λ p. shares_suits channels (phase.Finish before next) mcs p)
+mcs_suits (stage.Shares channels phase.Ready) mcs e same = bind_telling Ready (pdu_in mcs) _ (λ p. shares_suits channels phase.Ready mcs p)
 mcs_suits stage.Over mcs e same = absurd (let no : ⊥ = cc in no)
 mcs_suits (stage.Refused k at) mcs e same = absurd (let no : ⊥ = cc in no)
 
-headers_suit : (s : Stage) (packet : List ℕ) (r : Read (List ℕ)) → is_over s ≡ false → Suits (progress_of s) (behind_headers packet r s)
+headers_suit : (s : Stage) (packet : List ℕ) (r : Read (List ℕ)) → is_over s ≡ false → TellingSuits (progress_of s) (behind_headers packet r s)
 headers_suit s packet (Ok v) e = mcs_suits s v.1 e refl
 headers_suit s packet (Err left) e = tt
 
-pub packet_suits : (s : Stage) (packet : List ℕ) → is_over s ≡ false → Suits (progress_of s) (packet_judged s packet)
-packet_suits stage.Request packet e = request_suits (request_of packet)
+pub packet_suits : (s : Stage) (packet : List ℕ) → is_over s ≡ false → TellingSuits (progress_of s) (packet_judged s packet)
+packet_suits stage.Request packet e = alone_suits Connecting (request_judged (request_of packet)) (request_suits (request_of packet))
 packet_suits (stage.Initial asked) packet e = headers_suit (stage.Initial asked) packet (fields_at mcs_headers packet) e
 packet_suits (stage.Erect client) packet e = headers_suit (stage.Erect client) packet (fields_at mcs_headers packet) e
 packet_suits (stage.Attach client) packet e = headers_suit (stage.Attach client) packet (fields_at mcs_headers packet) e
@@ -411,7 +442,7 @@ packet_suits (stage.Refused k at) packet e = absurd (let no : ⊥ = cc in no)
 
 -- ---- what a packet tells
 
-events_in_order : (events : List Event) → ComeInOrder Ready (map (λ event. step.Event event) events) Ready
+events_in_order : (events : List Event) → ComeInOrder Ready (event_steps events) Ready
 events_in_order [] = tt
 events_in_order (event ∷ events) = events_in_order events
 
@@ -419,79 +450,59 @@ areas_in_order : (areas : List Rect) → ComeInOrder Ready (area_steps areas) Re
 areas_in_order [] = tt
 areas_in_order (area ∷ areas) = areas_in_order areas
 
-event_steps_in_order : (r : Result (List Event) ℕ) → ComeInOrder Ready (event_steps r) Ready
-event_steps_in_order (Ok events) = events_in_order events
-event_steps_in_order (Err at) = tt
+-- steps that a client may say once it is ready
+abbrev AllLater : List ConnStep → Type 0
+AllLater steps = ComeInOrder Ready steps Ready
 
-pdu_in_order : (body : List ℕ) (p : ClientPdu) → ComeInOrder Ready (pdu_steps body p) Ready
-pdu_in_order body (pdu.Confirm r) = tt
-pdu_in_order body pdu.Synchronize = tt
-pdu_in_order body pdu.Cooperate = tt
-pdu_in_order body pdu.Request = tt
-pdu_in_order body pdu.FontList = tt
-pdu_in_order body pdu.KeyList = tt
-pdu_in_order body (pdu.Input r) = event_steps_in_order (events_of (slice_range body r.from r.to))
-pdu_in_order body (pdu.Refresh r) = areas_in_order (areas_of (slice_range body r.from r.to))
-pdu_in_order body (pdu.Suppress stop) = tt
-pdu_in_order body pdu.Shutdown = tt
-pdu_in_order body pdu.Other = tt
-
-share_in_order : (body : List ℕ) (r : Result ClientPdu ShareFault) → ComeInOrder Ready (share_steps body r) Ready
-share_in_order body (Ok p) = pdu_in_order body p
-share_in_order body (Err fault) = tt
-
-mcs_in_order : (mcs : List ℕ) (r : Result DomainPdu BadDomain) → ComeInOrder Ready (mcs_steps mcs r) Ready
-mcs_in_order mcs (Ok Erect) = tt
-mcs_in_order mcs (Ok Attach) = tt
-mcs_in_order mcs (Ok (Join user channel)) = tt
-mcs_in_order mcs (Ok (Data user channel body)) = share_in_order (slice_range mcs body.from body.to) (share_pdu_of (slice_range mcs body.from body.to))
-mcs_in_order mcs (Ok (Bye reason)) = tt
-mcs_in_order mcs (Err fault) = tt
-
-headers_in_order : (r : Read (List ℕ)) → ComeInOrder Ready (behind_headers_steps r) Ready
-headers_in_order (Ok v) = mcs_in_order v.1 (domain_pdu_of v.1)
-headers_in_order (Err left) = tt
+found_later : Finds AllLater (λ bytes. ⊤)
+found_later = record {
+  none = tt;
+  events = events_in_order;
+  areas = λ body q. areas_in_order (areas_of body);
+  part = λ bytes from to q. tt;
+  behind = λ packet values left e q. tt;
+}
 
 -- with the end of the packet
 ended_in_order : (steps : List ConnStep) → ComeInOrder Ready steps Ready → ComeInOrder Ready (steps ++ step.Packet ∷ []) Ready
 ended_in_order steps p = in_order_then Ready Ready Ready steps (step.Packet ∷ []) p tt
 
-early_in_order : (packet : List ℕ) (what : News) (after : Progress) → EarlyNews what after → ComeInOrder Connecting (news_steps packet what ++ []) after
-early_in_order packet news.Nothing after e = subst (λ d. StaysOrEnds Connecting d) (sym e) tt
-early_in_order packet (news.Step (step.Named name)) after e = subst (λ d. StaysOrEnds Connecting d) (sym e) tt
-early_in_order packet (news.Step (step.Ready confirmed)) after e = subst (λ d. StaysOrEnds Ready d) (sym e) tt
-early_in_order packet (news.Step (step.Event event)) after e = absurd e
-early_in_order packet (news.Step (step.Refresh area)) after e = absurd e
-early_in_order packet (news.Step (step.Suppress stop)) after e = absurd e
-early_in_order packet (news.Step step.Shutdown) after e = absurd e
-early_in_order packet (news.Step step.Bye) after e = (refl, e)
-early_in_order packet (news.Step step.Packet) after e = absurd e
-early_in_order packet news.Pdu after e = absurd e
+early_in_order : (found : List ConnStep) (what : News) (after : Progress) → EarlyNews what after → ComeInOrder Connecting (news_steps what found ++ []) after
+early_in_order found news.Nothing after e = subst (λ d. StaysOrEnds Connecting d) (sym e) tt
+early_in_order found (news.Step (step.Named name)) after e = subst (λ d. StaysOrEnds Connecting d) (sym e) tt
+early_in_order found (news.Step (step.Ready confirmed)) after e = subst (λ d. StaysOrEnds Ready d) (sym e) tt
+early_in_order found (news.Step (step.Event event)) after e = absurd e
+early_in_order found (news.Step (step.Refresh area)) after e = absurd e
+early_in_order found (news.Step (step.Suppress stop)) after e = absurd e
+early_in_order found (news.Step step.Shutdown) after e = absurd e
+early_in_order found (news.Step step.Bye) after e = (refl, e)
+early_in_order found (news.Step step.Packet) after e = absurd e
+early_in_order found news.Pdu after e = absurd e
 
-later_in_order : (packet : List ℕ) (what : News) (after : Progress) → LaterNews what after → ComeInOrder Ready (news_steps packet what ++ step.Packet ∷ []) after
-later_in_order packet news.Nothing after e = subst (λ d. StaysOrEnds Ready d) (sym e) tt
-later_in_order packet (news.Step (step.Named name)) after e = absurd e
-later_in_order packet (news.Step (step.Ready confirmed)) after e = absurd e
-later_in_order packet (news.Step (step.Event event)) after e = absurd e
-later_in_order packet (news.Step (step.Refresh area)) after e = absurd e
-later_in_order packet (news.Step (step.Suppress stop)) after e = subst (λ d. StaysOrEnds Ready d) (sym e) tt
-later_in_order packet (news.Step step.Shutdown) after e = (refl, e)
-later_in_order packet (news.Step step.Bye) after e = (refl, e)
-later_in_order packet (news.Step step.Packet) after e = absurd e
-later_in_order packet news.Pdu after e = subst (λ d. ComeInOrder Ready (packet_steps packet ++ step.Packet ∷ []) d) (sym e)
-    (ended_in_order (packet_steps packet) (headers_in_order (fields_at mcs_headers packet)))
+later_in_order : (found : List ConnStep) (what : News) (after : Progress) → LaterNews what after → ComeInOrder Ready found Ready → ComeInOrder Ready (news_steps what found ++ step.Packet ∷ []) after
+later_in_order found news.Nothing after e q = subst (λ d. StaysOrEnds Ready d) (sym e) tt
+later_in_order found (news.Step (step.Named name)) after e q = absurd e
+later_in_order found (news.Step (step.Ready confirmed)) after e q = absurd e
+later_in_order found (news.Step (step.Event event)) after e q = absurd e
+later_in_order found (news.Step (step.Refresh area)) after e q = absurd e
+later_in_order found (news.Step (step.Suppress stop)) after e q = subst (λ d. StaysOrEnds Ready d) (sym e) tt
+later_in_order found (news.Step step.Shutdown) after e q = (refl, e)
+later_in_order found (news.Step step.Bye) after e q = (refl, e)
+later_in_order found (news.Step step.Packet) after e q = absurd e
+later_in_order found news.Pdu after e q = subst (λ d. ComeInOrder Ready (found ++ step.Packet ∷ []) d) (sym e) (ended_in_order found q)
 
-told_in_order : (s : Stage) (packet : List ℕ) (what : News) (after : Progress) → is_over s ≡ false → NewsOf (progress_of s) what after → ComeInOrder (progress_of s) (told_steps s packet what) after
-told_in_order stage.Request packet what after o p = early_in_order packet what after p
-told_in_order (stage.Initial asked) packet what after o p = early_in_order packet what after p
-told_in_order (stage.Erect client) packet what after o p = early_in_order packet what after p
-told_in_order (stage.Attach client) packet what after o p = early_in_order packet what after p
-told_in_order (stage.Joins client user io) packet what after o p = early_in_order packet what after p
-told_in_order (stage.Shares channels (phase.Confirm depth)) packet what after o p = early_in_order packet what after p
-told_in_order (stage.Shares channels (phase.Finish before next)) packet what after o p = early_in_order packet what after p
-told_in_order (stage.Shares channels phase.Ready) packet what after o p = later_in_order packet what after p
-told_in_order stage.Over packet what after o p = absurd p
-told_in_order (stage.Refused k at) packet what after o p = absurd p
+told_in_order : (s : Stage) (found : List ConnStep) (what : News) (after : Progress) → is_over s ≡ false → NewsOf (progress_of s) what after → ComeInOrder Ready found Ready
+    → ComeInOrder (progress_of s) (told_steps s what found) after
+told_in_order stage.Request found what after o p q = early_in_order found what after p
+told_in_order (stage.Initial asked) found what after o p q = early_in_order found what after p
+told_in_order (stage.Erect client) found what after o p q = early_in_order found what after p
+told_in_order (stage.Attach client) found what after o p q = early_in_order found what after p
+told_in_order (stage.Joins client user io) found what after o p q = early_in_order found what after p
+told_in_order (stage.Shares channels (phase.Confirm depth)) found what after o p q = early_in_order found what after p
+told_in_order (stage.Shares channels (phase.Finish before next)) found what after o p q = early_in_order found what after p
+told_in_order (stage.Shares channels phase.Ready) found what after o p q = later_in_order found what after p q
+told_in_order stage.Over found what after o p q = absurd p
+told_in_order (stage.Refused k at) found what after o p q = absurd p
 
 -- ---- streams
 
@@ -510,13 +521,15 @@ none_in_order Ended = refl
 abbrev pub IsInOrder : Hearing → Heard → Type 0
 IsInOrder h x = ComeInOrder (progress_of h.stage) x.steps (progress_of x.after.stage)
 
-judged_in_order : (h : Hearing) (packet : List ℕ) (j : Judged) → is_over h.stage ≡ false → Suits (progress_of h.stage) j → IsInOrder h (judged_heard h packet j)
-judged_in_order h packet (Ok answer) o p = told_in_order h.stage packet answer.news (progress_of answer.next) o p
-judged_in_order h packet (Err refusal) o p = refused_in_order (progress_of h.stage)
+judged_in_order : (h : Hearing) (packet : List ℕ) (j : Result (Telling Answer) Refusal) → is_over h.stage ≡ false → TellingSuits (progress_of h.stage) j → Tells AllLater j
+    → IsInOrder h (judged_heard h packet j)
+judged_in_order h packet (Ok found) o p q = told_in_order h.stage found.told found.what.news (progress_of found.what.next) o p q
+judged_in_order h packet (Err refusal) o p q = refused_in_order (progress_of h.stage)
 
 packet_by : (b : Bool) (h : Hearing) (packet : List ℕ) → is_over h.stage ≡ b → IsInOrder h (cond b (silent h) (judged_heard h packet (packet_judged h.stage packet)))
 packet_by true h packet o = none_in_order (progress_of h.stage)
-packet_by false h packet o = judged_in_order h packet (packet_judged h.stage packet) o (packet_suits h.stage packet o)
+packet_by false h packet o =
+    judged_in_order h packet (packet_judged h.stage packet) o (packet_suits h.stage packet o) (packet_finds found_later h.stage packet tt)
 
 packets_in_order : (h : Hearing) (ps : List (List ℕ)) → IsInOrder h (packets_heard h ps)
 packets_in_order h [] = none_in_order (progress_of h.stage)

@@ -8,9 +8,11 @@ use Rattle.tpkt_x224.proofs.Cutting.{uncut, once, joined}
 use Rattle.tpkt_x224.proofs.Heads.{version_head, length_head}
 use Rattle.conn_rules.specs.declared.conn_step.ConnStep.{ConnStep}
 use Rattle.conn_rules.specs.Hearing.{Hearing, Heard, silent, then_heard, is_over, refused_here, judged_heard, packet_heard, packets_heard, between, with_head, with_rest, before_rest, cut_heard, heard, pieces_heard}
-use Rattle.conn_rules.specs.Answers.{Judged}
+use Rattle.conn_rules.specs.declared.answer.Answer.{Answer}
+use Rattle.conn_rules.specs.declared.refusal.Refusal.{Refusal}
+use Rattle.conn_rules.specs.Answers.{Telling}
 use Rattle.conn_rules.specs.Packets.{packet_judged}
-use Rattle.std.specs.Prelude.{Ok, Err, flat_map}
+use Rattle.std.specs.Prelude.{Result, Ok, Err, flat_map}
 
 -- ---- packets
 
@@ -38,11 +40,11 @@ over_silent h (p ∷ ps) e =
     ap (λ x. then_heard x (packets_heard x.after ps)) (over_packet h p e) ∙ over_silent h ps e
 
 -- between packets nothing is there of one
-judged_between : (h : Hearing) (p : List ℕ) (j : Judged) → (judged_heard h p j).after.part ≡ []
-judged_between h p (Ok answer) = refl
+judged_between : (h : Hearing) (p : List ℕ) (j : Result (Telling Answer) Refusal) → (judged_heard h p j).after.part ≡ []
+judged_between h p (Ok found) = refl
 judged_between h p (Err refusal) = refl
 
-packet_between_by : (b : Bool) (h : Hearing) (p : List ℕ) (j : Judged) → h.part ≡ [] → (cond b (silent h) (judged_heard h p j)).after.part ≡ []
+packet_between_by : (b : Bool) (h : Hearing) (p : List ℕ) (j : Result (Telling Answer) Refusal) → h.part ≡ [] → (cond b (silent h) (judged_heard h p j)).after.part ≡ []
 packet_between_by true h p j e = e
 packet_between_by false h p j e = judged_between h p j
 

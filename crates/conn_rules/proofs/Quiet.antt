@@ -12,18 +12,20 @@ use Rattle.share_pdu.specs.declared.client_pdu.ClientPdu.TheVariants as pdu
 use Rattle.share_pdu.specs.declared.share_fault.ShareFault.{ShareFault}
 use Rattle.share_pdu.specs.declared.share_fault.ShareFault.TheVariants.{BadShare, Compressed}
 use Rattle.share_pdu.specs.ClientPdu.{share_pdu_of}
+use Rattle.conn_rules.specs.declared.answer.Answer.{Answer}
 use Rattle.conn_rules.specs.declared.answer.Reply.TheVariants as reply
+use Rattle.conn_rules.specs.declared.conn_step.ConnStep.{ConnStep}
 use Rattle.conn_rules.specs.declared.deed.Deed.{Deed}
 use Rattle.conn_rules.specs.declared.deed.Deed.TheVariants as deed
 use Rattle.conn_rules.specs.declared.refusal.Refusal.{Refusal}
 use Rattle.conn_rules.specs.declared.stage.Stage.{Stage}
 use Rattle.conn_rules.specs.declared.stage.Stage.TheVariants as stage
 use Rattle.conn_rules.specs.declared.stage.SharePhase.TheVariants as phase
-use Rattle.conn_rules.specs.Answers.{Judged}
+use Rattle.conn_rules.specs.Answers.{Judged, Telling, beside}
 use Rattle.conn_rules.specs.Channels.{io_channel, user_channel, is_virtual_or_user}
-use Rattle.conn_rules.specs.Domain.{own, dropped, by_channel}
+use Rattle.conn_rules.specs.Domain.{own, dropped}
 use Rattle.conn_rules.specs.Shares.{ready_deed, input_deed, deed_of, read_deed}
-use Rattle.conn_rules.specs.Deeds.{done, deed_judged}
+use Rattle.conn_rules.specs.Deeds.{done, deed_judged, found_judged}
 use Rattle.conn_rules.specs.Headers.{mcs_headers}
 use Rattle.conn_rules.specs.Packets.{mcs_place, body_in, share_data, shares_judged, pdu_in, behind_headers, packet_judged}
 use Rattle.conn_rules.specs.Replies.{reply_bytes}
@@ -50,6 +52,19 @@ abbrev QuietAnswer : Judged → Type 0
 QuietAnswer (Ok answer) = (answer.reply ≡ reply.Nothing) × IsQuiet answer.next
 QuietAnswer (Err refusal) = Unit {0}
 
+-- with steps beside the answer
+abbrev QuietTelling : Result (Telling Answer) Refusal → Type 0
+QuietTelling (Ok found) = (found.what.reply ≡ reply.Nothing) × IsQuiet found.what.next
+QuietTelling (Err refusal) = Unit {0}
+
+beside_quiet : (told : List ConnStep) (j : Judged) → QuietAnswer j → QuietTelling (beside told j)
+beside_quiet told (Ok answer) p = p
+beside_quiet told (Err refusal) p = tt
+
+either_telling : (b : Bool) (j k : Result (Telling Answer) Refusal) → QuietTelling j → QuietTelling k → QuietTelling (cond b j k)
+either_telling true j k p q = p
+either_telling false j k p q = q
+
 -- ---- channels
 
 either_quiet : (b : Bool) (j k : Judged) → QuietAnswer j → QuietAnswer k → QuietAnswer (cond b j k)
@@ -61,10 +76,6 @@ own_quiet channels from user j p = either_quiet (user == user_channel channels) 
 
 dropped_quiet : (channels from channel : ℕ) → QuietAnswer (dropped channels from channel (stage.Shares channels phase.Ready))
 dropped_quiet channels from channel = either_quiet (is_virtual_or_user channels channel) _ _ (refl, tt) tt
-
-by_channel_quiet : (channels from user channel : ℕ) (j : Judged) → QuietAnswer j → QuietAnswer (by_channel channels from user channel (stage.Shares channels phase.Ready) j)
-by_channel_quiet channels from user channel j p =
-    either_quiet (channel == io_channel) j _ p (own_quiet channels from user _ (dropped_quiet channels from channel))
 
 -- ---- share PDUs
 
@@ -78,8 +89,8 @@ IsReadyDeed (Some deed.Tell) = Unit {0}
 IsReadyDeed (Some (deed.Suppress stop)) = Unit {0}
 IsReadyDeed (Some deed.Shutdown) = Unit {0}
 
-abbrev IsReadyRead : Result (Option Deed) Refusal → Type 0
-IsReadyRead (Ok what) = IsReadyDeed what
+abbrev IsReadyRead : Result (Telling (Option Deed)) Refusal → Type 0
+IsReadyRead (Ok found) = IsReadyDeed found.what
 IsReadyRead (Err refusal) = Unit {0}
 
 input_ready : (r : Range) (place : ℕ) (e : Result (List Event) ℕ) → IsReadyRead (input_deed (ready_deed (pdu.Input r)) place e)
@@ -112,29 +123,36 @@ done_quiet channels deed.Tell p = (refl, tt)
 done_quiet channels (deed.Suppress stop) p = (refl, tt)
 done_quiet channels deed.Shutdown p = (refl, tt)
 
-judged_quiet : (channels from user place : ℕ) (r : Result (Option Deed) Refusal) → IsReadyRead r → QuietAnswer (deed_judged channels from user phase.Ready place r)
-judged_quiet channels from user place (Ok (Some what)) p = own_quiet channels from user (done channels phase.Ready what) (done_quiet channels what p)
-judged_quiet channels from user place (Ok None) p = tt
-judged_quiet channels from user place (Err refusal) p = tt
+judged_quiet : (channels from user place : ℕ) (wanted : Option Deed) → IsReadyDeed wanted → QuietAnswer (deed_judged channels from user phase.Ready place wanted)
+judged_quiet channels from user place (Some what) p = own_quiet channels from user (done channels phase.Ready what) (done_quiet channels what p)
+judged_quiet channels from user place None p = tt
 
-data_quiet : (channels : ℕ) (mcs : List ℕ) (user channel : ℕ) (body : Range) → QuietAnswer (share_data channels phase.Ready mcs user channel body)
+found_quiet : (channels from user place : ℕ) (r : Result (Telling (Option Deed)) Refusal) → IsReadyRead r → QuietTelling (found_judged channels from user phase.Ready place r)
+found_quiet channels from user place (Ok found) p =
+    beside_quiet found.told (deed_judged channels from user phase.Ready place found.what) (judged_quiet channels from user place found.what p)
+found_quiet channels from user place (Err refusal) p = tt
+
+data_quiet : (channels : ℕ) (mcs : List ℕ) (user channel : ℕ) (body : Range) → QuietTelling (share_data channels phase.Ready mcs user channel body)
 data_quiet channels mcs user channel body =
-    by_channel_quiet channels mcs_place user channel _ (judged_quiet channels mcs_place user _ _ (read_ready _ (body_in mcs body) (share_pdu_of (body_in mcs body))))
+    either_telling (channel == io_channel) _ _
+    (found_quiet channels mcs_place user _ _ (read_ready _ (body_in mcs body) (share_pdu_of (body_in mcs body))))
+    (beside_quiet [] (own channels mcs_place user (dropped channels mcs_place channel (stage.Shares channels phase.Ready)))
+    (own_quiet channels mcs_place user _ (dropped_quiet channels mcs_place channel)))
 
 -- ---- packets
 
-pdu_quiet : (channels : ℕ) (mcs : List ℕ) (p : DomainPdu) → QuietAnswer (shares_judged channels phase.Ready mcs p)
+pdu_quiet : (channels : ℕ) (mcs : List ℕ) (p : DomainPdu) → QuietTelling (shares_judged channels phase.Ready mcs p)
 pdu_quiet channels mcs Erect = tt
 pdu_quiet channels mcs Attach = tt
 pdu_quiet channels mcs (Join user channel) = tt
 pdu_quiet channels mcs (Data user channel body) = data_quiet channels mcs user channel body
 pdu_quiet channels mcs (Bye reason) = (refl, tt)
 
-bind_quiet : (channels : ℕ) (mcs : List ℕ) (r : Result DomainPdu Refusal) → QuietAnswer (bind r (λ p. shares_judged channels phase.Ready mcs p))
+bind_quiet : (channels : ℕ) (mcs : List ℕ) (r : Result DomainPdu Refusal) → QuietTelling (bind r (λ p. shares_judged channels phase.Ready mcs p))
 bind_quiet channels mcs (Ok p) = pdu_quiet channels mcs p
 bind_quiet channels mcs (Err refusal) = tt
 
-headers_quiet : (channels : ℕ) (packet : List ℕ) (r : Read (List ℕ)) → QuietAnswer (behind_headers packet r (stage.Shares channels phase.Ready))
+headers_quiet : (channels : ℕ) (packet : List ℕ) (r : Read (List ℕ)) → QuietTelling (behind_headers packet r (stage.Shares channels phase.Ready))
 headers_quiet channels packet (Ok v) = bind_quiet channels v.1 (pdu_in v.1)
 headers_quiet channels packet (Err left) = tt
 
@@ -143,8 +161,8 @@ headers_quiet channels packet (Err left) = tt
 abbrev IsQuietHeard : Heard → Type 0
 IsQuietHeard x = (x.replies ≡ []) × IsQuiet x.after.stage
 
-judged_heard_quiet : (h : Hearing) (packet : List ℕ) (j : Judged) → QuietAnswer j → IsQuietHeard (judged_heard h packet j)
-judged_heard_quiet h packet (Ok answer) q = (ap (reply_bytes h.size) q.0, q.1)
+judged_heard_quiet : (h : Hearing) (packet : List ℕ) (j : Result (Telling Answer) Refusal) → QuietTelling j → IsQuietHeard (judged_heard h packet j)
+judged_heard_quiet h packet (Ok found) q = (ap (reply_bytes h.size) q.0, q.1)
 judged_heard_quiet h packet (Err refusal) q = (refl, tt)
 
 packet_quiet : (s : Stage) (h : Hearing) (packet : List ℕ) → IsQuiet s → IsQuietHeard (cond (is_over s) (record { replies = []; steps = []; after = record h { stage = s } }) (judged_heard (record h { stage = s }) packet (packet_judged s packet)))

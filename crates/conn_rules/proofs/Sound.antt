@@ -1,5 +1,5 @@
 -- Refusals have numbers from 1 to 14, and what is confirmed has its caches.
-use Rattle.std.proofs.Common.{◌≤◌, ℕ, List, arith, Bool, true, false, cond}
+use Rattle.std.proofs.Common.{◌≤◌, ℕ, List, [], arith, Bool, true, false, cond}
 use Rattle.std.specs.Prelude.{◌==◌, ⊤, Option, Some, None, Result, Ok, Err}
 use Rattle.std.specs.List.{slice_range}
 use Rattle.wire_num.specs.Field.{Read, bind}
@@ -34,9 +34,11 @@ use Rattle.share_pdu.specs.declared.finals.Final.TheVariants as final
 use Rattle.share_pdu.specs.declared.share_fault.ShareFault.{ShareFault}
 use Rattle.share_pdu.specs.declared.share_fault.ShareFault.TheVariants.{BadShare, Compressed}
 use Rattle.share_pdu.specs.ClientPdu.{share_pdu_of}
+use Rattle.conn_rules.specs.declared.answer.Answer.{Answer}
 use Rattle.conn_rules.specs.declared.answer.News.{News}
 use Rattle.conn_rules.specs.declared.answer.News.TheVariants as news
 use Rattle.conn_rules.specs.declared.client.Client.{Client}
+use Rattle.conn_rules.specs.declared.conn_step.ConnStep.{ConnStep}
 use Rattle.conn_rules.specs.declared.deed.Deed.{Deed}
 use Rattle.conn_rules.specs.declared.deed.Deed.TheVariants as deed
 use Rattle.conn_rules.specs.declared.refusal.Refusal.{Refusal}
@@ -44,16 +46,16 @@ use Rattle.conn_rules.specs.declared.stage.Stage.{Stage}
 use Rattle.conn_rules.specs.declared.stage.Stage.TheVariants as stage
 use Rattle.conn_rules.specs.declared.stage.SharePhase.{SharePhase}
 use Rattle.conn_rules.specs.declared.stage.SharePhase.TheVariants as phase
-use Rattle.conn_rules.specs.Answers.{Judged}
+use Rattle.conn_rules.specs.Answers.{Judged, Telling, beside, alone}
 use Rattle.conn_rules.specs.Channels.{io_channel, user_channel, is_virtual_or_user}
 use Rattle.conn_rules.specs.Connecting.{request_judged, client_judged, initial_judged}
 use Rattle.conn_rules.specs.Domain.{placed_pdu, erect_judged, attach_judged, own, joined, dropped, by_channel}
 use Rattle.conn_rules.specs.Info.{info_judged}
-use Rattle.conn_rules.specs.Shares.{order_of, due, early_deed, finish_deed, ready_deed, plain_deed, sets_read, input_deed, deed_of, read_deed}
-use Rattle.conn_rules.specs.Deeds.{answered, done, deed_judged}
+use Rattle.conn_rules.specs.Shares.{order_of, due, early_deed, finish_deed, ready_deed, plain_deed, sets_read, other_deed, input_deed, deed_of, read_deed}
+use Rattle.conn_rules.specs.Deeds.{answered, done, deed_judged, found_judged}
 use Rattle.conn_rules.specs.Numbers.{place_behind}
 use Rattle.conn_rules.specs.Headers.{mcs_headers}
-use Rattle.conn_rules.specs.Packets.{mcs_place, body_in, info_data, both, share_data, joins_judged, shares_judged, mcs_judged, behind_headers, packet_judged}
+use Rattle.conn_rules.specs.Packets.{mcs_place, body_in, info_data, both, share_data, joins_judged, shares_judged, pdu_in, mcs_judged, behind_headers, packet_judged}
 use Rattle.conn_rules.specs.Sound.{IsRefusalNumber, HasItsCaches, IsSound, ConfirmsCaches}
 use Rattle.conn_rules.proofs.Caches.{GivesCaches, confirmed_caches}
 
@@ -72,6 +74,22 @@ SoundNews news.Pdu = ⊤
 abbrev pub SoundAnswer : Judged → Type 0
 SoundAnswer (Ok answer) = SoundNews answer.news × IsSound answer.next
 SoundAnswer (Err refusal) = IsRefusalNumber refusal.k
+
+-- with steps beside the answer
+abbrev pub SoundTelling : Result (Telling Answer) Refusal → Type 0
+SoundTelling (Ok found) = SoundNews found.what.news × IsSound found.what.next
+SoundTelling (Err refusal) = IsRefusalNumber refusal.k
+
+beside_sound : (told : List ConnStep) (j : Judged) → SoundAnswer j → SoundTelling (beside told j)
+beside_sound told (Ok answer) p = p
+beside_sound told (Err refusal) p = p
+
+alone_sound : (j : Judged) → SoundAnswer j → SoundTelling (alone j)
+alone_sound j p = beside_sound [] j p
+
+either_telling : (b : Bool) (j k : Result (Telling Answer) Refusal) → SoundTelling j → SoundTelling k → SoundTelling (cond b j k)
+either_telling true j k p q = p
+either_telling false j k p q = q
 
 either_sound : (b : Bool) (j k : Judged) → SoundAnswer j → SoundAnswer k → SoundAnswer (cond b j k)
 either_sound true j k p q = p
@@ -154,8 +172,8 @@ SoundDeed (Some deed.Tell) = ⊤
 SoundDeed (Some (deed.Suppress stop)) = ⊤
 SoundDeed (Some deed.Shutdown) = ⊤
 
-abbrev SoundRead : Result (Option Deed) Refusal → Type 0
-SoundRead (Ok what) = SoundDeed what
+abbrev SoundRead : Result (Telling (Option Deed)) Refusal → Type 0
+SoundRead (Ok found) = SoundDeed found.what
 SoundRead (Err refusal) = IsRefusalNumber refusal.k
 
 abbrev SoundPhase : SharePhase → Type 0
@@ -212,11 +230,11 @@ plain_sound (phase.Confirm depth) p h = early_sound p
 plain_sound (phase.Finish confirmed next) p h = finish_sound confirmed next p h
 plain_sound phase.Ready p h = ready_sound p
 
-sets_sound : (place : ℕ) (r : Result Confirmed CapsFault) → GivesCaches r → SoundRead (bind (sets_read place r) (λ confirmed. Ok (Some (deed.Confirm confirmed))))
+sets_sound : (place : ℕ) (r : Result Confirmed CapsFault) → GivesCaches r → SoundRead (bind (sets_read place r) (λ confirmed. other_deed (Some (deed.Confirm confirmed))))
 sets_sound place (Ok confirmed) h = h
 sets_sound place (Err (BadCaps at)) h = number 11 (omega arith) (omega arith)
 
-sets_again : (place : ℕ) (r : Result Confirmed CapsFault) → SoundRead (bind (sets_read place r) (λ confirmed. Ok None))
+sets_again : (place : ℕ) (r : Result Confirmed CapsFault) → SoundRead (bind (sets_read place r) (λ confirmed. other_deed None))
 sets_again place (Ok confirmed) = tt
 sets_again place (Err (BadCaps at)) = number 11 (omega arith) (omega arith)
 
@@ -267,20 +285,27 @@ done_sound channels here deed.Tell h p = (tt, sound_at channels here h)
 done_sound channels here (deed.Suppress stop) h p = (tt, sound_at channels here h)
 done_sound channels here deed.Shutdown h p = (tt, tt)
 
-judged_sound : (channels from user : ℕ) (here : SharePhase) (place : ℕ) (r : Result (Option Deed) Refusal) → SoundPhase here → SoundRead r
-    → SoundAnswer (deed_judged channels from user here place r)
-judged_sound channels from user here place (Ok (Some what)) h p = own_sound channels from user (done channels here what) (done_sound channels here what h p)
-judged_sound channels from user here place (Ok None) h p = number 12 (omega arith) (omega arith)
-judged_sound channels from user here place (Err refusal) h p = p
+judged_sound : (channels from user : ℕ) (here : SharePhase) (place : ℕ) (wanted : Option Deed) → SoundPhase here → SoundDeed wanted
+    → SoundAnswer (deed_judged channels from user here place wanted)
+judged_sound channels from user here place (Some what) h p = own_sound channels from user (done channels here what) (done_sound channels here what h p)
+judged_sound channels from user here place None h p = number 12 (omega arith) (omega arith)
 
-data_sound : (channels : ℕ) (here : SharePhase) (mcs : List ℕ) (user channel : ℕ) (body : Range) → SoundPhase here → SoundAnswer (share_data channels here mcs user channel body)
+found_judged_sound : (channels from user : ℕ) (here : SharePhase) (place : ℕ) (r : Result (Telling (Option Deed)) Refusal) → SoundPhase here → SoundRead r
+    → SoundTelling (found_judged channels from user here place r)
+found_judged_sound channels from user here place (Ok found) h p =
+    beside_sound found.told (deed_judged channels from user here place found.what) (judged_sound channels from user here place found.what h p)
+found_judged_sound channels from user here place (Err refusal) h p = p
+
+data_sound : (channels : ℕ) (here : SharePhase) (mcs : List ℕ) (user channel : ℕ) (body : Range) → SoundPhase here → SoundTelling (share_data channels here mcs user channel body)
 data_sound channels here mcs user channel body h =
-    by_channel_sound channels mcs_place user channel (stage.Shares channels here) _ (sound_at channels here h)
-    (judged_sound channels mcs_place user here _ _ h (read_sound here _ (body_in mcs body) (share_pdu_of (body_in mcs body)) h))
+    either_telling (channel == io_channel) _ _
+    (found_judged_sound channels mcs_place user here _ _ h (read_sound here _ (body_in mcs body) (share_pdu_of (body_in mcs body)) h))
+    (alone_sound (own channels mcs_place user (dropped channels mcs_place channel (stage.Shares channels here)))
+    (own_sound channels mcs_place user _ (dropped_sound channels mcs_place channel (stage.Shares channels here) (sound_at channels here h))))
 
 -- ---- packets
 
-shares_sound : (channels : ℕ) (here : SharePhase) (mcs : List ℕ) (p : DomainPdu) → SoundPhase here → SoundAnswer (shares_judged channels here mcs p)
+shares_sound : (channels : ℕ) (here : SharePhase) (mcs : List ℕ) (p : DomainPdu) → SoundPhase here → SoundTelling (shares_judged channels here mcs p)
 shares_sound channels here mcs Erect h = domain
 shares_sound channels here mcs Attach h = domain
 shares_sound channels here mcs (Join user channel) h = domain
@@ -291,14 +316,21 @@ bind_sound : (r : Result DomainPdu BadDomain) (f : DomainPdu → Judged) → ((p
 bind_sound (Ok p) f h = h p
 bind_sound (Err fault) f h = domain
 
-mcs_sound : (s : Stage) (mcs : List ℕ) → IsSound s → SoundAnswer (mcs_judged s mcs)
+bind_telling : (r : Result DomainPdu BadDomain) (f : DomainPdu → Result (Telling Answer) Refusal) → ((p : DomainPdu) → SoundTelling (f p)) → SoundTelling (bind (placed_pdu mcs_place r) f)
+bind_telling (Ok p) f h = h p
+bind_telling (Err fault) f h = domain
+
+mcs_sound : (s : Stage) (mcs : List ℕ) → IsSound s → SoundTelling (mcs_judged s mcs)
 mcs_sound stage.Request mcs h = (tt, tt)
-mcs_sound (stage.Initial asked) mcs h = initial_sound asked mcs_place mcs (user_data_of mcs)
-mcs_sound (stage.Erect client) mcs h = bind_sound (domain_pdu_of mcs) (λ p. erect_judged client mcs_place p) (erect_sound client mcs_place)
-mcs_sound (stage.Attach client) mcs h = bind_sound (domain_pdu_of mcs) (λ p. attach_judged client mcs_place p) (attach_sound client mcs_place)
-mcs_sound (stage.Joins client user io) mcs h = bind_sound (domain_pdu_of mcs) (λ p. joins_judged client user io mcs p) (joins_sound client user io mcs)
+mcs_sound (stage.Initial asked) mcs h = alone_sound (initial_judged asked mcs_place mcs (user_data_of mcs)) (initial_sound asked mcs_place mcs (user_data_of mcs))
+mcs_sound (stage.Erect client) mcs h =
+    alone_sound (bind (pdu_in mcs) (λ p. erect_judged client mcs_place p)) (bind_sound (domain_pdu_of mcs) (λ p. erect_judged client mcs_place p) (erect_sound client mcs_place))
+mcs_sound (stage.Attach client) mcs h =
+    alone_sound (bind (pdu_in mcs) (λ p. attach_judged client mcs_place p)) (bind_sound (domain_pdu_of mcs) (λ p. attach_judged client mcs_place p) (attach_sound client mcs_place))
+mcs_sound (stage.Joins client user io) mcs h =
+    alone_sound (bind (pdu_in mcs) (λ p. joins_judged client user io mcs p)) (bind_sound (domain_pdu_of mcs) (λ p. joins_judged client user io mcs p) (joins_sound client user io mcs))
 mcs_sound (stage.Shares channels here) mcs h =
-    bind_sound (domain_pdu_of mcs) (λ p. shares_judged channels here mcs p) (λ p. shares_sound channels here mcs p (phase_of channels here h))
+    bind_telling (domain_pdu_of mcs) (λ p. shares_judged channels here mcs p) (λ p. shares_sound channels here mcs p (phase_of channels here h))
   where
     phase_of : (channels : ℕ) (here : SharePhase) → IsSound (stage.Shares channels here) → SoundPhase here
     phase_of channels (phase.Confirm depth) h = tt
@@ -307,12 +339,12 @@ mcs_sound (stage.Shares channels here) mcs h =
 mcs_sound stage.Over mcs h = (tt, tt)
 mcs_sound (stage.Refused k at) mcs h = (tt, h)
 
-headers_sound : (packet : List ℕ) (r : Read (List ℕ)) (s : Stage) → IsSound s → SoundAnswer (behind_headers packet r s)
+headers_sound : (packet : List ℕ) (r : Read (List ℕ)) (s : Stage) → IsSound s → SoundTelling (behind_headers packet r s)
 headers_sound packet (Ok v) s h = mcs_sound s v.1 h
 headers_sound packet (Err left) s h = number 3 (omega arith) (omega arith)
 
-pub packet_sound : (s : Stage) (packet : List ℕ) → IsSound s → SoundAnswer (packet_judged s packet)
-packet_sound stage.Request packet h = request_sound (request_of packet)
+pub packet_sound : (s : Stage) (packet : List ℕ) → IsSound s → SoundTelling (packet_judged s packet)
+packet_sound stage.Request packet h = alone_sound (request_judged (request_of packet)) (request_sound (request_of packet))
 packet_sound (stage.Initial asked) packet h = headers_sound packet (fields_at mcs_headers packet) (stage.Initial asked) h
 packet_sound (stage.Erect client) packet h = headers_sound packet (fields_at mcs_headers packet) (stage.Erect client) h
 packet_sound (stage.Attach client) packet h = headers_sound packet (fields_at mcs_headers packet) (stage.Attach client) h

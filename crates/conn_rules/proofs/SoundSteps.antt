@@ -1,37 +1,27 @@
 -- What a stream tells, and where it stands, is sound.
 use Rattle.std.proofs.Common.{ℕ, List, [], ◌∷◌, ◌++◌, arith, Bool, true, false, cond}
-use Rattle.std.specs.Prelude.{map, Result, Ok, Err}
-use Rattle.std.specs.List.{slice_range}
+use Rattle.std.specs.Prelude.{⊤, Result, Ok, Err}
 use Rattle.std.proofs.lemmas.List.Elements.{All-nil, All-cons, All-append}
-use Rattle.wire_num.specs.Field.{Read}
 use Rattle.px_core.specs.declared.rectangle.Rect.{Rect}
-use Rattle.wire_num.specs.Layout.{fields_at}
 use Rattle.tpkt_x224.specs.declared.tpkt.Packet.{Packet}
 use Rattle.tpkt_x224.specs.declared.tpkt.Packet.TheVariants.{Whole, Part, NotTpkt, BadLength}
 use Rattle.tpkt_x224.specs.Tpkt.{packet_at}
 use Rattle.tpkt_x224.specs.Pieces.{packets_of}
-use Rattle.mcs_dom.specs.declared.bad_domain.BadDomain.{BadDomain}
-use Rattle.mcs_dom.specs.declared.domain_pdu.DomainPdu.{DomainPdu}
-use Rattle.mcs_dom.specs.declared.domain_pdu.DomainPdu.TheVariants.{Erect, Attach, Join, Data, Bye}
-use Rattle.mcs_dom.specs.DomainPdu.{domain_pdu_of}
 use Rattle.input_pdu.specs.declared.event.Event.{Event}
-use Rattle.input_pdu.specs.Events.{events_of}
-use Rattle.share_pdu.specs.declared.client_pdu.ClientPdu.{ClientPdu}
-use Rattle.share_pdu.specs.declared.client_pdu.ClientPdu.TheVariants as pdu
-use Rattle.share_pdu.specs.declared.share_fault.ShareFault.{ShareFault}
 use Rattle.share_pdu.specs.Bodies.{areas_of}
-use Rattle.share_pdu.specs.ClientPdu.{share_pdu_of}
+use Rattle.conn_rules.specs.declared.answer.Answer.{Answer}
 use Rattle.conn_rules.specs.declared.answer.News.{News}
 use Rattle.conn_rules.specs.declared.answer.News.TheVariants as news
 use Rattle.conn_rules.specs.declared.conn_step.ConnStep.{ConnStep}
 use Rattle.conn_rules.specs.declared.conn_step.ConnStep.TheVariants as step
-use Rattle.conn_rules.specs.Answers.{Judged}
-use Rattle.conn_rules.specs.Headers.{mcs_headers}
+use Rattle.conn_rules.specs.declared.refusal.Refusal.{Refusal}
+use Rattle.conn_rules.specs.Answers.{Telling}
 use Rattle.conn_rules.specs.Packets.{packet_judged}
-use Rattle.conn_rules.specs.Told.{is_ready, event_steps, area_steps, pdu_steps, share_steps, mcs_steps, behind_headers_steps, news_steps, end_steps}
+use Rattle.conn_rules.specs.Told.{is_ready, event_steps, area_steps, news_steps, end_steps}
 use Rattle.conn_rules.specs.Hearing.{Hearing, Heard, silent, is_over, judged_heard, packet_heard, packets_heard, between, with_head, heard}
 use Rattle.conn_rules.specs.Sound.{IsSound, ConfirmsCaches, AllConfirmCaches}
-use Rattle.conn_rules.proofs.Sound.{number, SoundNews, SoundAnswer, packet_sound}
+use Rattle.conn_rules.proofs.Found.{Finds, Tells, packet_finds}
+use Rattle.conn_rules.proofs.Sound.{number, SoundNews, SoundTelling, packet_sound}
 
 none_told : AllConfirmCaches []
 none_told = All-nil ConfirmsCaches
@@ -39,51 +29,27 @@ none_told = All-nil ConfirmsCaches
 one_told : (one : ConnStep) → ConfirmsCaches one → AllConfirmCaches (one ∷ [])
 one_told one p = All-cons ConfirmsCaches one [] p none_told
 
-events_sound : (events : List Event) → AllConfirmCaches (map (λ event. step.Event event) events)
+events_sound : (events : List Event) → AllConfirmCaches (event_steps events)
 events_sound [] = none_told
-events_sound (event ∷ events) = All-cons ConfirmsCaches (step.Event event) (map (λ one. step.Event one) events) tt (events_sound events)
+events_sound (event ∷ events) = All-cons ConfirmsCaches (step.Event event) (event_steps events) tt (events_sound events)
 
 areas_sound : (areas : List Rect) → AllConfirmCaches (area_steps areas)
 areas_sound [] = none_told
 areas_sound (area ∷ areas) = All-cons ConfirmsCaches (step.Refresh area) (area_steps areas) tt (areas_sound areas)
 
-event_steps_sound : (r : Result (List Event) ℕ) → AllConfirmCaches (event_steps r)
-event_steps_sound (Ok events) = events_sound events
-event_steps_sound (Err at) = none_told
+found_sound : Finds AllConfirmCaches (λ bytes. ⊤)
+found_sound = record {
+  none = none_told;
+  events = events_sound;
+  areas = λ body q. areas_sound (areas_of body);
+  part = λ bytes from to q. tt;
+  behind = λ packet values left e q. tt;
+}
 
-pdu_sound : (body : List ℕ) (p : ClientPdu) → AllConfirmCaches (pdu_steps body p)
-pdu_sound body (pdu.Confirm r) = none_told
-pdu_sound body pdu.Synchronize = none_told
-pdu_sound body pdu.Cooperate = none_told
-pdu_sound body pdu.Request = none_told
-pdu_sound body pdu.FontList = none_told
-pdu_sound body pdu.KeyList = none_told
-pdu_sound body (pdu.Input r) = event_steps_sound (events_of (slice_range body r.from r.to))
-pdu_sound body (pdu.Refresh r) = areas_sound (areas_of (slice_range body r.from r.to))
-pdu_sound body (pdu.Suppress stop) = none_told
-pdu_sound body pdu.Shutdown = none_told
-pdu_sound body pdu.Other = none_told
-
-share_sound : (body : List ℕ) (r : Result ClientPdu ShareFault) → AllConfirmCaches (share_steps body r)
-share_sound body (Ok p) = pdu_sound body p
-share_sound body (Err fault) = none_told
-
-mcs_told : (mcs : List ℕ) (r : Result DomainPdu BadDomain) → AllConfirmCaches (mcs_steps mcs r)
-mcs_told mcs (Ok Erect) = none_told
-mcs_told mcs (Ok Attach) = none_told
-mcs_told mcs (Ok (Join user channel)) = none_told
-mcs_told mcs (Ok (Data user channel body)) = let part = slice_range mcs body.from body.to in share_sound part (share_pdu_of part)
-mcs_told mcs (Ok (Bye reason)) = none_told
-mcs_told mcs (Err fault) = none_told
-
-headers_told : (r : Read (List ℕ)) → AllConfirmCaches (behind_headers_steps r)
-headers_told (Ok v) = mcs_told v.1 (domain_pdu_of v.1)
-headers_told (Err left) = none_told
-
-news_told : (packet : List ℕ) (what : News) → SoundNews what → AllConfirmCaches (news_steps packet what)
-news_told packet news.Nothing p = none_told
-news_told packet (news.Step one) p = one_told one p
-news_told packet news.Pdu p = headers_told (fields_at mcs_headers packet)
+news_told : (found : List ConnStep) (what : News) → SoundNews what → AllConfirmCaches found → AllConfirmCaches (news_steps what found)
+news_told found news.Nothing p q = none_told
+news_told found (news.Step one) p q = one_told one p
+news_told found news.Pdu p q = q
 
 end_told : (ready : Bool) → AllConfirmCaches (end_steps ready)
 end_told true = one_told step.Packet tt
@@ -94,14 +60,14 @@ end_told false = none_told
 abbrev pub SoundHeard : Heard → Type 0
 SoundHeard x = AllConfirmCaches x.steps × IsSound x.after.stage
 
-judged_told : (h : Hearing) (packet : List ℕ) (j : Judged) → SoundAnswer j → SoundHeard (judged_heard h packet j)
-judged_told h packet (Ok answer) p =
-    (All-append ConfirmsCaches (news_steps packet answer.news) (end_steps (is_ready h.stage)) (news_told packet answer.news p.0) (end_told (is_ready h.stage)), p.1)
-judged_told h packet (Err refusal) p = (none_told, p)
+judged_told : (h : Hearing) (packet : List ℕ) (j : Result (Telling Answer) Refusal) → SoundTelling j → Tells AllConfirmCaches j → SoundHeard (judged_heard h packet j)
+judged_told h packet (Ok found) p q =
+    (All-append ConfirmsCaches (news_steps found.what.news found.told) (end_steps (is_ready h.stage)) (news_told found.told found.what.news p.0 q) (end_told (is_ready h.stage)), p.1)
+judged_told h packet (Err refusal) p q = (none_told, p)
 
 packet_by : (b : Bool) (h : Hearing) (packet : List ℕ) → IsSound h.stage → SoundHeard (cond b (silent h) (judged_heard h packet (packet_judged h.stage packet)))
 packet_by true h packet p = (none_told, p)
-packet_by false h packet p = judged_told h packet (packet_judged h.stage packet) (packet_sound h.stage packet p)
+packet_by false h packet p = judged_told h packet (packet_judged h.stage packet) (packet_sound h.stage packet p) (packet_finds found_sound h.stage packet tt)
 
 packets_sound : (h : Hearing) (ps : List (List ℕ)) → IsSound h.stage → SoundHeard (packets_heard h ps)
 packets_sound h [] p = (none_told, p)

@@ -3,6 +3,7 @@ use Rattle.std.specs.Prelude.{ℕ, Option, Some, None, Result, Ok, Err}
 use Rattle.caps_sets.specs.declared.confirmed.Confirmed.{Confirmed}
 use Rattle.share_pdu.specs.declared.finals.Final.{Final}
 use Rattle.share_pdu.specs.declared.finals.Final.TheVariants as final
+use Rattle.conn_rules.specs.declared.answer.Answer.{Answer}
 use Rattle.conn_rules.specs.declared.answer.News.{News}
 use Rattle.conn_rules.specs.declared.answer.News.TheVariants as news
 use Rattle.conn_rules.specs.declared.answer.Reply.TheVariants as reply
@@ -13,7 +14,7 @@ use Rattle.conn_rules.specs.declared.refusal.Refusal.{Refusal}
 use Rattle.conn_rules.specs.declared.stage.SharePhase.{SharePhase}
 use Rattle.conn_rules.specs.declared.stage.SharePhase.TheVariants as phase
 use Rattle.conn_rules.specs.declared.stage.Stage.TheVariants as stage
-use Rattle.conn_rules.specs.Answers.{Judged, goes_to, tells}
+use Rattle.conn_rules.specs.Answers.{Judged, goes_to, tells, Telling, beside}
 use Rattle.conn_rules.specs.Channels.{user_channel}
 use Rattle.conn_rules.specs.Domain.{own}
 use Rattle.conn_rules.specs.Numbers.{bad_share}
@@ -47,7 +48,11 @@ done channels here (deed.Suppress stop) = tells (news.Step (step.Suppress stop))
 done channels here deed.Shutdown = tells (news.Step step.Shutdown) stage.Over
 
 -- it is done for the client's own user channel as initiator; a PDU that isn't expected is refused at its first byte
-abbrev pub deed_judged : ℕ → ℕ → ℕ → SharePhase → ℕ → Result (Option Deed) Refusal → Judged
-deed_judged channels from user here place (Ok (Some what)) = own channels from user (done channels here what)
-deed_judged channels from user here place (Ok None) = bad_share place
-deed_judged channels from user here place (Err refusal) = Err refusal
+abbrev pub deed_judged : ℕ → ℕ → ℕ → SharePhase → ℕ → Option Deed → Judged
+deed_judged channels from user here place (Some what) = own channels from user (done channels here what)
+deed_judged channels from user here place None = bad_share place
+
+-- the same with what is found in the PDU
+abbrev pub found_judged : ℕ → ℕ → ℕ → SharePhase → ℕ → Result (Telling (Option Deed)) Refusal → Result (Telling Answer) Refusal
+found_judged channels from user here place (Ok found) = beside found.told (deed_judged channels from user here place found.what)
+found_judged channels from user here place (Err refusal) = Err refusal

@@ -1,14 +1,16 @@
 -- What the host makes of a client's stream: its replies, its steps, and how it ends.
-use Rattle.std.specs.Prelude.{ℕ, zero, suc, Bool, true, false, List, [], ◌∷◌, ◌++◌, length, Ok, Err, if◌then◌else◌}
+use Rattle.std.specs.Prelude.{ℕ, zero, suc, Bool, true, false, List, [], ◌∷◌, ◌++◌, length, Result, Ok, Err, if◌then◌else◌}
 use Rattle.px_core.specs.declared.surface.Size.{Size}
 use Rattle.tpkt_x224.specs.declared.tpkt.Packet.{Packet}
 use Rattle.tpkt_x224.specs.declared.tpkt.Packet.TheVariants.{Whole, Part, NotTpkt, BadLength}
 use Rattle.tpkt_x224.specs.Tpkt.{packet_at}
 use Rattle.tpkt_x224.specs.Pieces.{Cut, packets_of}
+use Rattle.conn_rules.specs.declared.answer.Answer.{Answer}
 use Rattle.conn_rules.specs.declared.conn_step.ConnStep.{ConnStep}
+use Rattle.conn_rules.specs.declared.refusal.Refusal.{Refusal}
 use Rattle.conn_rules.specs.declared.stage.Stage.{Stage}
 use Rattle.conn_rules.specs.declared.stage.Stage.TheVariants as stage
-use Rattle.conn_rules.specs.Answers.{Judged}
+use Rattle.conn_rules.specs.Answers.{Telling}
 use Rattle.conn_rules.specs.Numbers.{place_behind}
 use Rattle.conn_rules.specs.Packets.{packet_judged}
 use Rattle.conn_rules.specs.Replies.{reply_bytes}
@@ -53,11 +55,11 @@ abbrev pub refused_here : Hearing → ℕ → ℕ → Hearing
 refused_here h k n = record { size = h.size; stage = stage.Refused k (place_behind h.place n); place = h.place; part = [] }
 
 -- a packet that was judged so
-abbrev pub judged_heard : Hearing → List ℕ → Judged → Heard
-judged_heard h packet (Ok answer) = record {
-  replies = reply_bytes h.size answer.reply;
-  steps = told_steps h.stage packet answer.news;
-  after = record { size = h.size; stage = answer.next; place = place_behind h.place (length packet); part = [] };
+abbrev pub judged_heard : Hearing → List ℕ → Result (Telling Answer) Refusal → Heard
+judged_heard h packet (Ok judged) = record {
+  replies = reply_bytes h.size judged.what.reply;
+  steps = told_steps h.stage judged.what.news judged.told;
+  after = record { size = h.size; stage = judged.what.next; place = place_behind h.place (length packet); part = [] };
 }
 judged_heard h packet (Err refusal) = silent (refused_here h refusal.k refusal.at)
 

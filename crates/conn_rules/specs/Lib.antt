@@ -5,11 +5,11 @@ pub mod Connecting
 pub mod Domain
 pub mod Headers
 pub mod Info
+pub mod Told
 pub mod Shares
 pub mod Deeds
 pub mod Packets
 pub mod Replies
-pub mod Told
 pub mod Hearing
 pub mod Progress
 pub mod Placed

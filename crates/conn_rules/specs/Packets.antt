@@ -1,5 +1,5 @@
 -- What the host makes of a whole packet, by what the client is to send next ([MS-RDPBCGR] 1.3.1.1).
-use Rattle.std.specs.Prelude.{ℕ, Bool, true, false, List, Result, Ok, Err}
+use Rattle.std.specs.Prelude.{ℕ, ◌==◌, Bool, true, false, List, Result, Ok, Err, if◌then◌else◌}
 use Rattle.std.specs.List.{slice_range}
 use Rattle.wire_num.specs.Field.{Read, bind, place_in}
 use Rattle.wire_num.specs.declared.range.Range.{Range}
@@ -11,19 +11,21 @@ use Rattle.mcs_dom.specs.declared.domain_pdu.DomainPdu.TheVariants.{Erect, Attac
 use Rattle.mcs_dom.specs.DomainPdu.{domain_pdu_of}
 use Rattle.info_lic.specs.ClientInfo.{name_of}
 use Rattle.share_pdu.specs.ClientPdu.{share_pdu_of}
+use Rattle.conn_rules.specs.declared.answer.Answer.{Answer}
 use Rattle.conn_rules.specs.declared.client.Client.{Client}
 use Rattle.conn_rules.specs.declared.refusal.Refusal.{Refusal}
 use Rattle.conn_rules.specs.declared.stage.Stage.{Stage}
 use Rattle.conn_rules.specs.declared.stage.Stage.TheVariants as stage
 use Rattle.conn_rules.specs.declared.stage.SharePhase.{SharePhase}
-use Rattle.conn_rules.specs.Answers.{Judged, goes_to}
+use Rattle.conn_rules.specs.Answers.{Judged, goes_to, Telling, alone}
+use Rattle.conn_rules.specs.Channels.{io_channel}
 use Rattle.conn_rules.specs.Numbers.{place_behind, bad_tpdu, bad_domain}
 use Rattle.conn_rules.specs.Headers.{mcs_headers}
 use Rattle.conn_rules.specs.Connecting.{request_judged, initial_judged}
-use Rattle.conn_rules.specs.Domain.{placed_pdu, leaves, erect_judged, attach_judged, own, joined, by_channel, too_early}
+use Rattle.conn_rules.specs.Domain.{placed_pdu, leaves, erect_judged, attach_judged, own, joined, dropped, by_channel, too_early}
 use Rattle.conn_rules.specs.Info.{info_judged}
 use Rattle.conn_rules.specs.Shares.{read_deed}
-use Rattle.conn_rules.specs.Deeds.{deed_judged}
+use Rattle.conn_rules.specs.Deeds.{found_judged}
 
 -- where the MCS PDU of a packet begins: behind the TPKT header and the X.224 Data header
 abbrev pub mcs_place : ℕ
@@ -47,11 +49,12 @@ both true io = io
 both false io = false
 
 -- share PDUs
-abbrev pub share_data : ℕ → SharePhase → List ℕ → ℕ → ℕ → Range → Judged
+abbrev pub share_data : ℕ → SharePhase → List ℕ → ℕ → ℕ → Range → Result (Telling Answer) Refusal
 share_data channels here mcs user channel body =
-    by_channel channels mcs_place user channel (stage.Shares channels here)
-    (deed_judged channels mcs_place user here (place_behind mcs_place body.from)
-    (read_deed here (place_behind mcs_place body.from) (body_in mcs body) (share_pdu_of (body_in mcs body))))
+    if channel == io_channel
+    then found_judged channels mcs_place user here (place_behind mcs_place body.from)
+    (read_deed here (place_behind mcs_place body.from) (body_in mcs body) (share_pdu_of (body_in mcs body)))
+    else alone (own channels mcs_place user (dropped channels mcs_place channel (stage.Shares channels here)))
 
 -- ---- domain PDUs
 
@@ -63,12 +66,12 @@ joins_judged client user io mcs (Join initiator channel) = own client.channels m
 joins_judged client user io mcs (Data initiator channel body) = info_data client (both user io) mcs initiator channel body
 joins_judged client user io mcs (Bye reason) = leaves
 
-abbrev pub shares_judged : ℕ → SharePhase → List ℕ → DomainPdu → Judged
+abbrev pub shares_judged : ℕ → SharePhase → List ℕ → DomainPdu → Result (Telling Answer) Refusal
 shares_judged channels here mcs Erect = bad_domain mcs_place
 shares_judged channels here mcs Attach = bad_domain mcs_place
 shares_judged channels here mcs (Join initiator channel) = bad_domain mcs_place
 shares_judged channels here mcs (Data initiator channel body) = share_data channels here mcs initiator channel body
-shares_judged channels here mcs (Bye reason) = leaves
+shares_judged channels here mcs (Bye reason) = alone leaves
 
 abbrev pub pdu_in : List ℕ → Result DomainPdu Refusal
 pdu_in mcs = placed_pdu mcs_place (domain_pdu_of mcs)
@@ -76,28 +79,28 @@ pdu_in mcs = placed_pdu mcs_place (domain_pdu_of mcs)
 -- ---- packets
 
 -- an MCS PDU, by the stage
-abbrev pub mcs_judged : Stage → List ℕ → Judged
-mcs_judged stage.Request mcs = goes_to stage.Request
-mcs_judged (stage.Initial asked) mcs = initial_judged asked mcs_place mcs (user_data_of mcs)
-mcs_judged (stage.Erect client) mcs = bind (pdu_in mcs) (λ p. erect_judged client mcs_place p)
-mcs_judged (stage.Attach client) mcs = bind (pdu_in mcs) (λ p. attach_judged client mcs_place p)
-mcs_judged (stage.Joins client user io) mcs = bind (pdu_in mcs) (λ p. joins_judged client user io mcs p)
+abbrev pub mcs_judged : Stage → List ℕ → Result (Telling Answer) Refusal
+mcs_judged stage.Request mcs = alone (goes_to stage.Request)
+mcs_judged (stage.Initial asked) mcs = alone (initial_judged asked mcs_place mcs (user_data_of mcs))
+mcs_judged (stage.Erect client) mcs = alone (bind (pdu_in mcs) (λ p. erect_judged client mcs_place p))
+mcs_judged (stage.Attach client) mcs = alone (bind (pdu_in mcs) (λ p. attach_judged client mcs_place p))
+mcs_judged (stage.Joins client user io) mcs = alone (bind (pdu_in mcs) (λ p. joins_judged client user io mcs p))
 mcs_judged (stage.Shares channels here) mcs = bind (pdu_in mcs) (λ p. shares_judged channels here mcs p)
-mcs_judged stage.Over mcs = goes_to stage.Over
-mcs_judged (stage.Refused k at) mcs = goes_to (stage.Refused k at)
+mcs_judged stage.Over mcs = alone (goes_to stage.Over)
+mcs_judged (stage.Refused k at) mcs = alone (goes_to (stage.Refused k at))
 
 -- behind both headers, of which the first field that breaks its rule is refused
-abbrev pub behind_headers : List ℕ → Read (List ℕ) → Stage → Judged
+abbrev pub behind_headers : List ℕ → Read (List ℕ) → Stage → Result (Telling Answer) Refusal
 behind_headers packet (Ok v) here = mcs_judged here v.1
 behind_headers packet (Err left) here = bad_tpdu (place_in packet left)
 
 -- a whole packet; nothing is looked at once the stream is over or refused
-abbrev pub packet_judged : Stage → List ℕ → Judged
-packet_judged stage.Request packet = request_judged (request_of packet)
+abbrev pub packet_judged : Stage → List ℕ → Result (Telling Answer) Refusal
+packet_judged stage.Request packet = alone (request_judged (request_of packet))
 packet_judged (stage.Initial asked) packet = behind_headers packet (fields_at mcs_headers packet) (stage.Initial asked)
 packet_judged (stage.Erect client) packet = behind_headers packet (fields_at mcs_headers packet) (stage.Erect client)
 packet_judged (stage.Attach client) packet = behind_headers packet (fields_at mcs_headers packet) (stage.Attach client)
 packet_judged (stage.Joins client user io) packet = behind_headers packet (fields_at mcs_headers packet) (stage.Joins client user io)
 packet_judged (stage.Shares channels here) packet = behind_headers packet (fields_at mcs_headers packet) (stage.Shares channels here)
-packet_judged stage.Over packet = goes_to stage.Over
-packet_judged (stage.Refused k at) packet = goes_to (stage.Refused k at)
+packet_judged stage.Over packet = alone (goes_to stage.Over)
+packet_judged (stage.Refused k at) packet = alone (goes_to (stage.Refused k at))

@@ -1,6 +1,6 @@
 -- The share PDUs of a client in their sequence ([MS-RDPBCGR] 1.3.1.1, capabilities exchange and connection finalization), and after
 -- the Font List: what each asks for, if it is expected.
-use Rattle.std.specs.Prelude.{ℕ, ◌==◌, List, Option, Some, None, Result, Ok, Err, if◌then◌else◌}
+use Rattle.std.specs.Prelude.{ℕ, ◌==◌, List, [], Option, Some, None, Result, Ok, Err, if◌then◌else◌}
 use Rattle.std.specs.List.{slice_range}
 use Rattle.wire_num.specs.Field.{bind}
 use Rattle.caps_sets.specs.declared.confirmed.Confirmed.{Confirmed}
@@ -20,7 +20,10 @@ use Rattle.conn_rules.specs.declared.deed.Deed.TheVariants as deed
 use Rattle.conn_rules.specs.declared.refusal.Refusal.{Refusal}
 use Rattle.conn_rules.specs.declared.stage.SharePhase.{SharePhase}
 use Rattle.conn_rules.specs.declared.stage.SharePhase.TheVariants as phase
+use Rattle.share_pdu.specs.Bodies.{areas_of}
+use Rattle.conn_rules.specs.Answers.{Telling, telling}
 use Rattle.conn_rules.specs.Numbers.{place_behind, bad_caps, bad_share, compressed, bad_input}
+use Rattle.conn_rules.specs.Told.{event_steps, area_steps}
 
 -- ---- PDUs that aren't read further; None where they aren't expected
 
@@ -82,7 +85,11 @@ plain_deed (phase.Confirm depth) p = early_deed p
 plain_deed (phase.Finish confirmed next) p = finish_deed confirmed next p
 plain_deed phase.Ready p = ready_deed p
 
--- ---- PDUs that are read further
+-- ---- what PDUs ask for, and what is found in them
+
+-- a PDU in which nothing is found
+abbrev pub other_deed : Option Deed → Result (Telling (Option Deed)) Refusal
+other_deed wanted = Ok (telling wanted [])
 
 -- the capability sets of a Confirm Active, whose fields begin at a place
 abbrev pub sets_read : ℕ → Result Confirmed CapsFault → Result Confirmed Refusal
@@ -90,33 +97,33 @@ sets_read place (Ok confirmed) = Ok confirmed
 sets_read place (Err (BadCaps at)) = bad_caps (place_behind place at)
 
 -- a Confirm Active of a client of this depth, or of the one that was confirmed before; after the Font List it isn't read
-abbrev pub confirm_deed : SharePhase → ℕ → List ℕ → Result (Option Deed) Refusal
-confirm_deed (phase.Confirm depth) place bytes = bind (sets_read place (confirmed_of depth bytes)) (λ confirmed. Ok (Some (deed.Confirm confirmed)))
-confirm_deed (phase.Finish before next) place bytes = bind (sets_read place (confirmed_of before.depth bytes)) (λ confirmed. Ok None)
-confirm_deed phase.Ready place bytes = Ok (Some deed.Nothing)
+abbrev pub confirm_deed : SharePhase → ℕ → List ℕ → Result (Telling (Option Deed)) Refusal
+confirm_deed (phase.Confirm depth) place bytes = bind (sets_read place (confirmed_of depth bytes)) (λ confirmed. other_deed (Some (deed.Confirm confirmed)))
+confirm_deed (phase.Finish before next) place bytes = bind (sets_read place (confirmed_of before.depth bytes)) (λ confirmed. other_deed None)
+confirm_deed phase.Ready place bytes = other_deed (Some deed.Nothing)
 
 -- an Input PDU, whose body begins at a place: its events are there
-abbrev pub input_deed : Option Deed → ℕ → Result (List Event) ℕ → Result (Option Deed) Refusal
-input_deed wanted place (Ok events) = Ok wanted
+abbrev pub input_deed : Option Deed → ℕ → Result (List Event) ℕ → Result (Telling (Option Deed)) Refusal
+input_deed wanted place (Ok events) = Ok (telling wanted (event_steps events))
 input_deed wanted place (Err at) = bad_input (place_behind place at)
 
 -- what a PDU of a body from a place on asks for
-abbrev pub deed_of : SharePhase → ℕ → List ℕ → ClientPdu → Result (Option Deed) Refusal
+abbrev pub deed_of : SharePhase → ℕ → List ℕ → ClientPdu → Result (Telling (Option Deed)) Refusal
 deed_of phase place bytes (pdu.Confirm r) = confirm_deed phase (place_behind place r.from) (slice_range bytes r.from r.to)
-deed_of phase place bytes pdu.Synchronize = Ok (plain_deed phase pdu.Synchronize)
-deed_of phase place bytes pdu.Cooperate = Ok (plain_deed phase pdu.Cooperate)
-deed_of phase place bytes pdu.Request = Ok (plain_deed phase pdu.Request)
-deed_of phase place bytes pdu.FontList = Ok (plain_deed phase pdu.FontList)
-deed_of phase place bytes pdu.KeyList = Ok (plain_deed phase pdu.KeyList)
+deed_of phase place bytes pdu.Synchronize = other_deed (plain_deed phase pdu.Synchronize)
+deed_of phase place bytes pdu.Cooperate = other_deed (plain_deed phase pdu.Cooperate)
+deed_of phase place bytes pdu.Request = other_deed (plain_deed phase pdu.Request)
+deed_of phase place bytes pdu.FontList = other_deed (plain_deed phase pdu.FontList)
+deed_of phase place bytes pdu.KeyList = other_deed (plain_deed phase pdu.KeyList)
 deed_of phase place bytes (pdu.Input r) =
     input_deed (plain_deed phase (pdu.Input r)) (place_behind place r.from) (events_of (slice_range bytes r.from r.to))
-deed_of phase place bytes (pdu.Refresh r) = Ok (plain_deed phase (pdu.Refresh r))
-deed_of phase place bytes (pdu.Suppress stop) = Ok (plain_deed phase (pdu.Suppress stop))
-deed_of phase place bytes pdu.Shutdown = Ok (plain_deed phase pdu.Shutdown)
-deed_of phase place bytes pdu.Other = Ok (plain_deed phase pdu.Other)
+deed_of phase place bytes (pdu.Refresh r) = Ok (telling (plain_deed phase (pdu.Refresh r)) (area_steps (areas_of (slice_range bytes r.from r.to))))
+deed_of phase place bytes (pdu.Suppress stop) = other_deed (plain_deed phase (pdu.Suppress stop))
+deed_of phase place bytes pdu.Shutdown = other_deed (plain_deed phase pdu.Shutdown)
+deed_of phase place bytes pdu.Other = other_deed (plain_deed phase pdu.Other)
 
 -- the same of what was read of a body
-abbrev pub read_deed : SharePhase → ℕ → List ℕ → Result ClientPdu ShareFault → Result (Option Deed) Refusal
+abbrev pub read_deed : SharePhase → ℕ → List ℕ → Result ClientPdu ShareFault → Result (Telling (Option Deed)) Refusal
 read_deed phase place bytes (Ok p) = deed_of phase place bytes p
 read_deed phase place bytes (Err (BadShare at)) = bad_share (place_behind place at)
 read_deed phase place bytes (Err (Compressed at)) = compressed (place_behind place at)

@@ -35,6 +35,6 @@ pub enum Reply {
 pub enum News {
     Nothing,
     Step(ConnStep),
-    /// The events or the areas of the share PDU in it.
+    /// The events or the areas that were found in it.
     Pdu,
 }

@@ -12,7 +12,7 @@ pub enum Deed {
     Confirm(Confirmed),
     /// This answer of the finalisation, to a client that confirmed this.
     Answer { confirmed: Confirmed, which: Final },
-    /// That its events or its areas are told.
+    /// That the events or the areas found in it are told.
     Tell,
     /// That output stops, or goes on.
     Suppress(bool),

@@ -3,6 +3,7 @@ use Rattle.std.proofs.Common.{ℕ, suc, ◌+◌, ◌≤◌, List, [], ◌∷◌,
 use Rattle.std.specs.Prelude.{ℤ, Option}
 use Rattle.std.proofs.lemmas.Bool.Decides.{nat_tests}
 use Rattle.px_core.specs.declared.rectangle.Rect.{Rect}
+use Rattle.px_core.specs.declared.depth.Depth.TheVariants.{Bits24}
 use Rattle.order_fields.specs.declared.kind.FieldKind.{FieldKind}
 use Rattle.order_fields.specs.declared.kind.FieldKind.TheVariants.{Coordinate, Number, Signed, Color}
 use Rattle.byteorder.specs.Endian.{little_bytes}
@@ -102,27 +103,27 @@ row_short r regs z vs bounds =
 
 -- by the drawing: its bytes, beside those of a run, are at most so many
 pub drawing_short : (regs : Registers) (z : Bool) (area : Rect) (d : NamedDrawing) (bounds : Option Edges)
-    → length (order_bytes regs z (named.drawing_fields area d) bounds) ≤ 90 + length (named.drawing_fields area d).values.bytes
-drawing_short regs z area (Dst r code) bounds = let s = row_short dst_blt regs z (named.drawing_fields area (Dst r code)).values bounds in omega (arith, s)
+    → length (order_bytes regs z (named.drawing_fields Bits24 area d) bounds) ≤ 90 + length (named.drawing_fields Bits24 area d).values.bytes
+drawing_short regs z area (Dst r code) bounds = let s = row_short dst_blt regs z (named.drawing_fields Bits24 area (Dst r code)).values bounds in omega (arith, s)
 drawing_short regs z area (Pat r code entry) bounds =
-    let s = row_short pat_blt regs z (named.drawing_fields area (Pat r code entry)).values bounds in omega (arith, s)
+    let s = row_short pat_blt regs z (named.drawing_fields Bits24 area (Pat r code entry)).values bounds in omega (arith, s)
 drawing_short regs z area (Scr r code sx sy) bounds =
-    let s = row_short scr_blt regs z (named.drawing_fields area (Scr r code sx sy)).values bounds in omega (arith, s)
-drawing_short regs z area (Opaque r color) bounds = let s = row_short opaque_rect regs z (named.drawing_fields area (Opaque r color)).values bounds in omega
+    let s = row_short scr_blt regs z (named.drawing_fields Bits24 area (Scr r code sx sy)).values bounds in omega (arith, s)
+drawing_short regs z area (Opaque r color) bounds = let s = row_short opaque_rect regs z (named.drawing_fields Bits24 area (Opaque r color)).values bounds in omega
     (arith, s)
 drawing_short regs z area (SaveBlock position r) bounds =
-    let s = row_short save_bitmap regs z (named.drawing_fields area (SaveBlock position r)).values bounds in omega (arith, s)
+    let s = row_short save_bitmap regs z (named.drawing_fields Bits24 area (SaveBlock position r)).values bounds in omega (arith, s)
 drawing_short regs z area (RestoreBlock position r) bounds =
-    let s = row_short save_bitmap regs z (named.drawing_fields area (RestoreBlock position r)).values bounds in omega (arith, s)
+    let s = row_short save_bitmap regs z (named.drawing_fields Bits24 area (RestoreBlock position r)).values bounds in omega (arith, s)
 drawing_short regs z area (Mem cache index r code sx sy) bounds =
-    let s = row_short mem_blt regs z (named.drawing_fields area (Mem cache index r code sx sy)).values bounds in omega (arith, s)
+    let s = row_short mem_blt regs z (named.drawing_fields Bits24 area (Mem cache index r code sx sy)).values bounds in omega (arith, s)
 drawing_short regs z area (Mem3 cache index r code sx sy entry) bounds =
-    let s = row_short mem3_blt regs z (named.drawing_fields area (Mem3 cache index r code sx sy entry)).values bounds in omega (arith, s)
+    let s = row_short mem3_blt regs z (named.drawing_fields Bits24 area (Mem3 cache index r code sx sy entry)).values bounds in omega (arith, s)
 drawing_short regs z area (Glyphs cache x y color run) bounds =
-    let s = row_short glyph_index regs z (named.drawing_fields area (Glyphs cache x y color run)).values bounds in omega (arith, s)
+    let s = row_short glyph_index regs z (named.drawing_fields Bits24 area (Glyphs cache x y color run)).values bounds in omega (arith, s)
 
 pub drawing_some : (regs : Registers) (z : Bool) (area : Rect) (d : NamedDrawing) (bounds : Option Edges)
-    → 1 ≤ length (order_bytes regs z (named.drawing_fields area d) bounds)
+    → 1 ≤ length (order_bytes regs z (named.drawing_fields Bits24 area d) bounds)
 drawing_some regs z area (Dst r code) bounds = omega arith
 drawing_some regs z area (Pat r code entry) bounds = omega arith
 drawing_some regs z area (Scr r code sx sy) bounds = omega arith

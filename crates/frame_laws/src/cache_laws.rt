@@ -10,6 +10,7 @@ ghost use Rattle.draw_ops.specs.Slots.{SurfaceState, Loaded, lookup};
 ghost use Rattle.draw_ops.specs.Drawing.{painting_of, state_after_drawing};
 ghost use Rattle.caps_sets.specs.declared.confirmed.Confirmed.{Confirmed};
 ghost use Rattle.session_rules.specs.declared.entry.Entry.{Entry};
+ghost use Rattle.px_core.specs.declared.depth.Depth.TheVariants.{Bits24};
 ghost use Rattle.order_fields.specs.OrderTable.{Registers, Edges};
 ghost use Rattle.order_fields.specs.OrderDelta.{order_bytes};
 ghost use Rattle.order_means.specs.WirePixels.{data_of};
@@ -121,5 +122,5 @@ pub fn pixels_are_read_back()
 /// An order that draws has at most 90 bytes beside those of a run.
 pub fn drawing_orders_are_short()
     ensures { (regs : Registers) (zero_bounds : Bool) (area : Rect) (d : NamedDrawing) (bounds : Option Edges)
-        → length (order_bytes regs zero_bounds (drawing_fields area d) bounds) ≤ 90 + length (drawing_fields area d).values.bytes }
+        → length (order_bytes regs zero_bounds (drawing_fields Bits24 area d) bounds) ≤ 90 + length (drawing_fields Bits24 area d).values.bytes }
 {}

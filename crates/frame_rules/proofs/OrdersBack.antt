@@ -24,7 +24,7 @@ use Rattle.px_core.proofs.Pixels.{length-pixels_bytes}
 use Rattle.frame_rules.proofs.RegistersKept.{registers_kept}
 
 bitmap_order_back : (regs : Registers) (cache index w h : ℕ) (packed : Bool) (bytes rest : List ℕ) → index < 2 ^ 16 → length bytes < 2 ^ 15
-    → order_at regs (cache_bitmap_data cache index w h (pixel_data packed bytes) ++ rest)
+    → order_at Bits24 regs (cache_bitmap_data cache index w h (pixel_data packed bytes) ++ rest)
     ≡ Ok (seen_others regs (Bitmap (record { cache = cache; index = index; w = w; h = h; depth = 24; flags = bitmap_flags packed; packed = packed; bytes = bytes }) ∷ []), rest)
 bitmap_order_back regs cache index w h true bytes rest hi few =
     secondary_back regs 0x0400 2 (cache_bitmap_body cache index w h bytes) _ rest (omega arith) (omega arith) (omega arith) (bitmap_back 0x0400 true cache index w h bytes hi (omega arith))
@@ -33,8 +33,8 @@ bitmap_order_back regs cache index w h false bytes rest hi few =
 
 -- an order at the front of bytes
 pub sent_back : (c : Confirmed) (regs : Registers) (o : SentOrder) (rest : List ℕ) → AreRegisters regs → FitsOrder c o
-    → order_at regs (bytes_of_order c regs o ++ rest) ≡ Ok (seen (as_read c o ∷ []) (registers_after_order regs o), rest)
-sent_back c regs (Drawn touched d bounds) rest are fits = order_back regs c.zero_bounds (drawing_fields touched d) (edges_of_optional bounds) rest are fits.0 fits.1
+    → order_at Bits24 regs (bytes_of_order c regs o ++ rest) ≡ Ok (seen (as_read c o ∷ []) (registers_after_order regs o), rest)
+sent_back c regs (Drawn touched d bounds) rest are fits = order_back Bits24 regs c.zero_bounds (drawing_fields Bits24 touched d) (edges_of_optional bounds) rest are fits.0 fits.1
 sent_back c regs (CacheImage cache index image) rest are fits =
     bitmap_order_back regs cache index (padded_image image).w (padded_image image).h (image_data c image).is_packed (image_data c image).bytes rest fits.index_fits fits.few
 sent_back c regs (CacheGlyph cache index glyph) rest are fits =
@@ -50,7 +50,7 @@ sent_back c regs (FrameMarker true) rest are fits = refl
 sent_back c regs (FrameMarker false) rest are fits = refl
 
 pub sent_registers : (c : Confirmed) (regs : Registers) (o : SentOrder) → AreRegisters regs → FitsOrder c o → AreRegisters (registers_after_order regs o)
-sent_registers c regs (Drawn touched d bounds) are fits = registers_kept regs (drawing_fields touched d) (edges_of_optional bounds) are fits.0 fits.1
+sent_registers c regs (Drawn touched d bounds) are fits = registers_kept regs (drawing_fields Bits24 touched d) (edges_of_optional bounds) are fits.0 fits.1
 sent_registers c regs (CacheImage cache index image) are fits = are
 sent_registers c regs (CacheGlyph cache index glyph) are fits = are
 sent_registers c regs (CacheBrush entry brush) are fits = are
@@ -62,8 +62,8 @@ sent_registers_all c regs (o ∷ os) are fits = sent_registers_all c (registers_
 
 -- the orders of an update
 pub orders_back : (c : Confirmed) (regs : Registers) (os : List SentOrder) → AreRegisters regs → FitOrders c os
-    → orders_in (joined_bytes (bytes_of_orders c regs os)) (length os) regs ≡ record { orders = map (as_read c) os; after = registers_after_orders regs os; refused = None }
+    → orders_in Bits24 (joined_bytes (bytes_of_orders c regs os)) (length os) regs ≡ record { orders = map (as_read c) os; after = registers_after_orders regs os; refused = None }
 orders_back c regs [] are fits = refl
 orders_back c regs (o ∷ os) are fits =
-    ap (λ r. then_orders r regs (λ rest after. orders_in rest (length os) after)) (sent_back c regs o (joined_bytes (bytes_of_orders c (registers_after_order regs o) os)) are fits.0)
+    ap (λ r. then_orders r regs (λ rest after. orders_in Bits24 rest (length os) after)) (sent_back c regs o (joined_bytes (bytes_of_orders c (registers_after_order regs o) os)) are fits.0)
     ∙ ap (with_orders (as_read c o ∷ [])) (orders_back c (registers_after_order regs o) os (sent_registers c regs o are fits.0) fits.1)

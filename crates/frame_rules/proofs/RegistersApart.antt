@@ -5,6 +5,7 @@ use Rattle.px_core.specs.declared.surface.Size.{Size}
 use Rattle.caps_sets.specs.declared.confirmed.Confirmed.{Confirmed}
 use Rattle.draw_ops.specs.Content.{ImageOf, GlyphOf}
 use Rattle.wire_num.specs.Field.{bind}
+use Rattle.px_core.specs.declared.depth.Depth.TheVariants.{Bits24}
 use Rattle.order_fields.specs.OrderTable.{Registers, Edges}
 use Rattle.order_fields.specs.Secondary.{Cached}
 use Rattle.order_fields.specs.Secondary.Cached.{Bitmap, Glyph, Brush, Marker}
@@ -101,7 +102,7 @@ cached_apart c cl r (Marker ends) = refl
 
 order_apart : (c : Confirmed) (size : Size) (cl : ClientState) (r : Registers) (o : Order) → client_after_order c size (moved r cl) o ≡ over (moved r) (client_after_order c size cl o)
 order_apart c size cl r (Primary fields bounds) =
-    let x : Result NamedDrawing Fault = found (drawing_of fields) Broken in
+    let x : Result NamedDrawing Fault = found (drawing_of Bits24 fields) Broken in
     bind_over (moved r) x (client_after_drawing c size bounds (moved r cl)) (client_after_drawing c size bounds cl) (λ d. drawing_apart c size bounds cl r d)
 order_apart c size cl r (Other o) = cached_apart c cl r o
 

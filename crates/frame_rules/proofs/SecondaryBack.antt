@@ -1,10 +1,13 @@
 -- Cache orders and markers that are written are read back.
-use Rattle.std.proofs.Common.{◌≡◌, ℕ, ◌+◌, ◌-◌, ◌*◌, ◌^◌, ◌<◌, ◌≤◌, List, [], ◌∷◌, ◌++◌, length, refl, ap, ◌∙◌, arith, Bool, true}
+use Rattle.std.proofs.Common.{◌≡◌, ℕ, suc, ◌+◌, ◌-◌, ◌*◌, ◌^◌, ◌<◌, ◌≤◌, List, [], ◌∷◌, ◌++◌, length, refl, ap, ◌∙◌, arith, Bool, true}
 use Rattle.std.specs.Prelude.{Ok, Err, ℤ, pos, All}
+use Rattle.std.proofs.lemmas.Bool.{and_from}
+use Rattle.std.proofs.lemmas.Bool.Decides.{nat_tests}
 use Rattle.wire_num.specs.Number.{little_signed_at, little_at, little_signed}
 use Rattle.wire_num.specs.Field.{Read, then_read, map_read, taken}
 use Rattle.byteorder.specs.Endian.{little_bytes}
-use Rattle.wire_num.specs.Pixels.{pixels_of, pixels_bytes}
+use Rattle.px_core.specs.declared.depth.Depth.TheVariants.{Bits24}
+use Rattle.px_core.specs.Pixels.{pixels_of, pixels_bytes, are_pixels}
 use Rattle.order_fields.specs.OrderTable.{Registers, fits_coordinate}
 use Rattle.order_fields.specs.OrderStream.{seen_others, order_at}
 use Rattle.order_fields.specs.Secondary.{Cached, secondary_kind, secondary_body, within_total, bitmap_at, glyph_at, glyph_length, glyphs_at, glyph_order_at, brush_at}
@@ -12,14 +15,14 @@ use Rattle.order_fields.specs.Secondary.Cached.{Bitmap, Glyph, Brush}
 use Rattle.order_fields.proofs.Numbers.{signed_back}
 use Rattle.wire_num.proofs.Bytes.{taken_back, taken_all}
 use Rattle.wire_num.proofs.Numbers.{little_back, little_at_back, byte_at_back}
-use Rattle.wire_num.proofs.Pixels.{pixels_back, length-pixels_bytes}
+use Rattle.px_core.proofs.Pixels.{pixels_back, length-pixels_bytes}
 use Rattle.order_means.specs.CacheOrders.{secondary_bytes, cache_bitmap_body}
 
 inside_bytes : ℕ → ℕ → List ℕ → List ℕ
 inside_bytes flags kind body = little_bytes 2 flags ++ kind ∷ body
 
 pub secondary_back : (regs : Registers) (flags kind : ℕ) (body : List ℕ) (cs : List Cached) (rest : List ℕ) → flags < 2 ^ 16 → 7 ≤ length body → length body < 2 ^ 16
-    → secondary_body (secondary_kind kind) flags (kind ∷ body) body ≡ Ok (cs, []) → order_at regs (secondary_bytes flags kind body ++ rest) ≡ Ok (seen_others regs cs, rest)
+    → secondary_body Bits24 (secondary_kind kind) flags (kind ∷ body) body ≡ Ok (cs, []) → order_at Bits24 regs (secondary_bytes flags kind body ++ rest) ≡ Ok (seen_others regs cs, rest)
 secondary_back regs flags kind body cs rest hf least most read =
     let inside : List ℕ = little_bytes 2 flags ++ kind ∷ body in
     let n : ℕ = length body - 7 in
@@ -28,14 +31,14 @@ secondary_back regs flags kind body cs rest hf least most read =
     let flags_below : flags < 256 ^ 2 = omega arith in
     let count : n + 10 ≡ length inside = omega arith in
     let head : little_at 2 inside ≡ Ok (flags, kind ∷ body) = little_at_back 2 flags (kind ∷ body) flags_below in
-    let body_back : then_read (little_at 2 inside) (λ f c. then_read (little_at 1 c) (λ t d. secondary_body (secondary_kind t) f c d)) ≡ Ok (cs, []) =
-    ap (λ r. then_read r (λ f c. then_read (little_at 1 c) (λ t d. secondary_body (secondary_kind t) f c d))) head
-    ∙ ap (λ r. then_read r (λ t d. secondary_body (secondary_kind t) flags (kind ∷ body) d)) (byte_at_back kind body) ∙ read in
+    let body_back : then_read (little_at 2 inside) (λ f c. then_read (little_at 1 c) (λ t d. secondary_body Bits24 (secondary_kind t) f c d)) ≡ Ok (cs, []) =
+    ap (λ r. then_read r (λ f c. then_read (little_at 1 c) (λ t d. secondary_body Bits24 (secondary_kind t) f c d))) head
+    ∙ ap (λ r. then_read r (λ t d. secondary_body Bits24 (secondary_kind t) flags (kind ∷ body) d)) (byte_at_back kind body) ∙ read in
     ap (map_read (seen_others regs))
-    (ap (λ r. then_read r (λ m a. then_read (taken whole (m + 10) a) (λ i after. within_total (then_read (little_at 2 i) (λ f c. then_read (little_at 1 c) (λ t d. secondary_body (secondary_kind t) f c d))) after)))
+    (ap (λ r. then_read r (λ m a. then_read (taken whole (m + 10) a) (λ i after. within_total (then_read (little_at 2 i) (λ f c. then_read (little_at 1 c) (λ t d. secondary_body Bits24 (secondary_kind t) f c d))) after)))
     (little_at_back 2 n (inside ++ rest) below)
-    ∙ ap (λ k. then_read (taken whole k (inside ++ rest)) (λ i after. within_total (then_read (little_at 2 i) (λ f c. then_read (little_at 1 c) (λ t d. secondary_body (secondary_kind t) f c d))) after)) count
-    ∙ ap (λ r. then_read r (λ i after. within_total (then_read (little_at 2 i) (λ f c. then_read (little_at 1 c) (λ t d. secondary_body (secondary_kind t) f c d))) after)) (taken_back whole inside rest)
+    ∙ ap (λ k. then_read (taken whole k (inside ++ rest)) (λ i after. within_total (then_read (little_at 2 i) (λ f c. then_read (little_at 1 c) (λ t d. secondary_body Bits24 (secondary_kind t) f c d))) after)) count
+    ∙ ap (λ r. then_read r (λ i after. within_total (then_read (little_at 2 i) (λ f c. then_read (little_at 1 c) (λ t d. secondary_body Bits24 (secondary_kind t) f c d))) after)) (taken_back whole inside rest)
     ∙ ap (λ r. within_total r rest) body_back)
 
 -- ---- bodies
@@ -78,9 +81,13 @@ glyph_order_back cache index x y cx cy bits hi fx fy hx hy few =
 
 -- ---- pixels
 
+all_pixels : (cs : List ℕ) → All (λ c. c < 2 ^ 24) cs → are_pixels Bits24 cs ≡ true
+all_pixels [] h = refl
+all_pixels (c ∷ cs) h = let low : c < 2 ^ 24 = h 0 c (omega arith) in and_from _ _ (grind (arith, nat_tests, low)) (all_pixels cs (λ k d b. h (suc k) d (omega (arith, b))))
+
 pub brush_back : (entry : ℕ) (cs : List ℕ) → length cs ≡ 64 → All (λ c. c < 2 ^ 24) cs
-    → brush_at (entry ∷ 5 ∷ 8 ∷ 8 ∷ 0 ∷ 192 ∷ pixels_bytes cs) ≡ Ok (Brush (record { entry = entry; pixels = cs }) ∷ [], [])
+    → brush_at Bits24 (entry ∷ 5 ∷ 8 ∷ 8 ∷ 0 ∷ 192 ∷ pixels_bytes Bits24 cs) ≡ Ok (Brush (record { entry = entry; pixels = cs }) ∷ [], [])
 brush_back entry cs whole small =
-    let count : 192 ≡ length (pixels_bytes cs) = omega (arith, length-pixels_bytes cs, whole) in
-    let read : taken (pixels_bytes cs) 192 (pixels_bytes cs) ≡ Ok (pixels_bytes cs, []) = rw count (taken_all (pixels_bytes cs) (pixels_bytes cs)) in
-    rw (plus entry) (ap (map_read (λ xs. Brush (record { entry = entry; pixels = pixels_of xs }) ∷ [])) read ∙ ap (λ ps. Ok (Brush (record { entry = entry; pixels = ps }) ∷ [], [])) (pixels_back cs small))
+    let count : 192 ≡ length (pixels_bytes Bits24 cs) = omega (arith, length-pixels_bytes Bits24 cs, whole) in
+    let read : taken (pixels_bytes Bits24 cs) 192 (pixels_bytes Bits24 cs) ≡ Ok (pixels_bytes Bits24 cs, []) = rw count (taken_all (pixels_bytes Bits24 cs) (pixels_bytes Bits24 cs)) in
+    rw (plus entry) (ap (map_read (λ xs. Brush (record { entry = entry; pixels = pixels_of Bits24 xs }) ∷ [])) read ∙ ap (λ ps. Ok (Brush (record { entry = entry; pixels = ps }) ∷ [], [])) (pixels_back Bits24 cs (all_pixels cs small)))

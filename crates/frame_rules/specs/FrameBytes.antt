@@ -4,6 +4,7 @@ use Rattle.px_core.specs.declared.surface.Size.{Size}
 use Rattle.px_core.specs.Rectangle.{cut_out}
 use Rattle.px_core.specs.Tiles.{tile_on}
 use Rattle.caps_sets.specs.declared.confirmed.Confirmed.{Confirmed}
+use Rattle.px_core.specs.declared.depth.Depth.TheVariants.{Bits24}
 use Rattle.order_fields.specs.OrderTable.{Registers, registers_after}
 use Rattle.order_fields.specs.OrderDelta.{order_bytes, edges_of_optional}
 use Rattle.order_fields.specs.NamedDrawing.{drawing_fields}
@@ -17,7 +18,7 @@ use Rattle.frame_rules.specs.FrameOrders.SentOrder.{Drawn, CacheImage, CacheGlyp
 
 -- the bytes of one order against the registers; images go packed where the viewer confirmed bitmaps without a header and the packer isn't raw
 abbrev pub bytes_of_order : Confirmed → Registers → SentOrder → List ℕ
-bytes_of_order c regs (Drawn touched d bounds) = order_bytes regs c.zero_bounds (drawing_fields touched d) (edges_of_optional bounds)
+bytes_of_order c regs (Drawn touched d bounds) = order_bytes regs c.zero_bounds (drawing_fields Bits24 touched d) (edges_of_optional bounds)
 bytes_of_order c regs (CacheImage cache index image) = cache_bitmap_bytes c.no_header cache index image
 bytes_of_order c regs (CacheGlyph cache index glyph) = cache_glyph_bytes cache index glyph
 bytes_of_order c regs (CacheBrush entry brush) = cache_brush_bytes entry brush
@@ -25,7 +26,7 @@ bytes_of_order c regs (FrameMarker ends) = frame_marker_bytes ends
 
 -- the registers after an order, which cache orders and markers leave
 abbrev pub registers_after_order : Registers → SentOrder → Registers
-registers_after_order regs (Drawn touched d bounds) = registers_after regs (drawing_fields touched d) (edges_of_optional bounds)
+registers_after_order regs (Drawn touched d bounds) = registers_after regs (drawing_fields Bits24 touched d) (edges_of_optional bounds)
 registers_after_order regs (CacheImage cache index image) = regs
 registers_after_order regs (CacheGlyph cache index glyph) = regs
 registers_after_order regs (CacheBrush entry brush) = regs

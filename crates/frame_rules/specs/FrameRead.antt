@@ -2,6 +2,7 @@
 use Rattle.std.specs.Prelude.{◌≡◌, ℕ, ◌+◌, ◌^◌, ◌<◌, ◌≤◌, true, List, [], ◌∷◌, length, All, Ok}
 use Rattle.caps_sets.specs.declared.confirmed.Confirmed.{Confirmed}
 use Rattle.draw_ops.specs.Content.{ImageOf, GlyphOf}
+use Rattle.px_core.specs.declared.depth.Depth.TheVariants.{Bits24}
 use Rattle.order_fields.specs.OrderTable.{IsFieldList, FitBounds, fits_coordinate}
 use Rattle.order_fields.specs.OrderStream.{Order}
 use Rattle.order_fields.specs.OrderStream.Order.{Primary, Other}
@@ -38,7 +39,7 @@ cached_bitmap cache index image pixels = Bitmap (record {
 
 -- an order that was sent, as it is read: a cached image with the columns that were added to its width, a cached glyph with its padded bits, a cached brush with its rows from the bottom up
 abbrev pub as_read : Confirmed → SentOrder → Order
-as_read c (Drawn touched d bounds) = Primary (drawing_fields touched d) (edges_of_optional bounds)
+as_read c (Drawn touched d bounds) = Primary (drawing_fields Bits24 touched d) (edges_of_optional bounds)
 as_read c (CacheImage cache index image) = Other (cached_bitmap cache index image (image_data c image))
 as_read c (CacheGlyph cache index glyph) = Other (Glyph (record { cache = cache; index = index; x = glyph.x; y = glyph.y; cx = glyph.cx; cy = glyph.cy; bits = (padded_glyph glyph).bits }))
 as_read c (CacheBrush entry brush) = Other (Brush (record { entry = entry; pixels = turned_over 8 8 brush }))
@@ -64,7 +65,7 @@ pub record FitsBrush (brush : List ℕ) : Type 0 where
 
 -- an order whose values its fields can hold
 abbrev pub FitsOrder : Confirmed → SentOrder → Type 0
-FitsOrder c (Drawn touched d bounds) = IsFieldList (drawing_fields touched d) × FitBounds (edges_of_optional bounds)
+FitsOrder c (Drawn touched d bounds) = IsFieldList (drawing_fields Bits24 touched d) × FitBounds (edges_of_optional bounds)
 FitsOrder c (CacheImage cache index image) = FitsImage c index image
 FitsOrder c (CacheGlyph cache index glyph) = FitsGlyph index glyph
 FitsOrder c (CacheBrush entry brush) = FitsBrush brush

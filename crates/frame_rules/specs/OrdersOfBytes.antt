@@ -7,6 +7,7 @@ use Rattle.px_core.specs.Picture.{nat_of}
 use Rattle.px_core.specs.Rectangle.{is_session_size}
 use Rattle.caps_sets.specs.declared.confirmed.Confirmed.{Confirmed}
 use Rattle.wire_num.specs.Field.{Read}
+use Rattle.px_core.specs.declared.depth.Depth.TheVariants.{Bits24}
 use Rattle.order_fields.specs.OrderTable.{Registers, AreRegisters}
 use Rattle.order_fields.specs.OrderStream.{Order, Stream, orders_in}
 use Rattle.order_means.specs.WirePixels.{PixelData, data_of, turned_over}
@@ -51,7 +52,7 @@ abbrev pub read_in_stream : Stream → Option OrdersRead
 read_in_stream s = read_unless_refused s s.refused
 
 abbrev pub read_in_update : Registers → Update → Option OrdersRead
-read_in_update regs (Orders count bytes) = read_in_stream (orders_in bytes count regs)
+read_in_update regs (Orders count bytes) = read_in_stream (orders_in Bits24 bytes count regs)
 read_in_update regs (Tiles rectangles) = Some (orders_read (map RectangleRead rectangles) regs)
 read_in_update regs SynchronizeUpdate = Some (orders_read (SynchronizeRead ∷ []) regs)
 

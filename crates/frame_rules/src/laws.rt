@@ -10,6 +10,7 @@ ghost use Rattle.draw_ops.specs.Formulas.{Painting, painted_area, picture_after}
 ghost use Rattle.caps_sets.specs.declared.confirmed.Confirmed.{Confirmed};
 ghost use Rattle.session_rules.specs.declared.entry.Entry.{Entry};
 ghost use Rattle.session_rules.specs.Steps.{TakeOf};
+ghost use Rattle.px_core.specs.declared.depth.Depth.TheVariants.{Bits24};
 ghost use Rattle.order_fields.specs.OrderTable.{Registers, AreRegisters};
 ghost use Rattle.order_fields.specs.OrderStream.{order_at, orders_in, seen};
 ghost use Rattle.order_means.specs.ClientState.{first_client};
@@ -77,13 +78,13 @@ pub fn first_encoder_describes_the_first_client()
 /// An order that was sent is read from the front of its bytes as it was sent, whatever follows: drawings of all types, cached images packed or raw, cached glyphs and brushes, and markers.
 pub fn sent_order_is_read()
     ensures { (c : Confirmed) (regs : Registers) (o : SentOrder) (rest : List ℕ) → AreRegisters regs → FitsOrder c o
-        → order_at regs (bytes_of_order c regs o ++ rest) ≡ Ok (seen (as_read c o ∷ []) (registers_after_order regs o), rest) }
+        → order_at Bits24 regs (bytes_of_order c regs o ++ rest) ≡ Ok (seen (as_read c o ∷ []) (registers_after_order regs o), rest) }
 {}
 
 /// The orders of an update are read as they were sent, each with the registers that the ones before it leave.
 pub fn sent_orders_are_read()
     ensures { (c : Confirmed) (regs : Registers) (os : List SentOrder) → AreRegisters regs → FitOrders c os
-        → orders_in (joined_bytes (bytes_of_orders c regs os)) (length os) regs
+        → orders_in Bits24 (joined_bytes (bytes_of_orders c regs os)) (length os) regs
         ≡ record { orders = map (as_read c) os; after = registers_after_orders regs os; refused = None } }
 {}
 

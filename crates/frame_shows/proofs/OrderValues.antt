@@ -9,6 +9,7 @@ use Rattle.px_core.specs.Rectangle.{has_pixel, is_inside}
 use Rattle.px_core.proofs.Stretches.{int_le_from}
 use Rattle.draw_ops.specs.Fits.{is_corner, clip_rule}
 use Rattle.caps_sets.specs.declared.confirmed.Confirmed.{Confirmed}
+use Rattle.px_core.specs.declared.depth.Depth.TheVariants.{Bits24}
 use Rattle.order_fields.specs.OrderTable.{Registers, fits_coordinate, IsFieldList, FitBounds}
 use Rattle.order_fields.specs.OrderDelta.{edges_of_optional}
 use Rattle.order_fields.specs.NamedDrawing.{NamedDrawing, drawing_fields}
@@ -49,9 +50,9 @@ whole_marks c [] h = tt
 whole_marks c (o ∷ os) h = (h.0.plain, whole_marks c os h.1)
 
 -- an order that draws: at most 90 bytes beside those of a run
-pub drawn_whole : (c : Confirmed) (touched : Rect) (d : NamedDrawing) (bounds : Option Rect) → IsFieldList (drawing_fields touched d)
+pub drawn_whole : (c : Confirmed) (touched : Rect) (d : NamedDrawing) (bounds : Option Rect) → IsFieldList (drawing_fields Bits24 touched d)
     → FitBounds (edges_of_optional bounds)
-    → length (drawing_fields touched d).values.bytes < 256 → GoesWhole c (Drawn touched d bounds)
+    → length (drawing_fields Bits24 touched d).values.bytes < 256 → GoesWhole c (Drawn touched d bounds)
 drawn_whole c touched d bounds fields edges few = record {
   fits = (fields, edges);
   short = λ regs. let most = drawing_short regs c.zero_bounds touched d (edges_of_optional bounds) in omega (arith, most, few);

@@ -18,6 +18,7 @@ use Rattle.caps_sets.specs.declared.confirmed.Confirmed.{Confirmed}
 use Rattle.caps_sets.specs.Confirmed.{cache_size, first_cache}
 use Rattle.session_rules.specs.declared.entry.Entry.{Entry}
 use Rattle.session_rules.proofs.OwnSteps.{AllNone}
+use Rattle.px_core.specs.declared.depth.Depth.TheVariants.{Bits24}
 use Rattle.order_fields.specs.OrderTable.{fits_coordinate, IsFieldList}
 use Rattle.order_means.specs.ClientState.{source_rect}
 use Rattle.order_fields.specs.NamedDrawing.{drawing_fields}
@@ -61,13 +62,13 @@ boxed_fields r q x = (corner_fits r.x q.left, (corner_fits r.y q.above, (side_fi
 brush_fields : {X : Type 0} (entry : ℕ) → entry < 64 → X → (0 < 256 ^ 1) × ((0 < 256 ^ 1) × ((0x85 < 256 ^ 1) × ((entry < 256 ^ 1) × ((0 < 256 ^ 7) × X))))
 brush_fields entry below x = (omega arith, (omega arith, (omega arith, (omega (arith, below), (omega arith, x)))))
 
-fill_fields : (r : Rect) (color : ℕ) → IsPlainRect r → color < 2 ^ 24 → IsFieldList (drawing_fields r (OpaqueRect r color))
+fill_fields : (r : Rect) (color : ℕ) → IsPlainRect r → color < 2 ^ 24 → IsFieldList (drawing_fields Bits24 r (OpaqueRect r color))
 fill_fields r color q v = record { numbers = boxed_fields r q (omega (arith, v), (omega (arith, v), (omega (arith, v), tt))); bytes = refl }
 
-dst_fields : (r : Rect) (code : ℕ) → IsPlainRect r → code < 256 → IsFieldList (drawing_fields r (DstBlt r code))
+dst_fields : (r : Rect) (code : ℕ) → IsPlainRect r → code < 256 → IsFieldList (drawing_fields Bits24 r (DstBlt r code))
 dst_fields r code q v = record { numbers = boxed_fields r q (omega (arith, v), tt); bytes = refl }
 
-pat_fields : (r : Rect) (code entry : ℕ) → IsPlainRect r → code < 256 → entry < 64 → IsFieldList (drawing_fields r (PatBlt r code entry))
+pat_fields : (r : Rect) (code entry : ℕ) → IsPlainRect r → code < 256 → entry < 64 → IsFieldList (drawing_fields Bits24 r (PatBlt r code entry))
 pat_fields r code entry q v below = record {
   numbers = boxed_fields r q
       (omega (arith, v), (omega arith, (omega arith, brush_fields entry below tt)));
@@ -75,18 +76,18 @@ pat_fields r code entry q v below = record {
 }
 
 scr_fields : (r : Rect) (code : ℕ) (sx sy : ℤ) → IsPlainRect r → code < 256 → fits_coordinate sx ≡ true → fits_coordinate sy ≡ true
-    → IsFieldList (drawing_fields r (ScrBlt r code sx sy))
+    → IsFieldList (drawing_fields Bits24 r (ScrBlt r code sx sy))
 scr_fields r code sx sy q v fx fy = record { numbers = boxed_fields r q (omega (arith, v), (fx, (fy, tt))); bytes = refl }
 
 mem_fields : (cache index : ℕ) (r : Rect) (code : ℕ) (sx sy : ℤ) → cache < 3 → index < 512 → IsPlainRect r → code < 256 → fits_coordinate sx ≡ true
     → fits_coordinate sy ≡ true
-    → IsFieldList (drawing_fields r (MemBlt cache index r code sx sy))
+    → IsFieldList (drawing_fields Bits24 r (MemBlt cache index r code sx sy))
 mem_fields cache index r code sx sy few below q v fx fy =
     record { numbers = (omega (arith, few), boxed_fields r q (omega (arith, v), (fx, (fy, (omega (arith, below), tt))))); bytes = refl }
 
 mem3_fields : (cache index : ℕ) (r : Rect) (code : ℕ) (sx sy : ℤ) (entry : ℕ) → cache < 3 → index < 512 → IsPlainRect r → code < 256 → fits_coordinate sx ≡ true
     → fits_coordinate sy ≡ true → entry < 64
-    → IsFieldList (drawing_fields r (Mem3Blt cache index r code sx sy entry))
+    → IsFieldList (drawing_fields Bits24 r (Mem3Blt cache index r code sx sy entry))
 mem3_fields cache index r code sx sy entry few below q v fx fy low =
     record {
       numbers = (
@@ -116,7 +117,7 @@ no_brush x = (omega arith, (omega arith, (omega arith, (omega arith, (omega arit
 
 text_fields : (area : Rect) (cache : ℕ) (x y : ℤ) (color : ℕ) (run : List ℕ) → IsNear area → cache < 10 → fits_coordinate x ≡ true → fits_coordinate y ≡ true
     → color < 2 ^ 24 → length run < 256
-    → IsFieldList (drawing_fields area (GlyphIndex cache x y color run))
+    → IsFieldList (drawing_fields Bits24 area (GlyphIndex cache x y color run))
 text_fields area cache x y color run near few fx fy v short =
     let f = near_fits area near in
     record {

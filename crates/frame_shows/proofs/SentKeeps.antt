@@ -21,6 +21,7 @@ use Rattle.wire_num.specs.Field.{bind}
 use Rattle.order_means.specs.WirePixels.{glyph_cell_bytes}
 use Rattle.draw_ops.specs.Formulas.{Painting}
 use Rattle.draw_ops.specs.Drawing.{painting_of, restoring}
+use Rattle.px_core.specs.declared.depth.Depth.TheVariants.{Bits24}
 use Rattle.order_fields.specs.OrderTable.{Edges}
 use Rattle.order_fields.specs.OrderDelta.{edges_of_optional}
 use Rattle.order_fields.specs.NamedDrawing.{NamedDrawing, drawing_of, drawing_fields}
@@ -204,7 +205,7 @@ drawing_keeps c size bounds client (GlyphIndex cache x y color run) = needs_keep
 
 order_keeps : (c : Confirmed) (size : Size) (client : ClientState) (touched : Rect) (d : NamedDrawing) (bounds : Option Rect)
     → KeepsAll client (client_after_order c size client (as_read c (Drawn touched d bounds)))
-order_keeps c size client touched d bounds = bind_keeps client (found (drawing_of (drawing_fields touched d)) Broken) _
+order_keeps c size client touched d bounds = bind_keeps client (found (drawing_of Bits24 (drawing_fields Bits24 touched d)) Broken) _
     (λ n. drawing_keeps c size (edges_of_optional bounds) client n)
 
 -- ---- runs

@@ -283,7 +283,7 @@ zeros_are_bytes (suc n) = bytes_cons 0 (replicate n 0) (omega arith) (zeros_are_
 
 pub order_are_bytes : (c : Confirmed) (regs : Registers) (o : SentOrder) → HoldsBytes o → AreBytes (bytes_of_order c regs o)
 order_are_bytes c regs (Drawn touched d bounds) h =
-    let o = drawing_fields touched d in
+    let o = drawing_fields Bits24 touched d in
     row_are_bytes (row_of o.code) regs c.zero_bounds o.values (edges_of_optional bounds) (row_is_small table o.code table_is_small) h.0 h.1
 order_are_bytes c regs (CacheImage cache index image) h =
     let p = padded_image image in

@@ -5,6 +5,7 @@ use Rattle.std.proofs.lemmas.List.{append-nil}
 use Rattle.px_core.specs.declared.surface.Size.{Size}
 use Rattle.caps_sets.specs.declared.confirmed.Confirmed.{Confirmed}
 use Rattle.wire_num.specs.Field.{Read, bind}
+use Rattle.px_core.specs.declared.depth.Depth.TheVariants.{Bits24}
 use Rattle.order_fields.specs.OrderStream.{Order, Stream, orders_in}
 use Rattle.order_fields.specs.OrderStream.Order.{Primary, Other}
 use Rattle.order_means.specs.WirePixels.{turned_over}
@@ -100,7 +101,7 @@ obeyed_extends confirmed size body v s (Some left) = tt
 
 update_extends : (confirmed : Confirmed) (size : Size) (body : Body) (v : View) (u : Update) → Extends v.pictures (view_after_update confirmed size body v u)
 update_extends confirmed size body v (Orders count bytes) =
-    let s = orders_in bytes count v.client.registers in obeyed_extends confirmed size body v s s.refused
+    let s = orders_in Bits24 bytes count v.client.registers in obeyed_extends confirmed size body v s s.refused
 update_extends confirmed size body v (Tiles ts) = meant_extends v.pictures body.place (view_after_tiles size v ts) (tiles_extend size ts v)
 update_extends confirmed size body v Synchronize = marked_extends (not confirmed.marker) v
 

@@ -4,6 +4,7 @@ use Rattle.px_core.specs.declared.surface.Size.{Size}
 use Rattle.session_rules.specs.Journal.{Head}
 use Rattle.session_rules.specs.Steps.{Answer, outcome}
 use Rattle.session_rules.specs.Steps.Answer.{Joined, Left, Accepted, Refused, Nothing, Frame}
+use Rattle.px_core.specs.declared.depth.Depth.TheVariants.{Bits24}
 use Rattle.order_fields.specs.NamedDrawing.{drawing_fields}
 use Rattle.order_means.specs.WirePixels.{padded_image}
 use Rattle.frame_rules.specs.FrameOrders.{SentOrder, orders_before_tiles}
@@ -16,7 +17,7 @@ use Rattle.headline.specs.Sent.{AreBytes}
 
 -- the counted bytes of a drawing, the sides and the cache of an image, the bits and the cache of a glyph, the entry of a brush
 abbrev pub HoldsBytes : SentOrder → Type 0
-HoldsBytes (Drawn touched d bounds) = AreBytes (drawing_fields touched d).values.bytes × (length (drawing_fields touched d).values.bytes < 256)
+HoldsBytes (Drawn touched d bounds) = AreBytes (drawing_fields Bits24 touched d).values.bytes × (length (drawing_fields Bits24 touched d).values.bytes < 256)
 HoldsBytes (CacheImage cache index image) = (cache < 256) × ((padded_image image).w < 256) × ((padded_image image).h < 256)
 HoldsBytes (CacheGlyph cache index glyph) = (cache < 256) × AreBytes glyph.bits
 HoldsBytes (CacheBrush entry brush) = entry < 256

@@ -1,12 +1,16 @@
 -- Events one by one.
-use Rattle.std.proofs.Common.{◌≡◌, ℕ, suc, ◌+◌, ◌<◌, ◌-◌, List, [], ◌++◌, refl, ap, ◌∙◌, sym, subst, append_assoc, append-nil, arith}
-use Rattle.std.specs.Prelude.{length, Option, Result, Ok, Err, IsOk, option_to_list}
+use Rattle.std.proofs.Common.{◌≡◌, ℕ, zero, suc, ◌+◌, ◌*◌, ◌<◌, ◌≤◌, ◌-◌, false, cond, List, [], ◌++◌, take, drop, refl, ap, ◌∙◌, sym, subst, append_assoc, append-nil, arith}
+use Rattle.std.specs.Prelude.{nat_lt, length, Option, Result, Ok, Err, IsOk, option_to_list}
 use Rattle.wire_num.specs.FieldValue.{placed}
-use Rattle.wire_num.specs.Field.{Read, then_read, map_read}
+use Rattle.wire_num.specs.Field.{Read, then_read, map_read, bytes_at}
+use Rattle.wire_num.specs.Number.{little_value, little_at}
+use Rattle.wire_num.proofs.Bytes.{bytes_at_is}
+use Rattle.std.proofs.lemmas.Bool.Decides.{nat_tests}
+use Rattle.std.proofs.lemmas.List.{length-drop}
 use Rattle.input_pdu.specs.declared.event.Event.{Event}
 use Rattle.input_pdu.specs.declared.input_fault.InputFault.{InputFault}
 use Rattle.input_pdu.specs.declared.input_fault.InputFault.TheVariants.{BadInput, OutOfMemory}
-use Rattle.input_pdu.specs.Events.{event_at, events_at, passed_events_at, event_count_at, body_at, Pushes, ReadsFrom, Reads}
+use Rattle.input_pdu.specs.Events.{event_of, event_at, events_at, passed_events_at, event_count_at, body_at, Pushes, ReadsFrom, Reads}
 
 step : (n k : ℕ) (bs : List ℕ) → k < n
     → events_at (n - k) bs ≡ then_read (event_at bs) (λ event more. map_read (λ events. option_to_list event ++ events) (events_at (n - (k + 1)) more))
@@ -130,3 +134,39 @@ pub body_refused : (bs left : List ℕ) (at : ℕ) (old : List Event) → body_a
     → Reads bs (Err (BadInput at)) old old
 body_refused bs left at old e place =
     subst (λ r. ReadsFrom (placed (λ at. at) bs r) (Err (BadInput at)) old old) (sym e) (ap (λ k. Err (BadInput k)) (sym place), refl)
+
+-- ---- as many bytes as the events have
+
+whole_field : (n : ℕ) (bs : List ℕ) → n ≤ length bs → bytes_at n bs ≡ Ok (take n bs, drop n bs)
+whole_field n bs h =
+    let fits : nat_lt (length bs) n ≡ false = grind (arith, nat_tests, h) in
+    bytes_at_is n bs ∙ ap (λ t. cond t (Err bs) (Ok (take n bs, drop n bs))) fits
+
+event_there : (bs : List ℕ) → 12 ≤ length bs → (event : Option Event) × (more : List ℕ) × (event_at bs ≡ Ok (event, more)) × (12 + length more ≡ length bs)
+unfolding event_at
+event_there bs h =
+    let kind_on : List ℕ = drop 4 bs in
+    let data_on : List ℕ = drop 2 kind_on in
+    let kind : ℕ = little_value (take 2 kind_on) in
+    let a = length-drop 4 bs in
+    let b = length-drop 2 kind_on in
+    let c = length-drop 6 data_on in (
+      event_of kind (take 6 data_on),
+      drop 6 data_on,
+      ap (λ r. then_read r (λ _ more. then_read (little_at 2 more) (λ kind more. map_read (event_of kind) (bytes_at 6 more)))) (whole_field 4 bs (omega (arith, h)))
+          ∙ ap (λ r. then_read (map_read little_value r) (λ kind more. map_read (event_of kind) (bytes_at 6 more))) (whole_field 2 kind_on (omega (arith, h, a)))
+          ∙ ap (λ r. map_read (event_of kind) r) (whole_field 6 data_on (omega (arith, h, a, b))),
+      omega (arith, h, a, b, c),
+    )
+
+still_ok : (f : List Event → List Event) (r : Read (List Event)) → IsOk r → IsOk (map_read f r)
+still_ok f (Ok v) ok = refl
+still_ok f (Err left) ok = absurd (let no : ⊥ = cc in no)
+
+pub events_there : (n : ℕ) (bs : List ℕ) → n * 12 ≤ length bs → IsOk (events_at n bs)
+events_there zero bs h = refl
+events_there (suc n) bs h =
+    let e = event_there bs (omega (arith, h)) in
+    let others = events_there n e.1 (omega (arith, h, e.3)) in
+    subst IsOk (sym (ap (λ r. then_read r (λ event more. map_read (λ events. option_to_list event ++ events) (events_at n more))) e.2))
+    (still_ok (λ events. option_to_list e.0 ++ events) (events_at n e.1) others)

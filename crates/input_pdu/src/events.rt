@@ -19,6 +19,9 @@ use wire_num::{Cursor, Short};
 /// The bytes of pad2Octets.
 const PAD_SIZE: usize = 2;
 
+/// The bytes of an event.
+const EVENT_SIZE: usize = 12;
+
 /// Reads the events of a body and appends them, in their order. Events of other types are skipped, and bytes behind the counted
 /// events are dropped. A refusal leaves `out` as it was; want of memory comes only where all events are there, and leaves a
 /// front of them behind what it held.
@@ -32,11 +35,15 @@ pub fn read_events(body: &[u8], out: &mut Vec<Event>) -> Result<(), InputFault>
     }
 }
 
-/// Reads the number of events, all of which are there, and goes to the first one.
+/// Reads the number of events, all of which are there, and goes to the first one. Only where they aren't, it goes over them, to the
+/// first field that is missing.
 fn find_events(cursor: &mut Cursor<'_>) -> Result<u16, Short>
     ensures { FindsEvents result cursor.old cursor.new }
 {
     let count = read_count(cursor)?;
+    if usize::from(count) * EVENT_SIZE <= cursor.left() {
+        return Ok(count);
+    }
     let first = cursor.at();
     check_events(count, cursor)?;
     cursor.go_to(first);

@@ -5,7 +5,9 @@ use Rattle.std.proofs.lemmas.List.{length-take-le}
 use Rattle.std.proofs.lemmas.Bool.Decides.{nat_tests}
 use Rattle.wire_num.specs.Field.{Read, then_read, map_read, given, bytes_at, wanted, taken}
 use Rattle.wire_num.specs.Number.{little_at, little_signed_at}
-use Rattle.wire_num.specs.Pixels.{pixels_of}
+use Rattle.px_core.specs.declared.depth.Depth.{Depth}
+use Rattle.px_core.specs.Depth.{brush_format, brush_bytes}
+use Rattle.px_core.specs.Pixels.{pixels_of}
 use Rattle.wire_num.specs.FieldValue.{as_one_field}
 use Rattle.wire_num.specs.Cursor.{CursorOf, rest}
 use Rattle.wire_num.proofs.Content.{rest_of_content}
@@ -106,37 +108,37 @@ glyphs_behind a b d cache n e f =
 
 -- ---- brushes
 
-abbrev brush_by : ℕ → List ℕ → Cached
-brush_by entry xs = Brush (record { entry = entry; pixels = pixels_of xs })
+abbrev brush_by : Depth → ℕ → List ℕ → Cached
+brush_by depth entry xs = Brush (record { entry = entry; pixels = pixels_of depth xs })
 
-brush_from : (bs : List ℕ) → brush_at bs ≡ then_read (brush_head_at bs) (λ entry more. map_read (λ xs. brush_by entry xs ∷ []) (bytes_at 192 more))
-brush_from bs =
-    step (little_at 1 bs) _ _ _ (λ entry a. step (wanted (5 ∷ []) a) _ _ _ (λ format b. step (wanted (8 ∷ 8 ∷ []) b) _ _ _ (λ sides c. step (little_at 1 c) _ _ _ (λ style d. last (wanted (192 ∷ []) d) _ _ _ (λ count e. refl)))))
+brush_from : (depth : Depth) (bs : List ℕ) → brush_at depth bs ≡ then_read (brush_head_at depth bs) (λ entry more. map_read (λ xs. brush_by depth entry xs ∷ []) (bytes_at (brush_bytes depth) more))
+brush_from depth bs =
+    step (little_at 1 bs) _ _ _ (λ entry a. step (wanted (brush_format depth ∷ []) a) _ _ _ (λ format b. step (wanted (8 ∷ 8 ∷ []) b) _ _ _ (λ sides c. step (little_at 1 c) _ _ _ (λ style d. last (wanted (brush_bytes depth ∷ []) d) _ _ _ (λ count e. refl)))))
 
-pub brush_read : (entry : ℕ) (a b more xs : List ℕ) → brush_head_at a ≡ Ok (entry, b) → bytes_at 192 b ≡ Ok (xs, more) → others brush_at a ≡ Ok (Other (brush_by entry xs) ∷ [], more)
-brush_read entry a b more xs e f =
-    ap (map_read (map Other)) (brush_from a ∙ ap (λ r. then_read r (λ entry more. map_read (λ xs. brush_by entry xs ∷ []) (bytes_at 192 more))) e ∙ ap (map_read (λ xs. brush_by entry xs ∷ [])) f)
+pub brush_read : (depth : Depth) (entry : ℕ) (a b more xs : List ℕ) → brush_head_at depth a ≡ Ok (entry, b) → bytes_at (brush_bytes depth) b ≡ Ok (xs, more) → others (brush_at depth) a ≡ Ok (Other (brush_by depth entry xs) ∷ [], more)
+brush_read depth entry a b more xs e f =
+    ap (map_read (map Other)) (brush_from depth a ∙ ap (λ r. then_read r (λ entry more. map_read (λ xs. brush_by depth entry xs ∷ []) (bytes_at (brush_bytes depth) more))) e ∙ ap (map_read (λ xs. brush_by depth entry xs ∷ [])) f)
 
-pub brush_refused : (entry : ℕ) (a b left : List ℕ) → brush_head_at a ≡ Ok (entry, b) → bytes_at 192 b ≡ Err left → others brush_at a ≡ Err left
-brush_refused entry a b left e f =
-    ap (map_read (map Other)) (brush_from a ∙ ap (λ r. then_read r (λ entry more. map_read (λ xs. brush_by entry xs ∷ []) (bytes_at 192 more))) e ∙ ap (map_read (λ xs. brush_by entry xs ∷ [])) f)
+pub brush_refused : (depth : Depth) (entry : ℕ) (a b left : List ℕ) → brush_head_at depth a ≡ Ok (entry, b) → bytes_at (brush_bytes depth) b ≡ Err left → others (brush_at depth) a ≡ Err left
+brush_refused depth entry a b left e f =
+    ap (map_read (map Other)) (brush_from depth a ∙ ap (λ r. then_read r (λ entry more. map_read (λ xs. brush_by depth entry xs ∷ []) (bytes_at (brush_bytes depth) more))) e ∙ ap (map_read (λ xs. brush_by depth entry xs ∷ [])) f)
 
 -- ---- what stands within a total
 
-pub inside_from : (flags kind : ℕ) (a b d : List ℕ) → little_at 2 a ≡ Ok (flags, b) → little_at 1 b ≡ Ok (kind, d) → others inside_at a ≡ map_read (map Other) (secondary_body (secondary_kind kind) flags b d)
-inside_from flags kind a b d e f =
-    ap (λ r. map_read (map Other) (then_read r (λ flags c. then_read (little_at 1 c) (λ t d. secondary_body (secondary_kind t) flags c d)))) e
-    ∙ ap (λ r. map_read (map Other) (then_read r (λ t d. secondary_body (secondary_kind t) flags b d))) f
+pub inside_from : (depth : Depth) (flags kind : ℕ) (a b d : List ℕ) → little_at 2 a ≡ Ok (flags, b) → little_at 1 b ≡ Ok (kind, d) → others (inside_at depth) a ≡ map_read (map Other) (secondary_body depth (secondary_kind kind) flags b d)
+inside_from depth flags kind a b d e f =
+    ap (λ r. map_read (map Other) (then_read r (λ flags c. then_read (little_at 1 c) (λ t d. secondary_body depth (secondary_kind t) flags c d)))) e
+    ∙ ap (λ r. map_read (map Other) (then_read r (λ t d. secondary_body depth (secondary_kind t) flags b d))) f
 
-total_from : (n : ℕ) (a b part after : List ℕ) → little_at 2 a ≡ Ok (n, b) → bytes_at (n + 10) b ≡ Ok (part, after) → others secondary_at a ≡ map_read (map Other) (within_total (inside_at part) after)
-total_from n a b part after e f =
-    ap (λ r. map_read (map Other) (then_read r (λ n b. then_read (taken a (n + 10) b) (λ inside after. within_total (inside_at inside) after)))) e
-    ∙ ap (λ r. map_read (map Other) (then_read r (λ inside after. within_total (inside_at inside) after))) (sym (taken_as a b (n + 10) b) ∙ ap (as_one_field a) f)
+total_from : (depth : Depth) (n : ℕ) (a b part after : List ℕ) → little_at 2 a ≡ Ok (n, b) → bytes_at (n + 10) b ≡ Ok (part, after) → others (secondary_at depth) a ≡ map_read (map Other) (within_total (inside_at depth part) after)
+total_from depth n a b part after e f =
+    ap (λ r. map_read (map Other) (then_read r (λ n b. then_read (taken a (n + 10) b) (λ inside after. within_total (inside_at depth inside) after)))) e
+    ∙ ap (λ r. map_read (map Other) (then_read r (λ inside after. within_total (inside_at depth inside) after))) (sym (taken_as a b (n + 10) b) ∙ ap (as_one_field a) f)
 
-pub total_missing : (n : ℕ) (a b : List ℕ) → little_at 2 a ≡ Ok (n, b) → bytes_at (n + 10) b ≡ Err b → others secondary_at a ≡ Err a
-total_missing n a b e f =
-    ap (λ r. map_read (map Other) (then_read r (λ n b. then_read (taken a (n + 10) b) (λ inside after. within_total (inside_at inside) after)))) e
-    ∙ ap (λ r. map_read (map Other) (then_read r (λ inside after. within_total (inside_at inside) after))) (sym (taken_as a b (n + 10) b) ∙ ap (as_one_field a) f)
+pub total_missing : (depth : Depth) (n : ℕ) (a b : List ℕ) → little_at 2 a ≡ Ok (n, b) → bytes_at (n + 10) b ≡ Err b → others (secondary_at depth) a ≡ Err a
+total_missing depth n a b e f =
+    ap (λ r. map_read (map Other) (then_read r (λ n b. then_read (taken a (n + 10) b) (λ inside after. within_total (inside_at depth inside) after)))) e
+    ∙ ap (λ r. map_read (map Other) (then_read r (λ inside after. within_total (inside_at depth inside) after))) (sym (taken_as a b (n + 10) b) ∙ ap (as_one_field a) f)
 
 within_ok : (r : Read (List Cached)) (os : List Order) (after : List ℕ) → map_read (map Other) r ≡ Ok (os, []) → map_read (map Other) (within_total r after) ≡ Ok (os, after)
 within_ok (Err left) os after e = absurd (let no : ⊥ = cc in no)
@@ -158,14 +160,14 @@ within_refused : (r : Read (List Cached)) (left after : List ℕ) → map_read (
 within_refused (Ok v) left after e = absurd (let no : ⊥ = cc in no)
 within_refused (Err l) left after e = let same : l ≡ left = cc in ap (λ (bs : List ℕ). Err (bs ++ after)) same
 
-pub total_read : (n : ℕ) (a b part after : List ℕ) (os : List Order) → little_at 2 a ≡ Ok (n, b) → bytes_at (n + 10) b ≡ Ok (part, after) → others inside_at part ≡ Ok (os, []) → others secondary_at a ≡ Ok (os, after)
-total_read n a b part after os e f g = total_from n a b part after e f ∙ within_ok (inside_at part) os after g
+pub total_read : (depth : Depth) (n : ℕ) (a b part after : List ℕ) (os : List Order) → little_at 2 a ≡ Ok (n, b) → bytes_at (n + 10) b ≡ Ok (part, after) → others (inside_at depth) part ≡ Ok (os, []) → others (secondary_at depth) a ≡ Ok (os, after)
+total_read depth n a b part after os e f g = total_from depth n a b part after e f ∙ within_ok (inside_at depth part) os after g
 
-pub total_left : (n : ℕ) (a b part after left : List ℕ) (os : List Order) → little_at 2 a ≡ Ok (n, b) → bytes_at (n + 10) b ≡ Ok (part, after) → others inside_at part ≡ Ok (os, left) → 0 < length left → others secondary_at a ≡ Err (left ++ after)
-total_left n a b part after left os e f g some = total_from n a b part after e f ∙ within_left (inside_at part) os left after g some
+pub total_left : (depth : Depth) (n : ℕ) (a b part after left : List ℕ) (os : List Order) → little_at 2 a ≡ Ok (n, b) → bytes_at (n + 10) b ≡ Ok (part, after) → others (inside_at depth) part ≡ Ok (os, left) → 0 < length left → others (secondary_at depth) a ≡ Err (left ++ after)
+total_left depth n a b part after left os e f g some = total_from depth n a b part after e f ∙ within_left (inside_at depth part) os left after g some
 
-pub total_refused : (n : ℕ) (a b part after left : List ℕ) → little_at 2 a ≡ Ok (n, b) → bytes_at (n + 10) b ≡ Ok (part, after) → others inside_at part ≡ Err left → others secondary_at a ≡ Err (left ++ after)
-total_refused n a b part after left e f g = total_from n a b part after e f ∙ within_refused (inside_at part) left after g
+pub total_refused : (depth : Depth) (n : ℕ) (a b part after left : List ℕ) → little_at 2 a ≡ Ok (n, b) → bytes_at (n + 10) b ≡ Ok (part, after) → others (inside_at depth) part ≡ Err left → others (secondary_at depth) a ≡ Err (left ++ after)
+total_refused depth n a b part after left e f g = total_from depth n a b part after e f ∙ within_refused (inside_at depth part) left after g
 
 -- ---- the same by cursors
 
@@ -197,21 +199,21 @@ within_whole n old mid new content inner is same within =
     omega (arith, size, long, within, fits, whole)
 
 -- a rest that is left unread, or a field that is refused, is refused in the cursor's slice
-pub content_left : (n : ℕ) (old mid new content inner : CursorOf) (os : List Order) → IsContent n old mid new content → inner.bytes ≡ content.bytes → inner.at ≤ length inner.bytes
-    → others inside_at (rest content) ≡ Ok (os, rest inner) → 0 < length (rest inner) → others secondary_at (rest old) ≡ Err (drop inner.at old.bytes)
-content_left n old mid new content inner os is same within e some =
-    total_left n (rest old) (rest mid) (rest content) (rest new) (rest inner) os is.count is.part e some ∙ ap (λ (bs : List ℕ). Err bs) (rest_is n old mid new content inner is same within)
+pub content_left : (depth : Depth) (n : ℕ) (old mid new content inner : CursorOf) (os : List Order) → IsContent n old mid new content → inner.bytes ≡ content.bytes → inner.at ≤ length inner.bytes
+    → others (inside_at depth) (rest content) ≡ Ok (os, rest inner) → 0 < length (rest inner) → others (secondary_at depth) (rest old) ≡ Err (drop inner.at old.bytes)
+content_left depth n old mid new content inner os is same within e some =
+    total_left depth n (rest old) (rest mid) (rest content) (rest new) (rest inner) os is.count is.part e some ∙ ap (λ (bs : List ℕ). Err bs) (rest_is n old mid new content inner is same within)
 
-pub content_refused : (n : ℕ) (old mid new content inner : CursorOf) → IsContent n old mid new content → inner.bytes ≡ content.bytes → inner.at ≤ length inner.bytes
-    → others inside_at (rest content) ≡ Err (rest inner) → others secondary_at (rest old) ≡ Err (drop inner.at old.bytes)
-content_refused n old mid new content inner is same within e =
-    total_refused n (rest old) (rest mid) (rest content) (rest new) (rest inner) is.count is.part e ∙ ap (λ (bs : List ℕ). Err bs) (rest_is n old mid new content inner is same within)
+pub content_refused : (depth : Depth) (n : ℕ) (old mid new content inner : CursorOf) → IsContent n old mid new content → inner.bytes ≡ content.bytes → inner.at ≤ length inner.bytes
+    → others (inside_at depth) (rest content) ≡ Err (rest inner) → others (secondary_at depth) (rest old) ≡ Err (drop inner.at old.bytes)
+content_refused depth n old mid new content inner is same within e =
+    total_refused depth n (rest old) (rest mid) (rest content) (rest new) (rest inner) is.count is.part e ∙ ap (λ (bs : List ℕ). Err bs) (rest_is n old mid new content inner is same within)
 
 none_left : (bs : List ℕ) → length bs ≡ 0 → bs ≡ []
 none_left [] e = refl
 none_left (b ∷ bs) e = absurd (omega arith)
 
-pub content_read : (n : ℕ) (old mid new content inner : CursorOf) (os : List Order) → IsContent n old mid new content → others inside_at (rest content) ≡ Ok (os, rest inner) → length (rest inner) ≡ 0
-    → others secondary_at (rest old) ≡ Ok (os, rest new)
-content_read n old mid new content inner os is e none =
-    total_read n (rest old) (rest mid) (rest content) (rest new) os is.count is.part (e ∙ ap (λ (bs : List ℕ). Ok (os, bs)) (none_left (rest inner) none))
+pub content_read : (depth : Depth) (n : ℕ) (old mid new content inner : CursorOf) (os : List Order) → IsContent n old mid new content → others (inside_at depth) (rest content) ≡ Ok (os, rest inner) → length (rest inner) ≡ 0
+    → others (secondary_at depth) (rest old) ≡ Ok (os, rest new)
+content_read depth n old mid new content inner os is e none =
+    total_read depth n (rest old) (rest mid) (rest content) (rest new) os is.count is.part (e ∙ ap (λ (bs : List ℕ). Ok (os, bs)) (none_left (rest inner) none))

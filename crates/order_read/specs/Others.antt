@@ -1,5 +1,7 @@
 -- Parts of secondary orders.
 use Rattle.std.specs.Prelude.{ℕ, List, [], ◌∷◌, map}
+use Rattle.px_core.specs.declared.depth.Depth.{Depth}
+use Rattle.px_core.specs.Depth.{brush_format, brush_bytes}
 use Rattle.wire_num.specs.Field.{Read, then_read, map_read, wanted}
 use Rattle.wire_num.specs.Number.{little_at, little_signed_at}
 use Rattle.order_fields.specs.Secondary.{Cached, glyph_at, secondary_kind, secondary_body}
@@ -29,12 +31,12 @@ glyph_head_at bs =
 abbrev pub one_glyph_at : ℕ → List ℕ → Read (List Cached)
 one_glyph_at cache bs = map_read (λ o. o ∷ []) (glyph_at cache bs)
 
--- a cached brush up to its pixels: entry 1, format 05, sides 08 08, style 1, length C0
-abbrev pub brush_head_at : List ℕ → Read ℕ
-brush_head_at bs =
-    then_read (little_at 1 bs) (λ entry a. then_read (wanted (5 ∷ []) a) (λ format b. then_read (wanted (8 ∷ 8 ∷ []) b) (λ sides c. then_read (little_at 1 c) (λ style d.
-    map_read (λ _. entry) (wanted (192 ∷ []) d)))))
+-- a cached brush up to its pixels: entry 1, format 05, sides 08 08, style 1, length C0; at 16 bits format 04 and length 80
+abbrev pub brush_head_at : Depth → List ℕ → Read ℕ
+brush_head_at depth bs =
+    then_read (little_at 1 bs) (λ entry a. then_read (wanted (brush_format depth ∷ []) a) (λ format b. then_read (wanted (8 ∷ 8 ∷ []) b) (λ sides c. then_read (little_at 1 c) (λ style d.
+    map_read (λ _. entry) (wanted (brush_bytes depth ∷ []) d)))))
 
 -- what stands within a total: extraFlags 2, type 1, body
-abbrev pub inside_at : List ℕ → Read (List Cached)
-inside_at inside = then_read (little_at 2 inside) (λ flags c. then_read (little_at 1 c) (λ t d. secondary_body (secondary_kind t) flags c d))
+abbrev pub inside_at : Depth → List ℕ → Read (List Cached)
+inside_at depth inside = then_read (little_at 2 inside) (λ flags c. then_read (little_at 1 c) (λ t d. secondary_body depth (secondary_kind t) flags c d))

@@ -1,5 +1,6 @@
 -- What the calls say that read orders.
 use Rattle.std.specs.Prelude.{◌≡◌, ◌≤◌, ℕ, ◌+◌, List, ◌++◌, length, take, Option, Some, None, Result, Ok, Err, Vec, ⊤}
+use Rattle.px_core.specs.declared.depth.Depth.{Depth}
 use Rattle.wire_num.specs.Field.{Read as Field}
 use Rattle.wire_num.specs.Cursor.{CursorOf, rest}
 use Rattle.order_fields.specs.OrderTable.{Registers}
@@ -31,11 +32,11 @@ ReadsOnto read (Err (BadOrder at)) old new before after = (read (rest old) ≡ E
 ReadsOnto read (Err OutOfMemory) old new before after = ⊤
 
 -- The call read an order, kept it and appended what it says; or it came to a field that is refused, and the cursor stands there; or no memory was left. An `Err` leaves the registers as they were.
-abbrev pub ReadsOrder : {X : Type 0} → Result X OrderFault → Registers → Registers → CursorOf → CursorOf → List Read → List Read → Type 0
-ReadsOrder (Ok _) regs kept old new before after =
-    (os : List Order) × (order_at regs (rest old) ≡ Ok (seen os kept, rest new)) × (new.bytes ≡ old.bytes) × Appends old.bytes os before after
-ReadsOrder (Err (BadOrder at)) regs kept old new before after = (order_at regs (rest old) ≡ Err (rest new)) × (new.bytes ≡ old.bytes) × (kept ≡ regs)
-ReadsOrder (Err OutOfMemory) regs kept old new before after = kept ≡ regs
+abbrev pub ReadsOrder : {X : Type 0} → Depth → Result X OrderFault → Registers → Registers → CursorOf → CursorOf → List Read → List Read → Type 0
+ReadsOrder depth (Ok _) regs kept old new before after =
+    (os : List Order) × (order_at depth regs (rest old) ≡ Ok (seen os kept, rest new)) × (new.bytes ≡ old.bytes) × Appends old.bytes os before after
+ReadsOrder depth (Err (BadOrder at)) regs kept old new before after = (order_at depth regs (rest old) ≡ Err (rest new)) × (new.bytes ≡ old.bytes) × (kept ≡ regs)
+ReadsOrder depth (Err OutOfMemory) regs kept old new before after = kept ≡ regs
 
 -- The call read all orders of a stream and appended what they say; or it came to a field that is refused, and the cursor stands there; or no memory was left. The registers are those after the last whole order.
 abbrev pub ReadsAll : {X : Type 0} → Stream → Result X OrderFault → Registers → CursorOf → CursorOf → List Read → List Read → Type 0
@@ -44,8 +45,8 @@ ReadsAll s (Err (BadOrder at)) regs old new before after = (s.refused ≡ Some (
 ReadsAll s (Err OutOfMemory) regs old new before after = ⊤
 
 -- these are the registers after the first orders of so many, none, some or all of them
-abbrev pub AreAfterFirst : List ℕ → ℕ → Registers → Registers → Type 0
-AreAfterFirst bytes count before after = (k : ℕ) × (k ≤ count) × ((orders_in bytes k before).after ≡ after)
+abbrev pub AreAfterFirst : Depth → List ℕ → ℕ → Registers → Registers → Type 0
+AreAfterFirst depth bytes count before after = (k : ℕ) × (k ≤ count) × ((orders_in depth bytes k before).after ≡ after)
 
 -- the place of the field that was refused
 abbrev pub IsPlace : List ℕ → Option (List ℕ) → ℕ → Type 0

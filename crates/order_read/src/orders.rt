@@ -10,6 +10,7 @@ use crate::primary::read_primary;
 use crate::secondary::{read_marker, read_secondary};
 use crate::{OrderFault, Read};
 use order_fields::Regs;
+use px_core::Depth;
 use std::alloc::Global;
 use wire_num::Cursor;
 
@@ -30,8 +31,9 @@ fn read_order(
     cursor: &mut Cursor<'_>,
     regs: &mut Regs,
     out: &mut Vec<Read>,
+    depth: Depth,
 ) -> Result<(), OrderFault>
-    ensures { ReadsOrder result regs.old regs.new cursor.old cursor.new out.old.items out.new.items }
+    ensures { ReadsOrder depth result regs.old regs.new cursor.old cursor.new out.old.items out.new.items }
 {
     let first = cursor.at();
     let control = read_byte(cursor)?;
@@ -39,7 +41,7 @@ fn read_order(
         return read_primary(alloc, cursor, first, control, regs, out);
     }
     if control == STANDARD_SECONDARY {
-        return read_secondary(alloc, cursor, out);
+        return read_secondary(alloc, cursor, out, depth);
     }
     if control == FRAME_MARKER {
         return read_marker(cursor, out);
@@ -55,18 +57,19 @@ fn read_all(
     count: u16,
     regs: &mut Regs,
     out: &mut Vec<Read>,
+    depth: Depth,
 ) -> Result<(), OrderFault>
-    ensures read { ReadsAll (orders_in (rest cursor.old) count regs.old) result regs.new cursor.old cursor.new out.old.items out.new.items }
-    ensures registers { OnErr result (AreAfterFirst (rest cursor.old) count regs.old regs.new) }
+    ensures read { ReadsAll (orders_in depth (rest cursor.old) count regs.old) result regs.new cursor.old cursor.new out.old.items out.new.items }
+    ensures registers { OnErr result (AreAfterFirst depth (rest cursor.old) count regs.old regs.new) }
 {
     for _ in 0..count {
-        read_order(alloc, cursor, regs, out)?;
+        read_order(alloc, cursor, regs, out, depth)?;
     }
     cursor.end()?;
     Ok(())
 }
 
-/// Reads the orders of a body, which are so many and fill it.
+/// Reads the orders of a body, which are so many and fill it, as a client of this depth reads them: a cached brush of the other depth is refused.
 ///
 /// A refusal leaves the registers after the last whole order, and want of memory after the last one that was read by then.
 pub fn read_orders(
@@ -74,13 +77,14 @@ pub fn read_orders(
     body: &[u8],
     count: u16,
     regs: &mut Regs,
+    depth: Depth,
 ) -> Result<Vec<Read>, OrderFault>
-    ensures read { ReadsBody body.now (orders_in body.now count regs.old) result regs.new }
-    ensures registers { OnErr result (AreAfterFirst body.now count regs.old regs.new) }
+    ensures read { ReadsBody body.now (orders_in depth body.now count regs.old) result regs.new }
+    ensures registers { OnErr result (AreAfterFirst depth body.now count regs.old regs.new) }
 {
     let mut cursor = Cursor::new(body);
     let mut out = Vec::new(alloc);
-    match read_all(alloc, &mut cursor, count, regs, &mut out) {
+    match read_all(alloc, &mut cursor, count, regs, &mut out, depth) {
         Ok(()) => Ok(out),
         Err(OrderFault::BadOrder { .. }) => Err(OrderFault::BadOrder { at: cursor.at() }),
         Err(OrderFault::OutOfMemory) => Err(OrderFault::OutOfMemory),

@@ -11,7 +11,8 @@
 ghost use Rattle.std.specs.Prelude.{◌≡◌, ◌≤◌, Err, IfOk, length};
 ghost use Rattle.wire_num.specs.Cursor.{ReadsField, ReadsFields};
 ghost use Rattle.wire_num.specs.Number.{little_at, little_signed_at};
-ghost use Rattle.wire_num.specs.Pixels.{pixels_of};
+ghost use Rattle.px_core.specs.Depth.{brush_bytes};
+ghost use Rattle.px_core.specs.Pixels.{pixels_of};
 ghost use Rattle.order_means.specs.WirePixels.{turned_over};
 ghost use Rattle.order_fields.specs.Secondary.{bitmap_at, brush_at, glyph_at, glyphs_at, glyph_order_at, glyph_length, secondary_at, marker_at};
 ghost use Rattle.order_read.specs.declared.order_fault.OrderFault.TheVariants.{BadOrder};
@@ -22,6 +23,7 @@ use crate::number::{read_byte, read_signed};
 use crate::pixels::{pixels_of, turned_over};
 use crate::{OrderFault, Read};
 use draw_ops::{Brush, Glyph};
+use px_core::{Depth, brush_bytes, brush_format};
 use std::alloc::Global;
 use wire_num::{Cursor, OutOfMemory, Range, Short};
 
@@ -37,12 +39,8 @@ const CACHE_BRUSH: u8 = 0x07;
 /// What stands behind orderLength has so many bytes more than it says.
 const LENGTH_LESS: usize = 10;
 
-/// A brush of 24 bits a pixel, its sides in pixels, and its bytes.
-const BMF_24BPP: u8 = 0x05;
-
+/// The sides of a brush in pixels.
 const BRUSH_SIDE: u8 = 8;
-
-const BRUSH_BYTES: u8 = 192;
 
 /// The action of a marker at a frame's end.
 const TS_FRAME_END: u32 = 1;
@@ -204,36 +202,41 @@ fn read_glyph_order(
     read_glyphs(alloc, cursor, count, cache, out)
 }
 
-/// Reads a brush up to its pixels: entry 1, format 05, sides 08 08, style 1, length C0.
-fn read_brush_head(cursor: &mut Cursor<'_>) -> Result<u8, Short>
-    ensures { ReadsFields brush_head_at result cursor.old cursor.new }
+/// Reads a brush up to its pixels: entry 1, format 05, sides 08 08, style 1, length C0; at 16 bits format 04 and length 80.
+fn read_brush_head(cursor: &mut Cursor<'_>, depth: Depth) -> Result<u8, Short>
+    ensures { ReadsFields (brush_head_at depth) result cursor.old cursor.new }
 {
     let entry = read_byte(cursor)?;
-    cursor.expect(&[BMF_24BPP])?;
+    cursor.expect(&[brush_format(depth)])?;
     cursor.expect(&[BRUSH_SIDE, BRUSH_SIDE])?;
     read_byte(cursor)?;
-    cursor.expect(&[BRUSH_BYTES])?;
+    cursor.expect(&[brush_bytes(depth)])?;
     Ok(entry)
 }
 
 /// Reads a brush and appends it; its rows stand from the bottom up.
-fn read_brush(alloc: Global, cursor: &mut Cursor<'_>, out: &mut Vec<Read>) -> Result<(), OrderFault>
-    ensures { ReadsOnto (others brush_at) result cursor.old cursor.new out.old.items out.new.items }
+fn read_brush(
+    alloc: Global,
+    cursor: &mut Cursor<'_>,
+    out: &mut Vec<Read>,
+    depth: Depth,
+) -> Result<(), OrderFault>
+    ensures { ReadsOnto (others (brush_at depth)) result cursor.old cursor.new out.old.items out.new.items }
 {
-    let entry = read_brush_head(cursor)?;
-    let bytes = cursor.bytes(usize::from(BRUSH_BYTES))?;
-    let brush = brush_of(alloc, bytes)?;
+    let entry = read_brush_head(cursor, depth)?;
+    let bytes = cursor.bytes(usize::from(brush_bytes(depth)))?;
+    let brush = brush_of(alloc, bytes, depth)?;
     out.push(Read::Brush { entry, brush })?;
     Ok(())
 }
 
 /// The brush whose rows stand from the bottom up in bytes.
-fn brush_of(alloc: Global, bytes: &[u8]) -> Result<Brush, OutOfMemory>
-    requires { length bytes.now ≡ 192 }
-    ensures { IfOk result (λ brush. brush ≡ turned_over 8 8 (pixels_of bytes.now)) }
+fn brush_of(alloc: Global, bytes: &[u8], depth: Depth) -> Result<Brush, OutOfMemory>
+    requires { length bytes.now ≡ brush_bytes depth }
+    ensures { IfOk result (λ brush. brush ≡ turned_over 8 8 (pixels_of depth bytes.now)) }
 {
     let side = usize::from(BRUSH_SIDE);
-    let pixels = pixels_of(alloc, bytes)?;
+    let pixels = pixels_of(alloc, bytes, depth)?;
     let upright = turned_over(alloc, &pixels, side, side)?;
     Ok(Brush::new(&upright))
 }
@@ -243,8 +246,9 @@ fn read_inside(
     alloc: Global,
     cursor: &mut Cursor<'_>,
     out: &mut Vec<Read>,
+    depth: Depth,
 ) -> Result<(), OrderFault>
-    ensures { ReadsOnto (others inside_at) result cursor.old cursor.new out.old.items out.new.items }
+    ensures { ReadsOnto (others (inside_at depth)) result cursor.old cursor.new out.old.items out.new.items }
 {
     let flags = cursor.u16_le()?;
     let typed = cursor.at();
@@ -252,7 +256,7 @@ fn read_inside(
         CACHE_BITMAP_UNCOMPRESSED => read_bitmap(cursor, flags, false, out),
         CACHE_BITMAP_COMPRESSED => read_bitmap(cursor, flags, true, out),
         CACHE_GLYPH => read_glyph_order(alloc, cursor, out),
-        CACHE_BRUSH => read_brush(alloc, cursor, out),
+        CACHE_BRUSH => read_brush(alloc, cursor, out, depth),
         _ => {
             cursor.go_to(typed);
             Err(OrderFault::BadOrder { at: typed })
@@ -265,8 +269,9 @@ pub fn read_secondary(
     alloc: Global,
     cursor: &mut Cursor<'_>,
     out: &mut Vec<Read>,
+    depth: Depth,
 ) -> Result<(), OrderFault>
-    ensures { ReadsOnto (others secondary_at) result cursor.old cursor.new out.old.items out.new.items }
+    ensures { ReadsOnto (others (secondary_at depth)) result cursor.old cursor.new out.old.items out.new.items }
 {
     let first = cursor.at();
     let total = cursor.u16_le()?;
@@ -277,7 +282,7 @@ pub fn read_secondary(
             return Err(OrderFault::BadOrder { at: first });
         }
     };
-    match read_inside(alloc, &mut content, out) {
+    match read_inside(alloc, &mut content, out, depth) {
         Ok(()) if content.left() == 0 => Ok(()),
         Ok(()) => refuse(cursor, content.at()),
         Err(OrderFault::BadOrder { .. }) => refuse(cursor, content.at()),

@@ -25,3 +25,4 @@ pub mod OrderRows
 pub mod CautiousRows
 mod MeaningsOfFrames
 mod PendingRows
+mod Depths

@@ -32,9 +32,22 @@ impl Tiles {
         ensures unchanged { OnErr result (self.new ≡ self.old) }
     {
         self.fit(d)?;
-        let room = self.room_for(d)?;
-        self.draw_fitting(d, room)?;
+        self.draw_fit(d)?;
         Ok(())
+    }
+
+    /// Draws a drawing that keeps all rules and fits the slots, for whoever has asked already. An `Err` leaves the surface as it was.
+    ///
+    /// It answers want of memory also after 2^64 - 1 drawings, which can't be counted further.
+    pub fn draw_fit(&mut self, d: &Drawing) -> Result<(), OutOfMemory>
+        requires rules { broken_rule self.old.size d.now ≡ None }
+        requires slots { slot_misfit self.old.size self.old.state d.now.shape ≡ None }
+        requires colors { HasColors d.now }
+        ensures drawn { OnOk result (self.new ≡ record { size = self.old.size; state = state_after_drawing self.old.size self.old.state d.now }) }
+        ensures unchanged { OnErr result (self.new ≡ self.old) }
+    {
+        let room = self.room_for(d)?;
+        self.draw_fitting(d, room)
     }
 
     /// The memory that a drawing takes for its slot, where one more can be counted.

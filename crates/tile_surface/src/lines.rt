@@ -16,7 +16,7 @@ ghost use Rattle.tile_surface.specs.Ownership.{KeepsRest, OwnsArea, StaysOwn};
 use crate::cell::Cell;
 use crate::own::own_at;
 use crate::rows::write_dot;
-use px_core::{Rect, Size};
+use px_core::{Rect, Size, whole};
 use std::alloc::Global;
 use surface_parts::{Course, Ends, Part, course_of, distance, risen, towards, visible};
 use wire_num::OutOfMemory;
@@ -57,18 +57,6 @@ pub(crate) fn draw_line(cells: &mut [Cell], size: Size, clip: Option<Rect>, ends
     match visible(size, whole(size), clip) {
         None => {}
         Some(part) => draw_course(cells, size, part, course_of(ends), color),
-    }
-}
-
-/// The rectangle of the whole picture.
-fn whole(size: Size) -> Rect
-    ensures { result ≡ whole size }
-{
-    Rect {
-        x: 0,
-        y: 0,
-        w: size.w,
-        h: size.h,
     }
 }
 

@@ -14,7 +14,7 @@ use px_core::{Rect, Size};
 use surface_parts::part_of;
 
 /// The number of tiles in a row of tiles.
-pub(crate) const TILES_IN_ROW: usize = 32;
+pub(crate) const TILES_IN_ROW: usize = px_core::TILES_IN_ROW as usize;
 
 /// `SRCCOPY`: the source.
 const SRCCOPY: u8 = 0xCC;

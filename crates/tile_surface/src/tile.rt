@@ -12,7 +12,7 @@ use surface_parts::{Part, draw_bit_row};
 use wire_num::OutOfMemory;
 
 /// The columns, and the rows, of a tile.
-pub(crate) const TILE_SIDE: usize = 64;
+pub(crate) const TILE_SIDE: usize = px_core::TILE_SIDE as usize;
 
 /// The pixels of a tile.
 const TILE_PIXELS: usize = 4_096;

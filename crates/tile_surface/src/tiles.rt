@@ -25,7 +25,7 @@ use surface_parts::{DrawFault, LoadedBrush, LoadedGlyph, LoadedImage, Slots, bla
 use wire_num::OutOfMemory;
 
 /// The tiles of the greatest picture of a session.
-const TILES: usize = 1_024;
+const TILES: usize = px_core::TILES as usize;
 
 /// The most columns of a session's picture.
 const WIDEST: usize = 2_048;

@@ -42,24 +42,26 @@ use Rattle.share_pdu.specs.Final.{final_bytes}
 use Rattle.share_pdu.specs.Bodies.{synchronize_body, control_body}
 use Rattle.share_pdu.specs.ClientPdu.{total_length, control_header, data_header, compressed_type_at, data_body_at, data_pdu_at, client_pdu_at}
 use Rattle.share_pdu.proofs.Packet.{per_back, per_short}
+use Rattle.conn_rules.specs.declared.answer.Answer.{Answer}
 use Rattle.conn_rules.specs.declared.answer.Reply.TheVariants as reply
 use Rattle.conn_rules.specs.declared.answer.News.TheVariants as news
 use Rattle.conn_rules.specs.declared.client.Client.{Client}
 use Rattle.conn_rules.specs.declared.conn_step.ConnStep.{ConnStep}
 use Rattle.conn_rules.specs.declared.conn_step.ConnStep.TheVariants as step
 use Rattle.conn_rules.specs.declared.deed.Deed.TheVariants as deed
+use Rattle.conn_rules.specs.declared.refusal.Refusal.{Refusal}
 use Rattle.conn_rules.specs.declared.stage.Stage.{Stage}
 use Rattle.conn_rules.specs.declared.stage.Stage.TheVariants as stage
 use Rattle.conn_rules.specs.declared.stage.SharePhase.TheVariants as phase
-use Rattle.conn_rules.specs.Answers.{Judged, goes_to}
-use Rattle.conn_rules.specs.Deeds.{deed_judged}
+use Rattle.conn_rules.specs.Answers.{Telling, alone, goes_to}
+use Rattle.conn_rules.specs.Deeds.{found_judged}
 use Rattle.conn_rules.specs.Domain.{placed_pdu}
 use Rattle.conn_rules.specs.Headers.{mcs_headers}
 use Rattle.conn_rules.specs.Hearing.{Hearing, Heard, then_heard, packets_heard, judged_heard, before_rest, cut_heard, heard, first_hearing, host_handshake}
 use Rattle.conn_rules.specs.Info.{info_judged}
 use Rattle.conn_rules.specs.Numbers.{place_behind}
 use Rattle.conn_rules.specs.Packets.{joins_judged, packet_judged}
-use Rattle.conn_rules.specs.Shares.{sets_read}
+use Rattle.conn_rules.specs.Shares.{sets_read, other_deed}
 use Rattle.conn_rules.proofs.Pieces.{packets_then}
 use Rattle.viewer_rules.specs.ClientPackets.{connection_request, connect_initial as viewer_initial, erect_domain, attach_user, channel_join, request_data, send_data, wide, info_body, client_info, confirm_fields, confirm_body, confirm_active, synchronize, cooperate, request_control, font_list, last_five}
 use Rattle.viewer_rules.specs.Rounds.{IsConfirmable, the_user, greeting, joined}
@@ -136,8 +138,8 @@ info_small name h =
     let both = length-append (wide name) (0 ∷ 0 ∷ 0 ∷ 0 ∷ 0 ∷ 0 ∷ 0 ∷ 0 ∷ []) in
     omega (arith, short, units, both)
 
-abbrev pub welcome : List ℕ → Judged
-welcome name = Ok (record { reply = reply.Welcome client; news = news.Step (step.Named name); next = stage.Shares 3 (phase.Confirm Bits24) })
+abbrev pub welcome : List ℕ → Result (Telling Answer) Refusal
+welcome name = alone (Ok (record { reply = reply.Welcome client; news = news.Step (step.Named name); next = stage.Shares 3 (phase.Confirm Bits24) }))
 
 pub info_judged_so : (name : List ℕ) → IsName name → packet_judged (stage.Joins client true true) (client_info the_user name) ≡ welcome name
 unfolding mcs_headers
@@ -145,29 +147,29 @@ info_judged_so name h =
     let body : List ℕ = info_body name in
     let mcs : List ℕ = request_data the_user body in
     let place : ℕ = place_behind 7 (length mcs - length body) in
-    ap (λ (r : Result DomainPdu BadDomain). bind (placed_pdu 7 r) (λ p. joins_judged client true true mcs p)) (data_read body (info_small name h))
-    ∙ ap (λ (xs : List ℕ). info_judged client 7 the_user place (name_of xs)) (body_is body)
-    ∙ ap (λ r. info_judged client 7 the_user place r) (info_back name h)
+    ap (λ (r : Result DomainPdu BadDomain). alone (bind (placed_pdu 7 r) (λ p. joins_judged client true true mcs p))) (data_read body (info_small name h))
+    ∙ ap (λ (xs : List ℕ). alone (info_judged client 7 the_user place (name_of xs))) (body_is body)
+    ∙ ap (λ r. alone (info_judged client 7 the_user place r)) (info_back name h)
 
 -- ---- Confirm Active and the finalisation
 
 confirm_seen : (c : Confirmed) (bs gs : List CacheSize)
     → packet_judged (stage.Shares 3 (phase.Confirm Bits24)) (confirm_active the_user (with_caches c (cells 3 bs) (cells 10 gs)))
-    ≡ deed_judged 3 7 the_user (phase.Confirm Bits24) 15 (bind (sets_read 21 (confirmed_of Bits24 (confirm_fields (with_caches c (cells 3 bs) (cells 10 gs))))) (λ k. Ok (Some (deed.Confirm k))))
+    ≡ found_judged 3 7 the_user (phase.Confirm Bits24) 15 (bind (sets_read 21 (confirmed_of Bits24 (confirm_fields (with_caches c (cells 3 bs) (cells 10 gs))))) (λ k. other_deed (Some (deed.Confirm k))))
 unfolding mcs_headers passing_at exactly_at send_data_request total_length control_header client_pdu_at
 confirm_seen c bs gs = refl
 
 abbrev pub Seen : Confirmed → Type 0
 Seen c = packet_judged (stage.Shares 3 (phase.Confirm Bits24)) (confirm_active the_user c)
-    ≡ deed_judged 3 7 the_user (phase.Confirm Bits24) 15 (bind (sets_read 21 (confirmed_of Bits24 (confirm_fields c))) (λ k. Ok (Some (deed.Confirm k))))
+    ≡ found_judged 3 7 the_user (phase.Confirm Bits24) 15 (bind (sets_read 21 (confirmed_of Bits24 (confirm_fields c))) (λ k. other_deed (Some (deed.Confirm k))))
 
 pub confirm_judged : (c : Confirmed) → IsConfirmable c
-    → packet_judged (stage.Shares 3 (phase.Confirm Bits24)) (confirm_active the_user c) ≡ goes_to (stage.Shares 3 (phase.Finish c final.Synchronize))
+    → packet_judged (stage.Shares 3 (phase.Confirm Bits24)) (confirm_active the_user c) ≡ alone (goes_to (stage.Shares 3 (phase.Finish c final.Synchronize)))
 confirm_judged c h =
     let seen : Seen c =
     subst (λ (xs : List CacheSize). Seen (with_caches c xs c.glyphs)) (cells_are 3 c.bitmaps h.bitmaps)
     (subst (λ (ys : List CacheSize). Seen (with_caches c (cells 3 c.bitmaps) ys)) (cells_are 10 c.glyphs h.glyphs) (confirm_seen c c.bitmaps c.glyphs)) in
-    seen ∙ ap (λ r. deed_judged 3 7 the_user (phase.Confirm Bits24) 15 (bind (sets_read 21 r) (λ k. Ok (Some (deed.Confirm k))))) (confirmed_back c h)
+    seen ∙ ap (λ r. found_judged 3 7 the_user (phase.Confirm Bits24) 15 (bind (sets_read 21 r) (λ k. other_deed (Some (deed.Confirm k))))) (confirmed_back c h)
 
 abbrev pub last_four : List (List ℕ)
 last_four = synchronize the_user ∷ cooperate the_user ∷ request_control the_user ∷ font_list the_user ∷ []
@@ -202,7 +204,7 @@ ten_heard size name n =
     let at_info : Hearing = stands size (stage.Joins client true true) 435 in
     packets_then (first_hearing size) first_nine (client_info the_user name ∷ [])
     ∙ ap (λ (x : Heard). then_heard x (packets_heard x.after (client_info the_user name ∷ []))) (nine_heard size)
-    ∙ ap (λ (j : Judged). then_heard (heard_as first_answers [] at_info) (then_heard (judged_heard at_info (client_info the_user name) j) (packets_heard (judged_heard at_info (client_info the_user name) j).after []))) (info_judged_so name n)
+    ∙ ap (λ (j : Result (Telling Answer) Refusal). then_heard (heard_as first_answers [] at_info) (then_heard (judged_heard at_info (client_info the_user name) j) (packets_heard (judged_heard at_info (client_info the_user name) j).after []))) (info_judged_so name n)
 
 pub packets_are_heard : (size : Size) (name : List ℕ) (c : Confirmed) → IsName name → IsConfirmable c
     → packets_heard (first_hearing size) (greeting name c) ≡ all_heard size name c
@@ -216,8 +218,8 @@ packets_are_heard size name c n h =
     let confirm : Heard = heard_as [] [] at_finals in
     packets_then (first_hearing size) first_nine (client_info the_user name ∷ last_five the_user c)
     ∙ ap (λ (x : Heard). then_heard x (packets_heard x.after (client_info the_user name ∷ last_five the_user c))) (nine_heard size)
-    ∙ ap (λ (j : Judged). then_heard nine (then_heard (judged_heard at_info (client_info the_user name) j) (packets_heard (judged_heard at_info (client_info the_user name) j).after (last_five the_user c)))) (info_judged_so name n)
-    ∙ ap (λ (j : Judged). then_heard nine (then_heard info (then_heard (judged_heard at_confirm (confirm_active the_user c) j) (packets_heard (judged_heard at_confirm (confirm_active the_user c) j).after last_four)))) (confirm_judged c h)
+    ∙ ap (λ (j : Result (Telling Answer) Refusal). then_heard nine (then_heard (judged_heard at_info (client_info the_user name) j) (packets_heard (judged_heard at_info (client_info the_user name) j).after (last_five the_user c)))) (info_judged_so name n)
+    ∙ ap (λ (j : Result (Telling Answer) Refusal). then_heard nine (then_heard info (then_heard (judged_heard at_confirm (confirm_active the_user c) j) (packets_heard (judged_heard at_confirm (confirm_active the_user c) j).after last_four)))) (confirm_judged c h)
     ∙ ap (λ (x : Heard). then_heard nine (then_heard info (then_heard confirm x))) (four_heard size (place_behind confirm_place (length (confirm_active the_user c))) c)
 
 -- ---- bytes

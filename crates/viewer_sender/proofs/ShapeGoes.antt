@@ -13,6 +13,7 @@ use Rattle.draw_ops.specs.Fits.{rules_of, starts_at_0, deltas_are_small}
 use Rattle.caps_sets.specs.declared.confirmed.Confirmed.{Confirmed}
 use Rattle.session_rules.specs.declared.entry.Entry.{Entry}
 use Rattle.session_rules.proofs.OwnSteps.{AllNone}
+use Rattle.px_core.specs.declared.depth.Depth.TheVariants.{Bits24}
 use Rattle.order_fields.specs.OrderTable.{IsFieldList}
 use Rattle.order_fields.specs.NamedDrawing.{drawing_fields}
 use Rattle.order_fields.specs.NamedDrawing.NamedDrawing.{Pat as PatBlt, Mem as MemBlt, Mem3 as Mem3Blt, Glyphs as GlyphIndex}
@@ -42,7 +43,7 @@ rest_whole c (x ∷ xs) ps h = rest_whole c xs ps h.1
 
 -- ---- other entries of caches
 
-other_brush : (r : Rect) (code entry other : ℕ) → IsFieldList (drawing_fields r (PatBlt r code entry)) → other < 256 → IsFieldList (drawing_fields r (PatBlt r code other))
+other_brush : (r : Rect) (code entry other : ℕ) → IsFieldList (drawing_fields Bits24 r (PatBlt r code entry)) → other < 256 → IsFieldList (drawing_fields Bits24 r (PatBlt r code other))
 other_brush r code entry other h below =
     let n = h.numbers in
     record {
@@ -80,8 +81,8 @@ other_brush r code entry other h below =
       bytes = h.bytes;
     }
 
-other_image : (r : Rect) (cache index code : ℕ) (sx sy : ℤ) (k i : ℕ) → IsFieldList (drawing_fields r (MemBlt cache index r code sx sy)) → k < 3 → i < 65536
-    → IsFieldList (drawing_fields r (MemBlt k i r code sx sy))
+other_image : (r : Rect) (cache index code : ℕ) (sx sy : ℤ) (k i : ℕ) → IsFieldList (drawing_fields Bits24 r (MemBlt cache index r code sx sy)) → k < 3 → i < 65536
+    → IsFieldList (drawing_fields Bits24 r (MemBlt k i r code sx sy))
 other_image r cache index code sx sy k i h few below =
     let n = h.numbers in
     record {
@@ -89,8 +90,8 @@ other_image r cache index code sx sy k i h few below =
       bytes = h.bytes;
     }
 
-other_both : (r : Rect) (cache index code : ℕ) (sx sy : ℤ) (entry k i e : ℕ) → IsFieldList (drawing_fields r (Mem3Blt cache index r code sx sy entry)) → k < 3 → i < 65536 → e < 256
-    → IsFieldList (drawing_fields r (Mem3Blt k i r code sx sy e))
+other_both : (r : Rect) (cache index code : ℕ) (sx sy : ℤ) (entry k i e : ℕ) → IsFieldList (drawing_fields Bits24 r (Mem3Blt cache index r code sx sy entry)) → k < 3 → i < 65536 → e < 256
+    → IsFieldList (drawing_fields Bits24 r (Mem3Blt k i r code sx sy e))
 other_both r cache index code sx sy entry k i e h few below low =
     let n = h.numbers in
     record {
@@ -137,8 +138,8 @@ other_both r cache index code sx sy entry k i e h few below low =
       bytes = h.bytes;
     }
 
-other_run : (area : Rect) (cache : ℕ) (x y : ℤ) (color : ℕ) (pairs : List ℕ) (k : ℕ) (others : List ℕ) → IsFieldList (drawing_fields area (GlyphIndex cache x y color pairs)) → k < 10
-    → length others < 256 → IsFieldList (drawing_fields area (GlyphIndex k x y color others))
+other_run : (area : Rect) (cache : ℕ) (x y : ℤ) (color : ℕ) (pairs : List ℕ) (k : ℕ) (others : List ℕ) → IsFieldList (drawing_fields Bits24 area (GlyphIndex cache x y color pairs)) → k < 10
+    → length others < 256 → IsFieldList (drawing_fields Bits24 area (GlyphIndex k x y color others))
 other_run area cache x y color pairs k others h few short = record { numbers = (omega (arith, few), h.numbers.1); bytes = short }
 
 -- ---- runs

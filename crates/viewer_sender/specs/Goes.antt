@@ -8,6 +8,7 @@ use Rattle.draw_ops.specs.declared.shape.Shape.{Shape}
 use Rattle.draw_ops.specs.declared.shape.Shape.TheVariants.{Fill, Dst, Pat, Copy, Blit, Blit3, Text, Line, Save, Restore, LoadImage, LoadBrush, LoadGlyph}
 use Rattle.draw_ops.specs.Content.{ImageOf, GlyphOf}
 use Rattle.draw_ops.specs.Slots.{Loaded}
+use Rattle.px_core.specs.declared.depth.Depth.TheVariants.{Bits24}
 use Rattle.order_fields.specs.OrderTable.{IsFieldList, FitBounds}
 use Rattle.order_fields.specs.OrderDelta.{edges_of_optional}
 use Rattle.order_fields.specs.NamedDrawing.{NamedDrawing, drawing_fields}
@@ -20,7 +21,7 @@ use Rattle.frame_rules.specs.FrameOrders.{bounds_of}
 
 -- an order whose fields hold its values, in a clip
 pub record FitsDrawn (area : Rect) (d : NamedDrawing) (clip : Option Rect) : Type 0 where
-  pub fields : IsFieldList (drawing_fields area d)
+  pub fields : IsFieldList (drawing_fields Bits24 area d)
   pub bounds : FitBounds (edges_of_optional (bounds_of area clip))
 
 -- a shape whose order does so, whichever entries of caches it names

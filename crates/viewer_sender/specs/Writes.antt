@@ -1,6 +1,7 @@
 -- What a writer has written between two moments, for each history of uses that its caches stand for.
 use Rattle.std.specs.Prelude.{◌≡◌, ℕ}
 use Rattle.draw_ops.specs.Slots.{Loaded}
+use Rattle.px_core.specs.declared.depth.Depth.TheVariants.{Bits24}
 use Rattle.order_fields.specs.OrderTable.{FieldList}
 use Rattle.order_fields.specs.NamedDrawing.{NamedDrawing, drawing_fields}
 use Rattle.px_core.specs.declared.rectangle.Rect.{Rect}
@@ -31,4 +32,4 @@ loaded number content = record { number = number; content = content }
 pub record IsDrawing (o : FieldList) : Type 0 where
   pub area : Rect
   pub drawing : NamedDrawing
-  pub fields : o ≡ drawing_fields area drawing
+  pub fields : o ≡ drawing_fields Bits24 area drawing

@@ -1,5 +1,6 @@
 //! Orders that use no cache ([MS-RDPEGDI] 2.2.2.2.1.1.2).
 ghost use Rattle.std.specs.Prelude.{◌≡◌, ◌<◌, [], ◌∷◌, length, OnOk, None};
+ghost use Rattle.px_core.specs.declared.depth.Depth.TheVariants.{Bits24};
 ghost use Rattle.order_fields.specs.OrderTable.{FitBounds};
 ghost use Rattle.order_fields.specs.OrderDelta.{edges_of_optional};
 ghost use Rattle.order_fields.specs.NamedDrawing.{NamedDrawing, drawing_fields};
@@ -26,7 +27,7 @@ pub(crate) fn put_drawn(
     requires bounds { FitBounds (edges_of_optional (bounds_of area clip)) }
     requires drawing { IsDrawing fields.now }
     requires run { length fields.now.values.bytes < 256 }
-    ensures { OnOk result ((d : NamedDrawing) → fields.now ≡ drawing_fields area d → Writes writer.old writer.new (λ uses. sending (Drawn area d (bounds_of area clip) ∷ []) uses)) }
+    ensures { OnOk result ((d : NamedDrawing) → fields.now ≡ drawing_fields Bits24 area d → Writes writer.old writer.new (λ uses. sending (Drawn area d (bounds_of area clip) ∷ []) uses)) }
 {
     let bounds = bounds_of(area, clip);
     writer.put_drawn(fields, bounds)

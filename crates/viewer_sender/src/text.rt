@@ -1,5 +1,6 @@
 //! Runs of glyphs ([MS-RDPEGDI] 2.2.2.2.1.1.2.13): the glyphs that the viewer's cache hasn't go before the order, in the run's order.
 ghost use Rattle.std.specs.Prelude.{◌≡◌, ℕ, ◌<◌, ◌≤◌, ◌+◌, [], ◌∷◌, ◌++◌, List, length, IfOk, OnOk};
+ghost use Rattle.px_core.specs.declared.depth.Depth.TheVariants.{Bits24};
 ghost use Rattle.order_fields.specs.OrderTable.{FitBounds};
 ghost use Rattle.order_fields.specs.OrderDelta.{edges_of_optional};
 ghost use Rattle.order_fields.specs.NamedDrawing.{NamedDrawing, drawing_fields};
@@ -62,7 +63,7 @@ fn put_run(
     requires bounds { FitBounds (edges_of_optional (bounds_of area clip)) }
     requires drawing { IsDrawing order }
     requires run { length order.values.bytes < 256 }
-    ensures { OnOk result ((d : NamedDrawing) → order ≡ drawing_fields area d → Writes writer.old writer.new (λ uses. sending (Drawn area d (bounds_of area clip) ∷ []) uses)) }
+    ensures { OnOk result ((d : NamedDrawing) → order ≡ drawing_fields Bits24 area d → Writes writer.old writer.new (λ uses. sending (Drawn area d (bounds_of area clip) ∷ []) uses)) }
 {
     put_drawn(writer, &order, area, clip)?;
     match order.into_bytes() {

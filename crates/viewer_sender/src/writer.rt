@@ -1,5 +1,6 @@
 //! A frame in the making: the registers and caches of its viewer, as they are after the orders so far, and the updates that these orders are gathered into.
 ghost use Rattle.std.specs.Prelude.{◌≡◌, ◌<◌, ◌+◌, [], ◌∷◌, length, IfOk, OnOk, Some};
+ghost use Rattle.px_core.specs.declared.depth.Depth.TheVariants.{Bits24};
 ghost use Rattle.order_fields.specs.OrderTable.{FitBounds, first_registers};
 ghost use Rattle.order_fields.specs.OrderDelta.{edges_of_optional};
 ghost use Rattle.order_fields.specs.NamedDrawing.{NamedDrawing, drawing_fields};
@@ -67,7 +68,7 @@ impl FrameWriter {
         requires bounds { FitBounds (edges_of_optional bounds) }
         requires drawing { IsDrawing fields.now }
         requires run { length fields.now.values.bytes < 256 }
-        ensures { OnOk result ((area : Rect) (d : NamedDrawing) → fields.now ≡ drawing_fields area d → Writes self.old self.new (λ uses. sending (Drawn area d bounds ∷ []) uses)) }
+        ensures { OnOk result ((area : Rect) (d : NamedDrawing) → fields.now ≡ drawing_fields Bits24 area d → Writes self.old self.new (λ uses. sending (Drawn area d bounds ∷ []) uses)) }
     {
         self.updates.put_drawn(
             &mut self.registers,

@@ -2,6 +2,7 @@
 use Rattle.std.proofs.Common.{◌≡◌, ℕ, List, [], ◌∷◌, refl, Some, None, replicate, pos, false}
 use Rattle.std.specs.Prelude.{Ok, Result, length}
 use Rattle.wire_num.specs.Field.{bind}
+use Rattle.px_core.specs.declared.depth.Depth.TheVariants.{Bits24}
 use Rattle.order_fields.specs.OrderTable.{first_registers, registers_after, field_list}
 use Rattle.order_fields.specs.OrderStream.{orders_in}
 use Rattle.order_means.specs.FrameMarks.{ClientReading, Refusal, read_stream, pictures_at_marks, unread}
@@ -54,8 +55,8 @@ pub unread_bytes : unread (0x03 ∷ 0x00 ∷ 0x00 ∷ 0x24 ∷ 0x02 ∷ 0xF0 ∷
 unread_bytes = refl
 
 -- after a refusal the registers are those after the last whole order
-pub registers_after_a_refusal : (orders_in (0x09 ∷ 0x00 ∷ 0x1F ∷ 0x00 ∷ 0x00 ∷ 0x00 ∷ 0x00 ∷ 0x01 ∷ 0x00 ∷ 0x01 ∷ 0x00 ∷ 0x55 ∷ 0x09 ∷ 0x05 ∷ []) 2 first_registers).after ≡ registers_after first_registers (field_list 0 (pos 0 ∷ pos 0 ∷ pos 1 ∷ pos 1 ∷ pos 0x55 ∷ []) []) None
+pub registers_after_a_refusal : (orders_in Bits24 (0x09 ∷ 0x00 ∷ 0x1F ∷ 0x00 ∷ 0x00 ∷ 0x00 ∷ 0x00 ∷ 0x01 ∷ 0x00 ∷ 0x01 ∷ 0x00 ∷ 0x55 ∷ 0x09 ∷ 0x05 ∷ []) 2 first_registers).after ≡ registers_after first_registers (field_list 0 (pos 0 ∷ pos 0 ∷ pos 1 ∷ pos 1 ∷ pos 0x55 ∷ []) []) None
 registers_after_a_refusal = refl
 
-pub place_of_that_refusal : (orders_in (0x09 ∷ 0x00 ∷ 0x1F ∷ 0x00 ∷ 0x00 ∷ 0x00 ∷ 0x00 ∷ 0x01 ∷ 0x00 ∷ 0x01 ∷ 0x00 ∷ 0x55 ∷ 0x09 ∷ 0x05 ∷ []) 2 first_registers).refused ≡ Some (0x05 ∷ [])
+pub place_of_that_refusal : (orders_in Bits24 (0x09 ∷ 0x00 ∷ 0x1F ∷ 0x00 ∷ 0x00 ∷ 0x00 ∷ 0x00 ∷ 0x01 ∷ 0x00 ∷ 0x01 ∷ 0x00 ∷ 0x55 ∷ 0x09 ∷ 0x05 ∷ []) 2 first_registers).refused ≡ Some (0x05 ∷ [])
 place_of_that_refusal = refl

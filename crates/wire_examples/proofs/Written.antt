@@ -3,6 +3,7 @@ use Rattle.std.proofs.Common.{◌≡◌, ℕ, List, [], ◌∷◌, ◌++◌, ref
 use Rattle.std.specs.Prelude.{Option}
 use Rattle.px_core.specs.declared.rectangle.Rect.{Rect}
 use Rattle.px_core.specs.Rectangle.{boxed}
+use Rattle.px_core.specs.declared.depth.Depth.TheVariants.{Bits24}
 use Rattle.order_fields.specs.OrderTable.{Registers, first_registers, registers_after}
 use Rattle.order_fields.specs.OrderDelta.{order_bytes, edges_of, edges_of_optional}
 use Rattle.order_fields.specs.NamedDrawing.{NamedDrawing, drawing_fields}
@@ -20,10 +21,10 @@ run_rect = rect 4 5 24 1
 
 -- the bytes of a drawing for a viewer with zero bounds deltas, and the registers after it
 abbrev written : Registers → Option Rect → NamedDrawing → List ℕ
-written regs clip d = order_bytes regs true (drawing_fields run_rect d) (edges_of_optional clip)
+written regs clip d = order_bytes regs true (drawing_fields Bits24 run_rect d) (edges_of_optional clip)
 
 abbrev after : Registers → Option Rect → NamedDrawing → Registers
-after regs clip d = registers_after regs (drawing_fields run_rect d) (edges_of_optional clip)
+after regs clip d = registers_after regs (drawing_fields Bits24 run_rect d) (edges_of_optional clip)
 
 abbrev fill : Rect → ℕ → NamedDrawing
 fill r color = Opaque r color
@@ -61,7 +62,7 @@ a_copy_in_a_clip = refl
 pub the_same_copy : written (after after_first (Some (rect 8 8 16 16)) (Scr (rect 0 1 64 47) 0xCC (pos 0) (pos 0))) (Some (rect 8 8 16 16)) (Scr (rect 0 1 64 47) 0xCC (pos 0) (pos 0)) ≡ 0x65 ∷ []
 the_same_copy = refl
 
-pub the_same_copy_without_zero_bounds : order_bytes (after after_first (Some (rect 8 8 16 16)) (Scr (rect 0 1 64 47) 0xCC (pos 0) (pos 0))) false (drawing_fields run_rect (Scr (rect 0 1 64 47) 0xCC (pos 0) (pos 0))) (Some (edges_of (rect 8 8 16 16))) ≡ 0x45 ∷ 0x00 ∷ []
+pub the_same_copy_without_zero_bounds : order_bytes (after after_first (Some (rect 8 8 16 16)) (Scr (rect 0 1 64 47) 0xCC (pos 0) (pos 0))) false (drawing_fields Bits24 run_rect (Scr (rect 0 1 64 47) 0xCC (pos 0) (pos 0))) (Some (edges_of (rect 8 8 16 16))) ≡ 0x45 ∷ 0x00 ∷ []
 the_same_copy_without_zero_bounds = refl
 
 pub an_image_of_a_cache : written after_first None (Mem 2 0 (rect 0 0 64 64) 0xCC (pos 0) (pos 0)) ≡ 0x59 ∷ 0x0D ∷ 0x39 ∷ 0x02 ∷ 0x00 ∷ 0x40 ∷ 0x40 ∷ 0xCC ∷ []

@@ -1,4 +1,5 @@
 use Rattle.std.proofs.Common.{rules, ◌≡◌, ◌<◌, true, lit<, lit≤, to_z, of_z, w32, arith}
+use Rattle.px_core.specs.declared.depth.Depth.TheVariants.{Bits24}
 use Rattle.order_fields.specs.OrderTable.{glyph_index, IsBelow}
 use Rattle.order_fields.specs.NamedDrawing.{value, number, is_cached_run}
 use Rattle.client_caches.proofs.FieldsFit.{kind_at, below_more, number_below, shown}
@@ -16,5 +17,5 @@ returns c = λ run.
     let y : c.coordinate-2.result ≡ value vs 20 = c.coordinate-2.ensures (kind_at 20 glyph_index.kinds vs c.requires (lit< tt)) in
     let m : to_z w32 (of_z w32 c.coordinate.result) ≡ c.coordinate.result = search rules in
     let n : to_z w32 (of_z w32 c.coordinate-2.result) ≡ c.coordinate-2.result = search rules in
-    let is : is_cached_run vs ≡ true = grind arith in
+    let is : is_cached_run Bits24 vs ≡ true = grind arith in
     shown _ _ _ is cc

@@ -7,7 +7,7 @@ use Rattle.order_read.proofs.orders.read_all.Given as goal
 -- the orders that are left stand here, and the others were appended
 abbrev pub invariant-loop : goal.invariant-loop
 invariant-loop l = record {
-  read : HasRead (orders_in (rest l.fn.cursor) l.count l.fn.regs) (orders_in (rest l.cursor) (l.count - l.counter) l.regs) l.fn.cursor.bytes l.fn.out.items l.out.items;
+  read : HasRead (orders_in l.depth (rest l.fn.cursor) l.count l.fn.regs) (orders_in l.depth (rest l.cursor) (l.count - l.counter) l.regs) l.fn.cursor.bytes l.fn.out.items l.out.items;
   bytes : l.cursor.bytes ≡ l.fn.cursor.bytes;
-  come : HasCome (rest l.fn.cursor) l.counter l.fn.regs (rest l.cursor) l.regs;
+  come : HasCome l.depth (rest l.fn.cursor) l.counter l.fn.regs (rest l.cursor) l.regs;
 }

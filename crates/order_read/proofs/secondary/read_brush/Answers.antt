@@ -1,7 +1,8 @@
 use Rattle.std.proofs.Common.{◌∙◌, ap, List, ℕ, [], ◌∷◌}
 use Rattle.std.proofs.lemmas.Result.{err_from_is_err_and}
 use Rattle.wire_num.specs.Cursor.{rest}
-use Rattle.wire_num.specs.Pixels.{pixels_of}
+use Rattle.px_core.specs.Depth.{brush_bytes}
+use Rattle.px_core.specs.Pixels.{pixels_of}
 use Rattle.order_fields.specs.Secondary.Cached.{Brush}
 use Rattle.order_fields.specs.OrderStream.Order.{Other}
 use Rattle.order_read.specs.Told.Told.{Stored}
@@ -13,16 +14,16 @@ use Rattle.order_read.proofs.secondary.read_brush.Goals as goal
 pub returns-in_err-bytes : goal.returns-in_err-bytes
 returns-in_err-bytes c =
     let p = err_from_is_err_and c.from_residual-in_err-bytes.result c.from_residual-in_err-bytes.ensures.1 in
-    let bytes = rw c.from.ensures at c.in_err-bytes.ensures in
-    rw (p.1, p.2, bytes.1) (brush_refused c.in_ok-entry.entry (rest c.args.cursor.now) (rest c.read_brush_head.new.cursor) _ c.in_ok-entry.ensures.0 bytes.0, c.in_ok-entry.ensures.1, bytes.2)
+    let bytes = rw (c.from.ensures, c.brush_bytes.ensures) at c.in_err-bytes.ensures in
+    rw (p.1, p.2, bytes.1) (brush_refused c.args.depth c.in_ok-entry.entry (rest c.args.cursor.now) (rest c.read_brush_head.new.cursor) _ c.in_ok-entry.ensures.0 bytes.0, c.in_ok-entry.ensures.1, bytes.2)
 
 pub brush_of-requires : goal.brush_of-requires
-brush_of-requires c = counted 192 (rest c.read_brush_head.new.cursor) c.in_ok-bytes.bytes.now (rest c.bytes.new.self) (rw c.from.ensures at c.in_ok-bytes.ensures.0)
+brush_of-requires c = counted (brush_bytes c.args.depth) (rest c.read_brush_head.new.cursor) c.in_ok-bytes.bytes.now (rest c.bytes.new.self) (rw (c.from.ensures, c.brush_bytes.ensures) at c.in_ok-bytes.ensures.0)
 
 pub returns : goal.returns
 returns c =
-    let whole = brush_read c.in_ok-entry.entry (rest c.args.cursor.now) (rest c.read_brush_head.new.cursor) (rest c.bytes.new.self) c.in_ok-bytes.bytes.now c.in_ok-entry.ensures.0 (rw c.from.ensures at c.in_ok-bytes.ensures.0) in
-    let o = Other (Brush (record { entry = c.in_ok-entry.entry; pixels = pixels_of c.in_ok-bytes.bytes.now })) in (
+    let whole = brush_read c.args.depth c.in_ok-entry.entry (rest c.args.cursor.now) (rest c.read_brush_head.new.cursor) (rest c.bytes.new.self) c.in_ok-bytes.bytes.now c.in_ok-entry.ensures.0 (rw (c.from.ensures, c.brush_bytes.ensures) at c.in_ok-bytes.ensures.0) in
+    let o = Other (Brush (record { entry = c.in_ok-entry.entry; pixels = pixels_of c.args.depth c.in_ok-bytes.bytes.now })) in (
       o ∷ [],
       whole,
       c.in_ok-bytes.ensures.1 ∙ c.in_ok-entry.ensures.1,

@@ -8,7 +8,7 @@ use Rattle.order_read.proofs.secondary.read_secondary.Goals as goal
 pub returns-in-Err : goal.returns-in-Err
 returns-in-Err c =
     let field = rw c.from.ensures at c.in-Err.ensures.field in
-    let whole = total_missing c.in_ok-total.total (rest c.args.cursor.now) (rest c.u16_le.new.self) c.in_ok-total.ensures.0 field.0 in
+    let whole = total_missing c.args.depth c.in_ok-total.total (rest c.args.cursor.now) (rest c.u16_le.new.self) c.in_ok-total.ensures.0 field.0 in
     let bytes : c.within.new.self.bytes ≡ c.args.cursor.now.bytes = ap (λ (k : CursorOf). k.bytes) field.1 ∙ c.in_ok-total.ensures.1 in
     rw c.go_to.ensures (rw (bytes, c.at-first.ensures.place) whole, bytes, refl)
 
@@ -29,7 +29,7 @@ returns-in-Ok-read_inside c =
     let inner : c.in-Ok.content.bytes ≡ _ = ap (λ (k : CursorOf). k.bytes) is.offsets in
     let told = appends_within (c.u16_le.new.self.at + (c.in_ok-total.total + 10)) c.u16_le.new.self.bytes c.in-Ok.content.bytes read.0 c.args.out.now.items c.read_inside.new.out.items inner is.fits read.3 in (
       read.0,
-      content_read c.in_ok-total.total _ _ _ _ c.read_inside.new.cursor read.0 is read.1 (sym c.left.ensures ∙ c.if-left-eq0.true),
+      content_read c.args.depth c.in_ok-total.total _ _ _ _ c.read_inside.new.cursor read.0 is read.1 (sym c.left.ensures ∙ c.if-left-eq0.true),
       bytes,
       subst (λ (bs : List ℕ). Appends bs read.0 c.args.out.now.items c.read_inside.new.out.items) is.same told,
     )
@@ -42,7 +42,7 @@ returns-in-Ok-2 c =
     let read = c.in-Ok-read_inside.ensures in
     let inside = rw c.at.ensures.place at c.at.ensures.inside in
     let some : 0 < length (rest c.read_inside.new.cursor) = let n = c.left.ensures in let ne = c.if-left-eq0.false in grind (arith, n, ne) in
-    let whole = content_left c.in_ok-total.total _ _ _ _ c.read_inside.new.cursor read.0 is read.2 inside read.1 some in
+    let whole = content_left c.args.depth c.in_ok-total.total _ _ _ _ c.read_inside.new.cursor read.0 is read.2 inside read.1 some in
     rw (c.refuse.ensures.refused, c.refuse.ensures.place) (rw (bytes, c.at.ensures.place) whole, bytes, refl)
 
 pub returns-in-Err-BadOrder : goal.returns-in-Err-BadOrder
@@ -52,5 +52,5 @@ returns-in-Err-BadOrder c =
     let bytes : c.within.new.self.bytes ≡ c.args.cursor.now.bytes = ap (λ (k : CursorOf). k.bytes) is.behind ∙ is.same in
     let read = rw c.in-Err-BadOrder.field-0-is at c.in-Err-BadOrder.ensures in
     let inside = rw c.at-in-Err-BadOrder.ensures.place at c.at-in-Err-BadOrder.ensures.inside in
-    let whole = content_refused c.in_ok-total.total _ _ _ _ c.read_inside.new.cursor is read.1 inside read.0 in
+    let whole = content_refused c.args.depth c.in_ok-total.total _ _ _ _ c.read_inside.new.cursor is read.1 inside read.0 in
     rw (c.refuse-in-Err-BadOrder.ensures.refused, c.refuse-in-Err-BadOrder.ensures.place) (rw (bytes, c.at-in-Err-BadOrder.ensures.place) whole, bytes, refl)

@@ -2,7 +2,7 @@ use Rattle.std.proofs.Common.{drop}
 use Rattle.std.specs.Prelude.{map}
 use Rattle.conn_rules.specs.declared.conn_step.ConnStep.TheVariants as step
 use Rattle.conn_core.proofs.Fronts.{ToldSoFar}
-use Rattle.conn_core.proofs.told.tell_events.Given as goal
+use Rattle.conn_core.proofs.news.tell_events.Given as goal
 
 -- the events that are left
 abbrev pub invariant-loop-event : goal.invariant-loop-event
