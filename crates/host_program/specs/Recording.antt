@@ -8,7 +8,7 @@ use Rattle.command_words.specs.HostWords.{RequestOf}
 use Rattle.script_run.specs.Run.{ReadsCause, WritesCause}
 use Rattle.script_run.specs.declared.fault.ScriptFault.{ScriptFault}
 use Rattle.record_run.specs.Run.{RecordsScript}
-use Rattle.replay_run.specs.Replays.{ReplaysRecord}
+use Rattle.record_run.specs.Replays.{ReplaysRecord}
 use Rattle.host_program.specs.Statuses.{script_status}
 use Rattle.host_program.specs.Outside.{Outside}
 use Rattle.host_program.specs.Changes.{ScriptByHolders}

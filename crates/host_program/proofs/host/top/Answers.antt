@@ -6,7 +6,7 @@ use Rattle.demo_run.specs.Scene.{demo_head}
 use Rattle.demo_run.specs.Load.{demo_asked}
 use Rattle.demo_run.specs.Counts.{demo_line}
 use Rattle.host_program.proofs.Changed.{script_changed, steps_changed}
-use Rattle.replay_run.specs.Shown.{shown, text_of}
+use Rattle.record_run.specs.Shown.{shown, text_of}
 use Rattle.script_run.proofs.Continued.{tells_of_all}
 use Rattle.edge_io.specs.Sink.{WritesFront}
 use Rattle.host_program.specs.Top.{usage}
