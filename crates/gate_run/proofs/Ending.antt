@@ -11,7 +11,7 @@ use Rattle.session_rules.specs.Journal.{Head}
 use Rattle.grow_lock.specs.Journal.{StartsWith}
 use Rattle.grow_lock.proofs.Lists.{starts_trans}
 use Rattle.serve_rules.specs.Turns.{SessionPass}
-use Rattle.serve_rules.specs.declared.told.ConnReport.{ConnReport}
+use Rattle.serve_rules.specs.declared.noted.ConnReport.{ConnReport}
 use Rattle.link_run.specs.Links.{LinkState}
 use Rattle.gate_run.specs.Gates.{given_state, spent_state, IsServed, EachServed}
 use Rattle.gate_run.specs.OpenGate.{HaveNoPlaceInCommon, EndsAll}

@@ -7,7 +7,7 @@ use Rattle.session_rules.specs.declared.entry.Entry.TheVariants.{Join}
 use Rattle.session_rules.specs.Journal.{Head, IsLegalJournal}
 use Rattle.session_rules.proofs.Joins.{join_place}
 use Rattle.serve_rules.proofs.Lists.{got_more}
-use Rattle.serve_rules.specs.declared.told.ConnReport.{ConnReport}
+use Rattle.serve_rules.specs.declared.noted.ConnReport.{ConnReport}
 use Rattle.link_run.specs.Links.{LinkState}
 use Rattle.link_run.specs.Serving.{JoinsFirst}
 use Rattle.link_run.proofs.Reports.{viewers_first_place}

@@ -10,7 +10,7 @@ use Rattle.session_rules.specs.declared.entry.Entry.{Entry}
 use Rattle.session_rules.specs.Journal.{Head, IsLegalJournal}
 use Rattle.grow_lock.specs.Journal.{StartsWith, IsDisjoint}
 use Rattle.serve_rules.specs.Turns.{SessionPass}
-use Rattle.serve_rules.specs.declared.told.ConnReport.{ConnReport}
+use Rattle.serve_rules.specs.declared.noted.ConnReport.{ConnReport}
 use Rattle.link_run.specs.Links.{LinkState, link_state}
 use Rattle.link_run.specs.Serving.{ServesViewer}
 use Rattle.gate_run.specs.declared.served.GateEnd.{GateEnd}

@@ -8,7 +8,7 @@ use Rattle.edge_io.specs.declared.link.Link as links
 use Rattle.session_rules.specs.declared.entry.Entry.{Entry}
 use Rattle.session_rules.specs.Journal.{Head, IsLegalJournal}
 use Rattle.grow_lock.specs.Journal.{IsDisjoint}
-use Rattle.serve_rules.specs.declared.told.ConnReport.{ConnReport}
+use Rattle.serve_rules.specs.declared.noted.ConnReport.{ConnReport}
 use Rattle.link_run.specs.Links.{LinkState}
 use Rattle.gate_run.specs.declared.served.GateEnd.{GateEnd}
 use Rattle.gate_run.specs.declared.served.GateEnd.TheVariants.{Ended, Failed, NoListen}

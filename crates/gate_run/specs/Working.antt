@@ -7,7 +7,7 @@ use Rattle.grow_lock.specs.Journal.{StartsWith, IsDisjoint}
 use Rattle.grow_lock.specs.Passes.{LockModel, IsPassOf}
 use Rattle.grow_lock.specs.Shares.{Share, covers}
 use Rattle.serve_rules.specs.Turns.{SessionPass}
-use Rattle.serve_rules.specs.declared.told.ConnReport.{ConnReport}
+use Rattle.serve_rules.specs.declared.noted.ConnReport.{ConnReport}
 use Rattle.link_run.specs.Links.{LinkState}
 use Rattle.link_run.specs.Serving.{ServesViewer}
 use Rattle.gate_run.specs.declared.jobs.Job.{Job}

@@ -7,7 +7,7 @@ use Rattle.session_rules.specs.declared.entry.Entry.{Entry}
 use Rattle.serve_rules.specs.Turns.{SessionPass}
 use Rattle.serve_rules.specs.Events.{Act, HappenFrom}
 use Rattle.serve_rules.specs.Notices.{events_in}
-use Rattle.serve_rules.specs.declared.told.ConnReport.{ConnReport}
+use Rattle.serve_rules.specs.declared.noted.ConnReport.{ConnReport}
 use Rattle.serve_rules.proofs.Rows.{ann, click, click_at, unclicked, no_click_is_dropped_up_to_the_leave}
 use Rattle.link_run.specs.Links.{LinkState}
 use Rattle.link_run.specs.Ending.{is_cut}

@@ -24,7 +24,7 @@ use Rattle.serve_rules.specs.Events.{IsWithin}
 use Rattle.serve_rules.proofs.Lists.{within_front}
 use Rattle.serve_rules.specs.declared.ends.ConnEnd.{ConnEnd}
 use Rattle.serve_rules.specs.declared.ends.ConnEnd.TheVariants.{Left, Refused, Truncated, NotInvited, RoomFull, JoinsSpent, ReadFault, WriteFault, OutOfMemory}
-use Rattle.serve_rules.specs.declared.told.ConnReport.{ConnReport}
+use Rattle.serve_rules.specs.declared.noted.ConnReport.{ConnReport}
 use Rattle.viewer_run.specs.declared.guest.Guest.{Guest}
 use Rattle.viewer_run.specs.Greeting.{Greeting, greeting, GreetEnd, Greets}
 use Rattle.viewer_run.specs.Greeting.Greeting.{IsReady}

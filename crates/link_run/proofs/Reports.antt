@@ -2,7 +2,7 @@
 use Rattle.std.proofs.Common.{◌≡◌, ℕ, ◌+◌, [], ⊎_elim, arith}
 use Rattle.session_rules.specs.Journal.{Head}
 use Rattle.serve_rules.specs.Turns.{SessionPass}
-use Rattle.serve_rules.specs.declared.told.ConnReport.{ConnReport}
+use Rattle.serve_rules.specs.declared.noted.ConnReport.{ConnReport}
 use Rattle.link_run.specs.Links.{LinkState}
 use Rattle.link_run.specs.Serving.{IsOutside, IsVisit, ServesViewer, JoinsFirst}
 

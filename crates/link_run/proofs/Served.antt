@@ -9,8 +9,8 @@ use Rattle.session_rules.specs.Journal.{Head, IsLegalJournal}
 use Rattle.frame_rules.specs.Describes.{HasAllCaches}
 use Rattle.serve_rules.specs.Turns.{SessionPass, Idles}
 use Rattle.serve_rules.specs.declared.ends.ConnEnd.{ConnEnd}
-use Rattle.serve_rules.specs.declared.told.ConnReport.{ConnReport}
-use Rattle.serve_rules.specs.declared.told.Told.{Told}
+use Rattle.serve_rules.specs.declared.noted.ConnReport.{ConnReport}
+use Rattle.serve_rules.specs.declared.noted.Noted.{Noted}
 use Rattle.viewer_run.specs.declared.guest.Guest.{Guest}
 use Rattle.viewer_run.specs.declared.arriving.Visit.{Visit}
 use Rattle.viewer_run.specs.Greeting.{Greets}

@@ -35,8 +35,8 @@ use Rattle.serve_rules.specs.Notices.{Notice, events_in, notice_after_all, notic
 use Rattle.serve_rules.specs.Reading.{IsUnended, IsWhole}
 use Rattle.serve_rules.specs.declared.ends.ConnEnd.{ConnEnd}
 use Rattle.serve_rules.specs.declared.ends.ConnEnd.TheVariants.{Left, Refused, Truncated, NotInvited, RoomFull, JoinsSpent, ReadFault, WriteFault, OutOfMemory}
-use Rattle.serve_rules.specs.declared.told.ConnReport.{ConnReport}
-use Rattle.serve_rules.specs.declared.told.Told.{Told}
+use Rattle.serve_rules.specs.declared.noted.ConnReport.{ConnReport}
+use Rattle.serve_rules.specs.declared.noted.Noted.{Noted}
 use Rattle.serve_rules.proofs.Handling.{handles_more, high_stays}
 use Rattle.serve_rules.proofs.Noticing.{events_then}
 use Rattle.serve_rules.proofs.Ascending.{places_ascend, places_are_of_events}
@@ -45,14 +45,14 @@ use Rattle.serve_rules.proofs.ReadOn.{consumes_then}
 use Rattle.viewer_run.specs.declared.guest.Guest.{Guest}
 use Rattle.viewer_run.specs.declared.arriving.Visit.{Visit}
 use Rattle.viewer_run.specs.Greeting.{Greets}
-use Rattle.viewer_run.specs.Sending.{AtLeast}
+use Rattle.viewer_sides.specs.Sending.{AtLeast}
 use Rattle.viewer_run.specs.Serving.{ViewEnd, wants_last}
 use Rattle.viewer_run.specs.Visiting.{leave_if, leave_place}
 use Rattle.viewer_run.specs.Arriving.{no_notice, IsUnnoted, ServesArrival}
 use Rattle.viewer_run.specs.Ending.{ultimatum_at}
 use Rattle.viewer_run.proofs.Attending.{wants_left}
 use Rattle.viewer_run.proofs.Coming.{present_by}
-use Rattle.viewer_run.proofs.TakesOn.{present_stays, bytes_stay}
+use Rattle.viewer_sides.proofs.TakesOn.{present_stays, bytes_stay}
 use Rattle.link_run.specs.Links.{link_state}
 use Rattle.link_run.specs.Ending.{is_cut, SaysLast, Writes}
 use Rattle.link_run.specs.Served.{ReportsVisit}

@@ -4,8 +4,8 @@ use Rattle.conn_rules.specs.Hearing.{Hearing}
 use Rattle.session_rules.specs.Journal.{Head}
 use Rattle.serve_rules.specs.Turns.{SessionPass}
 use Rattle.serve_rules.specs.declared.ends.ConnEnd.{ConnEnd}
-use Rattle.serve_rules.specs.declared.told.ConnReport.{ConnReport}
-use Rattle.serve_rules.specs.declared.told.Told.{Told}
+use Rattle.serve_rules.specs.declared.noted.ConnReport.{ConnReport}
+use Rattle.serve_rules.specs.declared.noted.Noted.{Noted}
 use Rattle.viewer_run.specs.declared.guest.Guest.{Guest}
 use Rattle.viewer_run.specs.declared.arriving.Visit.{Visit}
 use Rattle.viewer_run.specs.Arriving.{GuestServed}

@@ -29,10 +29,10 @@ use Rattle.serve_rules.specs.Notices.{events_in, notice_after_all}
 use Rattle.serve_rules.specs.Reading.{IsWhole, IsNoRefusal}
 use Rattle.serve_rules.specs.declared.ends.ConnEnd.{ConnEnd}
 use Rattle.serve_rules.specs.declared.ends.ConnEnd.TheVariants.{Left, Refused, Truncated, NotInvited, RoomFull, JoinsSpent, ReadFault, WriteFault, OutOfMemory}
-use Rattle.serve_rules.specs.declared.told.ConnReport.{ConnReport}
+use Rattle.serve_rules.specs.declared.noted.ConnReport.{ConnReport}
 use Rattle.viewer_run.specs.Greeting.{Greeting, greeting, StillConnects}
 use Rattle.viewer_run.specs.Greeting.Greeting.{IsReady, HasLeft}
-use Rattle.viewer_run.specs.Sending.{AtLeast, IsPresentAtEach}
+use Rattle.viewer_sides.specs.Sending.{AtLeast, IsPresentAtEach}
 use Rattle.viewer_run.specs.Serving.{ViewEnd, wants_last}
 use Rattle.viewer_run.specs.Arriving.{no_notice}
 use Rattle.link_run.specs.Links.{LinkState}

@@ -14,7 +14,7 @@ use Rattle.viewer_sender.specs.Senders.{SenderModel}
 use Rattle.serve_rules.specs.Turns.{SessionPass, IsTurn}
 use Rattle.serve_rules.specs.Notices.{notice_in}
 use Rattle.serve_rules.specs.declared.ends.ConnEnd.{ConnEnd}
-use Rattle.serve_rules.specs.declared.told.Told.{Told}
+use Rattle.serve_rules.specs.declared.noted.Noted.{Noted}
 use Rattle.viewer_run.specs.Visiting.{IsFirst, ArrivesIn, IsTurnedAwayIn}
 use Rattle.viewer_run.specs.Serving.{Attends, IsShownLast}
 use Rattle.viewer_run.specs.Arriving.{Stays}

@@ -28,7 +28,7 @@ use Rattle.serve_rules.specs.Turns.{SessionPass}
 use Rattle.serve_rules.proofs.Lists.{got_end}
 use Rattle.serve_rules.proofs.Turning.{TurnFacts, turned}
 use Rattle.viewer_run.specs.declared.visits.Arrival.{Arrival}
-use Rattle.viewer_run.specs.Sending.{TakesAs}
+use Rattle.viewer_sides.specs.Sending.{TakesAs}
 use Rattle.viewer_run.specs.Visiting.{IsFirst, IsUpToDate, Arrives, ArrivesIn, IsTurnedAway, IsTurnedAwayIn, leave_if, LeavesHere, LeavesIn}
 
 -- ---- a join

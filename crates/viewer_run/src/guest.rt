@@ -4,7 +4,7 @@ ghost use Rattle.std.specs.Io.KnownBytes.{Consumes};
 ghost use Rattle.conn_rules.specs.Hearing.{end_of};
 ghost use Rattle.conn_rules.specs.Placed.{AreBytes, ArePlaced};
 ghost use Rattle.serve_rules.specs.Reading.{IsNoRefusal};
-ghost use Rattle.viewer_run.specs.Feeding.{IsHeard};
+ghost use Rattle.viewer_sides.specs.Feeding.{IsHeard};
 ghost use Rattle.viewer_run.specs.Greeting.{greeting, Greets, with_guest, Replies, GuestOf, IsRestPlaced, refusal_of};
 
 use crate::reading::{feed, new_buffer};

@@ -5,7 +5,7 @@ ghost use Rattle.viewer_sender.specs.Senders.{IsIdle};
 ghost use Rattle.grow_lock.specs.Passes.{IsPassOf};
 ghost use Rattle.serve_rules.specs.Reading.{ReadsOn};
 ghost use Rattle.serve_rules.specs.declared.ends.SideEnd.TheVariants.{Done, Stopped};
-ghost use Rattle.viewer_run.specs.Sending.{IsNext, SendsTaken, SendsOn};
+ghost use Rattle.viewer_sides.specs.Sending.{IsNext, SendsTaken, SendsOn};
 ghost use Rattle.viewer_run.specs.Visiting.{IsFirst, IsShownAll};
 ghost use Rattle.viewer_run.specs.Serving.{SidesServe, Attends, IsShownLast, ended_by, wants_last, end_of_last};
 ghost use Rattle.serve_rules.specs.Notices.{notice_in};

@@ -6,7 +6,7 @@ use Rattle.conn_core.specs.Kept.{ConnOf}
 use Rattle.conn_rules.specs.Hearing.{Hearing, first_hearing, end_of}
 use Rattle.serve_rules.specs.Reading.{IsNoRefusal}
 use Rattle.viewer_run.specs.Greeting.{Greets}
-use Rattle.viewer_run.proofs.Streams.{silent_replies}
+use Rattle.viewer_sides.proofs.Streams.{silent_replies}
 use Rattle.link_run.proofs.Streams.{heard_first}
 use Rattle.link_run.proofs.Outsiders.{not_heard, not_greeted}
 use Rattle.link_run.proofs.Served.{ready_served}

@@ -2,7 +2,7 @@ use Rattle.std.proofs.Common.{◌≡◌, length, subst, arith}
 use Rattle.std.specs.Prelude.{Ok}
 use Rattle.frame_plan.specs.declared.taken.Taken.TheVariants.{Frame}
 use Rattle.viewer_run.specs.Frames.{FirstSent}
-use Rattle.viewer_run.proofs.OneTake.{next_is}
+use Rattle.viewer_sides.proofs.OneTake.{next_is}
 use Rattle.viewer_run.proofs.Attending.{attends_cut, attends_all}
 use Rattle.viewer_run.proofs.viewing.attend.Goals as goal
 

@@ -1,7 +1,7 @@
 use Rattle.std.proofs.Common.{◌∙◌, append-nil, subst}
 use Rattle.serve_rules.specs.declared.ends.SideEnd.{SideEnd}
-use Rattle.viewer_run.specs.Sending.{SendsTaken}
-use Rattle.viewer_run.proofs.OneTake.{sends_one, next_is, shown_all}
+use Rattle.viewer_sides.specs.Sending.{SendsTaken}
+use Rattle.viewer_sides.proofs.OneTake.{sends_one, next_is, shown_all}
 use Rattle.viewer_run.proofs.viewing.send_last.Goals as goal
 
 pub returns-clause-sends : goal.returns-clause-sends
