@@ -1,6 +1,7 @@
 -- What the turn of a take makes of the tiles that viewers have asked for, and what it finds.
 use Rattle.std.proofs.Common.{◌≡◌, ℕ, List, sym, refl, ap, ◌∙◌}
-use Rattle.std.specs.Prelude.{Bool, true, false, ◌&&◌, ◌||◌, ◌==◌, not, length, Result, Ok, Err, IfOk, OnOk, OnErr}
+use Rattle.std.specs.Prelude.{Bool, true, false, ◌&&◌, ◌||◌, ◌==◌, not, length, Result, Ok, Err, IfOk, OnOk, OnErr, if◌then◌else◌}
+use Rattle.std.proofs.lemmas.Bool.{eq-eqb}
 use Rattle.wire_num.specs.declared.out_of_memory.OutOfMemory.{OutOfMemory}
 use Rattle.px_core.specs.Tiles.{all_tiles, share_tile}
 use Rattle.session_rules.specs.Steps.{PerViewer, replaced_for}
@@ -11,7 +12,9 @@ use Rattle.frame_plan.specs.declared.taken.Taken.{Taken}
 use Rattle.frame_plan.specs.declared.taken.Taken.TheVariants.{Frame}
 use Rattle.viewer_sender.specs.Senders.{SenderModel, desk_of}
 use Rattle.viewer_sides.specs.Asking.{suppressed_with, finds_frame, finds_last}
-use Rattle.viewer_sides.proofs.Coming.{replaced_here}
+
+pub replaced_here : (v : ℕ) (stop : Bool) (kept : PerViewer Bool) → replaced_for v stop kept v ≡ stop
+replaced_here v stop kept = ap (λ (b : Bool). if b then stop else kept v) (eq-eqb v v refl)
 
 module _ (session : SessionModel) (s : SenderModel) (v : ℕ) (same : s.v ≡ v) where
   -- for a viewer who isn't present a take finds nothing

@@ -2,7 +2,7 @@
 use Rattle.std.proofs.Common.{◌≡◌, ℕ, List, sym, subst}
 use Rattle.session_rules.specs.declared.entry.Entry.{Entry}
 use Rattle.session_rules.specs.Journal.{Head, IsLegalJournal}
-use Rattle.viewer_sides.specs.Visiting.{IsAbsent}
+use Rattle.viewer_sides.specs.Sending.{IsAbsent}
 
 pub legal_so : (other head : Head) (j seen : List Entry) → other ≡ head → seen ≡ j → IsLegalJournal other j → IsLegalJournal head seen
 legal_so other head j seen same is legal = subst (λ (h : Head). IsLegalJournal h seen) same (subst (IsLegalJournal other) (sym is) legal)

@@ -32,7 +32,7 @@ noted head v event p q (Err refusal) r P' P Q h same n =
     (subst (λ l. Handles head v [] p q P l) (sym (n.1 ∙ same)) (handles_idle head v p q P h))
 
 -- one more step was done
-pub step_done : (head : Head) (v : ℕ) (steps left : List ConnStep) (step : ConnStep) (p q r : SessionPass) (s t u : Told) (answer : Result (Unit {0}) OutOfMemory)
+pub step_done : (head : Head) (v : ℕ) (steps left : List ConnStep) (step : ConnStep) (p q r : SessionPass) (s t u : Noted) (answer : Result (Unit {0}) OutOfMemory)
     → StepsFront head v steps (step ∷ left) p q s t → is_err answer ≡ false → StepDone answer head v step q r t u → StepsFront head v steps left p r s u
 step_done head v steps left step p q r s t u (Ok done) f ok d = record {
   front = f.front ++ step ∷ [];
@@ -44,7 +44,7 @@ step_done head v steps left step p q r s t u (Ok done) f ok d = record {
 step_done head v steps left step p q r s t u (Err refusal) f ok d = absurd (is-true-false ok)
 
 -- a step failed, and nothing of it was done
-pub step_failed : (head : Head) (v : ℕ) (steps left : List ConnStep) (step : ConnStep) (p q r : SessionPass) (s t u : Told) (answer : Result (Unit {0}) OutOfMemory)
+pub step_failed : (head : Head) (v : ℕ) (steps left : List ConnStep) (step : ConnStep) (p q r : SessionPass) (s t u : Noted) (answer : Result (Unit {0}) OutOfMemory)
     → StepsFront head v steps (step ∷ left) p q s t → is_err answer ≡ true → StepDone answer head v step q r t u
     → StepsFront head v steps (step ∷ left) p r s u × WholeIfOk answer (step ∷ left)
 step_failed head v steps left step p q r s t u (Ok done) f err d = absurd (is-true-false (sym err))
@@ -59,5 +59,5 @@ step_failed head v steps left step p q r s t u (Err refusal) f err d = (
   tt,
 )
 
-pub steps_at_first : (head : Head) (v : ℕ) (steps : List ConnStep) (p : SessionPass) (t : Told) → StepsFront head v steps steps p p t t
+pub steps_at_first : (head : Head) (v : ℕ) (steps : List ConnStep) (p : SessionPass) (t : Noted) → StepsFront head v steps steps p p t t
 steps_at_first head v steps p t = record { front = []; split = refl; handles = handles_nothing head v p t.places.list; notice = refl }

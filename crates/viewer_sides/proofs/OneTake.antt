@@ -2,7 +2,7 @@
 use Rattle.std.proofs.Common.{◌≡◌, ℕ, ◌+◌, ◌≤◌, List, [], ◌∷◌, length, sym, refl, ap, ap₂, ◌∙◌, subst, arith, append-nil, inl}
 use Rattle.std.proofs.KnownBytes.{Appends-nil}
 use Rattle.std.specs.Prelude.{Bool, true, false, ⊤, Result, Ok, Err, IfOk, OnOk, OnErr}
-use Rattle.std.specs.declared.option.Option.{Option}
+use Rattle.edge_io.specs.Outside.{Output}
 use Rattle.std.specs.Io.KnownBytes.{Appends}
 use Rattle.wire_num.specs.declared.out_of_memory.OutOfMemory.{OutOfMemory as NoMemory}
 use Rattle.px_core.specs.declared.surface.Size.{Size}
@@ -30,8 +30,7 @@ use Rattle.serve_rules.specs.declared.ends.SideEnd.{SideEnd}
 use Rattle.serve_rules.specs.declared.ends.SideEnd.TheVariants.{Done, Stopped}
 use Rattle.serve_rules.proofs.ReadOn.{not_stopped}
 use Rattle.serve_rules.proofs.Turning.{TurnFacts, turned}
-use Rattle.viewer_sides.specs.Visiting.{IsAbsent}
-use Rattle.viewer_sides.specs.Sending.{due, TakesFrame, TakesAs, TakesIn, IsSendEnd, Encodes, WritesFrame, SendsFrame, SendsTaken, IsNext, SendsOn}
+use Rattle.viewer_sides.specs.Sending.{due, TakesFrame, TakesAs, TakesIn, IsAbsent, IsSendEnd, Encodes, WritesFrame, SendsFrame, SendsTaken, IsNext, SendsOn}
 
 -- ---- a take
 
@@ -93,10 +92,10 @@ pub stopped_is_no_fault : Stopped ≡ Done WriteFault → ⊥
 stopped_is_no_fault e = not_stopped WriteFault (sym e)
 
 -- a frame that wasn't encoded
-pub unsent : (s s' : SenderModel) (take : TakeModel) (told : Option (List ℕ)) (f : ℕ) → s'.number ≡ s.number → SendsFrame s s' take told told f f (Done OutOfMemory)
-unsent s s' take told f number = record {
+pub unsent : (s s' : SenderModel) (take : TakeModel) (o : Output) → s'.number ≡ s.number → SendsFrame s s' take o o (Done OutOfMemory)
+unsent s s' take o number = record {
   written = [];
-  told = Appends-nil told;
+  told = Appends-nil o.told;
   bytes = λ e frame stands is. (_, refl, λ stopped. absurd (not_stopped OutOfMemory stopped));
   after = λ stopped. absurd (not_stopped OutOfMemory stopped);
   number = number;
@@ -112,9 +111,9 @@ number_stays fault.Spent s s' spent lost = ap (λ (x : SenderModel). x.number) (
 number_stays fault.OutOfMemory s s' spent lost = ap (λ (x : SenderModel). x.number) (lost refl)
 
 -- a frame that was encoded, and whose bytes were written
-pub sent : (s s' : SenderModel) (take : TakeModel) (bytes : List ℕ) (told told' : Option (List ℕ)) (f f' : ℕ) (end : SideEnd) → Encodes s s' take bytes
-    → WritesFrame bytes told told' f f' end → SendsFrame s s' take told told' f f' end
-sent s s' take bytes told told' f f' end n w = record {
+pub sent : (s s' : SenderModel) (take : TakeModel) (bytes : List ℕ) (o o' : Output) (end : SideEnd) → Encodes s s' take bytes
+    → WritesFrame bytes o o' end → SendsFrame s s' take o o' end
+sent s s' take bytes o o' end n w = record {
   written = w.written;
   told = w.told;
   bytes = λ e frame stands is. (w.unwritten, sym (n.bytes_are e frame stands is) ∙ w.whole, w.all);
@@ -148,10 +147,10 @@ found_here head v j take taken found absent = by (is_present v (reached_at head.
     by true is = refl
     by false is = absurd (cc (sym found ∙ absent is))
 
-module _ (head : Head) (p q : SessionPass) (s t u : SenderModel) (told told' : Option (List ℕ)) (f f' : ℕ) (end : SideEnd) where
+module _ (head : Head) (p q : SessionPass) (s t u : SenderModel) (o o' : Output) (end : SideEnd) where
   -- nothing was sent
-  nothing_sent : IsTurn p q q.seen [] → s.number ≤ length p.seen → IsIdle s → Appends told told' [] → u ≡ s → IsSendEnd end → (end ≡ Done WriteFault → ⊥) → f' ≡ f
-      → SendsOn head s u p q told told' f f' end
+  nothing_sent : IsTurn p q q.seen [] → s.number ≤ length p.seen → IsIdle s → Appends o.told o'.told [] → u ≡ s → IsSendEnd end → (end ≡ Done WriteFault → ⊥) → o'.faults ≡ o.faults
+      → SendsOn head s u p q o o' end
   nothing_sent turn seen idle kept same only no_fault calm = record {
     takes = [];
     last = s.number;
@@ -180,7 +179,7 @@ module _ (head : Head) (p q : SessionPass) (s t u : SenderModel) (told told' : O
   }
 
   frame_sent : IsTurn p q q.seen [] → s.number ≤ length p.seen → IsIdle s → is_present s.v (reached_at head.size q.seen (length q.seen)).viewers ≡ true → (take : TakeModel)
-      → TakesFrame head q.seen s t take → SendsFrame t u take told told' f f' end → SendsOn head s u p q told told' f f' end
+      → TakesFrame head q.seen s t take → SendsFrame t u take o o' end → SendsOn head s u p q o o' end
   frame_sent turn seen idle here take h fr =
       let size = head.size in
       let c = s.confirmed in
@@ -234,7 +233,7 @@ module _ (head : Head) (p q : SessionPass) (s t u : SenderModel) (told told' : O
 
   -- one round of a send side
   pub sends_one : (taken : Result Taken NoMemory) → TakesIn head p q s t taken → s.number ≤ length p.seen → IsIdle s → (v : ℕ) → s.v ≡ v
-      → (IsAbsent head v q.seen → taken ≡ Ok Nothing) → SendsTaken taken t u told told' f f' end → SendsOn head s u p q told told' f f' end
+      → (IsAbsent head v q.seen → taken ≡ Ok Nothing) → SendsTaken taken t u o o' end → SendsOn head s u p q o o' end
   sends_one (Ok (Frame take)) h seen idle v of absent d =
       frame_sent h.turn seen idle
       (subst (λ (n : ℕ). is_present n (reached_at head.size q.seen (length q.seen)).viewers ≡ true) (sym of) (found_here head v q.seen take (Ok (Frame take)) refl absent)) take h.takes d
@@ -245,9 +244,9 @@ abbrev NumberOf : Result Taken NoMemory → ℕ → Head → List Entry → Send
 NumberOf taken number head j u = (taken ≡ Ok Nothing → number ≡ length j) → u.number ≡ length j
 
 -- what is sent last has all of the journal
-pub shown_all : (head : Head) (j : List Entry) (s t u : SenderModel) (taken : Result Taken NoMemory) (told told' : Option (List ℕ)) (f f' : ℕ) → TakesAs head j s t taken
-    → SendsTaken taken t u told told' f f' Stopped → NumberOf taken s.number head j u
-shown_all head j s t u (Ok (Frame take)) told told' f f' h d = λ whole. let n = (d.after refl).1 in
+pub shown_all : (head : Head) (j : List Entry) (s t u : SenderModel) (taken : Result Taken NoMemory) (o o' : Output) → TakesAs head j s t taken
+    → SendsTaken taken t u o o' Stopped → NumberOf taken s.number head j u
+shown_all head j s t u (Ok (Frame take)) o o' h d = λ whole. let n = (d.after refl).1 in
     ap (λ (x : SenderModel). x.number) n.rest ∙ ap (λ (x : SenderModel). x.number) h.sender
-shown_all head j s t u (Ok Nothing) told told' f f' h d = λ whole. ap (λ (x : SenderModel). x.number) (d.0 ∙ h) ∙ whole refl
-shown_all head j s t u (Err refusal) told told' f f' h d = λ whole. absurd (not_stopped OutOfMemory (sym d.2))
+shown_all head j s t u (Ok Nothing) o o' h d = λ whole. ap (λ (x : SenderModel). x.number) (d.0 ∙ h) ∙ whole refl
+shown_all head j s t u (Err refusal) o o' h d = λ whole. absurd (not_stopped OutOfMemory (sym d.2))

@@ -2,8 +2,8 @@
 use Rattle.std.proofs.Common.{◌≡◌, ℕ, ◌≤◌, List, [], ◌++◌, length, map, sym, refl, ap, ap₂, ◌∙◌, subst, arith, append_assoc, append-nil}
 use Rattle.std.proofs.lemmas.List.{map-append}
 use Rattle.std.proofs.KnownBytes.{Appends-nil, Appends-trans}
-use Rattle.std.specs.declared.option.Option.{Option}
 use Rattle.edge_io.specs.Faults.{Rose}
+use Rattle.edge_io.specs.Outside.{Output}
 use Rattle.caps_sets.specs.declared.confirmed.Confirmed.{Confirmed}
 use Rattle.session_rules.specs.declared.entry.Entry.{Entry}
 use Rattle.session_rules.specs.Journal.{Head}
@@ -23,8 +23,8 @@ use Rattle.viewer_sides.proofs.TakesOn.{follow_then, at_least_lower, at_least_th
 use Rattle.viewer_sides.proofs.OneTake.{stopped_is_no_fault}
 
 -- nothing was done
-pub sends_none : (head : Head) (s : SenderModel) (p : SessionPass) (told : Option (List ℕ)) (f : ℕ) → IsIdle s → s.number ≤ length p.seen → SendsOn head s s p p told told f f Stopped
-sends_none head s p told f idle seen = record {
+pub sends_none : (head : Head) (s : SenderModel) (p : SessionPass) (out : Output) → IsIdle s → s.number ≤ length p.seen → SendsOn head s s p p out out Stopped
+sends_none head s p out idle seen = record {
   takes = [];
   last = s.number;
   up_to = refl;
@@ -37,7 +37,7 @@ sends_none head s p told f idle seen = record {
   found = sym (append-nil p.found);
   in_found = tt;
   written = [];
-  told = Appends-nil told;
+  told = Appends-nil out.told;
   bytes = λ e fol. ([], refl, λ stopped. refl);
   after_is = λ stopped. (refl, refl, refl, idle, λ e fol. fol);
   only = tt;
@@ -50,9 +50,9 @@ module _ (head : Head) where
   numbers ts = map (λ (t : TakeOf). t.number) ts
 
   -- a stretch of sending after one that went well
-  pub sends_then : (s t u : SenderModel) (p q r : SessionPass) (told told' told'' : Option (List ℕ)) (f f' f'' : ℕ) (end : SideEnd)
-      → SendsOn head s t p q told told' f f' Stopped → SendsOn head t u q r told' told'' f' f'' end → SendsOn head s u p r told told'' f f'' end
-  sends_then s t u p q r told told' told'' f f' f'' end a b =
+  pub sends_then : (s t u : SenderModel) (p q r : SessionPass) (out out' out'' : Output) (end : SideEnd)
+      → SendsOn head s t p q out out' Stopped → SendsOn head t u q r out' out'' end → SendsOn head s u p r out out'' end
+  sends_then s t u p q r out out' out'' end a b =
       let size = head.size in
       let c = s.confirmed in
       let w = a.after_is refl in
@@ -80,7 +80,7 @@ module _ (head : Head) where
         in_found = subst (λ l. IsWithin l (a.more_found ++ b.more_found)) (sym (map-append (λ (t : TakeOf). t.number) a.takes b.takes))
             (within_then (numbers a.takes) a.more_found (numbers b.takes) b.more_found a.in_found b.in_found);
         written = a.written ++ b.written;
-        told = Appends-trans told told' told'' a.written b.written a.told b.told;
+        told = Appends-trans out.told out'.told out''.told a.written b.written a.told b.told;
         bytes = λ e fol.
             let x = a.bytes e fol in
             let y = b.bytes (mid e) (w.4 e fol) in
@@ -107,16 +107,16 @@ module _ (head : Head) where
               (z.4 (mid e) (w.4 e fol)),
         );
         only = b.only;
-        cause = λ is. subst (λ (n : ℕ). Rose n f'') (a.calm refl) (b.cause is);
+        cause = λ is. subst (λ (n : ℕ). Rose n out''.faults) (a.calm refl) (b.cause is);
         calm = λ stopped. b.calm stopped ∙ a.calm refl;
       }
 
   -- what a send side did stays so for the pass in which the other side's met it, seen from the pass that it was split from
-  pub sends_met : (s s' : SenderModel) (p o a b m : SessionPass) (told told' : Option (List ℕ)) (f f' : ℕ) (end : SideEnd) (turns : List ℕ)
-      → SendsOn head s s' o b told told' f f' end → o.seen ≡ p.seen → o.found ≡ [] → a.found ≡ p.found ++ turns
+  pub sends_met : (s s' : SenderModel) (p o a b m : SessionPass) (out out' : Output) (end : SideEnd) (turns : List ℕ)
+      → SendsOn head s s' o b out out' end → o.seen ≡ p.seen → o.found ≡ [] → a.found ≡ p.found ++ turns
       → StartsWith m.seen b.seen → m.found ≡ a.found ++ b.found
-      → SendsOn head s s' p m told told' f f' end
-  sends_met s s' p o a b m told told' f f' end turns h same none ahead grows found =
+      → SendsOn head s s' p m out out' end
+  sends_met s s' p o a b m out out' end turns h same none ahead grows found =
       let size = head.size in
       let c = s.confirmed in
       let bytes_same : (e : Encoder) → bytes_of_takes size c m.seen e h.takes ≡ bytes_of_takes size c b.seen e h.takes

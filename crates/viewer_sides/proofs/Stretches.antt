@@ -4,6 +4,7 @@ use Rattle.std.specs.Prelude.{Bool, true, false, ◌||◌, ⊤, Result, Ok, Err,
 use Rattle.std.specs.declared.option.Option.{Option}
 use Rattle.std.specs.declared.option.Option.TheVariants.{Some, None}
 use Rattle.std.specs.Io.KnownBytes.{Consumes, Keeps, IsAtEnd}
+use Rattle.edge_io.specs.Outside.{Input}
 use Rattle.wire_num.specs.declared.out_of_memory.OutOfMemory.{OutOfMemory as NoMemory}
 use Rattle.session_rules.specs.Journal.{Head}
 use Rattle.conn_rules.specs.declared.conn_step.ConnStep.{ConnStep}
@@ -63,14 +64,14 @@ pub fed : (answer : Result (Unit {0}) ConnFault) (end : SideEnd) (x : Heard) (ne
 fed (Ok done) end x new replies replies' steps steps' e f a no_replies no_steps =
     let is : end ≡ Stopped = sym (subst (OkOf end) e refl) in record {
       replied = a.written ∙ ap (λ l. l ++ x.replies) no_replies;
-      told = a.given ∙ ap (λ l. l ++ x.steps) no_steps;
+      given = a.given ∙ ap (λ l. l ++ x.steps) no_steps;
       after = ap (λ (c : ConnOf). c.hearing) f.0;
       refused = subst (λ (s : SideEnd). RefusedAs s x.after.stage) (sym is) f.1;
     }
 fed (Err (fault.Refused k at)) end x new replies replies' steps steps' e f a no_replies no_steps =
     let is : end ≡ Done (Refused k at) = sym (subst (OkOf end) e refl) in record {
       replied = a.written ∙ ap (λ l. l ++ x.replies) no_replies;
-      told = a.given ∙ ap (λ l. l ++ x.steps) no_steps;
+      given = a.given ∙ ap (λ l. l ++ x.steps) no_steps;
       after = ap (λ (c : ConnOf). c.hearing) f.0;
       refused = subst (λ (s : SideEnd). RefusedAs s x.after.stage) (sym is) f.1;
     }
@@ -79,7 +80,7 @@ fed (Err fault.OutOfMemory) end x new replies replies' steps steps' e f a no_rep
 -- the areas that were told are placed, and what is left of a packet is bytes
 pub fed_placed : (h new : Hearing) (bytes replies : List ℕ) (steps : List ConnStep) (end : SideEnd) → AreBytes h.part → AreBytes bytes
     → IsFed (heard h bytes) new replies steps end → ArePlaced steps
-fed_placed h new bytes replies steps end part are f = subst ArePlaced (sym f.told) (heard_near h bytes part are).0
+fed_placed h new bytes replies steps end part are f = subst ArePlaced (sym f.given) (heard_near h bytes part are).0
 
 pub fed_part : (h new : Hearing) (bytes replies : List ℕ) (steps : List ConnStep) (end : SideEnd) → AreBytes h.part → AreBytes bytes
     → IsFed (heard h bytes) new replies steps end → AreBytes new.part
@@ -88,64 +89,64 @@ fed_part h new bytes replies steps end part are f = subst (λ (x : Hearing). Are
 -- ---- a piece of the stream
 
 -- a refusal is the stream's end
-refused_end : (end : SideEnd) (h : Hearing) (notice : Notice) (left : Option (List ℕ)) (bytes : List ℕ) (f : ℕ) → RefusedAs end h.stage → ReadEnd true left bytes h notice f f end
-refused_end Stopped h notice left bytes f r = refl
-refused_end (Done Left) h notice left bytes f r = absurd r
-refused_end (Done (Refused k at)) h notice left bytes f r = ap (λ (s : Stage). end_by s (length h.part)) r
-refused_end (Done Truncated) h notice left bytes f r = absurd r
-refused_end (Done NotInvited) h notice left bytes f r = absurd r
-refused_end (Done RoomFull) h notice left bytes f r = absurd r
-refused_end (Done JoinsSpent) h notice left bytes f r = absurd r
-refused_end (Done ReadFault) h notice left bytes f r = absurd r
-refused_end (Done WriteFault) h notice left bytes f r = absurd r
-refused_end (Done OutOfMemory) h notice left bytes f r = tt
+refused_end : (end : SideEnd) (h : Hearing) (notice : Notice) (bytes : List ℕ) (i j : Input) → RefusedAs end h.stage → ReadEnd true bytes h notice i j end
+refused_end Stopped h notice bytes i j r = refl
+refused_end (Done Left) h notice bytes i j r = absurd r
+refused_end (Done (Refused k at)) h notice bytes i j r = ap (λ (s : Stage). end_by s (length h.part)) r
+refused_end (Done Truncated) h notice bytes i j r = absurd r
+refused_end (Done NotInvited) h notice bytes i j r = absurd r
+refused_end (Done RoomFull) h notice bytes i j r = absurd r
+refused_end (Done JoinsSpent) h notice bytes i j r = absurd r
+refused_end (Done ReadFault) h notice bytes i j r = absurd r
+refused_end (Done WriteFault) h notice bytes i j r = absurd r
+refused_end (Done OutOfMemory) h notice bytes i j r = tt
 
 -- and so is what was announced
-ended_with : (end : SideEnd) (h : Hearing) (notice : Notice) (left : Option (List ℕ)) (bytes : List ℕ) (f : ℕ) (over : Bool) → notice.bye || notice.shutdown ≡ over → RefusedAs end h.stage
-    → ReadEnd true left bytes h notice f f (end_with end over)
-ended_with end h notice left bytes f true is r = λ unended. absurd (unended is)
-ended_with end h notice left bytes f false is r = refused_end end h notice left bytes f r
+ended_with : (end : SideEnd) (h : Hearing) (notice : Notice) (bytes : List ℕ) (i j : Input) (over : Bool) → notice.bye || notice.shutdown ≡ over → RefusedAs end h.stage
+    → ReadEnd true bytes h notice i j (end_with end over)
+ended_with end h notice bytes i j true is r = λ unended. absurd (unended is)
+ended_with end h notice bytes i j false is r = refused_end end h notice bytes i j r
 
 module _ (head : Head) (v : ℕ) where
-  pub piece_read : (h new : Hearing) (bytes replies : List ℕ) (steps undone : List ConnStep) (p q : SessionPass) (t u : Told) (end out : SideEnd)
-      (done : Result (Unit {0}) NoMemory) (left less : Option (List ℕ)) (f : ℕ)
+  pub piece_read : (h new : Hearing) (bytes replies : List ℕ) (steps undone : List ConnStep) (p q : SessionPass) (t u : Noted) (end out : SideEnd)
+      (done : Result (Unit {0}) NoMemory) (i j : Input)
       → IsFed (heard h bytes) new replies steps end → StepsFront head v steps undone p q t u → WholeIfOk done undone → EndOfPiece done end (notice_in u) out
-      → 0 < u.places.room → Consumes left less bytes → StopsReading [] h (notice_in t) bytes
-      → ReadsOn head v [] true h new p q t u left less f f out
-  piece_read h new bytes replies steps undone p q t u end out (Ok done) left less f x d whole e room taken stops = record {
+      → 0 < u.places.room → Consumes i.left j.left bytes → j.faults ≡ i.faults → StopsReading [] h (notice_in t) bytes
+      → ReadsOn head v [] true h new p q t u i j out
+  piece_read h new bytes replies steps undone p q t u end out (Ok done) i j x d whole e room taken calm stops = record {
     fed = bytes;
     taken = taken;
     steps = d.front;
     undone = undone;
-    front = sym x.told ∙ d.split;
+    front = sym x.given ∙ d.split;
     all = λ orderly. (whole, x.after);
     handles = d.handles;
     room = room;
     notice = d.notice;
     stops = stops;
-    calm = λ stopped. refl;
-    ends = subst (ReadEnd true left bytes (heard h bytes).after (notice_in u) f f) (sym e)
-        (ended_with end (heard h bytes).after (notice_in u) left bytes f ((notice_in u).bye || (notice_in u).shutdown) refl x.refused);
+    calm = λ stopped. calm;
+    ends = subst (ReadEnd true bytes (heard h bytes).after (notice_in u) i j) (sym e)
+        (ended_with end (heard h bytes).after (notice_in u) bytes i j ((notice_in u).bye || (notice_in u).shutdown) refl x.refused);
   }
-  piece_read h new bytes replies steps undone p q t u end out (Err refusal) left less f x d whole e room taken stops = record {
+  piece_read h new bytes replies steps undone p q t u end out (Err refusal) i j x d whole e room taken calm stops = record {
     fed = bytes;
     taken = taken;
     steps = d.front;
     undone = undone;
-    front = sym x.told ∙ d.split;
+    front = sym x.given ∙ d.split;
     all = λ orderly. absurd (orderly e);
     handles = d.handles;
     room = room;
     notice = d.notice;
     stops = stops;
-    calm = λ stopped. refl;
-    ends = subst (ReadEnd true left bytes (heard h bytes).after (notice_in u) f f) (sym e) tt;
+    calm = λ stopped. calm;
+    ends = subst (ReadEnd true bytes (heard h bytes).after (notice_in u) i j) (sym e) tt;
   }
 
   -- nothing was done of a piece for want of memory
-  pub piece_lost : (h new : Hearing) (bytes : List ℕ) (p : SessionPass) (t : Told) (left less : Option (List ℕ)) (f : ℕ) → 0 < t.places.room → Consumes left less bytes → StopsReading [] h (notice_in t) bytes
-      → ReadsOn head v [] true h new p p t t left less f f (Done OutOfMemory)
-  piece_lost h new bytes p t left less f room taken stops = record {
+  pub piece_lost : (h new : Hearing) (bytes : List ℕ) (p : SessionPass) (t : Noted) (i j : Input) → 0 < t.places.room → Consumes i.left j.left bytes → j.faults ≡ i.faults
+      → StopsReading [] h (notice_in t) bytes → ReadsOn head v [] true h new p p t t i j (Done OutOfMemory)
+  piece_lost h new bytes p t i j room taken calm stops = record {
     fed = bytes;
     taken = taken;
     steps = [];
@@ -156,7 +157,7 @@ module _ (head : Head) (v : ℕ) where
     room = room;
     notice = refl;
     stops = stops;
-    calm = λ stopped. refl;
+    calm = λ stopped. calm;
     ends = tt;
   }
 
@@ -178,11 +179,10 @@ module _ (head : Head) (v : ℕ) where
       s
 
   -- the steps that the connection gave before were done, and then a piece
-  pub rest_then : (rest undone : List ConnStep) (h new : Hearing) (p q r : SessionPass) (t u w : Told) (left less : Option (List ℕ))
-      (f f' : ℕ) (end : SideEnd)
-      → StepsFront head v rest undone p q t u → undone ≡ [] → ReadsOn head v [] true h new q r u w left less f f' end
-      → ReadsOn head v rest true h new p r t w left less f f' end
-  rest_then rest undone h new p q r t u w left less f f' end d none x =
+  pub rest_then : (rest undone : List ConnStep) (h new : Hearing) (p q r : SessionPass) (t u w : Noted) (i j : Input) (end : SideEnd)
+      → StepsFront head v rest undone p q t u → undone ≡ [] → ReadsOn head v [] true h new q r u w i j end
+      → ReadsOn head v rest true h new p r t w i j end
+  rest_then rest undone h new p q r t u w i j end d none x =
       let all : rest ≡ d.front = d.split ∙ (ap (λ l. d.front ++ l) none ∙ append-nil d.front) in
       record {
         fed = x.fed;
@@ -201,9 +201,9 @@ module _ (head : Head) (v : ℕ) where
       }
 
   -- of those steps some weren't done for want of memory
-  pub rest_lost : (rest undone : List ConnStep) (h : Hearing) (p q : SessionPass) (t u : Told) (left : Option (List ℕ)) (f : ℕ)
-      → StepsFront head v rest undone p q t u → 0 < u.places.room → Consumes left left [] → ReadsOn head v rest true h h p q t u left left f f (Done OutOfMemory)
-  rest_lost rest undone h p q t u left f d room none = record {
+  pub rest_lost : (rest undone : List ConnStep) (h : Hearing) (p q : SessionPass) (t u : Noted) (i : Input)
+      → StepsFront head v rest undone p q t u → 0 < u.places.room → Consumes i.left i.left [] → ReadsOn head v rest true h h p q t u i i (Done OutOfMemory)
+  rest_lost rest undone h p q t u i d room none = record {
     fed = [];
     taken = none;
     steps = d.front;
@@ -221,9 +221,9 @@ module _ (head : Head) (v : ℕ) where
   -- ---- no piece came
 
   -- the side ends so where nothing more was read
-  pub nothing_read : (h : Hearing) (p : SessionPass) (t : Told) (left less : Option (List ℕ)) (f f' : ℕ) (end : SideEnd) → IsHeard h → 0 < t.places.room → Consumes left less []
-      → (end ≡ Stopped → f' ≡ f) → ReadEnd true left [] h (notice_in t) f f' end → ReadsOn head v [] true h h p p t t left less f f' end
-  nothing_read h p t left less f f' end led room none calm e = record {
+  pub nothing_read : (h : Hearing) (p : SessionPass) (t : Noted) (i j : Input) (end : SideEnd) → IsHeard h → 0 < t.places.room → Consumes i.left j.left []
+      → (end ≡ Stopped → j.faults ≡ i.faults) → ReadEnd true [] h (notice_in t) i j end → ReadsOn head v [] true h h p p t t i j end
+  nothing_read h p t i j end led room none calm e = record {
     fed = [];
     taken = none;
     steps = [];
@@ -235,27 +235,27 @@ module _ (head : Head) (v : ℕ) where
     notice = refl;
     stops = inl refl;
     calm = calm;
-    ends = subst (λ (x : Hearing). ReadEnd true left [] x (notice_in t) f f' end) (sym (silent_after h led)) e;
+    ends = subst (λ (x : Hearing). ReadEnd true [] x (notice_in t) i j end) (sym (silent_after h led)) e;
   }
 
   -- what was read without a flag that could stop it
-  pub unstopped : (flagged : Bool) (end : SideEnd) (left : Option (List ℕ)) (bytes : List ℕ) (h : Hearing) (notice : Notice) (f f' : ℕ) → is_done end ≡ true
-      → ReadEnd true left bytes h notice f f' end → ReadEnd flagged left bytes h notice f f' end
-  unstopped flagged (Done Left) left bytes h notice f f' d e = e
-  unstopped flagged (Done (Refused k at)) left bytes h notice f f' d e = e
-  unstopped flagged (Done Truncated) left bytes h notice f f' d e = e
-  unstopped flagged (Done NotInvited) left bytes h notice f f' d e = e
-  unstopped flagged (Done RoomFull) left bytes h notice f f' d e = e
-  unstopped flagged (Done JoinsSpent) left bytes h notice f f' d e = e
-  unstopped flagged (Done ReadFault) left bytes h notice f f' d e = e
-  unstopped flagged (Done WriteFault) left bytes h notice f f' d e = e
-  unstopped flagged (Done OutOfMemory) left bytes h notice f f' d e = e
-  unstopped flagged Stopped left bytes h notice f f' d e = absurd (subst OnlyTrue (sym d) tt)
+  pub unstopped : (flagged : Bool) (end : SideEnd) (bytes : List ℕ) (h : Hearing) (notice : Notice) (i j : Input) → is_done end ≡ true
+      → ReadEnd true bytes h notice i j end → ReadEnd flagged bytes h notice i j end
+  unstopped flagged (Done Left) bytes h notice i j d e = e
+  unstopped flagged (Done (Refused k at)) bytes h notice i j d e = e
+  unstopped flagged (Done Truncated) bytes h notice i j d e = e
+  unstopped flagged (Done NotInvited) bytes h notice i j d e = e
+  unstopped flagged (Done RoomFull) bytes h notice i j d e = e
+  unstopped flagged (Done JoinsSpent) bytes h notice i j d e = e
+  unstopped flagged (Done ReadFault) bytes h notice i j d e = e
+  unstopped flagged (Done WriteFault) bytes h notice i j d e = e
+  unstopped flagged (Done OutOfMemory) bytes h notice i j d e = e
+  unstopped flagged Stopped bytes h notice i j d e = absurd (subst OnlyTrue (sym d) tt)
 
   -- likewise all of it
-  pub reads_done : (flagged : Bool) (rest : List ConnStep) (h h' : Hearing) (p q : SessionPass) (t u : Told) (left less : Option (List ℕ)) (f f' : ℕ) (end : SideEnd)
-      → is_done end ≡ true → ReadsOn head v rest true h h' p q t u left less f f' end → ReadsOn head v rest flagged h h' p q t u left less f f' end
-  reads_done flagged rest h h' p q t u left less f f' end d x = record {
+  pub reads_done : (flagged : Bool) (rest : List ConnStep) (h h' : Hearing) (p q : SessionPass) (t u : Noted) (i j : Input) (end : SideEnd)
+      → is_done end ≡ true → ReadsOn head v rest true h h' p q t u i j end → ReadsOn head v rest flagged h h' p q t u i j end
+  reads_done flagged rest h h' p q t u i j end d x = record {
     fed = x.fed;
     taken = x.taken;
     steps = x.steps;
@@ -267,13 +267,13 @@ module _ (head : Head) (v : ℕ) where
     notice = x.notice;
     stops = x.stops;
     calm = x.calm;
-    ends = unstopped flagged end left x.fed (heard h x.fed).after (notice_in u) f f' d x.ends;
+    ends = unstopped flagged end x.fed (heard h x.fed).after (notice_in u) i j d x.ends;
   }
 
   -- after what went well memory was wanted
-  pub reads_lost : (flagged : Bool) (rest : List ConnStep) (h h' : Hearing) (p q : SessionPass) (t u : Told) (left less : Option (List ℕ)) (f f' : ℕ) (end : SideEnd)
-      → ReadsOn head v rest true h h' p q t u left less f f' end → ReadsOn head v rest flagged h h' p q t u left less f f' (Done OutOfMemory)
-  reads_lost flagged rest h h' p q t u left less f f' end x = record {
+  pub reads_lost : (flagged : Bool) (rest : List ConnStep) (h h' : Hearing) (p q : SessionPass) (t u : Noted) (i j : Input) (end : SideEnd)
+      → ReadsOn head v rest true h h' p q t u i j end → ReadsOn head v rest flagged h h' p q t u i j (Done OutOfMemory)
+  reads_lost flagged rest h h' p q t u i j end x = record {
     fed = x.fed;
     taken = x.taken;
     steps = x.steps;
@@ -289,9 +289,9 @@ module _ (head : Head) (v : ℕ) where
   }
 
   -- the flag was found set
-  pub reads_stopped : (flagged : Bool) (rest : List ConnStep) (h h' : Hearing) (p q : SessionPass) (t u : Told) (left less : Option (List ℕ)) (f f' : ℕ)
-      → flagged ≡ true → ReadsOn head v rest true h h' p q t u left less f f' Stopped → ReadsOn head v rest flagged h h' p q t u left less f f' Stopped
-  reads_stopped flagged rest h h' p q t u left less f f' is x = subst (λ (b : Bool). ReadsOn head v rest b h h' p q t u left less f f' Stopped) (sym is) x
+  pub reads_stopped : (flagged : Bool) (rest : List ConnStep) (h h' : Hearing) (p q : SessionPass) (t u : Noted) (i j : Input)
+      → flagged ≡ true → ReadsOn head v rest true h h' p q t u i j Stopped → ReadsOn head v rest flagged h h' p q t u i j Stopped
+  reads_stopped flagged rest h h' p q t u i j is x = subst (λ (b : Bool). ReadsOn head v rest b h h' p q t u i j Stopped) (sym is) x
 
 -- ---- the stream goes on
 
@@ -322,10 +322,10 @@ at_end None e = tt
 at_end (Some xs) e = e
 
 -- the input ended
-pub input_ended : (h : Hearing) (n : Notice) (left : Option (List ℕ)) (f f' : ℕ) (l : ℕ) → IsOpen h n → IsAtEnd left → length h.part ≡ l
-    → ReadEnd true left [] h n f f' (end_by_part l)
-input_ended h n left f f' zero o e is = λ unended. (at_end left e, ends_between h o.unrefused is)
-input_ended h n left f f' (suc l) o e is = (o.unended, at_end left e, ends_within h l o.led o.unrefused is)
+pub input_ended : (h : Hearing) (n : Notice) (i j : Input) (l : ℕ) → IsOpen h n → IsAtEnd i.left → length h.part ≡ l
+    → ReadEnd true [] h n i j (end_by_part l)
+input_ended h n i j zero o e is = λ unended. (at_end i.left e, ends_between h o.unrefused is)
+input_ended h n i j (suc l) o e is = (o.unended, at_end i.left e, ends_within h l o.led o.unrefused is)
 
 pub part_done : (l : ℕ) → is_done (end_by_part l) ≡ true
 part_done zero = refl

@@ -1,6 +1,7 @@
 //! The read side of a viewer: what the client sends is done, each event in a turn of its own.
-ghost use Rattle.std.specs.Prelude.{◌≡◌, ◌<◌, ◌≤◌, ℕ, true, [], List, Option, length, is_some, vec_len, IfOk};
+ghost use Rattle.std.specs.Prelude.{◌≡◌, ◌<◌, ◌≤◌, true, [], length, is_some, vec_len, IfOk};
 ghost use Rattle.std.specs.Io.KnownBytes.{Consumes};
+ghost use Rattle.edge_io.specs.Outside.{Input, input_of};
 ghost use Rattle.conn_rules.specs.Hearing.{heard};
 ghost use Rattle.conn_rules.specs.Placed.{AreBytes, ArePlaced};
 ghost use Rattle.grow_lock.specs.Passes.{IsPassOf};
@@ -10,7 +11,7 @@ ghost use Rattle.serve_rules.specs.declared.ends.SideEnd.TheVariants.{Stopped};
 ghost use Rattle.viewer_sides.specs.Feeding.{EndOfPiece, EndsAs, IsFed, IsOpen, is_done, end_by_part};
 
 use crate::steps::do_steps;
-use crate::{ConnEnd, OutOfMemory, SideEnd, Told};
+use crate::{ConnEnd, Noted, OutOfMemory, SideEnd};
 use conn_core::{Conn, ConnFault};
 use conn_rules::ConnStep;
 use edge_io::{Got, Source};
@@ -24,7 +25,7 @@ use std::sync::atomic::{AtomicBool, Ordering};
 const ROOM: usize = 16_384;
 
 /// The end by want of memory.
-pub(crate) const NO_MEMORY: SideEnd = SideEnd::Done {
+pub const NO_MEMORY: SideEnd = SideEnd::Done {
     end: ConnEnd::OutOfMemory,
 };
 
@@ -38,20 +39,20 @@ pub fn read_side<R: Wait, S: Source>(
     v: u32,
     conn: &mut Conn,
     rest: &[ConnStep],
-    told: &mut Told,
+    noted: &mut Noted,
     input: &mut S,
     flag: Option<&AtomicBool>,
 ) -> (Pass<Session>, SideEnd)
     requires lock { IsPassOf lock.now pass }
     requires part { AreBytes conn.old.hearing.part }
     requires placed { ArePlaced rest.now }
-    requires room { 0 < told.old.places.room }
+    requires room { 0 < noted.old.places.room }
     ensures lock { IsPassOf lock.now result.0 }
-    ensures reads { ReadsOn lock.now.head v rest.now (is_some flag.entry) conn.old.hearing conn.new.hearing pass result.0 told.old told.new
-        (S.left input.old) (S.left input.new) (S.faults input.old) (S.faults input.new) result.1 }
+    ensures reads { ReadsOn lock.now.head v rest.now (is_some flag.entry) conn.old.hearing conn.new.hearing pass result.0 noted.old noted.new
+        (input_of S.Source input.old) (input_of S.Source input.new) result.1 }
     ensures part { result.1 ≡ Stopped → AreBytes conn.new.hearing.part }
 {
-    let (pass, end) = read_rest(rt, alloc, lock, pass, v, conn, rest, told);
+    let (pass, end) = read_rest(rt, alloc, lock, pass, v, conn, rest, noted);
     if is_done(end) {
         return (pass, end);
     }
@@ -63,7 +64,7 @@ pub fn read_side<R: Wait, S: Source>(
         if is_set(flag) {
             return (now, SideEnd::Stopped);
         }
-        let (next, end) = read_next(rt, alloc, lock, now, v, conn, &mut buffer, told, input);
+        let (next, end) = read_next(rt, alloc, lock, now, v, conn, &mut buffer, noted, input);
         now = next;
         if is_done(end) {
             return (now, end);
@@ -93,7 +94,7 @@ fn is_set(flag: Option<&AtomicBool>) -> bool
 }
 
 /// A buffer to read into.
-pub(crate) fn new_buffer(alloc: Global) -> Result<Vec<u8>, OutOfMemory>
+pub fn new_buffer(alloc: Global) -> Result<Vec<u8>, OutOfMemory>
     ensures some { IfOk result (λ buffer. 0 < vec_len buffer) }
     ensures one { IfOk result (λ buffer. vec_len buffer ≤ one_read) }
 {
@@ -110,22 +111,21 @@ fn read_rest<R: Wait>(
     v: u32,
     conn: &mut Conn,
     rest: &[ConnStep],
-    told: &mut Told,
+    noted: &mut Noted,
 ) -> (Pass<Session>, SideEnd)
     requires lock { IsPassOf lock.now pass }
     requires part { AreBytes conn.old.hearing.part }
     requires placed { ArePlaced rest.now }
-    requires room { 0 < told.old.places.room }
+    requires room { 0 < noted.old.places.room }
     ensures lock { IsPassOf lock.now result.0 }
-    ensures reads { (left : Option (List ℕ)) (f : ℕ)
-        → ReadsOn lock.now.head v rest.now true conn.old.hearing conn.new.hearing pass result.0 told.old told.new left left f f result.1 }
-    ensures going { result.1 ≡ Stopped → IsOpen conn.new.hearing (notice_in told.new) }
+    ensures reads { (input : Input) → ReadsOn lock.now.head v rest.now true conn.old.hearing conn.new.hearing pass result.0 noted.old noted.new input input result.1 }
+    ensures going { result.1 ≡ Stopped → IsOpen conn.new.hearing (notice_in noted.new) }
 {
-    let (pass, done) = do_steps(rt, lock, pass, v, rest, told);
+    let (pass, done) = do_steps(rt, lock, pass, v, rest, noted);
     if done.is_err() {
         return (pass, NO_MEMORY);
     }
-    read_piece(rt, alloc, lock, pass, v, conn, &[], told)
+    read_piece(rt, alloc, lock, pass, v, conn, &[], noted)
 }
 
 /// Reads what comes next of the stream into a buffer, and does it. `Stopped` says that the stream goes on.
@@ -137,22 +137,22 @@ fn read_next<R: Wait, S: Source>(
     v: u32,
     conn: &mut Conn,
     buffer: &mut [u8],
-    told: &mut Told,
+    noted: &mut Noted,
     input: &mut S,
 ) -> (Pass<Session>, SideEnd)
     requires lock { IsPassOf lock.now pass }
-    requires going { IsOpen conn.old.hearing (notice_in told.old) }
+    requires going { IsOpen conn.old.hearing (notice_in noted.old) }
     requires buffer { 0 < length buffer.old }
     requires one { length buffer.old ≤ one_read }
-    requires room { 0 < told.old.places.room }
+    requires room { 0 < noted.old.places.room }
     ensures lock { IsPassOf lock.now result.0 }
     ensures buffer { length buffer.new ≡ length buffer.old }
-    ensures reads { ReadsOn lock.now.head v [] true conn.old.hearing conn.new.hearing pass result.0 told.old told.new
-        (S.left input.old) (S.left input.new) (S.faults input.old) (S.faults input.new) result.1 }
-    ensures going { result.1 ≡ Stopped → IsOpen conn.new.hearing (notice_in told.new) }
+    ensures reads { ReadsOn lock.now.head v [] true conn.old.hearing conn.new.hearing pass result.0 noted.old noted.new
+        (input_of S.Source input.old) (input_of S.Source input.new) result.1 }
+    ensures going { result.1 ≡ Stopped → IsOpen conn.new.hearing (notice_in noted.new) }
 {
     match input.read(buffer) {
-        Got::Bytes(n) => read_piece(rt, alloc, lock, pass, v, conn, &buffer[..n], told),
+        Got::Bytes(n) => read_piece(rt, alloc, lock, pass, v, conn, &buffer[..n], noted),
         Got::End => (pass, end_of_input(conn)),
         Got::Failed => (
             pass,
@@ -185,23 +185,23 @@ fn read_piece<R: Wait>(
     v: u32,
     conn: &mut Conn,
     bytes: &[u8],
-    told: &mut Told,
+    noted: &mut Noted,
 ) -> (Pass<Session>, SideEnd)
     requires lock { IsPassOf lock.now pass }
     requires part { AreBytes conn.old.hearing.part }
-    requires room { 0 < told.old.places.room }
-    requires stops { StopsReading [] conn.old.hearing (notice_in told.old) bytes.now }
+    requires room { 0 < noted.old.places.room }
+    requires stops { StopsReading [] conn.old.hearing (notice_in noted.old) bytes.now }
     ensures lock { IsPassOf lock.now result.0 }
-    ensures reads { (left less : Option (List ℕ)) (f : ℕ) → Consumes left less bytes.now
-        → ReadsOn lock.now.head v [] true conn.old.hearing conn.new.hearing pass result.0 told.old told.new left less f f result.1 }
-    ensures going { result.1 ≡ Stopped → IsOpen conn.new.hearing (notice_in told.new) }
+    ensures reads { (before after : Input) → Consumes before.left after.left bytes.now → after.faults ≡ before.faults
+        → ReadsOn lock.now.head v [] true conn.old.hearing conn.new.hearing pass result.0 noted.old noted.new before after result.1 }
+    ensures going { result.1 ≡ Stopped → IsOpen conn.new.hearing (notice_in noted.new) }
 {
     let mut replies = Vec::new(alloc);
     let mut steps = Vec::new(alloc);
     match feed(conn, bytes, &mut replies, &mut steps) {
         Ok(end) => {
-            let (pass, done) = do_steps(rt, lock, pass, v, &steps, told);
-            let end = end_of_piece(done, end, told);
+            let (pass, done) = do_steps(rt, lock, pass, v, &steps, noted);
+            let end = end_of_piece(done, end, noted);
             (pass, end)
         }
         Err(OutOfMemory) => (pass, NO_MEMORY),
@@ -209,7 +209,7 @@ fn read_piece<R: Wait>(
 }
 
 /// Feeds bytes to a connection; says how its stream then ends, where it is refused.
-pub(crate) fn feed(
+pub fn feed(
     conn: &mut Conn,
     bytes: &[u8],
     replies: &mut Vec<u8>,
@@ -236,11 +236,11 @@ fn end_of_feed(fed: Result<(), ConnFault>) -> Result<SideEnd, OutOfMemory>
 }
 
 /// The end of a piece of the stream whose steps were done or not, behind which it is refused or not.
-fn end_of_piece(done: Result<(), OutOfMemory>, end: SideEnd, told: &Told) -> SideEnd
-    ensures { EndOfPiece done end (notice_in told.now) result }
+fn end_of_piece(done: Result<(), OutOfMemory>, end: SideEnd, noted: &Noted) -> SideEnd
+    ensures { EndOfPiece done end (notice_in noted.now) result }
 {
     match done {
-        Ok(()) if told.bye || told.shutdown => SideEnd::Done { end: ConnEnd::Left },
+        Ok(()) if noted.bye || noted.shutdown => SideEnd::Done { end: ConnEnd::Left },
         Ok(()) => end,
         Err(_) => NO_MEMORY,
     }

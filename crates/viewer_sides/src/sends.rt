@@ -1,5 +1,6 @@
 //! The send side of a viewer: frames are taken, each in a turn of its own, and encoded and written outside it.
 ghost use Rattle.std.specs.Prelude.{◌≡◌, ◌≤◌, length, Ok, IfOk, OnOk, OnErr};
+ghost use Rattle.edge_io.specs.Outside.{output_of};
 ghost use Rattle.session_core.specs.SessionModel.{asked_by};
 ghost use Rattle.frame_plan.specs.Plans.{taken_if, asked_if};
 ghost use Rattle.frame_plan.specs.declared.taken.Taken.TheVariants.{Nothing};
@@ -7,8 +8,7 @@ ghost use Rattle.viewer_sender.specs.Senders.{IsIdle, desk_of};
 ghost use Rattle.viewer_sender.specs.OwnTakes.{IsOwnTake};
 ghost use Rattle.grow_lock.specs.Passes.{IsPassOf};
 ghost use Rattle.viewer_sides.specs.Asking.{finds_frame};
-ghost use Rattle.viewer_sides.specs.Visiting.{IsAbsent};
-ghost use Rattle.viewer_sides.specs.Sending.{TakesAs, TakesIn, IsNext, SendsTaken, SendsFrame, WritesFrame, SendsOn};
+ghost use Rattle.viewer_sides.specs.Sending.{TakesAs, TakesIn, IsAbsent, IsNext, SendsTaken, SendsFrame, WritesFrame, SendsOn};
 
 use crate::reading::{NO_MEMORY, is_done};
 use crate::{ConnEnd, OutOfMemory, SideEnd};
@@ -38,7 +38,7 @@ pub fn send_side<R: Wait, K: Sink>(
     ensures lock { IsPassOf lock.now result.0 }
     ensures mine { result.0.mine ≡ pass.mine }
     ensures share { result.0.share ≡ pass.share }
-    ensures sends { SendsOn lock.now.head sender.old sender.new pass result.0 (K.told output.old) (K.told output.new) (K.faults output.old) (K.faults output.new) result.1 }
+    ensures sends { SendsOn lock.now.head sender.old sender.new pass result.0 (output_of K.Sink output.old) (output_of K.Sink output.new) result.1 }
 {
     let mut now = pass;
     for _ in rt.forever() {
@@ -74,7 +74,7 @@ fn send_once<R: Wait, K: Sink>(
     ensures lock { IsPassOf lock.now result.0 }
     ensures mine { result.0.mine ≡ pass.mine }
     ensures share { result.0.share ≡ pass.share }
-    ensures sends { SendsOn lock.now.head sender.old sender.new pass result.0 (K.told output.old) (K.told output.new) (K.faults output.old) (K.faults output.new) result.1 }
+    ensures sends { SendsOn lock.now.head sender.old sender.new pass result.0 (output_of K.Sink output.old) (output_of K.Sink output.new) result.1 }
 {
     let (pass, taken) = take_once(rt, alloc, lock, pass, v, sender);
     let end = send_taken(rt, alloc, lock, rings, taken, sender, output);
@@ -138,7 +138,7 @@ fn send_taken<R: Wait, K: Sink>(
     output: &mut K,
 ) -> SideEnd
     requires { IsNext taken sender.old }
-    ensures { SendsTaken taken sender.old sender.new (K.told output.old) (K.told output.new) (K.faults output.old) (K.faults output.new) result }
+    ensures { SendsTaken taken sender.old sender.new (output_of K.Sink output.old) (output_of K.Sink output.new) result }
 {
     match taken {
         Ok(Taken::Frame(take)) => send_frame(alloc, take, sender, output),
@@ -151,7 +151,7 @@ fn send_taken<R: Wait, K: Sink>(
 }
 
 /// Encodes a take's frame, and writes it.
-pub(crate) fn send_frame<K: Sink>(
+pub fn send_frame<K: Sink>(
     alloc: Global,
     take: Take,
     sender: &mut Sender,
@@ -159,7 +159,7 @@ pub(crate) fn send_frame<K: Sink>(
 ) -> SideEnd
     requires next { take.serial ≡ sender.old.encoded }
     requires own { IsOwnTake sender.old.confirmed take }
-    ensures { SendsFrame sender.old sender.new take (K.told output.old) (K.told output.new) (K.faults output.old) (K.faults output.new) result }
+    ensures { SendsFrame sender.old sender.new take (output_of K.Sink output.old) (output_of K.Sink output.new) result }
 {
     match sender.encode(alloc, take) {
         Ok(bytes) => write_frame(output, &bytes),
@@ -169,7 +169,7 @@ pub(crate) fn send_frame<K: Sink>(
 
 /// Writes a frame.
 fn write_frame<K: Sink>(output: &mut K, bytes: &[u8]) -> SideEnd
-    ensures { WritesFrame bytes.now (K.told output.old) (K.told output.new) (K.faults output.old) (K.faults output.new) result }
+    ensures { WritesFrame bytes.now (output_of K.Sink output.old) (output_of K.Sink output.new) result }
 {
     match output.write_all(bytes) {
         Wrote::All => SideEnd::Stopped,

@@ -1,5 +1,6 @@
 //! Both sides of a viewer, each in a thread, over two passes that meet again.
 ghost use Rattle.std.specs.Prelude.{◌≡◌, ◌≤◌, ◌<◌, length, is_some, true, IfSome};
+ghost use Rattle.edge_io.specs.Outside.{input_of, output_of};
 ghost use Rattle.conn_rules.specs.Placed.{AreBytes, ArePlaced};
 ghost use Rattle.viewer_sender.specs.Senders.{IsIdle};
 ghost use Rattle.grow_lock.specs.Passes.{IsPassOf};
@@ -9,7 +10,7 @@ ghost use Rattle.viewer_sides.specs.Sending.{SendsOn};
 
 use crate::reading::read_side;
 use crate::sends::send_side;
-use crate::{SideEnd, Told};
+use crate::{Noted, SideEnd};
 use conn_core::Conn;
 use conn_rules::ConnStep;
 use edge_io::{Sink, Source};
@@ -84,7 +85,7 @@ pub fn run_sides<R: Threads + Wait + Sync, S: Source + Send, K: Sink + Send>(
     v: u32,
     conn: &mut Conn,
     rest: &[ConnStep],
-    told: &mut Told,
+    noted: &mut Noted,
     sender: &mut Sender,
     input: &mut S,
     output: &mut K,
@@ -92,20 +93,20 @@ pub fn run_sides<R: Threads + Wait + Sync, S: Source + Send, K: Sink + Send>(
     requires lock { IsPassOf lock.now pass }
     requires part { AreBytes conn.old.hearing.part }
     requires placed { ArePlaced rest.now }
-    requires room { 0 < told.old.places.room }
+    requires room { 0 < noted.old.places.room }
     requires viewer { sender.old.v ≡ v }
     requires idle { IsIdle sender.old }
     requires seen { sender.old.number ≤ length pass.seen }
     ensures lock { IsPassOf lock.now result.0 }
-    ensures reads { ReadsOn lock.now.head v rest.now true conn.old.hearing conn.new.hearing pass result.0 told.old told.new
-        (S.left input.old) (S.left input.new) (S.faults input.old) (S.faults input.new) result.1 }
+    ensures reads { ReadsOn lock.now.head v rest.now true conn.old.hearing conn.new.hearing pass result.0 noted.old noted.new
+        (input_of S.Source input.old) (input_of S.Source input.new) result.1 }
     ensures part { result.1 ≡ Stopped → AreBytes conn.new.hearing.part }
-    ensures sends { SendsOn lock.now.head sender.old sender.new pass result.0 (K.told output.old) (K.told output.new) (K.faults output.old) (K.faults output.new) result.2 }
+    ensures sends { SendsOn lock.now.head sender.old sender.new pass result.0 (output_of K.Sink output.old) (output_of K.Sink output.new) result.2 }
 {
     let mut mine = pass;
     let theirs = lock.split(&mut mine);
     let (mine, read, theirs, sent) = side_by_side(
-        rt, alloc, lock, mine, theirs, v, conn, rest, told, sender, input, output,
+        rt, alloc, lock, mine, theirs, v, conn, rest, noted, sender, input, output,
     );
     (lock.meet(theirs, mine), read, sent)
 }
@@ -120,7 +121,7 @@ fn side_by_side<R: Threads + Wait + Sync, S: Source + Send, K: Sink + Send>(
     v: u32,
     conn: &mut Conn,
     rest: &[ConnStep],
-    told: &mut Told,
+    noted: &mut Noted,
     sender: &mut Sender,
     input: &mut S,
     output: &mut K,
@@ -129,18 +130,18 @@ fn side_by_side<R: Threads + Wait + Sync, S: Source + Send, K: Sink + Send>(
     requires other { IsPassOf lock.now other }
     requires part { AreBytes conn.old.hearing.part }
     requires placed { ArePlaced rest.now }
-    requires room { 0 < told.old.places.room }
+    requires room { 0 < noted.old.places.room }
     requires viewer { sender.old.v ≡ v }
     requires idle { IsIdle sender.old }
     requires seen { sender.old.number ≤ length other.seen }
     ensures lock { IsPassOf lock.now result.0 }
-    ensures reads { ReadsOn lock.now.head v rest.now true conn.old.hearing conn.new.hearing pass result.0 told.old told.new
-        (S.left input.old) (S.left input.new) (S.faults input.old) (S.faults input.new) result.1 }
+    ensures reads { ReadsOn lock.now.head v rest.now true conn.old.hearing conn.new.hearing pass result.0 noted.old noted.new
+        (input_of S.Source input.old) (input_of S.Source input.new) result.1 }
     ensures part { result.1 ≡ Stopped → AreBytes conn.new.hearing.part }
     ensures other { IsPassOf lock.now result.2 }
     ensures mine { result.2.mine ≡ other.mine }
     ensures share { result.2.share ≡ other.share }
-    ensures sends { SendsOn lock.now.head sender.old sender.new other result.2 (K.told output.old) (K.told output.new) (K.faults output.old) (K.faults output.new) result.3 }
+    ensures sends { SendsOn lock.now.head sender.old sender.new other result.2 (output_of K.Sink output.old) (output_of K.Sink output.new) result.3 }
 {
     let shared = Shared::new();
     let mut mine = Some(pass);
@@ -148,8 +149,8 @@ fn side_by_side<R: Threads + Wait + Sync, S: Source + Send, K: Sink + Send>(
     let ((read_pass, read), (send_pass, sent)) = join_mut(
         rt,
         &mut || -> (Pass<Session>, SideEnd)
-            requires { IfSome mine (λ p. IsPassOf lock.now p) × (is_some mine ≡ true) × AreBytes conn.now.hearing.part × ArePlaced rest.now × (0 < told.now.places.room) }
-            ensures { IfSome mine.entry (λ p. IsPassOf lock.entry.now result.0 × ReadsOn lock.entry.now.head v rest.entry.now true conn.entry.now.hearing conn.exit.now.hearing p result.0 told.entry.now told.exit.now (S.left input.entry.now) (S.left input.exit.now) (S.faults input.entry.now) (S.faults input.exit.now) result.1 × (result.1 ≡ Stopped → AreBytes conn.exit.now.hearing.part)) }
+            requires { IfSome mine (λ p. IsPassOf lock.now p) × (is_some mine ≡ true) × AreBytes conn.now.hearing.part × ArePlaced rest.now × (0 < noted.now.places.room) }
+            ensures { IfSome mine.entry (λ p. IsPassOf lock.entry.now result.0 × ReadsOn lock.entry.now.head v rest.entry.now true conn.entry.now.hearing conn.exit.now.hearing p result.0 noted.entry.now noted.exit.now (input_of S.Source input.entry.now) (input_of S.Source input.exit.now) result.1 × (result.1 ≡ Stopped → AreBytes conn.exit.now.hearing.part)) }
         {
             shared.start();
             let ended = read_side(
@@ -160,7 +161,7 @@ fn side_by_side<R: Threads + Wait + Sync, S: Source + Send, K: Sink + Send>(
                 v,
                 conn,
                 rest,
-                told,
+                noted,
                 input,
                 Some(&shared.ended),
             );
@@ -169,7 +170,7 @@ fn side_by_side<R: Threads + Wait + Sync, S: Source + Send, K: Sink + Send>(
         },
         &mut || -> (Pass<Session>, SideEnd)
             requires { IfSome theirs (λ p. IsPassOf lock.now p × (sender.now.number ≤ length p.seen)) × (is_some theirs ≡ true) × (sender.now.v ≡ v) × IsIdle sender.now }
-            ensures { IfSome theirs.entry (λ p. IsPassOf lock.entry.now result.0 × (result.0.mine ≡ p.mine) × (result.0.share ≡ p.share) × SendsOn lock.entry.now.head sender.entry.now sender.exit.now p result.0 (K.told output.entry.now) (K.told output.exit.now) (K.faults output.entry.now) (K.faults output.exit.now) result.1) }
+            ensures { IfSome theirs.entry (λ p. IsPassOf lock.entry.now result.0 × (result.0.mine ≡ p.mine) × (result.0.share ≡ p.share) × SendsOn lock.entry.now.head sender.entry.now sender.exit.now p result.0 (output_of K.Sink output.entry.now) (output_of K.Sink output.exit.now) result.1) }
         {
             let ended = send_beside(
                 rt,
@@ -206,7 +207,7 @@ fn send_beside<R: Wait, K: Sink>(
     ensures lock { IsPassOf lock.now result.0 }
     ensures mine { result.0.mine ≡ pass.mine }
     ensures share { result.0.share ≡ pass.share }
-    ensures sends { SendsOn lock.now.head sender.old sender.new pass result.0 (K.told output.old) (K.told output.new) (K.faults output.old) (K.faults output.new) result.1 }
+    ensures sends { SendsOn lock.now.head sender.old sender.new pass result.0 (output_of K.Sink output.old) (output_of K.Sink output.new) result.1 }
 {
     if shared.has_started(rt) {
         send_side(rt, alloc, lock, pass, v, sender, output, &shared.ended)

@@ -7,7 +7,7 @@ ghost use Rattle.serve_rules.specs.Notices.{notice_in};
 ghost use Rattle.viewer_sides.specs.Doing.{NotesPlace, EventDone, StepDone, StepsFront, WholeIfOk};
 
 use crate::turns::{handle_event, refresh, suppress};
-use crate::{OutOfMemory, Told};
+use crate::{Noted, OutOfMemory};
 use conn_rules::ConnStep;
 use grow_lock::{GrowLock, Pass};
 use input_pdu::Event;
@@ -21,18 +21,18 @@ pub fn do_steps<R: Wait>(
     pass: Pass<Session>,
     v: u32,
     steps: &[ConnStep],
-    told: &mut Told,
+    noted: &mut Noted,
 ) -> (Pass<Session>, Result<(), OutOfMemory>)
     requires lock { IsPassOf lock.now pass }
     requires placed { ArePlaced steps.now }
-    requires room { 0 < told.old.places.room }
+    requires room { 0 < noted.old.places.room }
     ensures lock { IsPassOf lock.now result.0 }
-    ensures room { 0 < told.new.places.room }
-    ensures done { (undone : List ConnStep) × StepsFront lock.now.head v steps.now undone pass result.0 told.old told.new × WholeIfOk result.1 undone }
+    ensures room { 0 < noted.new.places.room }
+    ensures done { (undone : List ConnStep) × StepsFront lock.now.head v steps.now undone pass result.0 noted.old noted.new × WholeIfOk result.1 undone }
 {
     let mut now = pass;
     for step in steps {
-        let (next, done) = do_step(rt, lock, now, v, *step, told);
+        let (next, done) = do_step(rt, lock, now, v, *step, noted);
         now = next;
         if done.is_err() {
             return (now, done);
@@ -48,28 +48,28 @@ fn do_step<R: Wait>(
     pass: Pass<Session>,
     v: u32,
     step: ConnStep,
-    told: &mut Told,
+    noted: &mut Noted,
 ) -> (Pass<Session>, Result<(), OutOfMemory>)
     requires lock { IsPassOf lock.now pass }
     requires placed { IsStepPlaced step }
-    requires room { 0 < told.old.places.room }
+    requires room { 0 < noted.old.places.room }
     ensures lock { IsPassOf lock.now result.0 }
-    ensures room { 0 < told.new.places.room }
-    ensures done { StepDone result.1 lock.now.head v step pass result.0 told.old told.new }
+    ensures room { 0 < noted.new.places.room }
+    ensures done { StepDone result.1 lock.now.head v step pass result.0 noted.old noted.new }
 {
     match step {
-        ConnStep::Event(event) => note_event(rt, lock, pass, v, event, told),
+        ConnStep::Event(event) => note_event(rt, lock, pass, v, event, noted),
         ConnStep::Refresh(area) => (refresh(rt, lock, pass, v, area), Ok(())),
         ConnStep::Suppress(stop) => {
-            told.quiet = stop;
+            noted.quiet = stop;
             (suppress(rt, lock, pass, v, stop), Ok(()))
         }
         ConnStep::Bye => {
-            told.bye = true;
+            noted.bye = true;
             (pass, Ok(()))
         }
         ConnStep::Shutdown => {
-            told.shutdown = true;
+            noted.shutdown = true;
             (pass, Ok(()))
         }
         ConnStep::Named(_) => (pass, Ok(())),
@@ -85,32 +85,32 @@ fn note_event<R: Wait>(
     pass: Pass<Session>,
     v: u32,
     event: Event,
-    told: &mut Told,
+    noted: &mut Noted,
 ) -> (Pass<Session>, Result<(), OutOfMemory>)
     requires lock { IsPassOf lock.now pass }
-    requires room { 0 < told.old.places.room }
+    requires room { 0 < noted.old.places.room }
     ensures lock { IsPassOf lock.now result.0 }
-    ensures room { 0 < told.new.places.room }
-    ensures notice { notice_in told.new ≡ notice_in told.old }
-    ensures done { EventDone result.1 lock.now.head v event pass result.0 told.old.places.list told.new.places.list }
+    ensures room { 0 < noted.new.places.room }
+    ensures notice { notice_in noted.new ≡ notice_in noted.old }
+    ensures done { EventDone result.1 lock.now.head v event pass result.0 noted.old.places.list noted.new.places.list }
 {
-    if told.places.make_room().is_err() {
+    if noted.places.make_room().is_err() {
         return (pass, Err(OutOfMemory));
     }
     let (pass, done) = handle_event(rt, lock, pass, v, event);
-    let noted = note_place(done, told);
-    (pass, noted)
+    let answer = note_place(done, noted);
+    (pass, answer)
 }
 
 /// Notes the place of an event's entry.
-fn note_place(done: Result<Option<u64>, OutOfMemory>, told: &mut Told) -> Result<(), OutOfMemory>
-    requires room { 1 < told.old.places.room }
-    ensures room { 0 < told.new.places.room }
-    ensures notice { notice_in told.new ≡ notice_in told.old }
-    ensures noted { NotesPlace done result told.old.places.list told.new.places.list }
+fn note_place(done: Result<Option<u64>, OutOfMemory>, noted: &mut Noted) -> Result<(), OutOfMemory>
+    requires room { 1 < noted.old.places.room }
+    ensures room { 0 < noted.new.places.room }
+    ensures notice { notice_in noted.new ≡ notice_in noted.old }
+    ensures noted { NotesPlace done result noted.old.places.list noted.new.places.list }
 {
     if let Some(place) = done? {
-        told.places.add(place);
+        noted.places.add(place);
     }
     Ok(())
 }

@@ -1,6 +1,7 @@
 use Rattle.std.proofs.Common.{◌≡◌, [], length, take, sym, refl, subst, arith}
 use Rattle.std.proofs.lemmas.List.{length-take-le}
 use Rattle.std.specs.Prelude.{true}
+use Rattle.edge_io.specs.Outside.{input_of}
 use Rattle.serve_rules.specs.Notices.{notice_in}
 use Rattle.serve_rules.specs.Reading.{ReadEnd}
 use Rattle.serve_rules.proofs.ReadOn.{not_stopped}
@@ -10,20 +11,19 @@ use Rattle.viewer_sides.proofs.reading.read_next.Goals as goal
 pub returns-in-End-clause-reads : goal.returns-in-End-clause-reads
 returns-in-End-clause-reads g c =
     let h = c.args.conn.now.hearing in
-    let left = g.S.Source.left c.args.input.now in
-    let f = g.S.Source.faults c.args.input.now in
-    let f' = g.S.Source.faults c.read.new.self in
-    nothing_read c.args.lock.now.head c.args.v h c.args.pass c.args.told.now left (g.S.Source.left c.read.new.self) f f' c.end_of_input.result c.requires.going.led
-    c.requires.room (kept_none left (g.S.Source.left c.read.new.self) c.in-End.ensures.bytes.1) (λ stopped. c.in-End.ensures.cause)
-    (subst (ReadEnd true left [] h (notice_in c.args.told.now) f f') (sym c.end_of_input.ensures)
-    (input_ended h (notice_in c.args.told.now) left f f' (length h.part) c.requires.going c.in-End.ensures.bytes.0 refl))
+    let before = input_of g.S.Source c.args.input.now in
+    let now = input_of g.S.Source c.read.new.self in
+    nothing_read c.args.lock.now.head c.args.v h c.args.pass c.args.noted.now before now c.end_of_input.result c.requires.going.led
+    c.requires.room (kept_none before.left now.left c.in-End.ensures.bytes.1) (λ stopped. c.in-End.ensures.cause)
+    (subst (ReadEnd true [] h (notice_in c.args.noted.now) before now) (sym c.end_of_input.ensures)
+    (input_ended h (notice_in c.args.noted.now) before now (length h.part) c.requires.going c.in-End.ensures.bytes.0 refl))
 
 pub returns-in-Failed-clause-reads : goal.returns-in-Failed-clause-reads
 returns-in-Failed-clause-reads g c =
-    let left = g.S.Source.left c.args.input.now in
-    nothing_read c.args.lock.now.head c.args.v c.args.conn.now.hearing c.args.pass c.args.told.now left (g.S.Source.left c.read.new.self)
-    (g.S.Source.faults c.args.input.now) (g.S.Source.faults c.read.new.self) _ c.requires.going.led
-    c.requires.room (kept_none left (g.S.Source.left c.read.new.self) c.in-Failed.ensures.bytes) (λ stopped. absurd (not_stopped _ stopped)) c.in-Failed.ensures.cause
+    let before = input_of g.S.Source c.args.input.now in
+    let now = input_of g.S.Source c.read.new.self in
+    nothing_read c.args.lock.now.head c.args.v c.args.conn.now.hearing c.args.pass c.args.noted.now before now _ c.requires.going.led
+    c.requires.room (kept_none before.left now.left c.in-Failed.ensures.bytes) (λ stopped. absurd (not_stopped _ stopped)) c.in-Failed.ensures.cause
 
 pub read_piece-requires-clause-stops : goal.read_piece-requires-clause-stops
 read_piece-requires-clause-stops g c =

@@ -22,12 +22,12 @@ returns-in-Ok-clause-going g c =
     still_open c.args.conn.now.hearing c.feed.new.conn.hearing bytes _ c.feed.new.steps.items _ c.in-Ok.end _ _ c.requires.part are c.in-Ok.ensures c.end_of_piece-end.ensures
 
 pub returns-in-Ok-clause-reads : goal.returns-in-Ok-clause-reads
-returns-in-Ok-clause-reads g c = λ left less f taken.
+returns-in-Ok-clause-reads g c = λ before after taken calm.
     let done = c.do_steps-pass.ensures.done in
     piece_read c.args.lock.now.head c.args.v c.args.conn.now.hearing c.feed.new.conn.hearing c.args.bytes.now _ c.feed.new.steps.items done.0 c.args.pass c.do_steps-pass.result.0
-    c.args.told.now c.do_steps-pass.new.told c.in-Ok.end c.end_of_piece-end.result c.do_steps-pass.result.1 left less f c.in-Ok.ensures
-    (subst (λ (steps : List ConnStep). StepsFront c.args.lock.now.head c.args.v steps done.0 c.args.pass c.do_steps-pass.result.0 c.args.told.now c.do_steps-pass.new.told) c.deref.ensures.value done.1)
-    done.2 c.end_of_piece-end.ensures c.do_steps-pass.ensures.room taken c.requires.stops
+    c.args.noted.now c.do_steps-pass.new.noted c.in-Ok.end c.end_of_piece-end.result c.do_steps-pass.result.1 before after c.in-Ok.ensures
+    (subst (λ (steps : List ConnStep). StepsFront c.args.lock.now.head c.args.v steps done.0 c.args.pass c.do_steps-pass.result.0 c.args.noted.now c.do_steps-pass.new.noted) c.deref.ensures.value done.1)
+    done.2 c.end_of_piece-end.ensures c.do_steps-pass.ensures.room taken calm c.requires.stops
 
 pub returns-clause-reads : goal.returns-clause-reads
-returns-clause-reads g c = λ left less f taken. piece_lost c.args.lock.now.head c.args.v c.args.conn.now.hearing c.feed.new.conn.hearing c.args.bytes.now c.args.pass c.args.told.now left less f c.requires.room taken c.requires.stops
+returns-clause-reads g c = λ before after taken calm. piece_lost c.args.lock.now.head c.args.v c.args.conn.now.hearing c.feed.new.conn.hearing c.args.bytes.now c.args.pass c.args.noted.now before after c.requires.room taken calm c.requires.stops

@@ -1,5 +1,6 @@
 use Rattle.std.proofs.Common.{sym, ◌∙◌, subst, is_some}
 use Rattle.std.specs.Prelude.{true}
+use Rattle.edge_io.specs.Outside.{input_of}
 use Rattle.serve_rules.specs.Reading.{ReadsOn}
 use Rattle.serve_rules.specs.declared.ends.ConnEnd.TheVariants.{OutOfMemory}
 use Rattle.serve_rules.proofs.ReadOn.{reads_then, not_stopped}
@@ -8,11 +9,10 @@ use Rattle.viewer_sides.proofs.reading.read_side.Goals as goal
 
 pub returns-then-is_done-clause-reads : goal.returns-then-is_done-clause-reads
 returns-then-is_done-clause-reads g c =
-    let left = g.S.Source.left c.args.input.now in
-    let f = g.S.Source.faults c.args.input.now in
+    let before = input_of g.S.Source c.args.input.now in
     let r = c.read_rest-pass in
-    reads_done c.args.lock.now.head c.args.v (is_some c.args.flag) c.args.rest.now c.args.conn.now.hearing r.new.conn.hearing c.args.pass r.result.0 c.args.told.now r.new.told
-    left left f f r.result.1 (sym c.is_done.ensures ∙ c.if-is_done.true) (r.ensures.reads left f)
+    reads_done c.args.lock.now.head c.args.v (is_some c.args.flag) c.args.rest.now c.args.conn.now.hearing r.new.conn.hearing c.args.pass r.result.0 c.args.noted.now r.new.noted
+    before before r.result.1 (sym c.is_done.ensures ∙ c.if-is_done.true) (r.ensures.reads before)
 
 pub returns-then-is_done-clause-part : goal.returns-then-is_done-clause-part
 returns-then-is_done-clause-part g c = λ stopped. absurd (done_is_no_stop c.read_rest-pass.result.1 (sym c.is_done.ensures ∙ c.if-is_done.true) stopped)
@@ -25,50 +25,42 @@ returns-then-is_done-2-clause-part g c = λ stopped. absurd (done_is_no_stop c.r
 
 pub returns-in_default-clause-reads : goal.returns-in_default-clause-reads
 returns-in_default-clause-reads g c =
-    let left = g.S.Source.left c.args.input.now in
-    let f = g.S.Source.faults c.args.input.now in
+    let before = input_of g.S.Source c.args.input.now in
     let r = c.read_rest-pass in
-    reads_lost c.args.lock.now.head c.args.v (is_some c.args.flag) c.args.rest.now c.args.conn.now.hearing r.new.conn.hearing c.args.pass r.result.0 c.args.told.now r.new.told
-    left left f f r.result.1 (r.ensures.reads left f)
+    reads_lost c.args.lock.now.head c.args.v (is_some c.args.flag) c.args.rest.now c.args.conn.now.hearing r.new.conn.hearing c.args.pass r.result.0 c.args.noted.now r.new.noted
+    before before r.result.1 (r.ensures.reads before)
 
 pub loop-init : goal.loop-init
 loop-init g c =
-    let left = g.S.Source.left c.args.input.now in
-    let f = g.S.Source.faults c.args.input.now in
+    let before = input_of g.S.Source c.args.input.now in
     let r = c.read_rest-pass in
     let stopped = goes_on r.result.1 (sym c.is_done.ensures ∙ c.if-is_done.false) in
     record {
       lock = r.ensures.lock;
-      room = (r.ensures.reads left f).room;
+      room = (r.ensures.reads before).room;
       buffer = c.in-Ok.ensures.some;
       one = c.in-Ok.ensures.one;
       going = r.ensures.going stopped;
-      reads = subst (ReadsOn c.args.lock.now.head c.args.v c.args.rest.now true c.args.conn.now.hearing r.new.conn.hearing c.args.pass r.result.0 c.args.told.now r.new.told left left f f)
-          stopped (r.ensures.reads left f);
+      reads = subst (ReadsOn c.args.lock.now.head c.args.v c.args.rest.now true c.args.conn.now.hearing r.new.conn.hearing c.args.pass r.result.0 c.args.noted.now r.new.noted before before)
+          stopped (r.ensures.reads before);
     }
 
 pub returns-then-is_done-2-clause-reads : goal.returns-then-is_done-2-clause-reads
 returns-then-is_done-2-clause-reads g c =
-    let left = g.S.Source.left c.args.input.now in
-    let less = g.S.Source.left c.loop.input in
-    let least = g.S.Source.left c.read_next-next.new.input in
-    let f = g.S.Source.faults c.args.input.now in
-    let f' = g.S.Source.faults c.loop.input in
-    let f'' = g.S.Source.faults c.read_next-next.new.input in
+    let before = input_of g.S.Source c.args.input.now in
+    let between = input_of g.S.Source c.loop.input in
+    let after = input_of g.S.Source c.read_next-next.new.input in
     let r = c.read_next-next in
-    reads_done c.args.lock.now.head c.args.v (is_some c.args.flag) c.args.rest.now c.args.conn.now.hearing r.new.conn.hearing c.args.pass r.result.0 c.args.told.now r.new.told
-    left least f f'' r.result.1 (sym c.is_done-in-loop.ensures ∙ c.if-is_done-2.true)
+    reads_done c.args.lock.now.head c.args.v (is_some c.args.flag) c.args.rest.now c.args.conn.now.hearing r.new.conn.hearing c.args.pass r.result.0 c.args.noted.now r.new.noted
+    before after r.result.1 (sym c.is_done-in-loop.ensures ∙ c.if-is_done-2.true)
     (reads_then c.args.lock.now.head c.args.v c.args.rest.now true c.args.conn.now.hearing c.loop.conn.hearing r.new.conn.hearing c.args.pass c.loop.now r.result.0
-    c.args.told.now c.loop.told r.new.told left less least f f' f'' r.result.1 c.loop.invariant.reads r.ensures.reads)
+    c.args.noted.now c.loop.noted r.new.noted before between after r.result.1 c.loop.invariant.reads r.ensures.reads)
 
 pub loop-preserved : goal.loop-preserved
 loop-preserved g c =
-    let left = g.S.Source.left c.args.input.now in
-    let less = g.S.Source.left c.loop.input in
-    let least = g.S.Source.left c.read_next-next.new.input in
-    let f = g.S.Source.faults c.args.input.now in
-    let f' = g.S.Source.faults c.loop.input in
-    let f'' = g.S.Source.faults c.read_next-next.new.input in
+    let before = input_of g.S.Source c.args.input.now in
+    let between = input_of g.S.Source c.loop.input in
+    let after = input_of g.S.Source c.read_next-next.new.input in
     let r = c.read_next-next in
     let stopped = goes_on r.result.1 (sym c.is_done-in-loop.ensures ∙ c.if-is_done-2.false) in
     record {
@@ -77,8 +69,8 @@ loop-preserved g c =
       buffer = c.loop.invariant.buffer;
       one = c.loop.invariant.one;
       going = r.ensures.going stopped;
-      reads = subst (ReadsOn c.args.lock.now.head c.args.v c.args.rest.now true c.args.conn.now.hearing r.new.conn.hearing c.args.pass r.result.0 c.args.told.now r.new.told left least f f'')
+      reads = subst (ReadsOn c.args.lock.now.head c.args.v c.args.rest.now true c.args.conn.now.hearing r.new.conn.hearing c.args.pass r.result.0 c.args.noted.now r.new.noted before after)
           stopped
           (reads_then c.args.lock.now.head c.args.v c.args.rest.now true c.args.conn.now.hearing c.loop.conn.hearing r.new.conn.hearing c.args.pass c.loop.now r.result.0
-          c.args.told.now c.loop.told r.new.told left less least f f' f'' r.result.1 c.loop.invariant.reads r.ensures.reads);
+          c.args.noted.now c.loop.noted r.new.noted before between after r.result.1 c.loop.invariant.reads r.ensures.reads);
     }

@@ -3,7 +3,7 @@ use Rattle.viewer_sides.proofs.OneTake.{sends_one, next_is}
 use Rattle.viewer_sides.proofs.sends.send_once.Goals as goal
 
 pub returns-clause-sends : goal.returns-clause-sends
-returns-clause-sends g c = sends_one _ _ _ _ c.take_once-pass.new.sender _ _ _ _ _ _ c.take_once-pass.result.1 c.take_once-pass.ensures.taken c.requires.seen c.requires.idle
+returns-clause-sends g c = sends_one _ _ _ _ c.take_once-pass.new.sender _ _ _ _ c.take_once-pass.result.1 c.take_once-pass.ensures.taken c.requires.seen c.requires.idle
     c.args.v c.requires.viewer c.take_once-pass.ensures.absent c.send_taken-end.ensures
 
 pub returns-clause-mine : goal.returns-clause-mine

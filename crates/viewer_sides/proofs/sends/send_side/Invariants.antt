@@ -1,4 +1,5 @@
 use Rattle.std.proofs.Common.{◌≡◌, ◌≤◌, length}
+use Rattle.edge_io.specs.Outside.{output_of}
 use Rattle.viewer_sender.specs.Senders.{IsIdle}
 use Rattle.grow_lock.specs.Passes.{IsPassOf}
 use Rattle.serve_rules.specs.declared.ends.SideEnd.TheVariants.{Stopped}
@@ -14,6 +15,5 @@ invariant-loop g l = record {
   seen : l.sender.number ≤ length l.now.seen;
   mine : l.now.mine ≡ l.fn.pass.mine;
   share : l.now.share ≡ l.fn.pass.share;
-  sends : SendsOn l.lock.head l.fn.sender l.sender l.fn.pass l.now (g.K.Sink.told l.fn.output) (g.K.Sink.told l.output)
-      (g.K.Sink.faults l.fn.output) (g.K.Sink.faults l.output) Stopped;
+  sends : SendsOn l.lock.head l.fn.sender l.sender l.fn.pass l.now (output_of g.K.Sink l.fn.output) (output_of g.K.Sink l.output) Stopped;
 }

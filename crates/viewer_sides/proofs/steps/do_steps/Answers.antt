@@ -13,7 +13,7 @@ loop-step-preserved g c =
     let l = c.loop-step in
     let next = drop_next c.args.steps.now l.step-index c.step-item.result c.loop-step-test.true
     ∙ ap (λ (x : ConnStep). x ∷ drop (l.step-index + 1) c.args.steps.now) (sym c.step-item.is) in
-    let front = subst (λ (left : List ConnStep). StepsFront c.args.lock.now.head c.args.v c.args.steps.now left c.args.pass l.now c.args.told.now l.told) next l.invariant.front in
+    let front = subst (λ (left : List ConnStep). StepsFront c.args.lock.now.head c.args.v c.args.steps.now left c.args.pass l.now c.args.noted.now l.noted) next l.invariant.front in
     record {
       lock = c.do_step-next.ensures.lock;
       room = c.do_step-next.ensures.room;
@@ -25,6 +25,6 @@ returns-then-is_err-clause-done g c =
     let l = c.loop-step in
     let next = drop_next c.args.steps.now l.step-index c.step-item.result c.loop-step-test.true
     ∙ ap (λ (x : ConnStep). x ∷ drop (l.step-index + 1) c.args.steps.now) (sym c.step-item.is) in
-    let front = subst (λ (left : List ConnStep). StepsFront c.args.lock.now.head c.args.v c.args.steps.now left c.args.pass l.now c.args.told.now l.told) next l.invariant.front in
+    let front = subst (λ (left : List ConnStep). StepsFront c.args.lock.now.head c.args.v c.args.steps.now left c.args.pass l.now c.args.noted.now l.noted) next l.invariant.front in
     let r = step_failed _ _ _ _ _ _ _ _ _ _ _ c.do_step-next.result.1 front (sym c.is_err.ensures.value ∙ c.if-is_err.true) c.do_step-next.ensures.done in
     (_, r.0, r.1)
