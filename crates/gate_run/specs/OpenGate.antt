@@ -9,7 +9,7 @@ use Rattle.session_rules.specs.declared.entry.Entry.{Entry}
 use Rattle.session_rules.specs.Journal.{Head, IsLegalJournal}
 use Rattle.grow_lock.specs.Journal.{IsDisjoint}
 use Rattle.serve_rules.specs.declared.noted.ConnReport.{ConnReport}
-use Rattle.link_run.specs.Links.{LinkState}
+use Rattle.edge_io.specs.Outside.{Outside}
 use Rattle.gate_run.specs.declared.served.GateEnd.{GateEnd}
 use Rattle.gate_run.specs.declared.served.GateEnd.TheVariants.{Ended, Failed, NoListen}
 use Rattle.gate_run.specs.Gates.{GateState, given_state, spent_state, EachServed, AreApart, IsAllReported}
@@ -38,8 +38,8 @@ module _ {L Reader Writer Spent : Type 0} (link : links.Ghosts L Reader Writer S
 
 -- the links of an open gate were served, over a session that had a first journal and ends with another one
 pub record ServesLinks (head : Head) (first : List Entry) (before after : GateState) (j : List Entry) (reports : List ConnReport) (end : GateEnd) : Type 0 where
-  pub joined : List LinkState
-  pub spent : List LinkState
+  pub joined : List Outside
+  pub spent : List Outside
   pub given : after.given ≡ before.given ++ joined
   pub finished : after.finished ≡ before.finished ++ spent
   pub served : EachServed head first j joined reports spent

@@ -8,7 +8,7 @@ use Rattle.grow_lock.specs.Passes.{LockModel, IsPassOf}
 use Rattle.grow_lock.specs.Shares.{Share, covers}
 use Rattle.serve_rules.specs.Turns.{SessionPass}
 use Rattle.serve_rules.specs.declared.noted.ConnReport.{ConnReport}
-use Rattle.link_run.specs.Links.{LinkState}
+use Rattle.edge_io.specs.Outside.{Outside}
 use Rattle.link_run.specs.Serving.{ServesViewer}
 use Rattle.gate_run.specs.declared.jobs.Job.{Job}
 use Rattle.gate_run.specs.Gates.{given_state, spent_state, IsServed}
@@ -27,7 +27,7 @@ abbrev pub IsFresh : SessionPass → Type 0
 IsFresh pass = (pass.found ≡ []) × (pass.mine ≡ [])
 
 -- a link was served by a pass of a lock, which is one of that lock again
-pub record IsDone (lock : LockModel Head Entry) (before : SessionPass) (link : LinkState) (after : SessionPass) (report : ConnReport) (spent : LinkState) : Type 0 where
+pub record IsDone (lock : LockModel Head Entry) (before : SessionPass) (link : Outside) (after : SessionPass) (report : ConnReport) (spent : Outside) : Type 0 where
   pub of_lock : IsPassOf lock after
   pub serves : ServesViewer lock.head before after report link spent
 
