@@ -12,8 +12,8 @@ use Rattle.grow_lock.specs.Journal.{StartsWith}
 use Rattle.grow_lock.proofs.Lists.{starts_trans}
 use Rattle.serve_rules.specs.Turns.{SessionPass}
 use Rattle.serve_rules.specs.declared.noted.ConnReport.{ConnReport}
-use Rattle.edge_io.specs.Outside.{Outside}
-use Rattle.gate_run.specs.Gates.{given_state, spent_state, IsServed, EachServed}
+use Rattle.edge_io.specs.Outside.{Outside, outside_given, outside_spent}
+use Rattle.gate_run.specs.Gates.{IsServed, EachServed}
 use Rattle.gate_run.specs.OpenGate.{HaveNoPlaceInCommon, EndsAll}
 use Rattle.gate_run.specs.Working.{EndsWork}
 
@@ -73,7 +73,7 @@ module _ {L Reader Writer Spent : Type 0} (link : links.Ghosts L Reader Writer S
   pub one_more_ended : (pass after : SessionPass) (given : List L) (next : L) (reports reports' : List ConnReport) (old now new : List Spent) → HasEnded pass given reports old now
       → EndsWork link head first next pass after reports reports' now new → HasEnded after (given ++ next ∷ []) reports' old new
   one_more_ended pass after given next reports reports' old now new h w =
-      let gives = given_state link in let spends = spent_state link in let all = h.all in
+      let gives = outside_given link in let spends = outside_spent link in let all = h.all in
       let served = each_and_one head first after.seen (map gives given) reports (map spends all.spents) (gives next) w.report (spends w.spent)
       (each_goes_on head first pass.seen after.seen (map gives given) reports (map spends all.spents) w.grows all.served) w.served in
       record {

@@ -11,7 +11,7 @@ use Rattle.session_rules.specs.Journal.{Head, IsLegalJournal}
 use Rattle.grow_lock.specs.Journal.{StartsWith, IsDisjoint}
 use Rattle.serve_rules.specs.Turns.{SessionPass}
 use Rattle.serve_rules.specs.declared.noted.ConnReport.{ConnReport}
-use Rattle.link_run.specs.Links.{Outside, link_state}
+use Rattle.edge_io.specs.Outside.{Outside, outside_given, outside_spent}
 use Rattle.link_run.specs.Serving.{ServesViewer}
 use Rattle.gate_run.specs.declared.served.GateEnd.{GateEnd}
 use Rattle.gate_run.specs.declared.served.GateEnd.TheVariants.{Ended, Failed, NoListen}
@@ -26,19 +26,10 @@ pub record GateState : Type 0 where
   pub ended : Bool
   pub faults : ℕ
 
-module _ {L Reader Writer Spent : Type 0} (link : links.Ghosts L Reader Writer Spent) where
-  -- a link as it was given
-  abbrev pub given_state : L → Outside
-  given_state x = link_state (link.left x) (link.told x) (link.reader_faults x) (link.writer_faults x)
-
-  -- a link as it came back
-  abbrev pub spent_state : Spent → Outside
-  spent_state x = link_state (link.spent_left x) (link.spent_told x) (link.spent_reader_faults x) (link.spent_writer_faults x)
-
 -- a gate as it is now
 abbrev pub gate_state : {G L Reader Writer Spent : Type 0} → gates.Ghosts G L Reader Writer Spent → links.Ghosts L Reader Writer Spent → G → GateState
 gate_state gate link x =
-    record { given = map (given_state link) (gate.given x); finished = map (spent_state link) (gate.finished x); asked = gate.asked x; ended = gate.ended x; faults = gate.faults x }
+    record { given = map (outside_given link) (gate.given x); finished = map (outside_spent link) (gate.finished x); asked = gate.asked x; ended = gate.ended x; faults = gate.faults x }
 
 -- ---- its links
 
