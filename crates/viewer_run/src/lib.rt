@@ -15,7 +15,9 @@ pub use ending::{put_last, size_of};
 pub use frames::send_first;
 pub use guest::{Guest, greet};
 pub use serve_rules::{ConnEnd, ConnReport, Noted, Noted as Told, Places, SideEnd};
-pub use viewer_sides::{do_steps, handle_event, read_side, refresh, run_sides, send_side, suppress, take_once};
+pub use viewer_sides::{
+    do_steps, handle_event, read_side, refresh, run_sides, send_side, suppress, take_once,
+};
 pub use viewing::{attend, attend_whole, send_last};
 pub use visits::{Arrival, FirstFrame, arrive, depart, take_last};
 pub use wire_num::OutOfMemory;
