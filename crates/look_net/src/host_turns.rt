@@ -1,5 +1,5 @@
 //! A host that is watched over a link, until its bytes decide how that ends.
-ghost use Rattle.std.specs.Prelude.{◌≡◌, ◌≢◌, ◌++◌, ◌<◌, ℕ, List, Some, None, Err, length};
+ghost use Rattle.std.specs.Prelude.{◌≡◌, ◌≢◌, ◌++◌, ◌<◌, Some, None, Err, length};
 ghost use Rattle.std.specs.Bool.{MatchBool};
 ghost use Rattle.edge_io.specs.Outside.{Input, output_of, outside, outside_of};
 ghost use Rattle.client_view.specs.Views.{capped};
