@@ -6,7 +6,7 @@ use Rattle.std.specs.declared.result.Result.{Result}
 use Rattle.edge_io.specs.Sink.{WritesFront}
 use Rattle.session_rules.specs.declared.entry.Entry.{Entry}
 use Rattle.session_rules.specs.Journal.{Head}
-use Rattle.serve_rules.specs.declared.told.ConnReport.{ConnReport}
+use Rattle.serve_rules.specs.declared.noted.ConnReport.{ConnReport}
 use Rattle.gate_run.specs.declared.served.GateEnd.{GateEnd}
 use Rattle.gate_run.specs.declared.served.GateEnd.TheVariants.{Ended, Failed, NoListen}
 use Rattle.gate_run.specs.Gates.{GateState, ServesGate}
