@@ -10,7 +10,7 @@ use Rattle.viewer_rules.specs.declared.stage.Channel.{Channel}
 use Rattle.viewer_rules.specs.declared.stage.Channel.TheVariants as channel
 use Rattle.viewer_rules.specs.declared.stage.Stage.{Stage}
 use Rattle.viewer_rules.specs.declared.stage.Stage.TheVariants as stage
-use Rattle.viewer_rules.specs.HostAnswers.{connection_confirm, connect_response_answer, attach_answer, join_answer, indicated, licence_answer, demand_answer, final_answer}
+use Rattle.viewer_rules.specs.HostAnswers.{connection_confirm, connect_response_answer, attach_answer, join_answer, indication, licence_answer, demand_answer, final_answer}
 use Rattle.viewer_rules.specs.ViewerHandshake.{Answered, by, after_join, after_final, packet_answered, Standing, silent, answered, is_farewell, shown_by, packet_told}
 use Rattle.viewer_rules.specs.Shown.{has_ended}
 use Rattle.look_net.specs.Looks.{IsOpen}
@@ -91,9 +91,9 @@ next_goes name c stage.Confirm p shown a free e g h = by_form p (fields_at conne
 next_goes name c stage.Response p shown a free e g h = by_form p (fields_at connect_response_answer p) _ a (λ vs. refl) h
 next_goes name c stage.Attach p shown a free e g h = by_form p (fields_at attach_answer p) _ a (λ vs. refl) h
 next_goes name c (stage.Joins user which) p shown a free e g h = by_form p (fields_at (join_answer user _) p) _ a (λ vs. join_goes name user which) h
-next_goes name c (stage.Licence user) p shown a free e g h = by_form p (indicated licence_answer p) _ a (λ vs. refl) h
-next_goes name c (stage.Demand user) p shown a free e g h = by_form p (indicated (demand_answer _) p) _ a (λ vs. refl) h
-next_goes name c (stage.Finish user which) p shown a free e g h = by_form p (indicated (final_answer which user) p) _ a (λ vs. final_goes user which) h
+next_goes name c (stage.Licence user) p shown a free e g h = by_form p (fields_at (indication licence_answer) p) _ a (λ vs. refl) h
+next_goes name c (stage.Demand user) p shown a free e g h = by_form p (fields_at (indication (demand_answer _)) p) _ a (λ vs. refl) h
+next_goes name c (stage.Finish user which) p shown a free e g h = by_form p (fields_at (indication (final_answer which user)) p) _ a (λ vs. final_goes user which) h
 next_goes name c stage.Shown p shown a free e g h = absurd (let x : ⊥ = cc in x)
 next_goes name c stage.Over p shown a free e g h = absurd (let x : ⊥ = cc in x)
 next_goes name c (stage.Refused at) p shown a free e g h = absurd free

@@ -3,19 +3,25 @@ use Rattle.std.proofs.Common.{◌≡◌, ℕ, List, [], ◌∷◌, ◌++◌, len
 use Rattle.std.specs.Prelude.{Option, Some, None, Result, Ok, Err, OnOk, ◌&&◌, nat_le, option_to_list, if◌then◌else◌}
 use Rattle.std.proofs.lemmas.Bool.{and_from, and_parts}
 use Rattle.std.proofs.lemmas.Bool.Decides.{nat_tests}
+use Rattle.px_core.specs.declared.surface.Size.{Size}
 use Rattle.px_core.specs.Rectangle.{is_session_size}
 use Rattle.session_rules.specs.declared.entry.Entry.{Entry}
-use Rattle.session_rules.specs.Journal.{Head, Row, reached_at, reached_at_first, reached_after}
+use Rattle.session_rules.specs.Journal.{Head, Row, Reached, is_present, reached_at, reached_at_first, reached_after}
 use Rattle.session_rules.specs.Steps.{Step, Play, outcome, are_names_distinct}
 use Rattle.session_rules.specs.Entering.{entry_of_step}
 use Rattle.session_rules.proofs.Journals.{reached_after-append, reached-session_after}
 use Rattle.session_rules.proofs.Entered.{entry_of_outcome}
+use Rattle.frame_rules.specs.Encoder.{Encoder}
 use Rattle.session_core.specs.SessionModel.{SessionModel, new_session, reached_by}
 use Rattle.session_core.proofs.Sessions.{reached_at_end}
-use Rattle.script_rules.specs.Script.{ScriptReading, is_name, row_limit, with_row, after_step}
+use Rattle.script_rules.specs.Script.{ScriptReading, Asked, is_name, row_limit, opened_reading, with_row, after_step}
+use Rattle.script_rules.specs.CaptureText.{Run, run_after, encoder_frames}
 use Rattle.record_rules.specs.Tables.{head_bytes, entries_bytes, are_named, is_recordable_head}
+use Rattle.script_run.specs.Solo.{first_run}
+use Rattle.script_run.specs.Standing.{Stands, DoesStep as Does}
 use Rattle.record_run.specs.Recording.{head_text}
-use Rattle.record_run.specs.Recorders.{Enters, Records, RecorderModel, recorder_of, IsRecorder, Keeps, DoesStep}
+use Rattle.record_run.specs.Reading.{records}
+use Rattle.record_run.specs.Recorders.{Enters, Records, RecorderModel, recorder_of, seen_of, IsRecorder, Keeps, DoesStep}
 
 -- ---- what was reached
 
@@ -107,6 +113,41 @@ head_recordable head session i =
     and_from (is_session_size head.size.w head.size.h) (nat_le (length head.rows) row_limit && (are_named head.rows && are_names_distinct head.rows)) i.size
     (and_from (nat_le (length head.rows) row_limit) (are_named head.rows && are_names_distinct head.rows) low
     (and_from (are_named head.rows) (are_names_distinct head.rows) i.named i.rows.distinct))
+
+-- ---- as what does the lines of a script
+
+-- what the recorder keeps of a reading, whatever is sent
+abbrev pub StandsOf : RecorderModel → ScriptReading → Run Encoder → Type 0
+StandsOf m = Stands (seen_of m) (λ r run. r.play.reached ≡ reached_by m.session)
+
+pub stands_keeps : (m : RecorderModel) (r : ScriptReading) (run : Run Encoder) → StandsOf m r run → Keeps m r
+stands_keeps m r run s = record { head = s.head; begun = s.begun; reached = s.kept }
+
+pub keeps_stands : (m : RecorderModel) (r : ScriptReading) (run : Run Encoder) → Keeps m r → StandsOf m r run
+keeps_stands m r run k = record { head = k.head; begun = k.begun; here = λ v. ap (λ (x : Reached). is_present v x.viewers) k.reached; kept = k.reached }
+
+pub first_stands : (m : RecorderModel) (size : Size) → m.begun ≡ false → m.session.head ≡ record { size = size; rows = [] } → m.session.journal ≡ []
+    → StandsOf m (opened_reading size []) (first_run size)
+first_stands m size begun head journal = keeps_stands m (opened_reading size []) (first_run size) (record {
+  head = sym head;
+  begun = sym begun;
+  reached = sym (ap (λ (h : Head). reached_at h.size m.session.journal (length m.session.journal)) head ∙ ap (λ j. reached_at size j (length j)) journal);
+})
+
+pub row_stands : (old new : RecorderModel) (row : Row) → ((r : ScriptReading) → Keeps old r → Keeps new (with_row r row)) → (r : ScriptReading) (run : Run Encoder) → StandsOf old r run
+    → StandsOf new (with_row r row) run
+row_stands old new row k r run s = keeps_stands new (with_row r row) run (k r (stands_keeps old r run s))
+
+-- a step was recorded, and gave no frame
+pub step_stands : (old new : RecorderModel) (a : Asked) (before now : List ℕ) → ((r : ScriptReading) → Keeps old r → DoesStep r a.step new before now)
+    → (r : ScriptReading) (run : Run Encoder) → StandsOf old r run → Does records (StandsOf new) r run a before (now ++ [])
+step_stands old new a before now d r run s =
+    let does = d r (stands_keeps old r run s) in
+    record { standing = keeps_stands new (after_step r a.step) (run_after encoder_frames r.head run a) does.keeps; written = append-nil now ∙ does.written }
+
+pub unbegun_stands : (m : RecorderModel) (before now : List ℕ) → ((r : ScriptReading) → Keeps m r → now ≡ before ++ head_text r) → (r : ScriptReading) (run : Run Encoder)
+    → StandsOf m r run → now ≡ before ++ head_text r
+unbegun_stands m before now w r run s = w r (stands_keeps m r run s)
 
 -- ---- answers
 

@@ -1,6 +1,6 @@
 pub mod Recording
-pub mod Recorders
-pub mod Steps
 pub mod Reading
-pub mod Progress
 pub mod Run
+pub mod Recorders
+pub mod Shown
+pub mod Replays

@@ -4,9 +4,10 @@ use Rattle.px_core.specs.Rectangle.{is_session_size}
 use Rattle.session_rules.specs.Journal.{Head}
 use Rattle.session_rules.specs.Steps.{Step}
 use Rattle.session_rules.specs.Entering.{entry_of_step}
-use Rattle.session_core.specs.SessionModel.{SessionModel, new_session, reached_by, AreInvited}
+use Rattle.session_core.specs.SessionModel.{SessionModel, new_session, reached_by, is_here, AreInvited}
 use Rattle.script_rules.specs.Script.{ScriptReading, after_step}
 use Rattle.record_rules.specs.Tables.{entries_bytes, are_named}
+use Rattle.script_run.specs.Standing.{Seen}
 use Rattle.record_run.specs.Recording.{step_text}
 
 -- ---- a session
@@ -43,6 +44,10 @@ pub record IsRecorder (head : Head) (session : Option SessionModel) : Type 0 whe
   pub rows : AreInvited head.rows
   pub named : IsTrue (are_named head.rows)
   pub same : HasHead head session
+
+-- what is seen of it
+abbrev pub seen_of : RecorderModel → Seen
+seen_of m = record { head = m.session.head; begun = m.begun; here = is_here m.session }
 
 -- it stands for this reading of a script: they have one head, have begun or not, and what the journal has reached
 pub record Keeps (m : RecorderModel) (r : ScriptReading) : Type 0 where

@@ -2,9 +2,8 @@
 use Rattle.std.specs.Prelude.{ℕ, List, [], ◌∷◌, ◌++◌, map, Bool, true, false, ◌&&◌, is_none, option_to_list, if◌then◌else◌}
 use Rattle.line_text.specs.Lines.{Line}
 use Rattle.session_rules.specs.Steps.{Step, outcome, entries_from, journal_of_steps}
-use Rattle.script_rules.specs.Script.{ScriptReading, Script, Asked, Opening, LineOutcome, opening_of, opening_of_lines}
+use Rattle.script_rules.specs.Script.{ScriptReading, Script, Asked, Opening, opening_of, opening_of_lines}
 use Rattle.script_rules.specs.Script.Opening.{NoSize, Unended, Opened}
-use Rattle.script_rules.specs.Script.LineOutcome.{Breaks, Invites, Asks}
 use Rattle.record_rules.specs.Tables.{head_bytes, entries_bytes, record_bytes}
 
 -- the steps that are asked for
@@ -70,12 +69,6 @@ head_text r = if r.begun then [] else head_bytes r.head
 -- what a step writes: the head, where it is the first, and its entry, where it appends one
 abbrev pub step_text : ScriptReading → Step → List ℕ
 step_text r step = head_text r ++ entries_bytes (option_to_list (outcome r.head r.play step).entry)
-
--- what a line writes: a row nothing, and one that breaks a rule ends the record
-abbrev pub outcome_text : ScriptReading → LineOutcome → List ℕ
-outcome_text r (Breaks rule) = head_text r
-outcome_text r (Invites row) = []
-outcome_text r (Asks a) = step_text r a.step
 
 -- what a script writes from a reading on
 abbrev pub text_from : ScriptReading → Script → List ℕ

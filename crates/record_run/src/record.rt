@@ -1,17 +1,15 @@
 ghost use Rattle.script_run.specs.Run.{ReadsCause, WritesCause};
 ghost use Rattle.record_run.specs.Run.{RecordsScript};
 
-use crate::lines::do_lines;
-use crate::opening::{FirstLine, first_line};
-use edge_io::{LineReader, Sink, Source};
-use script_run::ScriptFault;
+use crate::recorder::Recorder;
+use edge_io::{Sink, Source};
+use script_run::{ScriptFault, run_course};
 use std::alloc::Global;
-
-/// The number of the line that gives the size.
-const FIRST: u32 = 1;
 
 /// Reads a script, a line at a time, and writes its journal as a record: the head at the first step, or at the end, and each entry behind
 /// the step that appends it. Frames are neither made nor written.
+///
+/// At most 65,536 bytes of the record are held back, and none while the input is read, nor where the run has ended.
 ///
 /// `Line` names the first line that breaks a rule and the least rule that it breaks; the record ends there, and where it is the first line
 /// nothing is written. A `ReadFault` leaves exactly what the whole lines write that the input had handed out, and a `WriteFault`, or want of
@@ -27,13 +25,5 @@ pub fn record_script<S: Source, K: Sink>(
     ensures read { ReadsCause result (S.faults input.old) (S.faults input.new) }
     ensures write { WritesCause result (K.faults output.old) (K.faults output.new) }
 {
-    let mut reader = LineReader::new(alloc)?;
-    match first_line(&mut reader, input) {
-        FirstLine::Sized(size) => do_lines(alloc, &mut reader, input, output, size),
-        FirstLine::Breaks(rule) => Err(ScriptFault::Line {
-            k: FIRST,
-            rule: rule.number(),
-        }),
-        FirstLine::Failed => Err(ScriptFault::ReadFault),
-    }
+    run_course::<Recorder, S, K>(alloc, input, output)
 }

@@ -3,7 +3,6 @@
 ghost use Rattle.std.specs.Prelude.{◌≡◌, ◌<◌, ◌++◌, [], length, false, IsTrue, OnOk};
 ghost use Rattle.px_core.specs.Rectangle.{is_session_size};
 ghost use Rattle.session_rules.specs.Steps.Step.{JoinStep};
-ghost use Rattle.session_core.specs.Heads.{rows_of};
 ghost use Rattle.session_core.specs.SessionModel.{is_here};
 ghost use Rattle.script_rules.specs.Script.{ScriptReading, is_name, is_invited, with_row};
 ghost use Rattle.script_lines.specs.Keywords.{step_of};
@@ -13,11 +12,13 @@ ghost use Rattle.record_run.specs.Recording.{head_text};
 
 use crate::OutOfMemory;
 use crate::entries::{do_step, join};
+use caps_sets::Confirmed;
 use info_lic::Name;
-use line_text::is_same_word;
 use px_core::Size;
 use record_file::write_head;
-use script_lines::ViewerStep;
+use script_host::has_row;
+use script_lines::{LineRule, ViewerStep};
+use script_run::Course;
 use session_core::{Invite, Session};
 use session_rules::Role;
 use std::alloc::Global;
@@ -45,12 +46,88 @@ impl Model for Recorder {
     ghost invariant = { λ r. IsRecorder (record { size = r.size; rows = rows_of r.rows.items }) r.session };
 }
 
+impl Course for Recorder {
+    ghost use Rattle.session_core.specs.SessionModel.{reached_by};
+    ghost use Rattle.record_run.specs.Reading.{records};
+    ghost use Rattle.record_run.specs.Recorders.{seen_of};
+
+    ghost writing = { records };
+
+    ghost seen = { λ m. seen_of m };
+
+    // The journal has reached what the reading has, whatever is sent.
+    ghost keeps = { λ m r run. r.play.reached ≡ reached_by m.session };
+
+    fn begin(alloc: Global, size: Size) -> Recorder {
+        Recorder::new(alloc, size)
+    }
+
+    fn has_begun(&self) -> bool {
+        self.session.is_some()
+    }
+
+    fn row_count(&self) -> usize {
+        self.rows.len()
+    }
+
+    fn is_invited(&self, name: &[u8]) -> bool {
+        has_row(&self.rows, name)
+    }
+
+    fn present(&self, viewer: u32) -> bool {
+        match &self.session {
+            Some(session) => session.present(viewer),
+            None => false,
+        }
+    }
+
+    fn invite(&mut self, name: &[u8], role: Role) -> Result<(), OutOfMemory> {
+        self.add_row(name, role)
+    }
+
+    fn join(
+        &mut self,
+        _: Global,
+        out: &mut Vec<u8>,
+        name: &[u8],
+        _: &[u8],
+        _: Confirmed,
+    ) -> Result<Option<Vec<u8>>, OutOfMemory> {
+        self.record_join(name, out)?;
+        Ok(None)
+    }
+
+    fn step(
+        &mut self,
+        _: Global,
+        out: &mut Vec<u8>,
+        viewer: u32,
+        step: ViewerStep,
+    ) -> Result<Option<Vec<u8>>, OutOfMemory> {
+        self.record_step(viewer, step, out)?;
+        Ok(None)
+    }
+
+    fn refuse(&self, _: Global, out: &mut Vec<u8>, _: u32, _: LineRule) -> Result<(), OutOfMemory> {
+        self.write_unbegun(out)
+    }
+
+    fn end(&self, out: &mut Vec<u8>) -> Result<(), OutOfMemory> {
+        self.write_unbegun(out)
+    }
+
+    fn refuse_first(_: Global, _: &mut Vec<u8>, _: LineRule) -> Result<(), OutOfMemory> {
+        Ok(())
+    }
+}
+
 impl Recorder {
     /// A script of this size, of which no row was read.
-    pub fn new(alloc: Global, size: Size) -> Recorder
+    fn new(alloc: Global, size: Size) -> Recorder
         requires { IsTrue (is_session_size size.w size.h) }
         ensures begun { result.begun ≡ false }
         ensures head { result.session.head ≡ record { size = size; rows = [] } }
+        ensures journal { result.session.journal ≡ [] }
     {
         Recorder {
             alloc,
@@ -61,7 +138,7 @@ impl Recorder {
     }
 
     /// A row comes, before any step: a viewer may join by this name, as this.
-    pub fn invite(&mut self, name: &[u8], role: Role) -> Result<(), OutOfMemory>
+    fn add_row(&mut self, name: &[u8], role: Role) -> Result<(), OutOfMemory>
         requires early { self.old.begun ≡ false }
         requires name { IsTrue (is_name name.now) }
         requires fresh { is_invited name.now self.old.session.head.rows ≡ false }
@@ -76,19 +153,19 @@ impl Recorder {
     }
 
     /// A viewer joins by a row that has this name, where it is let in.
-    pub fn join(&mut self, name: &[u8], out: &mut Vec<u8>) -> Result<(), OutOfMemory>
+    fn record_join(&mut self, name: &[u8], out: &mut Vec<u8>) -> Result<(), OutOfMemory>
         requires { IsTrue (is_name name.now) }
         ensures { OnOk result ((r : ScriptReading) → Keeps self.old r → DoesStep r (JoinStep name.now) self.new out.old.items out.new.items) }
     {
         let name = Name::new(name);
         match &mut self.session {
             Some(session) => join(session, &name, out),
-            None => self.begin(&name, out),
+            None => self.begin_record(&name, out),
         }
     }
 
     /// A step of a viewer that is present.
-    pub fn step(
+    fn record_step(
         &mut self,
         viewer: u32,
         step: ViewerStep,
@@ -105,7 +182,7 @@ impl Recorder {
     }
 
     /// The first step: the head is written, the session is made, and a viewer joins.
-    fn begin(&mut self, name: &Name, out: &mut Vec<u8>) -> Result<(), OutOfMemory>
+    fn begin_record(&mut self, name: &Name, out: &mut Vec<u8>) -> Result<(), OutOfMemory>
         requires { self.old.begun ≡ false }
         ensures { OnOk result ((r : ScriptReading) → Keeps self.old r → DoesStep r (JoinStep name.now) self.new out.old.items out.new.items) }
     {
@@ -117,7 +194,7 @@ impl Recorder {
     }
 
     /// Writes the head, where no step has stood.
-    pub fn write_unbegun(&self, out: &mut Vec<u8>) -> Result<(), OutOfMemory>
+    fn write_unbegun(&self, out: &mut Vec<u8>) -> Result<(), OutOfMemory>
         ensures { OnOk result ((r : ScriptReading) → Keeps self.now r → out.new.items ≡ out.old.items ++ head_text r) }
     {
         match &self.session {
@@ -125,47 +202,4 @@ impl Recorder {
             None => write_head(out, self.size, &self.rows),
         }
     }
-
-    /// Whether a step was asked for, so that no row may come.
-    pub fn has_begun(&self) -> bool
-        ensures { result ≡ self.now.begun }
-    {
-        self.session.is_some()
-    }
-
-    /// How many rows there are.
-    pub fn row_count(&self) -> usize
-        ensures { result ≡ length self.now.session.head.rows }
-    {
-        self.rows.len()
-    }
-
-    /// Whether a row has this name.
-    pub fn is_invited(&self, name: &[u8]) -> bool
-        ensures { result ≡ is_invited name.now self.now.session.head.rows }
-    {
-        has_row(&self.rows, name)
-    }
-
-    /// Whether a viewer is present.
-    pub fn present(&self, viewer: u32) -> bool
-        ensures { result ≡ is_here self.now.session viewer }
-    {
-        match &self.session {
-            Some(session) => session.present(viewer),
-            None => false,
-        }
-    }
-}
-
-/// Whether a row has a name.
-fn has_row(rows: &[Invite], name: &[u8]) -> bool
-    ensures { result ≡ is_invited name.now (rows_of rows.now) }
-{
-    for row in rows {
-        if is_same_word(name, row.name.bytes()) {
-            return true;
-        }
-    }
-    false
 }

@@ -195,7 +195,7 @@ impl ScriptHost {
 }
 
 /// Whether a row has a name.
-fn has_row(rows: &[Invite], name: &[u8]) -> bool
+pub fn has_row(rows: &[Invite], name: &[u8]) -> bool
     ensures { result ≡ is_invited name.now (rows_of rows.now) }
 {
     for row in rows {

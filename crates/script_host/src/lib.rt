@@ -7,5 +7,5 @@ mod running;
 mod seats;
 
 pub use answer::StepAnswer;
-pub use host::ScriptHost;
+pub use host::{ScriptHost, has_row};
 pub use wire_num::OutOfMemory;

@@ -3,17 +3,15 @@ use Rattle.std.proofs.Common.{◌≡◌, ℕ, List, [], ◌∷◌, ◌++◌, ref
 use Rattle.std.proofs.lemmas.List.{append_cancel_left}
 use Rattle.std.specs.Prelude.{Option}
 use Rattle.std.specs.Io.KnownBytes.{Appends}
-use Rattle.px_core.specs.declared.surface.Size.{Size}
 use Rattle.line_text.specs.Lines.{Line, lines_of}
-use Rattle.frame_rules.specs.Encoder.{Encoder}
-use Rattle.script_rules.specs.Script.{ScriptReading, LineRefusal}
-use Rattle.script_rules.specs.CaptureText.{Run}
+use Rattle.script_rules.specs.Script.{LineRefusal}
 use Rattle.headline.specs.Fronts.{IsFront}
 use Rattle.script_run.specs.Held.{IsFrontOf}
 use Rattle.script_run.specs.Run.{Tells}
-use Rattle.script_run.specs.Reading.{CaptureByLines, of_lines, of_rest, so_far_after, text_after, Moment, ahead_of, TakesLines, WroteSomeLines, AllLinesGive, WroteAllLines}
-use Rattle.script_run.specs.Reading.{with_next, WroteDoneLines, StopsInALine}
-use Rattle.script_run.proofs.Senses.{nothing_is_front, whole_is_front, front_of_front, lines_front, rest_front}
+use Rattle.script_run.specs.Writing.{ByLines, IsSteady, with_next}
+use Rattle.script_run.specs.Reading.{Moment, ahead_of, TakesLines, WroteSomeLines, AllLinesGive, WroteAllLines}
+use Rattle.script_run.specs.Reading.{WroteDoneLines, StopsInALine}
+use Rattle.script_run.proofs.Fronts.{nothing_is_front, whole_is_front, front_of_front}
 use Rattle.script_run.proofs.Taken.{lines_are}
 
 -- ---- two fronts of one text
@@ -48,37 +46,14 @@ fronts_meet (x ∷ a) (y ∷ b) (z ∷ text) f g = by (fronts_meet a b text (fro
 
 -- ---- lines whose text grows with each
 
-pub record IsSteady (whole : CaptureByLines) : Type 0 where
-  pub none : whole.so_far [] ≡ []
-  pub grows : (lines more : List Line) → IsFront (whole.so_far lines) (whole.so_far (lines ++ more))
-  pub ends : (lines : List Line) → IsFront (whole.so_far lines) (whole.writes lines)
-
-pub steady_lines : (k at : ℕ) (r : ScriptReading) (run : Run Encoder) → IsSteady (of_lines k at r run)
-steady_lines k at r run = record {
-  none = refl;
-  grows = λ lines more. lines_front lines more k at r run;
-  ends = λ lines. whole_is_front ((of_lines k at r run).writes lines);
-}
-
-rest_grows : (size : Size) (at : ℕ) (lines more : List Line) → IsFront (so_far_after size at lines) (so_far_after size at (lines ++ more))
-rest_grows size at [] more = nothing_is_front (so_far_after size at more)
-rest_grows size at (line ∷ lines) more = rest_front (line ∷ lines) more size at
-
-pub steady_rest : (size : Size) (at : ℕ) → IsSteady (of_rest size at)
-steady_rest size at = record {
-  none = refl;
-  grows = rest_grows size at;
-  ends = λ lines. subst (λ ls. IsFront (so_far_after size at lines) (text_after size at ls)) (append-nil lines) (rest_front lines [] size at);
-}
-
-steady_next : (whole : CaptureByLines) (lines rest : List Line) → IsSteady whole → IsFront (whole.so_far lines) (with_next whole lines rest)
+steady_next : (whole : ByLines) (lines rest : List Line) → IsSteady whole → IsFront (whole.so_far lines) (with_next whole lines rest)
 steady_next whole lines [] s = s.ends lines
 steady_next whole lines (next ∷ rest) s = s.grows lines (next ∷ [])
 
 -- ---- the line in which a front ends
 
 -- what these first lines have written, and a front of what they have with the next one
-record EndsIn (whole : CaptureByLines) (all : List Line) (text : List ℕ) : Type 0 where
+record EndsIn (whole : ByLines) (all : List Line) (text : List ℕ) : Type 0 where
   done : List Line
   rest : List Line
   front : List ℕ
@@ -86,7 +61,7 @@ record EndsIn (whole : CaptureByLines) (all : List Line) (text : List ℕ) : Typ
   is_text : text ≡ whole.so_far done ++ front
   is_front : IsFront (whole.so_far done ++ front) (with_next whole done rest)
 
-ends_in : (whole : CaptureByLines) (all first later rest done : List Line) (text front : List ℕ) → IsSteady whole → first ++ later ≡ done → all ≡ first ++ (later ++ rest)
+ends_in : (whole : ByLines) (all first later rest done : List Line) (text front : List ℕ) → IsSteady whole → first ++ later ≡ done → all ≡ first ++ (later ++ rest)
     → IsFront (whole.so_far first) text → IsFront text (whole.so_far done ++ front) → IsFront (whole.so_far done ++ front) (with_next whole done rest)
     → EndsIn whole all text
 ends_in whole all first [] rest done text front s is are begins last next =
@@ -125,7 +100,7 @@ ends_in whole all first (line ∷ later) rest done text front s is are begins la
       is_front = subst (λ t. IsFront t (whole.so_far (first ++ line ∷ []))) begins.joined f;
     }
 
-cut_of : (whole : CaptureByLines) (all : List Line) (x y z : List ℕ) (first rest : List ℕ) → IsSteady whole → WroteDoneLines whole all (Some x) (Some z) → y ≡ x ++ first
+cut_of : (whole : ByLines) (all : List Line) (x y z : List ℕ) (first rest : List ℕ) → IsSteady whole → WroteDoneLines whole all (Some x) (Some z) → y ≡ x ++ first
     → z ≡ y ++ rest → WroteDoneLines whole all (Some x) (Some y)
 cut_of whole all x y z first rest s d written left_out =
     let text : whole.so_far d.done ++ d.front ≡ first ++ rest = append_cancel_left x (whole.so_far d.done ++ d.front) (first ++ rest)
@@ -141,7 +116,7 @@ cut_of whole all x y z first rest s d written left_out =
       is_front = e.is_front;
     }
 
-cut_done : (whole : CaptureByLines) (all : List Line) (told telling text : Option (List ℕ)) → IsSteady whole → WroteDoneLines whole all told text
+cut_done : (whole : ByLines) (all : List Line) (told telling text : Option (List ℕ)) → IsSteady whole → WroteDoneLines whole all told text
     → IsFrontOf told telling text → WroteDoneLines whole all told telling
 cut_done whole all None telling text s d f = record {
   done = d.done;
@@ -156,7 +131,7 @@ cut_done whole all (Some x) (Some y) None s d f = absurd f
 cut_done whole all (Some x) (Some y) (Some z) s d f = cut_of whole all x y z f.first f.rest s d f.written f.left_out
 
 -- where a run that stopped in a line would have come to this text, a front of it is as such a run's
-pub cut_short : (ahead told telling text : Option (List ℕ)) (whole : CaptureByLines) → IsSteady whole
+pub cut_short : (ahead told telling text : Option (List ℕ)) (whole : ByLines) → IsSteady whole
     → Tells ahead (λ bytes. WroteDoneLines whole (lines_of bytes) told text) → IsFrontOf told telling text
     → Tells ahead (λ bytes. WroteDoneLines whole (lines_of bytes) told telling)
 cut_short None told telling text whole s d f = tt
@@ -164,7 +139,7 @@ cut_short (Some bytes) told telling text whole s d f = cut_done whole (lines_of 
 
 -- ---- whole lines end a run as one does that stopped behind them
 
-done_lines : (whole rest : CaptureByLines) (bytes left text : List ℕ) (lines : List Line) (told telling : Option (List ℕ)) → IsSteady whole → rest.so_far [] ≡ []
+done_lines : (whole rest : ByLines) (bytes left text : List ℕ) (lines : List Line) (told telling : Option (List ℕ)) → IsSteady whole → rest.so_far [] ≡ []
     → lines_of bytes ≡ lines ++ lines_of left → whole.so_far (lines ++ []) ≡ text ++ rest.so_far [] → Appends told telling text
     → WroteDoneLines whole (lines_of bytes) told telling
 done_lines whole rest bytes left text lines told telling s none are so_far w =
@@ -179,17 +154,17 @@ done_lines whole rest bytes left text lines told telling s none are so_far w =
       is_front = subst (λ t. IsFront t (with_next whole lines (lines_of left))) (sym (append-nil (whole.so_far lines))) (steady_next whole lines (lines_of left) s);
     }
 
-lines_stop_by : (ahead left : Option (List ℕ)) (whole rest : CaptureByLines) (m n : Moment) (g : WroteSomeLines whole rest m n) → IsSteady whole → rest.so_far [] ≡ []
+lines_stop_by : (ahead left : Option (List ℕ)) (whole rest : ByLines) (m n : Moment) (g : WroteSomeLines whole rest m n) → IsSteady whole → rest.so_far [] ≡ []
     → TakesLines ahead left g.lines → Tells ahead (λ bytes. WroteDoneLines whole (lines_of bytes) m.told n.told)
 lines_stop_by None left whole rest m n g s none t = tt
 lines_stop_by (Some bytes) None whole rest m n g s none t = absurd t
 lines_stop_by (Some bytes) (Some left) whole rest m n g s none t =
     done_lines whole rest bytes left g.text g.lines m.told n.told s none (lines_are bytes left g.lines t) (g.follows.so_far []) g.written
 
-pub lines_stop : (whole rest : CaptureByLines) (m n : Moment) → IsSteady whole → rest.so_far [] ≡ [] → WroteSomeLines whole rest m n → StopsInALine whole m n
+pub lines_stop : (whole rest : ByLines) (m n : Moment) → IsSteady whole → rest.so_far [] ≡ [] → WroteSomeLines whole rest m n → StopsInALine whole m n
 lines_stop whole rest m n s none g = lines_stop_by (ahead_of m) (ahead_of n) whole rest m n g s none g.takes
 
-all_lines : (whole : CaptureByLines) (lines : List Line) (text : List ℕ) (told telling : Option (List ℕ)) → IsSteady whole → whole.writes lines ≡ text
+all_lines : (whole : ByLines) (lines : List Line) (text : List ℕ) (told telling : Option (List ℕ)) → IsSteady whole → whole.writes lines ≡ text
     → Appends told telling text → WroteDoneLines whole lines told telling
 all_lines whole lines text told telling s writes w =
     let end = s.ends lines in
@@ -202,17 +177,17 @@ all_lines whole lines text told telling s writes w =
       is_front = subst (λ t. IsFront t (whole.writes lines)) end.joined (whole_is_front (whole.writes lines));
     }
 
-all_stop_by : (ahead told telling : Option (List ℕ)) (whole : CaptureByLines) (text : List ℕ) (refused : Option LineRefusal) → IsSteady whole
+all_stop_by : (ahead told telling : Option (List ℕ)) (whole : ByLines) (text : List ℕ) (refused : Option LineRefusal) → IsSteady whole
     → AllLinesGive ahead whole text refused → Appends told telling text → Tells ahead (λ bytes. WroteDoneLines whole (lines_of bytes) told telling)
 all_stop_by None told telling whole text refused s gives w = tt
 all_stop_by (Some bytes) told telling whole text refused s gives w = all_lines whole (lines_of bytes) text told telling s gives.0 w
 
-pub all_stop : (whole : CaptureByLines) (refused : Option LineRefusal) (m n : Moment) → IsSteady whole → WroteAllLines whole refused m n → StopsInALine whole m n
+pub all_stop : (whole : ByLines) (refused : Option LineRefusal) (m n : Moment) → IsSteady whole → WroteAllLines whole refused m n → StopsInALine whole m n
 all_stop whole refused m n s g = all_stop_by (ahead_of m) m.told n.told whole g.text refused s g.gives g.written
 
 -- ---- nothing was done
 
-none_of : (whole : CaptureByLines) (lines : List Line) (told telling : Option (List ℕ)) → whole.so_far [] ≡ [] → Appends told telling []
+none_of : (whole : ByLines) (lines : List Line) (told telling : Option (List ℕ)) → whole.so_far [] ≡ [] → Appends told telling []
     → WroteDoneLines whole lines told telling
 none_of whole lines told telling none w = record {
   done = [];
@@ -223,7 +198,7 @@ none_of whole lines told telling none w = record {
   is_front = subst (λ t. IsFront (t ++ []) (with_next whole [] lines)) (sym none) (nothing_is_front (with_next whole [] lines));
 }
 
-pub nothing_stops : (ahead told telling : Option (List ℕ)) (whole : CaptureByLines) → whole.so_far [] ≡ [] → Appends told telling []
+pub nothing_stops : (ahead told telling : Option (List ℕ)) (whole : ByLines) → whole.so_far [] ≡ [] → Appends told telling []
     → Tells ahead (λ bytes. WroteDoneLines whole (lines_of bytes) told telling)
 nothing_stops None told telling whole none w = tt
 nothing_stops (Some bytes) told telling whole none w = none_of whole (lines_of bytes) told telling none w

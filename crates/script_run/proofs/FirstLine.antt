@@ -18,14 +18,11 @@ use Rattle.edge_io.specs.Reading.{new_reading, HandsOut, IsPastLimits, first_is_
 use Rattle.edge_io.specs.declared.reader.Found.{Found}
 use Rattle.edge_io.specs.Finding.{Finds, FindsLine}
 use Rattle.edge_io.specs.declared.reader.Found.TheVariants as found
-use Rattle.script_rules.specs.Script.{Opening, opening_by, opening_of_lines, size_rule, text_rule, size_with, size_of_words}
-use Rattle.script_rules.specs.Script.Opening.{NoSize, Unended}
-use Rattle.script_rules.specs.Capture.{broken_line}
-use Rattle.script_rules.specs.CaptureText.{capture_of_opening, encoder_frames}
+use Rattle.script_rules.specs.Script.{size_rule, text_rule, size_with, size_of_words}
 use Rattle.script_run.specs.declared.opening.FirstLine.{FirstLine}
-use Rattle.script_run.specs.Done.{capture_of_lines, text_of_opening, text_of_first}
-use Rattle.script_run.specs.Run.{Tells, refusal_at, refusal_of}
-use Rattle.script_run.specs.Reading.{of_script, of_rest, so_far_after, Follows, Moment, ahead_of, with_next, RefusesFirst, StopsReading, Opens, first_of}
+use Rattle.script_run.specs.Run.{Tells, refusal_at}
+use Rattle.script_run.specs.Writing.{Writing, Ends, RefusesFirst, IsWriting}
+use Rattle.script_run.specs.Reading.{Moment, ahead_of, StopsReading, Opens, first_of}
 use Rattle.script_run.proofs.Taken.{line_taken, none_taken}
 
 -- ---- a line that gives a size is short
@@ -77,113 +74,92 @@ past_gives_none line (Some size) is past = absurd (cc (past, short_within line.t
 
 -- ---- what the first line gives
 
--- its first line breaks a rule, so all of a script does
-breaks_at : (lines rest : List Line) (line : Line) (o : Opening) (broken : ℕ) → lines ≡ line ∷ rest
-    → ((more : List Line) → opening_by line (size_of_words (words_of line.text)) more ≡ o)
-    → capture_of_opening encoder_frames o ≡ broken_line 1 broken → text_of_opening o ≡ broken_line 1 broken → refusal_of o ≡ refusal_at 1 broken
-    → RefusesFirst lines broken
-breaks_at lines rest line o broken is opens w t r = record {
-  writes = ap capture_of_lines is ∙ ap (capture_of_opening encoder_frames) (opens rest) ∙ w;
-  next = ap (with_next of_script []) is ∙ ap text_of_opening (opens []) ∙ t;
-  refuses = ap (λ ls. refusal_of (opening_of_lines ls)) is ∙ ap refusal_of (opens rest) ∙ r;
-}
+pub refuses_first : (made : Writing) (line : Line) (more : List Line) (broken : ℕ)
+    → ((lines : List Line) → Ends made.script (line ∷ lines) (made.first broken) (refusal_at 1 broken)) → RefusesFirst made (line ∷ more) broken
+refuses_first made line more broken ends = record { writes = (ends more).writes; next = (ends []).so_far; refuses = (ends more).refuses }
 
-no_size : (before now : Option (List ℕ)) (line : Line) → HandsOut before now (line ∷ []) → size_of_words (words_of line.text) ≡ None
-    → Tells before (λ bytes. RefusesFirst (lines_of bytes) size_rule)
-no_size None now line hands none = tt
-no_size (Some bytes) None line hands none = absurd hands
-no_size (Some bytes) (Some left) line hands none =
-    breaks_at (lines_of bytes) (lines_of left) line NoSize size_rule hands (λ more. ap (λ o. opening_by line o more) none) refl refl refl
+no_size : (made : Writing) (laws : IsWriting made) (before now : Option (List ℕ)) (line : Line) → HandsOut before now (line ∷ []) → size_of_words (words_of line.text) ≡ None
+    → Tells before (λ bytes. RefusesFirst made (lines_of bytes) size_rule)
+no_size made laws None now line hands none = tt
+no_size made laws (Some bytes) None line hands none = absurd hands
+no_size made laws (Some bytes) (Some left) line hands none = subst (λ ls. RefusesFirst made ls size_rule) (sym hands)
+    (refuses_first made line (lines_of left) size_rule (λ lines. laws.unsized line lines none))
 
-unended : (before now : Option (List ℕ)) (text : List ℕ) (size : Size) → HandsOut before now (record { text = text; ended = false } ∷ [])
-    → size_of_words (words_of text) ≡ Some size → Tells before (λ bytes. RefusesFirst (lines_of bytes) text_rule)
-unended None now text size hands is = tt
-unended (Some bytes) None text size hands is = absurd hands
-unended (Some bytes) (Some left) text size hands is =
-    let line : Line = record { text = text; ended = false } in
-    breaks_at (lines_of bytes) (lines_of left) line Unended text_rule hands (λ more. ap (λ o. opening_by line o more) is) refl refl refl
+unended : (made : Writing) (laws : IsWriting made) (before now : Option (List ℕ)) (line : Line) (size : Size) → HandsOut before now (line ∷ [])
+    → size_of_words (words_of line.text) ≡ Some size → line.ended ≡ false → Tells before (λ bytes. RefusesFirst made (lines_of bytes) text_rule)
+unended made laws None now line size hands is open_end = tt
+unended made laws (Some bytes) None line size hands is open_end = absurd hands
+unended made laws (Some bytes) (Some left) line size hands is open_end = subst (λ ls. RefusesFirst made ls text_rule) (sym hands)
+    (refuses_first made line (lines_of left) text_rule (λ lines. laws.unended line size lines is open_end))
 
-so_far_by : (text : List ℕ) (size : Size) (more : List Line) → size_of_words (words_of text) ≡ Some size
-    → text_of_first (record { text = text; ended = true } ∷ more) ≡ so_far_after size (length (line_bytes (record { text = text; ended = true }))) more
-so_far_by text size [] is = ap (λ o. text_of_opening (opening_by (record { text = text; ended = true }) o [])) is
-so_far_by text size (second ∷ more) is = ap (λ o. capture_of_opening encoder_frames (opening_by (record { text = text; ended = true }) o (second ∷ more))) is
-
--- the lines behind a size decide
-size_follows : (text : List ℕ) (size : Size) (at : ℕ) → size_of_words (words_of text) ≡ Some size → at ≡ length (line_bytes (record { text = text; ended = true }))
-    → Follows of_script (record { text = text; ended = true } ∷ []) [] (of_rest size at)
-size_follows text size at is place =
-    let line : Line = record { text = text; ended = true } in
-    record {
-      writes = λ more. ap (λ o. capture_of_opening encoder_frames (opening_by line o more)) is ∙ ap (λ n. (of_rest size n).writes more) (sym place);
-      so_far = λ more. so_far_by text size more is ∙ ap (λ n. so_far_after size n more) (sym place);
-      refuses = λ more. ap (λ o. refusal_of (opening_by line o more)) is ∙ ap (λ n. (of_rest size n).refuses more) (sym place);
-    }
-
-line_opens : (o : Option Size) (ended : Bool) (text : List ℕ) (before now : Moment) → size_of_words (words_of text) ≡ o
+line_opens : (made : Writing) (laws : IsWriting made) (o : Option Size) (ended : Bool) (text : List ℕ) (before now : Moment) → size_of_words (words_of text) ≡ o
     → IfSome o (λ size. IsTrue (is_session_size size.w size.h)) → Consumes (ahead_of before) (ahead_of now) (line_bytes (record { text = text; ended = ended }))
     → HandsOut (ahead_of before) (ahead_of now) (record { text = text; ended = ended } ∷ []) → now.told ≡ before.told
-    → now.reading.at ≡ length (line_bytes (record { text = text; ended = ended })) → Opens (first_of o ended) before now
-line_opens None ended text before now is range consumes hands same whole = no_size (ahead_of before) (ahead_of now) (record { text = text; ended = ended }) hands is
-line_opens (Some size) true text before now is range consumes hands same whole = (
+    → now.reading.at ≡ length (line_bytes (record { text = text; ended = ended })) → Opens made (first_of o ended) before now
+line_opens made laws None ended text before now is range consumes hands same whole =
+    no_size made laws (ahead_of before) (ahead_of now) (record { text = text; ended = ended }) hands is
+line_opens made laws (Some size) true text before now is range consumes hands same whole = (
   range,
   record {
     lines = record { text = text; ended = true } ∷ [];
     text = [];
     takes = line_taken (ahead_of before) (ahead_of now) text consumes hands;
-    follows = size_follows text size now.reading.at is whole;
+    follows = laws.opened (record { text = text; ended = true }) size now.reading.at is refl whole;
     written = subst (λ t. Appends before.told t []) (sym same) (Appends-nil before.told);
   },
 )
-line_opens (Some size) false text before now is range consumes hands same whole = unended (ahead_of before) (ahead_of now) text size hands is
+line_opens made laws (Some size) false text before now is range consumes hands same whole =
+    unended made laws (ahead_of before) (ahead_of now) (record { text = text; ended = false }) size hands is refl
 
-past_gives : (lines : List Line) → first_is_past 0 lines ≡ true → RefusesFirst lines size_rule
-past_gives [] past = absurd (cc past)
-past_gives (line ∷ lines) past =
+past_gives : (made : Writing) (laws : IsWriting made) (lines : List Line) → first_is_past 0 lines ≡ true → RefusesFirst made lines size_rule
+past_gives made laws [] past = absurd (cc past)
+past_gives made laws (line ∷ lines) past =
     let none : size_of_words (words_of line.text) ≡ None = past_gives_none line (size_of_words (words_of line.text)) refl past in
-    breaks_at (line ∷ lines) lines line NoSize size_rule refl (λ more. ap (λ o. opening_by line o more) none) refl refl refl
+    refuses_first made line lines size_rule (λ more. laws.unsized line more none)
 
-past_opens : (before : Option (List ℕ)) → IsPastLimits 0 before → Tells before (λ bytes. RefusesFirst (lines_of bytes) size_rule)
-past_opens None past = tt
-past_opens (Some bytes) past = past_gives (lines_of bytes) past
+past_opens : (made : Writing) (laws : IsWriting made) (before : Option (List ℕ)) → IsPastLimits 0 before → Tells before (λ bytes. RefusesFirst made (lines_of bytes) size_rule)
+past_opens made laws None past = tt
+past_opens made laws (Some bytes) past = past_gives made laws (lines_of bytes) past
 
-no_lines : RefusesFirst [] size_rule
-no_lines = record { writes = refl; next = refl; refuses = refl }
+no_lines : (made : Writing) (laws : IsWriting made) → RefusesFirst made [] size_rule
+no_lines made laws = record { writes = laws.missing.writes; next = laws.missing.writes; refuses = laws.missing.refuses }
 
-end_opens : (before : Option (List ℕ)) → IsAtEnd before → Tells before (λ bytes. RefusesFirst (lines_of bytes) size_rule)
-end_opens None end = tt
-end_opens (Some bytes) end = subst (λ b. RefusesFirst (lines_of b) size_rule) (sym end) no_lines
+end_opens : (made : Writing) (laws : IsWriting made) (before : Option (List ℕ)) → IsAtEnd before → Tells before (λ bytes. RefusesFirst made (lines_of bytes) size_rule)
+end_opens made laws None end = tt
+end_opens made laws (Some bytes) end = subst (λ b. RefusesFirst made (lines_of b) size_rule) (sym end) (no_lines made laws)
 
 -- what was found gives a rule that the first line breaks
-pub none_opens : (f : Found) (before now : Moment) → Finds f before.reading now.reading (ahead_of before) (ahead_of now) → before.reading ≡ new_reading
-    → (f ≡ found.PastLimits) ⊎ (f ≡ found.End) → Tells (ahead_of before) (λ bytes. RefusesFirst (lines_of bytes) size_rule)
-none_opens (found.Line ended) before now finds first (inl e) = absurd (cc e)
-none_opens (found.Line ended) before now finds first (inr e) = absurd (cc e)
-none_opens found.PastLimits before now finds first which =
-    past_opens (ahead_of before) (subst (λ n. IsPastLimits n (ahead_of before)) (ap (λ r. r.at) first) finds.1)
-none_opens found.End before now finds first which = end_opens (ahead_of before) finds.1
-none_opens found.Failed before now finds first (inl e) = absurd (cc e)
-none_opens found.Failed before now finds first (inr e) = absurd (cc e)
+pub none_opens : (made : Writing) (laws : IsWriting made) (f : Found) (before now : Moment) → Finds f before.reading now.reading (ahead_of before) (ahead_of now)
+    → before.reading ≡ new_reading → (f ≡ found.PastLimits) ⊎ (f ≡ found.End) → Tells (ahead_of before) (λ bytes. RefusesFirst made (lines_of bytes) size_rule)
+none_opens made laws (found.Line ended) before now finds first (inl e) = absurd (cc e)
+none_opens made laws (found.Line ended) before now finds first (inr e) = absurd (cc e)
+none_opens made laws found.PastLimits before now finds first which =
+    past_opens made laws (ahead_of before) (subst (λ n. IsPastLimits n (ahead_of before)) (ap (λ r. r.at) first) finds.1)
+none_opens made laws found.End before now finds first which = end_opens made laws (ahead_of before) finds.1
+none_opens made laws found.Failed before now finds first (inl e) = absurd (cc e)
+none_opens made laws found.Failed before now finds first (inr e) = absurd (cc e)
 
 -- nothing was found, since the source failed
-pub failed_opens : (f : Found) (before now : Moment) → Finds f before.reading now.reading (ahead_of before) (ahead_of now) → f ≡ found.Failed
-    → now.told ≡ before.told → (f ≡ found.Failed → position (λ b. b == 10) now.reading.held ≡ None) → StopsReading of_script before now
-failed_opens f before now finds is same part =
+pub failed_opens : (made : Writing) (laws : IsWriting made) (f : Found) (before now : Moment) → Finds f before.reading now.reading (ahead_of before) (ahead_of now)
+    → f ≡ found.Failed → now.told ≡ before.told → (f ≡ found.Failed → position (λ b. b == 10) now.reading.held ≡ None) → StopsReading made.script before now
+failed_opens made laws f before now finds is same part =
     let none = subst (λ x. Finds x before.reading now.reading (ahead_of before) (ahead_of now)) is finds in
+    let nothing : Appends before.told now.told [] = subst (λ t. Appends before.told t []) (sym same) (Appends-nil before.told) in
     record {
       lines = [];
       takes = none_taken (ahead_of before) (ahead_of now) none.keeps;
-      written = subst (λ t. Appends before.told t []) (sym same) (Appends-nil before.told);
+      written = subst (Appends before.told now.told) (sym laws.none_at_first) nothing;
       part = part is;
     }
 
 -- what was found gives a size, or breaks a rule
-pub found_opens : (f : Found) (ended : Bool) (o : Option Size) (answer : FirstLine) (text : List ℕ) (before now : Moment)
+pub found_opens : (made : Writing) (laws : IsWriting made) (f : Found) (ended : Bool) (o : Option Size) (answer : FirstLine) (text : List ℕ) (before now : Moment)
     → f ≡ found.Line ended → Finds f before.reading now.reading (ahead_of before) (ahead_of now) → before.reading ≡ new_reading → text ≡ now.reading.text
     → o ≡ size_of_words (words_of text) → IfSome o (λ size. IsTrue (is_session_size size.w size.h)) → answer ≡ first_of o ended → now.told ≡ before.told
-    → Opens answer before now
-found_opens f ended o answer text before now is finds first same form range gives told =
+    → Opens made answer before now
+found_opens made laws f ended o answer text before now is finds first same form range gives told =
     let line : FindsLine before.reading now.reading (ahead_of before) (ahead_of now) (record { text = now.reading.text; ended = ended })
     = subst (λ x. Finds x before.reading now.reading (ahead_of before) (ahead_of now)) is finds in
-    subst (λ a. Opens a before now) (sym gives)
-    (line_opens o ended now.reading.text before now (sym (ap (λ t. size_of_words (words_of t)) same) ∙ sym form) range line.takes.consumes line.takes.hands_out
+    subst (λ a. Opens made a before now) (sym gives)
+    (line_opens made laws o ended now.reading.text before now (sym (ap (λ t. size_of_words (words_of t)) same) ∙ sym form) range line.takes.consumes line.takes.hands_out
     told (omega (arith, line.at, ap (λ r. r.at) first)))

@@ -6,23 +6,16 @@ use Rattle.draw_ops.specs.Fits.{first_some}
 use Rattle.frame_rules.specs.Encoder.{Encoder}
 use Rattle.session_rules.specs.declared.entry.Role.{Role}
 use Rattle.session_rules.specs.Journal.{Row}
-use Rattle.script_rules.specs.Script.{ScriptReading, form_outcome, unless_broken, broken_if, is_name, is_invited, row_limit, order_rule, name_rule}
+use Rattle.script_rules.specs.Script.{ScriptReading, form_outcome, unless_broken, broken_if, is_name, is_invited, row_limit, order_rule, name_rule, with_row}
 use Rattle.script_rules.specs.Script.LineForm.{InviteForm}
 use Rattle.script_rules.specs.Script.LineOutcome.{Invites}
 use Rattle.script_rules.specs.CaptureText.{Run}
-use Rattle.script_host.specs.Hosts.{HostModel, with_invited}
-use Rattle.script_host.specs.Runs.{IsRunOf}
-use Rattle.script_run.specs.Standing.{Stands}
+use Rattle.script_run.specs.Standing.{Seen, Stands}
 use Rattle.script_run.specs.Steps.{LineAnswered}
+use Rattle.script_run.specs.Writing.{Writing}
 
 abbrev row_of : List ℕ → Role → Row
 row_of name role = record { name = name; role = role }
-
--- the host behind a row
-pub record HasRow (old new : HostModel) (name : List ℕ) (role : Role) : Type 0 where
-  pub begun : new.begun ≡ old.begun
-  pub head : new.session.head ≡ with_invited old.session.head (record { name = name; role = role })
-  pub run : (run : Run Encoder) → IsRunOf old run → IsRunOf new run
 
 fits : (r : ScriptReading) (name : List ℕ) (role : Role) → r.begun ≡ false → is_name name ≡ true → is_invited name r.head.rows ≡ false → length r.head.rows < 64
     → form_outcome r (Some (InviteForm name role)) ≡ Invites (row_of name role)
@@ -34,19 +27,10 @@ fits r name role begun named fresh room =
     ∙ ap (λ i. outcome false (i || nat_le row_limit (length r.head.rows))) fresh
     ∙ ap (outcome false) few
 
-pub invited : (r : ScriptReading) (run : Run Encoder) (old new : HostModel) (name : List ℕ) (role : Role) (out : List ℕ) → Stands old r run → old.begun ≡ false
-    → is_name name ≡ true → is_invited name old.session.head.rows ≡ false → length old.session.head.rows < 64 → HasRow old new name role
-    → LineAnswered (form_outcome r (Some (InviteForm name role))) None r run new out out
-invited r run old new name role out stands begun named fresh room has =
-    let rows : r.head.rows ≡ old.session.head.rows = ap (λ h. h.rows) stands.head in
-    let outcome = fits r name role (stands.begun ∙ begun) named (ap (is_invited name) rows ∙ fresh) (subst (λ rs. length rs < 64) (sym rows) room) in
-    subst (λ o. LineAnswered o None r run new out out) (sym outcome) (
-      record {
-        is_run = has.run run stands.is_run;
-        play = stands.play;
-        head = ap (λ h. with_invited h (row_of name role)) stands.head ∙ sym has.head;
-        begun = stands.begun ∙ sym has.begun;
-        early = stands.early;
-      },
-      refl,
-    )
+pub invited : (made : Writing) (r : ScriptReading) (run : Run Encoder) (seen : Seen) (keeps stands : ScriptReading → Run Encoder → Type 0) (name : List ℕ) (role : Role) (out : List ℕ)
+    → Stands seen keeps r run → seen.begun ≡ false → is_name name ≡ true → is_invited name seen.head.rows ≡ false → length seen.head.rows < 64
+    → stands (with_row r (row_of name role)) run → LineAnswered made (form_outcome r (Some (InviteForm name role))) None r run stands out out
+invited made r run seen keeps stands name role out s begun named fresh room standing =
+    let rows : r.head.rows ≡ seen.head.rows = ap (λ h. h.rows) s.head in
+    let outcome = fits r name role (s.begun ∙ begun) named (ap (is_invited name) rows ∙ fresh) (subst (λ rs. length rs < 64) (sym rows) room) in
+    subst (λ o. LineAnswered made o None r run stands out out) (sym outcome) (standing, refl)

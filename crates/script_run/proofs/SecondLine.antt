@@ -9,12 +9,10 @@ use Rattle.edge_io.specs.declared.reader.Found.TheVariants as found
 use Rattle.frame_rules.specs.Encoder.{Encoder}
 use Rattle.script_rules.specs.Script.{ScriptReading, begins_with_invite, invite_form, opened_reading}
 use Rattle.script_rules.specs.CaptureText.{Run}
-use Rattle.script_host.specs.Hosts.{HostModel}
 use Rattle.script_run.specs.Outcomes.{is_invite_found}
-use Rattle.script_run.specs.Solo.{BeginsRun, first_run, solo_reading, solo_run, joined}
-use Rattle.script_run.specs.Standing.{Stands}
-use Rattle.script_run.specs.Reading.{of_lines, of_rest}
-use Rattle.script_run.proofs.Senses.{invited_writes, solo_writes}
+use Rattle.script_run.specs.Solo.{first_run, solo_reading, solo_run}
+use Rattle.script_run.specs.Steps.{BeginsLines}
+use Rattle.script_run.specs.Writing.{Writing, joined, IsWriting}
 use Rattle.script_run.proofs.Outcomes.{StartAs}
 use Rattle.script_run.proofs.NextLine.{Leads}
 
@@ -49,44 +47,45 @@ solo_start found.End at text [] none s = refl
 solo_start found.End at text (line ∷ lines) none s = absurd s
 solo_start found.Failed at text lines none s = absurd s
 
-leads_invited : (f : Found) (size : Size) (at : ℕ) (text : List ℕ)
+leads_invited : (made : Writing) (laws : IsWriting made) (f : Found) (size : Size) (at : ℕ) (text : List ℕ)
     → ((ended : Bool) → f ≡ found.Line ended → is_past_limits at (record { text = text; ended = ended }) ≡ false) → is_invite_found f text ≡ true
-    → Leads (of_rest size at) f at text [] (of_lines 2 at (opened_reading size []) (first_run size))
-leads_invited f size at text within invite = record {
-  writes = λ lines s. (invited_writes size at lines (invited_start f at text lines within invite s)).0;
-  so_far = λ line lines s. (invited_writes size at (line ∷ lines) (invited_start f at text (line ∷ lines) within invite s)).0;
-  refuses = λ lines s. (invited_writes size at lines (invited_start f at text lines within invite s)).1;
-  none_yet = refl;
+    → Leads (made.rest size at) f at text [] (made.from 2 at (opened_reading size []) (first_run size))
+leads_invited made laws f size at text within invite = record {
+  writes = λ lines s. (laws.invited size at lines (invited_start f at text lines within invite s)).writes;
+  so_far = λ line lines s. (laws.invited size at (line ∷ lines) (invited_start f at text (line ∷ lines) within invite s)).so_far line lines refl;
+  refuses = λ lines s. (laws.invited size at lines (invited_start f at text lines within invite s)).refuses;
+  none_yet = laws.none_behind size at;
 }
 
-leads_solo : (f : Found) (size : Size) (at : ℕ) (text : List ℕ) → is_invite_found f text ≡ false
-    → Leads (of_rest size at) f at text (joined size) (of_lines 2 at (solo_reading size) (solo_run size))
-leads_solo f size at text none = record {
-  writes = λ lines s. (solo_writes size at lines (solo_start f at text lines none s)).0;
-  so_far = λ line lines s. (solo_writes size at (line ∷ lines) (solo_start f at text (line ∷ lines) none s)).0;
-  refuses = λ lines s. (solo_writes size at lines (solo_start f at text lines none s)).1;
-  none_yet = refl;
+leads_solo : (made : Writing) (laws : IsWriting made) (f : Found) (size : Size) (at : ℕ) (text : List ℕ) → is_invite_found f text ≡ false
+    → Leads (made.rest size at) f at text (joined made size) (made.from 2 at (solo_reading size) (solo_run size))
+leads_solo made laws f size at text none = record {
+  writes = λ lines s. (laws.solo size at lines (solo_start f at text lines none s)).writes;
+  so_far = λ line lines s. (laws.solo size at (line ∷ lines) (solo_start f at text (line ∷ lines) none s)).so_far line lines refl;
+  refuses = λ lines s. (laws.solo size at lines (solo_start f at text lines none s)).refuses;
+  none_yet = laws.none_behind size at;
 }
 
 -- what was written before the second line leads to what its line and those behind it give
-pub record SecondBegins (f : Found) (size : Size) (at : ℕ) (text begun : List ℕ) (host : HostModel) : Type 0 where
+pub record SecondBegins (made : Writing) (f : Found) (size : Size) (at : ℕ) (text begun : List ℕ) (stands : ScriptReading → Run Encoder → Type 0) : Type 0 where
   pub r : ScriptReading
   pub run : Run Encoder
-  pub stands : Stands host r run
-  pub leads : Leads (of_rest size at) f at text begun (of_lines 2 at r run)
+  pub standing : stands r run
+  pub leads : Leads (made.rest size at) f at text begun (made.from 2 at r run)
 
-pub second_leads : (invite : Bool) (f : Found) (size : Size) (at : ℕ) (text begun : List ℕ) (host : HostModel)
+pub second_leads : (made : Writing) (laws : IsWriting made) (invite : Bool) (f : Found) (size : Size) (at : ℕ) (text begun : List ℕ) (stands : ScriptReading → Run Encoder → Type 0)
     → ((ended : Bool) → f ≡ found.Line ended → is_past_limits at (record { text = text; ended = ended }) ≡ false)
-    → is_invite_found f text ≡ invite → BeginsRun invite size host begun → SecondBegins f size at text begun host
-second_leads true f size at text begun host within is b = record {
+    → is_invite_found f text ≡ invite → BeginsLines made invite size stands begun → SecondBegins made f size at text begun stands
+second_leads made laws true f size at text begun stands within is b = record {
   r = opened_reading size [];
   run = first_run size;
-  stands = b.0;
-  leads = subst (λ t. Leads (of_rest size at) f at text t (of_lines 2 at (opened_reading size []) (first_run size))) (sym b.1) (leads_invited f size at text within is);
+  standing = b.0;
+  leads = subst (λ t. Leads (made.rest size at) f at text t (made.from 2 at (opened_reading size []) (first_run size))) (sym b.1)
+      (leads_invited made laws f size at text within is);
 }
-second_leads false f size at text begun host within is b = record {
+second_leads made laws false f size at text begun stands within is b = record {
   r = solo_reading size;
   run = solo_run size;
-  stands = b.0;
-  leads = subst (λ t. Leads (of_rest size at) f at text t (of_lines 2 at (solo_reading size) (solo_run size))) (sym b.1) (leads_solo f size at text is);
+  standing = b.0;
+  leads = subst (λ t. Leads (made.rest size at) f at text t (made.from 2 at (solo_reading size) (solo_run size))) (sym b.1) (leads_solo made laws f size at text is);
 }

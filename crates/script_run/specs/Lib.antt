@@ -3,8 +3,11 @@ pub mod Held
 pub mod Run
 pub mod Outcomes
 pub mod Solo
-pub mod Reading
+pub mod Writing
 pub mod Standing
 pub mod Steps
+pub mod Reading
 pub mod Progress
 pub mod Texts
+pub mod Captures
+pub mod Hosted

@@ -9,8 +9,7 @@ use Rattle.session_rules.specs.Journal.{Head}
 use Rattle.frame_rules.specs.Encoder.{Encoder}
 use Rattle.script_rules.specs.Script.{ScriptReading, LineOutcome, line_form, form_outcome, unless_broken, broken_if, all_bytes, is_ascii, text_rule, invite_form, with_row, after_step}
 use Rattle.script_rules.specs.Script.LineOutcome.{Breaks, Invites, Asks}
-use Rattle.script_rules.specs.Capture.{broken_line}
-use Rattle.script_rules.specs.CaptureText.{Run, run_after, line_in_run, encoder_frames}
+use Rattle.script_rules.specs.CaptureText.{Run, run_after, encoder_frames}
 
 -- what a line within the limits does
 abbrev pub outcome_within : ScriptReading → List ℕ → Bool → LineOutcome
@@ -30,12 +29,6 @@ is_invite_found (found.Line ended) text = is_some (invite_form (words_of text))
 is_invite_found found.PastLimits text = false
 is_invite_found found.End text = false
 is_invite_found found.Failed text = false
-
--- what a line writes, as the k-th
-abbrev pub outcome_text : ℕ → Head → Run Encoder → LineOutcome → List ℕ
-outcome_text k head run (Breaks rule) = broken_line k rule
-outcome_text k head run (Invites row) = []
-outcome_text k head run (Asks a) = line_in_run encoder_frames head run a
 
 -- how far a script has been read behind a line
 abbrev pub reading_by : ScriptReading → LineOutcome → ScriptReading

@@ -1,12 +1,10 @@
 -- The one viewer of a script whose second line is no invite.
-use Rattle.std.specs.Prelude.{◌≡◌, ℕ, List, [], Bool, true, false}
+use Rattle.std.specs.Prelude.{ℕ, List}
 use Rattle.px_core.specs.declared.surface.Size.{Size}
 use Rattle.session_rules.specs.Journal.{Head}
 use Rattle.frame_rules.specs.Encoder.{Encoder}
 use Rattle.script_rules.specs.Script.{ScriptReading, opened_reading, after_step, solo_rows, solo_join}
-use Rattle.script_rules.specs.CaptureText.{Run, run_at_first, run_after, line_in_run, encoder_frames}
-use Rattle.script_host.specs.Hosts.{HostModel}
-use Rattle.script_run.specs.Standing.{Stands}
+use Rattle.script_rules.specs.CaptureText.{Run, run_at_first, run_after, encoder_frames}
 
 -- a run before its first step
 abbrev pub first_run : Size → Run Encoder
@@ -16,17 +14,9 @@ first_run size = run_at_first encoder_frames size
 abbrev pub solo_head : Size → Head
 solo_head size = record { size = size; rows = solo_rows }
 
--- the script and its run behind the join, and what the join writes
+-- the script and its run behind the join
 abbrev pub solo_reading : Size → ScriptReading
 solo_reading size = after_step (opened_reading size solo_rows) solo_join.step
 
 abbrev pub solo_run : Size → Run Encoder
 solo_run size = run_after encoder_frames (solo_head size) (first_run size) solo_join
-
-abbrev pub joined : Size → List ℕ
-joined size = line_in_run encoder_frames (solo_head size) (first_run size) solo_join
-
--- what was written before the second line: nothing where it is an invite, else that the one viewer joined; and the host stands behind it
-abbrev pub BeginsRun : Bool → Size → HostModel → List ℕ → Type 0
-BeginsRun true size host text = Stands host (opened_reading size []) (first_run size) × (text ≡ [])
-BeginsRun false size host text = Stands host (solo_reading size) (solo_run size) × (text ≡ joined size)

@@ -7,18 +7,19 @@ ghost use Rattle.px_core.specs.Rectangle.{is_session_size};
 ghost use Rattle.frame_rules.specs.Encoder.{Encoder};
 ghost use Rattle.script_rules.specs.Script.{ScriptReading, opened_reading};
 ghost use Rattle.script_rules.specs.CaptureText.{Run};
-ghost use Rattle.script_host.specs.Runs.{IsInCourse};
 ghost use Rattle.script_run.specs.Held.{Grows, Holds};
 ghost use Rattle.script_run.specs.Outcomes.{is_invite_found};
 ghost use Rattle.script_run.specs.Run.{ReadsCause, WritesCause};
-ghost use Rattle.script_run.specs.Standing.{Stands};
-ghost use Rattle.script_run.specs.Steps.{HoldsNone, IsWriteFault};
-ghost use Rattle.script_run.specs.Solo.{BeginsRun, first_run, solo_reading, solo_run, joined};
-ghost use Rattle.script_run.specs.Reading.{moment, of_lines, of_rest};
+ghost use Rattle.script_run.specs.Standing.{Stands, IsInCourse};
+ghost use Rattle.script_run.specs.Steps.{HoldsNone, IsWriteFault, BeginsLines};
+ghost use Rattle.script_run.specs.Solo.{first_run, solo_reading, solo_run};
+ghost use Rattle.script_run.specs.Reading.{moment};
 ghost use Rattle.script_run.specs.Progress.{NextLineDone, AllLinesDone};
 ghost use Rattle.script_run.specs.Texts.{text_of};
+ghost use Rattle.script_run.specs.Writing.{IsWriting, joined};
 
 use crate::OutOfMemory;
+use crate::course::Course;
 use crate::fault::ScriptFault;
 use crate::found::{answer, do_found};
 use crate::line::{invite, join};
@@ -26,7 +27,6 @@ use crate::page::{Page, flush};
 use crate::text::{Text, hold_text};
 use edge_io::{Found, LineReader, Sink, Source};
 use px_core::Size;
-use script_host::ScriptHost;
 use script_lines::is_invite;
 use session_rules::Role;
 use std::alloc::Global;
@@ -41,27 +41,28 @@ const SOLO_NAME: &[u8] = b"host";
 const SOLO_PRESET: &[u8] = b"plain";
 
 /// Does the lines after the first, each as it is read.
-pub(crate) fn do_lines<S: Source, K: Sink>(
+pub(crate) fn do_lines<C: Course, S: Source, K: Sink>(
     alloc: Global,
     reader: &mut LineReader,
     input: &mut S,
     output: &mut K,
     size: Size,
 ) -> Result<(), ScriptFault>
-    requires { IsTrue (is_session_size size.w size.h) }
-    ensures done { AllLinesDone result (of_rest size reader.old.at)
+    requires size { IsTrue (is_session_size size.w size.h) }
+    requires writing { IsWriting C.writing }
+    ensures done { AllLinesDone result (C.writing.rest size reader.old.at)
         (moment reader.old (S.left input.old) (K.told output.old)) (moment reader.new (S.left input.new) (K.told output.new)) }
     ensures read { ReadsCause result (S.faults input.old) (S.faults input.new) }
     ensures write { WritesCause result (K.faults output.old) (K.faults output.new) }
 {
     let mut page = Page::new(alloc)?;
-    let done = hold_lines(alloc, reader, input, output, &mut page, size);
+    let done = hold_lines::<C, S, K>(alloc, reader, input, output, &mut page, size);
     flush(output, &mut page)?;
     done
 }
 
 /// Does the lines after the first, each as it is read, and may hold back what they write.
-fn hold_lines<S: Source, K: Sink>(
+fn hold_lines<C: Course, S: Source, K: Sink>(
     alloc: Global,
     reader: &mut LineReader,
     input: &mut S,
@@ -71,34 +72,37 @@ fn hold_lines<S: Source, K: Sink>(
 ) -> Result<(), ScriptFault>
     requires size { IsTrue (is_session_size size.w size.h) }
     requires empty { page.old ≡ [] }
-    ensures done { AllLinesDone result (of_rest size reader.old.at) (moment reader.old (S.left input.old) (K.told output.old))
+    requires writing { IsWriting C.writing }
+    ensures done { AllLinesDone result (C.writing.rest size reader.old.at) (moment reader.old (S.left input.old) (K.told output.old))
         (moment reader.new (S.left input.new) (append_known (K.told output.new) page.new)) }
     ensures grows { Grows (K.told output.old) (K.told output.new) }
     ensures empty { HoldsNone result page.new }
     ensures read { ReadsCause result (S.faults input.old) (S.faults input.new) }
     ensures write { WritesCause result (K.faults output.old) (K.faults output.new) }
 {
-    let mut host = ScriptHost::new(alloc, size);
+    let mut course = C::begin(alloc, size);
     let mut k = SECOND;
-    let mut goes_on = do_second(alloc, reader, input, output, page, &mut host)?;
+    let mut goes_on = do_second(alloc, reader, input, output, page, &mut course)?;
     while goes_on {
         k += 1;
-        goes_on = do_next(alloc, reader, input, output, page, &mut host, k)?;
+        goes_on = do_next(alloc, reader, input, output, page, &mut course, k)?;
     }
     Ok(())
 }
 
 /// Does the second line; before any but an invite the one viewer joins.
-fn do_second<S: Source, K: Sink>(
+fn do_second<C: Course, S: Source, K: Sink>(
     alloc: Global,
     reader: &mut LineReader,
     input: &mut S,
     output: &mut K,
     page: &mut Page,
-    host: &mut ScriptHost,
+    course: &mut C,
 ) -> Result<bool, ScriptFault>
-    requires { Stands host.old (opened_reading host.old.session.head.size []) (first_run host.old.session.head.size) }
-    ensures done { NextLineDone result (of_rest host.old.session.head.size reader.old.at) 2 host.new (K.told output.old)
+    requires begins { Stands (C.seen course.old) (C.keeps course.old) (opened_reading (C.seen course.old).head.size []) (first_run (C.seen course.old).head.size) }
+    requires writing { IsWriting C.writing }
+    ensures done { NextLineDone C.writing result (C.writing.rest (C.seen course.old).head.size reader.old.at) 2
+        (Stands (C.seen course.new) (C.keeps course.new)) (K.told output.old)
         (moment reader.old (S.left input.old) (append_known (K.told output.old) page.old))
         (moment reader.new (S.left input.new) (append_known (K.told output.new) page.new)) }
     ensures grows { Grows (K.told output.old) (K.told output.new) }
@@ -110,25 +114,26 @@ fn do_second<S: Source, K: Sink>(
     if let Found::Failed = found {
         return Err(ScriptFault::ReadFault);
     }
-    let mut out = begin(alloc, host, found, reader.text())?;
-    let step = do_found(alloc, &mut out, host, SECOND, found, reader.text())?;
+    let mut out = begin(alloc, course, found, reader.text())?;
+    let step = do_found(alloc, &mut out, course, SECOND, found, reader.text())?;
     hold_text(output, page, &out)?;
     answer(SECOND, step)
 }
 
 /// Does line `k`, where there is one; says whether there was.
-fn do_next<S: Source, K: Sink>(
+fn do_next<C: Course, S: Source, K: Sink>(
     alloc: Global,
     reader: &mut LineReader,
     input: &mut S,
     output: &mut K,
     page: &mut Page,
-    host: &mut ScriptHost,
+    course: &mut C,
     k: u32,
 ) -> Result<bool, ScriptFault>
-    requires { IsInCourse host.old }
-    ensures done { (r : ScriptReading) (run : Run Encoder) → Stands host.old r run
-        → NextLineDone result (of_lines k reader.old.at r run) k host.new (K.told output.old)
+    requires course { IsInCourse (C.keeps course.old) }
+    requires writing { IsWriting C.writing }
+    ensures done { (r : ScriptReading) (run : Run Encoder) → Stands (C.seen course.old) (C.keeps course.old) r run
+        → NextLineDone C.writing result (C.writing.from k reader.old.at r run) k (Stands (C.seen course.new) (C.keeps course.new)) (K.told output.old)
         (moment reader.old (S.left input.old) (append_known (K.told output.old) page.old))
         (moment reader.new (S.left input.new) (append_known (K.told output.new) page.new)) }
     ensures grows { Grows (K.told output.old) (K.told output.new) }
@@ -141,7 +146,7 @@ fn do_next<S: Source, K: Sink>(
         return Err(ScriptFault::ReadFault);
     }
     let mut out = Text::new(alloc);
-    let step = do_found(alloc, &mut out, host, k, found, reader.text())?;
+    let step = do_found(alloc, &mut out, course, k, found, reader.text())?;
     hold_text(output, page, &out)?;
     answer(k, step)
 }
@@ -182,30 +187,33 @@ fn is_invite_found(found: Found, text: &[u8]) -> bool
     }
 }
 
-/// What a script without invites writes before its second line, of which this was found: that its one viewer joins. Nothing where it has invites.
-fn begin(
+/// What a script without invites writes before its second line, of which this was found: what the join of its one viewer does. Nothing where
+/// it has invites.
+fn begin<C: Course>(
     alloc: Global,
-    host: &mut ScriptHost,
+    course: &mut C,
     found: Found,
     text: &[u8],
 ) -> Result<Text, OutOfMemory>
-    requires { Stands host.old (opened_reading host.old.session.head.size []) (first_run host.old.session.head.size) }
-    ensures { IfOk result (λ out. BeginsRun (is_invite_found found text.now) host.old.session.head.size host.new (text_of out)) }
+    requires { Stands (C.seen course.old) (C.keeps course.old) (opened_reading (C.seen course.old).head.size []) (first_run (C.seen course.old).head.size) }
+    ensures { IfOk result (λ out. BeginsLines C.writing (is_invite_found found text.now) (C.seen course.old).head.size
+        (Stands (C.seen course.new) (C.keeps course.new)) (text_of out)) }
 {
     let mut out = Text::new(alloc);
     if !is_invite_found(found, text) {
-        join_alone(alloc, &mut out, host)?;
+        join_alone(alloc, &mut out, course)?;
     }
     Ok(out)
 }
 
-/// Adds the row of the one viewer, and lets it join; appends the line that says so.
-fn join_alone(alloc: Global, out: &mut Text, host: &mut ScriptHost) -> Result<(), OutOfMemory>
-    requires { Stands host.old (opened_reading host.old.session.head.size []) (first_run host.old.session.head.size) }
-    ensures stands { OnOk result (Stands host.new (solo_reading host.old.session.head.size) (solo_run host.old.session.head.size)) }
-    ensures line { OnOk result (text_of out.new ≡ text_of out.old ++ joined host.old.session.head.size) }
+/// Adds the row of the one viewer, and lets it join; appends what that writes.
+fn join_alone<C: Course>(alloc: Global, out: &mut Text, course: &mut C) -> Result<(), OutOfMemory>
+    requires { Stands (C.seen course.old) (C.keeps course.old) (opened_reading (C.seen course.old).head.size []) (first_run (C.seen course.old).head.size) }
+    ensures standing { OnOk result (Stands (C.seen course.new) (C.keeps course.new)
+        (solo_reading (C.seen course.old).head.size) (solo_run (C.seen course.old).head.size)) }
+    ensures line { OnOk result (text_of out.new ≡ text_of out.old ++ joined C.writing (C.seen course.old).head.size) }
 {
-    invite(host, SOLO_NAME, Role::Owner)?;
-    join(alloc, out, host, SOLO_NAME, SOLO_PRESET)?;
+    invite(course, SOLO_NAME, Role::Owner)?;
+    join(alloc, out, course, SOLO_NAME, SOLO_PRESET)?;
     Ok(())
 }

@@ -1,6 +1,7 @@
 ghost use Rattle.std.specs.Prelude.{◌≡◌, ℕ, List, Option};
 ghost use Rattle.edge_io.specs.Reading.{new_reading};
 ghost use Rattle.script_run.specs.Reading.{Opens, OpensCause, first_of, moment};
+ghost use Rattle.script_run.specs.Writing.{Writing, IsWriting};
 
 use edge_io::{Found, LineReader, Source};
 use px_core::Size;
@@ -20,7 +21,9 @@ pub(crate) enum FirstLine {
 /// Reads a script's first line.
 pub(crate) fn first_line<S: Source>(reader: &mut LineReader, input: &mut S) -> FirstLine
     requires { reader.old ≡ new_reading }
-    ensures opens { (told : Option (List ℕ)) → Opens result (moment reader.old (S.left input.old) told) (moment reader.new (S.left input.new) told) }
+    // Whatever is written of the lines.
+    ensures opens { (w : Writing) (told : Option (List ℕ)) → IsWriting w
+        → Opens w result (moment reader.old (S.left input.old) told) (moment reader.new (S.left input.new) told) }
     ensures cause { OpensCause result (S.faults input.old) (S.faults input.new) }
 {
     match reader.next_line(input) {

@@ -1,14 +1,10 @@
 ghost use Rattle.script_run.specs.Run.{RunsScript, ReadsCause, WritesCause};
 
 use crate::fault::ScriptFault;
-use crate::found::refuse;
-use crate::lines::do_lines;
-use crate::opening::{FirstLine, first_line};
-use edge_io::{LineReader, Sink, Source};
+use crate::run::run_course;
+use edge_io::{Sink, Source};
+use script_host::ScriptHost;
 use std::alloc::Global;
-
-/// The number of the line that gives the size.
-const FIRST: u32 = 1;
 
 /// Reads a script, a line at a time, and writes its capture, a line for each step that was done.
 ///
@@ -32,10 +28,5 @@ pub fn run_script<S: Source, K: Sink>(
     ensures read { ReadsCause result (S.faults input.old) (S.faults input.new) }
     ensures write { WritesCause result (K.faults output.old) (K.faults output.new) }
 {
-    let mut reader = LineReader::new(alloc)?;
-    match first_line(&mut reader, input) {
-        FirstLine::Sized(size) => do_lines(alloc, &mut reader, input, output, size),
-        FirstLine::Breaks(rule) => Err(refuse(alloc, output, FIRST, rule)),
-        FirstLine::Failed => Err(ScriptFault::ReadFault),
-    }
+    run_course::<ScriptHost, S, K>(alloc, input, output)
 }

@@ -1,23 +1,28 @@
 //! What lines of a script write, of which the digits of a frame at its end are made only when they are written.
-ghost use Rattle.std.specs.Prelude.{◌≡◌, ◌++◌, ◌*◌, ◌≤◌, [], None, length, IfErr, OnOk, OnErr};
+ghost use Rattle.std.specs.Prelude.{◌≡◌, ◌++◌, ◌*◌, ◌≤◌, [], None, length, IsTrue, IfErr, OnOk, OnErr};
 ghost use Rattle.line_text.specs.Hexadecimal.{hexadecimal_text};
 ghost use Rattle.line_text.specs.Words.{words_of};
 ghost use Rattle.edge_io.specs.Sink.{WritesFront};
-ghost use Rattle.script_rules.specs.Capture.{broken_line, ended};
-ghost use Rattle.script_lines.specs.Lines.{number_of_rule};
-ghost use Rattle.script_host.specs.Answers.{answer_text};
+ghost use Rattle.session_rules.specs.Steps.Step.{JoinStep};
+ghost use Rattle.frame_rules.specs.Encoder.{Encoder};
+ghost use Rattle.script_rules.specs.Script.{ScriptReading, is_name, without_preset};
+ghost use Rattle.script_rules.specs.Capture.{ended};
+ghost use Rattle.script_rules.specs.CaptureText.{Run};
+ghost use Rattle.script_lines.specs.Keywords.{step_of};
+ghost use Rattle.script_lines.specs.Lines.{IsStepInRange, number_of_rule};
 ghost use Rattle.script_run.specs.Held.{Holds};
 ghost use Rattle.script_run.specs.Run.{WritesCause};
+ghost use Rattle.script_run.specs.Standing.{Stands, IsInCourse, DoesStep};
 ghost use Rattle.script_run.specs.Steps.{IsWriteFault};
 ghost use Rattle.script_run.specs.Texts.{text_of};
 
 use crate::OutOfMemory;
+use crate::course::Course;
 use crate::fault::ScriptFault;
 use crate::page::{Page, hold};
+use caps_sets::Confirmed;
 use edge_io::Sink;
-use px_core::Size;
-use script_host::StepAnswer;
-use script_lines::{LineRule, append_hexadecimals, write_broken, write_digits};
+use script_lines::{LineRule, ViewerStep, append_hexadecimals, write_digits};
 use std::alloc::Global;
 
 /// What ends a line.
@@ -26,7 +31,7 @@ const LINE_FEED: u8 = b'\n';
 /// How many bytes of a frame are written at once.
 const PIECE: usize = 1_024;
 
-/// Lines of a capture. A frame's bytes at their end stand for their digits and a line feed, of which a large picture's frame has 25 million.
+/// What lines write. A frame's bytes at its end stand for their digits and a line feed, of which a large picture's frame has 25 million.
 #[derive(Drop)]
 pub(crate) struct Text {
     words: Vec<u8>,
@@ -44,34 +49,67 @@ impl Text {
         }
     }
 
-    /// Appends the line of the answer to a step of a viewer, 0 for a join, in a session of this size; preset words are those of a join.
-    /// After want of memory nothing is said of the text.
-    pub(crate) fn answer(
+    /// Appends what the join of a viewer writes. After want of memory nothing is said of the text.
+    pub(crate) fn join<C: Course>(
         &mut self,
         alloc: Global,
-        answer: StepAnswer,
-        size: Size,
-        viewer: u32,
+        course: &mut C,
+        name: &[u8],
         preset: &[u8],
+        confirmed: Confirmed,
     ) -> Result<(), OutOfMemory>
-        ensures { OnOk result (text_of self.new ≡ text_of self.old ++ answer_text size viewer (words_of preset.now) answer) }
+        requires { IsTrue (is_name name.now) }
+        ensures { OnOk result ((r : ScriptReading) (run : Run Encoder) → Stands (C.seen course.old) (C.keeps course.old) r run
+            → DoesStep C.writing (Stands (C.seen course.new) (C.keeps course.new)) r run
+            (record { step = JoinStep name.now; preset = words_of preset.now; confirmed = confirmed }) (text_of self.old) (text_of self.new)) }
     {
         self.settle()?;
-        self.frame = answer.write(alloc, &mut self.words, size, viewer, preset)?;
+        self.frame = course.join(alloc, &mut self.words, name, preset, confirmed)?;
         Ok(())
     }
 
-    /// Appends the line that says which line of a script breaks which rule. After want of memory nothing is said of the text.
-    pub(crate) fn refusal(
+    /// Appends what a step of a viewer writes that is present. After want of memory nothing is said of the text.
+    pub(crate) fn step<C: Course>(
         &mut self,
         alloc: Global,
+        course: &mut C,
+        viewer: u32,
+        step: ViewerStep,
+    ) -> Result<(), OutOfMemory>
+        requires present { IsTrue ((C.seen course.old).here viewer) }
+        requires range { IsStepInRange step }
+        requires course { IsInCourse (C.keeps course.old) }
+        ensures { OnOk result ((r : ScriptReading) (run : Run Encoder) → Stands (C.seen course.old) (C.keeps course.old) r run
+            → DoesStep C.writing (Stands (C.seen course.new) (C.keeps course.new)) r run (without_preset (step_of viewer step))
+            (text_of self.old) (text_of self.new)) }
+    {
+        self.settle()?;
+        self.frame = course.step(alloc, &mut self.words, viewer, step)?;
+        Ok(())
+    }
+
+    /// Appends what line `k` writes, which breaks a rule. After want of memory nothing is said of the text.
+    pub(crate) fn refuse<C: Course>(
+        &mut self,
+        alloc: Global,
+        course: &C,
         k: u32,
         rule: LineRule,
     ) -> Result<(), OutOfMemory>
-        ensures { OnOk result (text_of self.new ≡ text_of self.old ++ broken_line k (number_of_rule rule)) }
+        ensures { OnOk result ((r : ScriptReading) (run : Run Encoder) → Stands (C.seen course.now) (C.keeps course.now) r run
+            → text_of self.new ≡ text_of self.old ++ C.writing.broken k r (number_of_rule rule)) }
     {
         self.settle()?;
-        write_broken(alloc, &mut self.words, k, rule)
+        course.refuse(alloc, &mut self.words, k, rule)
+    }
+
+    /// Appends what the end of the script writes. After want of memory nothing is said of the text.
+    pub(crate) fn end<C: Course>(&mut self, course: &C) -> Result<(), OutOfMemory>
+        ensures { OnOk result ((r : ScriptReading) (run : Run Encoder) → Stands (C.seen course.now) (C.keeps course.now) r run
+            → text_of self.new ≡ text_of self.old ++ C.writing.end r) }
+    {
+        self.settle()?;
+        course.end(&mut self.words)
     }
 
     /// Makes the digits of a frame that stands at the end, since more lines follow.

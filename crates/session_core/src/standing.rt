@@ -5,7 +5,7 @@ ghost use Rattle.std.specs.Bool.{OnTrue, OnFalse};
 ghost use Rattle.px_core.specs.declared.surface.Size.{Size};
 ghost use Rattle.px_core.specs.Rectangle.{is_session_size};
 ghost use Rattle.draw_ops.specs.Ranges.{HasColors};
-ghost use Rattle.draw_ops.specs.Fits.{broken_rule, AllFitState};
+ghost use Rattle.draw_ops.specs.Fits.{broken_rule, slot_misfit, AllFitState};
 ghost use Rattle.input_pdu.specs.declared.event.Event.{Event};
 ghost use Rattle.board_app.specs.Boards.{board_of};
 ghost use Rattle.session_rules.specs.Board.{board_reaction};
@@ -117,6 +117,7 @@ impl Standing {
     /// A drawing that fits is drawn; whether there was memory for it. Without, nothing changes.
     pub fn draw(&mut self, d: &Drawing) -> bool
         requires rules { broken_rule self.old.surface.size d.now ≡ None }
+        requires slots { slot_misfit self.old.surface.size self.old.surface.state d.now.shape ≡ None }
         requires colors { HasColors d.now }
         requires entries { self.old.limited < 1048576 }
         requires pixels { self.old.image_pixels + shape_pixels d.now.shape ≤ 67108864 }
@@ -126,7 +127,7 @@ impl Standing {
         ensures members { self.new.members ≡ self.old.members }
         ensures unchanged { OnFalse result (self.new ≡ self.old) }
     {
-        if self.surface.draw(d).is_err() {
+        if self.surface.draw_fit(d).is_err() {
             return false;
         }
         self.limited += 1;

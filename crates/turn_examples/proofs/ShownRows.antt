@@ -7,8 +7,8 @@ use Rattle.wire_num.specs.FieldValue.{passing_at}
 use Rattle.record_rules.specs.Reading.{head_at, row_at, framed_at, counted_at, entry_at, entry_by, join_at, leave_at, role_at, draw_at, clip_at, clip_by, shape_at, shape_by, fill_at, rect_at}
 use Rattle.record_rules.specs.Records.{journal_of_record}
 use Rattle.record_file.specs.Replaying.{replayed}
-use Rattle.replay_run.specs.Shown.{shown, is_picture, text_of}
-use Rattle.replay_run.specs.Shown.Shown.{FormAt, EntryAt, OnlyHas, Pictured}
+use Rattle.record_run.specs.Shown.{shown, is_picture, text_of}
+use Rattle.record_run.specs.Shown.Shown.{FormAt, EntryAt, OnlyHas, Pictured}
 
 abbrev small : Size
 small = record { w = 4; h = 1 }

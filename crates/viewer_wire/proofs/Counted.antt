@@ -5,7 +5,7 @@ use Rattle.wire_num.specs.declared.short.Short.{Short}
 use Rattle.wire_num.specs.Field.{Read, then_read, map_read, bytes_at, place_in}
 use Rattle.wire_num.specs.FieldValue.{end_at, placed}
 use Rattle.wire_num.specs.Layout.{Layout, Within, Count, count_at, before, fields_at}
-use Rattle.wire_num.specs.Cursor.{CursorOf, rest, ReadsFieldAs, ReadsFieldsAs}
+use Rattle.wire_num.specs.Cursor.{CursorOf, rest, ReadsFieldAs, ReadsFieldsAs, ReadsRows}
 use Rattle.mcs_ber.proofs.Within.{map_same}
 
 abbrev content_then : Layout → Layout → List ℕ → List ℕ → Read (List ℕ)
@@ -38,6 +38,12 @@ counted_err form inner bs counted content after left place n e h f g next =
 pub field_alone : {X A : Type 0} (view : X → A) (read : List ℕ → Read A) (r : Result X Short) (c : CursorOf) → ReadsFieldAs view read r c c → ReadsFieldsAs view read r c c
 field_alone view read (Ok v) c p = p
 field_alone view read (Err short) c p = (p.0, refl, p.2)
+
+-- rows, and then those that another call reads
+pub rows_onward : {X : Type 0} (rows more : Layout → Layout) (r : Result X Short) (old mid new : CursorOf) → ((next : Layout) → fields_at (rows next) (rest old) ≡ fields_at next (rest mid))
+    → mid.bytes ≡ old.bytes → ReadsRows more r mid new → ReadsRows (λ next. rows (more next)) r old new
+rows_onward rows more (Ok v) old mid new first bytes p = (λ next. first (more next) ∙ p.0 next, p.1 ∙ bytes)
+rows_onward rows more (Err short) old mid new first bytes p = (λ next. first (more next) ∙ p.0 next, p.1 ∙ bytes, p.2)
 
 -- ---- whole packets
 

@@ -3,8 +3,7 @@ use Rattle.std.specs.Prelude.{◌≡◌, ℕ, List, [], ◌∷◌, Result, Ok, E
 use Rattle.wire_num.specs.declared.short.Short.{Short}
 use Rattle.wire_num.specs.Field.{Read}
 use Rattle.wire_num.specs.FieldValue.{placed}
-use Rattle.wire_num.specs.Layout.{Layout, Bytes, fields_at}
-use Rattle.wire_num.specs.Cursor.{CursorOf, rest}
+use Rattle.wire_num.specs.Layout.{Layout, Bytes}
 use Rattle.px_core.specs.declared.surface.Size.{Size}
 use Rattle.viewer_rules.specs.ViewerHandshake.{Answered}
 use Rattle.viewer_wire.specs.declared.answer.Answer.{Answer}
@@ -15,11 +14,6 @@ use Rattle.viewer_wire.specs.declared.answer.AnswerFault.TheVariants.{Refused, O
 abbrev pub rows_of : List (List ℕ) → Layout → Layout
 rows_of [] next = next
 rows_of (bytes ∷ more) next = Bytes bytes (rows_of more next)
-
--- the call read the headers of what is read behind them, whatever that is; or a field of the headers is refused, and the cursor stands there
-abbrev pub ReadsHeaders : {X : Type 0} → (Layout → List ℕ → Read (List ℕ)) → Result X Short → CursorOf → CursorOf → Type 0
-ReadsHeaders read (Ok v) old new = ((body : Layout) → read body (rest old) ≡ fields_at body (rest new)) × (new.bytes ≡ old.bytes)
-ReadsHeaders read (Err short) old new = ((body : Layout) → read body (rest old) ≡ Err (rest new)) × (new.bytes ≡ old.bytes) × (short.at ≡ new.at)
 
 -- the call read a packet, seen by view; or it is refused so many bytes behind its first one
 abbrev pub Gives : {X A : Type 0} → (X → A) → Result X Short → Result A ℕ → Type 0

@@ -14,7 +14,7 @@ ghost use Rattle.wire_num.specs.Cursor.{ReadsField, ReadsRows, ReadsFieldsAs};
 ghost use Rattle.wire_num.specs.Number.{little_at};
 ghost use Rattle.wire_num.specs.FieldValue.{passing_at};
 ghost use Rattle.wire_num.specs.Layout.{fields_at};
-ghost use Rattle.viewer_rules.specs.HostAnswers.{indicated, is_width, is_height, later_rows, later_answer, behind_height, height_and_later, width_and_later, demand_rows, demand_answer};
+ghost use Rattle.viewer_rules.specs.HostAnswers.{indication, is_width, is_height, later_rows, later_answer, behind_height, height_and_later, width_and_later, demand_rows, demand_answer};
 ghost use Rattle.viewer_wire.specs.Reads.{ReadsPacket, sides};
 
 use crate::headers::read_indication;
@@ -68,7 +68,7 @@ const WIDTH_STEP: u16 = 4;
 
 /// Reads a Demand Active of 24 bits for each pixel, and gives the session's size.
 pub(crate) fn read_demand(packet: &[u8]) -> Result<Size, Short>
-    ensures { ReadsPacket sides (indicated (demand_answer 24)) result packet.now }
+    ensures { ReadsPacket sides (fields_at (indication (demand_answer 24))) result packet.now }
 {
     let mut cursor = Cursor::new(packet);
     match read_demand_packet(&mut cursor) {
@@ -78,7 +78,7 @@ pub(crate) fn read_demand(packet: &[u8]) -> Result<Size, Short>
 }
 
 fn read_demand_packet(cursor: &mut Cursor<'_>) -> Result<Size, Short>
-    ensures { ReadsFieldsAs sides (indicated (demand_answer 24)) result cursor.old cursor.new }
+    ensures { ReadsFieldsAs sides (fields_at (indication (demand_answer 24))) result cursor.old cursor.new }
 {
     match read_indication(cursor) {
         Ok(()) => read_demand_answer(cursor),

@@ -10,11 +10,9 @@
 //! | 12 | 1 | dataPriority and segmentation | `70` |
 //! | 13 | 1 or 2 | length of the user data | of all that is left |
 
-ghost use Rattle.std.specs.Prelude.{[]};
-ghost use Rattle.wire_num.specs.Cursor.{ReadsFieldsAs};
-ghost use Rattle.wire_num.specs.Layout.{fields_at};
-ghost use Rattle.viewer_rules.specs.HostAnswers.{indication_start, indicated};
-ghost use Rattle.viewer_wire.specs.Reads.{ReadsHeaders};
+ghost use Rattle.wire_num.specs.Cursor.{ReadsRows};
+ghost use Rattle.wire_num.specs.Layout.{Exactly, Packed};
+ghost use Rattle.viewer_rules.specs.HostAnswers.{indication_rows, indication};
 
 use wire_num::{Cursor, Short};
 
@@ -36,22 +34,18 @@ const CHANNEL: [u8; 2] = [3, 0xEB];
 const PRIORITY: u8 = 0x70;
 
 /// Reads up to user data whose length counts all that is left; another length is refused at their first byte.
-#[tactic(auto, unfolding(viewer_rules::specs::HostAnswers::indicated, wire_num::specs::Layout::exactly_at))]
 pub(crate) fn read_indication(cursor: &mut Cursor<'_>) -> Result<(), Short>
-    ensures { ReadsHeaders indicated result cursor.old cursor.new }
+    ensures { ReadsRows indication result cursor.old cursor.new }
 {
-    read_start(cursor)?;
-    let length = cursor.per_len()?;
-    if cursor.left() != length as usize {
-        return Err(Short { at: cursor.at() });
+    match read_start(cursor) {
+        Ok(()) => read_length(cursor),
+        Err(short) => Err(short),
     }
-    Ok(())
 }
 
 /// Reads up to the length of the user data.
-#[tactic(auto, unfolding(viewer_rules::specs::HostAnswers::indication_start))]
 fn read_start(cursor: &mut Cursor<'_>) -> Result<(), Short>
-    ensures { ReadsFieldsAs (λ _. []) (fields_at indication_start) result cursor.old cursor.new }
+    ensures { ReadsRows indication_rows result cursor.old cursor.new }
 {
     cursor.bytes(TPKT_SIZE)?;
     cursor.expect(&X224_DATA)?;
@@ -59,5 +53,17 @@ fn read_start(cursor: &mut Cursor<'_>) -> Result<(), Short>
     cursor.expect(&INITIATOR)?;
     cursor.expect(&CHANNEL)?;
     cursor.expect(&[PRIORITY])?;
+    Ok(())
+}
+
+/// Reads a length that counts all that is left.
+#[tactic(auto, unfolding(wire_num::specs::Layout::exactly_at))]
+fn read_length(cursor: &mut Cursor<'_>) -> Result<(), Short>
+    ensures { ReadsRows (Exactly Packed) result cursor.old cursor.new }
+{
+    let length = cursor.per_len()?;
+    if cursor.left() != length as usize {
+        return Err(Short { at: cursor.at() });
+    }
     Ok(())
 }

@@ -16,7 +16,7 @@
 ghost use Rattle.std.specs.Prelude.{◌≡◌, []};
 ghost use Rattle.wire_num.specs.Cursor.{ReadsFieldsAs};
 ghost use Rattle.wire_num.specs.Layout.{fields_at};
-ghost use Rattle.viewer_rules.specs.HostAnswers.{indicated, licence_answer, final_size, final_fields, share_data_answer, final_answer};
+ghost use Rattle.viewer_rules.specs.HostAnswers.{indication, licence_answer, final_size, final_fields, share_data_answer, final_answer};
 ghost use Rattle.share_pdu.specs.Final.{final_kind};
 ghost use Rattle.share_pdu.specs.declared.finals.Final.TheVariants.{Synchronize, Cooperate, Granted, FontMap};
 ghost use Rattle.viewer_wire.specs.Reads.{ReadsPacket};
@@ -40,7 +40,7 @@ const FONT_MAP: u8 = 0x28;
 
 /// Reads the licence.
 pub(crate) fn read_licence(packet: &[u8]) -> Result<(), Short>
-    ensures { ReadsPacket (λ _. []) (indicated licence_answer) result packet.now }
+    ensures { ReadsPacket (λ _. []) (fields_at (indication licence_answer)) result packet.now }
 {
     let mut cursor = Cursor::new(packet);
     match read_licence_packet(&mut cursor) {
@@ -50,7 +50,7 @@ pub(crate) fn read_licence(packet: &[u8]) -> Result<(), Short>
 }
 
 fn read_licence_packet(cursor: &mut Cursor<'_>) -> Result<(), Short>
-    ensures { ReadsFieldsAs (λ _. []) (indicated licence_answer) result cursor.old cursor.new }
+    ensures { ReadsFieldsAs (λ _. []) (fields_at (indication licence_answer)) result cursor.old cursor.new }
 {
     match read_indication(cursor) {
         Ok(()) => read_licence_fields(cursor),
@@ -68,7 +68,7 @@ fn read_licence_fields(cursor: &mut Cursor<'_>) -> Result<(), Short>
 
 /// Reads a PDU of the finalisation.
 pub(crate) fn read_final(packet: &[u8], which: Final, user: u16) -> Result<(), Short>
-    ensures { ReadsPacket (λ _. []) (indicated (final_answer which user)) result packet.now }
+    ensures { ReadsPacket (λ _. []) (fields_at (indication (final_answer which user))) result packet.now }
 {
     let mut cursor = Cursor::new(packet);
     match read_final_packet(&mut cursor, which, user) {
@@ -78,7 +78,7 @@ pub(crate) fn read_final(packet: &[u8], which: Final, user: u16) -> Result<(), S
 }
 
 fn read_final_packet(cursor: &mut Cursor<'_>, which: Final, user: u16) -> Result<(), Short>
-    ensures { ReadsFieldsAs (λ _. []) (indicated (final_answer which user)) result cursor.old cursor.new }
+    ensures { ReadsFieldsAs (λ _. []) (fields_at (indication (final_answer which user))) result cursor.old cursor.new }
 {
     match read_indication(cursor) {
         Ok(()) => read_final_answer(cursor, which, user),

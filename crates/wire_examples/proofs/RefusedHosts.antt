@@ -8,14 +8,14 @@ use Rattle.viewer_rules.specs.declared.stage.Channel.TheVariants as channel
 use Rattle.viewer_rules.specs.declared.stage.Stage.{Stage}
 use Rattle.viewer_rules.specs.declared.stage.Stage.TheVariants.{Joins, Shown, Over}
 use Rattle.viewer_rules.specs.ClientPackets.{channel_join}
-use Rattle.viewer_rules.specs.HostAnswers.{connection_confirm, server_blocks_answer, conference_answer, user_data_answer, response_answer, connect_response_answer, attach_answer, join_answer, indication_start, indicated, licence_answer, behind_height, later_answer, height_and_later, width_and_later, demand_answer, share_data_answer, final_answer, farewell}
+use Rattle.viewer_rules.specs.HostAnswers.{connection_confirm, server_blocks_answer, conference_answer, user_data_answer, response_answer, connect_response_answer, attach_answer, join_answer, indication, licence_answer, behind_height, later_answer, height_and_later, width_and_later, demand_answer, share_data_answer, final_answer, farewell}
 use Rattle.viewer_rules.specs.ViewerHandshake.{Watched, watched, viewer_handshake, refusal_in}
 use Rattle.viewer_rules.specs.Shown.{look_refusal}
 use Rattle.wire_examples.proofs.Sample.{answers}
 
 -- what the viewer `ann`, which confirms what `plain` does, makes of a stream
 heard : List ℕ → Watched
-unfolding passing_at exactly_at connection_confirm server_blocks_answer conference_answer user_data_answer response_answer connect_response_answer attach_answer join_answer indication_start indicated licence_answer behind_height later_answer height_and_later width_and_later demand_answer share_data_answer final_answer farewell watched
+unfolding passing_at exactly_at connection_confirm server_blocks_answer conference_answer user_data_answer response_answer connect_response_answer attach_answer join_answer indication licence_answer behind_height later_answer height_and_later width_and_later demand_answer share_data_answer final_answer farewell watched
 heard bytes = viewer_handshake (97 ∷ 110 ∷ 110 ∷ []) plain bytes
 
 abbrev refused : List ℕ → Option ℕ
@@ -116,6 +116,11 @@ an_end = refl
 nothing_behind : refused (answers ++ (ultimatum ++ (4 ∷ []))) ≡ None
 unfolding heard
 nothing_behind = refl
+
+-- neither it nor an update behind it is shown
+nothing_more_is_shown : (heard (answers ++ (ultimatum ++ (3 ∷ 0 ∷ 0 ∷ 7 ∷ 1 ∷ 2 ∷ 3 ∷ [])))).after.at.shown ≡ []
+unfolding heard
+nothing_more_is_shown = refl
 
 -- of another reason it is none: the packet is shown
 another_reason : (heard (answers ++ slice_set ultimatum 7 0x22)).after.at.stage ≡ Shown

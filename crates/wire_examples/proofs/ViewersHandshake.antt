@@ -10,7 +10,7 @@ use Rattle.caps_sets.specs.Confirmed.{plain, full, marked}
 use Rattle.caps_sets.specs.DemandActive.{before_bitmap, after_bitmap, demand_active}
 use Rattle.viewer_rules.specs.declared.stage.Stage.TheVariants.{Shown}
 use Rattle.viewer_rules.specs.ClientPackets.{connection_request, connect_initial, client_info, confirm_active, general_of, order_of, brush_of}
-use Rattle.viewer_rules.specs.HostAnswers.{connection_confirm, server_blocks_answer, conference_answer, user_data_answer, response_answer, connect_response_answer, attach_answer, join_answer, indication_start, indicated, licence_answer, behind_height, later_answer, height_and_later, width_and_later, demand_answer, share_data_answer, final_answer, farewell}
+use Rattle.viewer_rules.specs.HostAnswers.{connection_confirm, server_blocks_answer, conference_answer, user_data_answer, response_answer, connect_response_answer, attach_answer, join_answer, indication, licence_answer, behind_height, later_answer, height_and_later, width_and_later, demand_answer, share_data_answer, final_answer, farewell}
 use Rattle.viewer_rules.specs.ViewerHandshake.{Watched, watched, viewer_handshake}
 use Rattle.viewer_rules.specs.Rounds.{greeting, answers as all_answers, joined}
 use Rattle.wire_examples.proofs.Sample.{stream, answers, initial, connection_request as sample_request}
@@ -44,7 +44,7 @@ the_answers = refl
 -- ---- what it makes of the host's answers
 
 heard : List ℕ → Watched
-unfolding passing_at exactly_at connection_confirm server_blocks_answer conference_answer user_data_answer response_answer connect_response_answer attach_answer join_answer indication_start indicated licence_answer behind_height later_answer height_and_later width_and_later demand_answer share_data_answer final_answer farewell watched
+unfolding passing_at exactly_at connection_confirm server_blocks_answer conference_answer user_data_answer response_answer connect_response_answer attach_answer join_answer indication licence_answer behind_height later_answer height_and_later width_and_later demand_answer share_data_answer final_answer farewell watched
 heard bytes = viewer_handshake ann plain bytes
 
 its_request : (heard []).text ≡ sample_request
@@ -62,6 +62,23 @@ is_shown = refl
 knows_the_size : (heard answers).after.at.size ≡ Some size
 unfolding heard
 knows_the_size = refl
+
+-- one join at a time: the first behind the user's channel, each other one behind the confirm of the one before; and Client Info behind the confirm of the last
+first_join : (heard (take 138 answers)).text ≡ take 387 stream
+unfolding heard
+first_join = refl
+
+second_join : (heard (take 153 answers)).text ≡ take 399 stream
+unfolding heard
+second_join = refl
+
+last_join : (heard (take 198 answers)).text ≡ take 435 stream
+unfolding heard
+last_join = refl
+
+its_name : (heard (take 213 answers)).text ≡ take 487 stream
+unfolding heard
+its_name = refl
 
 -- the first update stands at 706
 begins_behind : (heard answers).after.at.start ≡ 706

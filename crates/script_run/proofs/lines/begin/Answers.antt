@@ -9,16 +9,16 @@ use Rattle.script_run.proofs.lines.begin.Goals as goal
 use Rattle.script_run.proofs.lines.begin.Goals.{then-not-is_invite_found+in_ok-join_alone, else-not-is_invite_found}
 
 pub returns : goal.returns
-returns c =
-    let size = c.args.host.now.session.head.size in
+returns g c =
+    let size = (g.C.Course.seen c.args.course.now).head.size in
     let is = is_invite_found c.args.found c.args.text.now in
     let invite : c.is_invite_found.result ≡ is = c.is_invite_found.ensures in
     elim c.if-not-is_invite_found.branch [
-      | then-not-is_invite_found+in_ok-join_alone w ↦ begins_solo is size c.if-not-is_invite_found.host (text_of c.new-out.result) (text_of c.if-not-is_invite_found.out)
+      | then-not-is_invite_found+in_ok-join_alone w ↦ begins_solo g.C.Course.writing is size (Stands (g.C.Course.seen c.if-not-is_invite_found.course) (g.C.Course.keeps c.if-not-is_invite_found.course)) (text_of c.new-out.result) (text_of c.if-not-is_invite_found.out)
           (sym invite ∙ w.if-not-is_invite_found.true) c.new-out.ensures
-          (subst (λ h. Stands h (solo_reading size) (solo_run size)) (sym w.host-is) w.in_ok-join_alone.ensures.stands)
+          (subst (λ h. Stands (g.C.Course.seen h) (g.C.Course.keeps h) (solo_reading size) (solo_run size)) (sym w.course-is) w.in_ok-join_alone.ensures.standing)
           (ap text_of w.out-is ∙ w.in_ok-join_alone.ensures.line)
-      | else-not-is_invite_found w ↦ begins_invited is size c.if-not-is_invite_found.host (text_of c.if-not-is_invite_found.out)
+      | else-not-is_invite_found w ↦ begins_invited g.C.Course.writing is size (Stands (g.C.Course.seen c.if-not-is_invite_found.course) (g.C.Course.keeps c.if-not-is_invite_found.course)) (text_of c.if-not-is_invite_found.out)
           (sym invite ∙ w.if-not-is_invite_found.false) (ap text_of w.out-is ∙ c.new-out.ensures)
-          (subst (λ h. Stands h (opened_reading size []) (first_run size)) (sym w.host-is) c.requires)
+          (subst (λ h. Stands (g.C.Course.seen h) (g.C.Course.keeps h) (opened_reading size []) (first_run size)) (sym w.course-is) c.requires)
     ]

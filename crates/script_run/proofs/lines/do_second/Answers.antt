@@ -5,15 +5,14 @@ use Rattle.edge_io.specs.Sink.{WritesFront}
 use Rattle.script_run.specs.declared.fault.ScriptFault.TheVariants as fault
 use Rattle.script_run.specs.Held.{Holds}
 use Rattle.script_run.specs.Run.{ReadsCause, WritesCause}
-use Rattle.script_run.specs.Steps.{DoesFound, HoldsNone}
-use Rattle.script_run.specs.Reading.{of_rest}
+use Rattle.script_run.specs.Standing.{Stands}
+use Rattle.script_run.specs.Steps.{DoesFound, HoldsNone, BeginsLines}
 use Rattle.script_run.specs.Progress.{NextLineDone}
-use Rattle.script_run.proofs.Cut.{steady_rest}
+use Rattle.script_run.proofs.Steady.{steady_rest}
 use Rattle.script_run.proofs.Held.{held_grows, front_grows, grows_on}
 use Rattle.script_run.proofs.NextLine.{found_reads, fault_reads, found_is_same, step_writes, step_holds, empty_holds, fault_writes, writes_after, within_is}
 use Rattle.script_run.proofs.HeldLines.{holding, line_held, line_cut, line_wanting, line_unfound}
 use Rattle.script_run.specs.Outcomes.{is_invite_found}
-use Rattle.script_run.specs.Solo.{BeginsRun}
 use Rattle.script_run.proofs.SecondLine.{SecondBegins, second_leads}
 use Rattle.script_run.specs.Texts.{text_of}
 use Rattle.script_run.proofs.lines.do_second.Goals as goal
@@ -29,17 +28,17 @@ returns g c =
     let m = holding c.args.reader.now (g.S.Source.left c.args.input.now) told0 c.args.page.now in
     let n = holding now (g.S.Source.left c.find_line.new.input) told2 c.hold_text.new.page in
     let held : Holds told1 told2 c.find_line.new.page c.hold_text.new.page line = c.in_ok-hold_text.ensures.held in
-    let size = c.args.host.now.session.head.size in
+    let size = (g.C.Course.seen c.args.course.now).head.size in
     let begun = text_of c.in_ok-out.out in
-    let b : SecondBegins f size c.args.reader.now.at now.text begun c.begin.new.host =
-    second_leads (is_invite_found f now.text) f size c.args.reader.now.at now.text begun c.begin.new.host (within_is f m n c.in_ok-found.ensures.found) refl
-    (subst (λ t. BeginsRun (is_invite_found f t) size c.begin.new.host begun) c.text.ensures c.in_ok-out.ensures) in
+    let b : SecondBegins g.C.Course.writing f size c.args.reader.now.at now.text begun (Stands (g.C.Course.seen c.begin.new.course) (g.C.Course.keeps c.begin.new.course)) =
+    second_leads g.C.Course.writing c.requires.writing (is_invite_found f now.text) f size c.args.reader.now.at now.text begun (Stands (g.C.Course.seen c.begin.new.course) (g.C.Course.keeps c.begin.new.course)) (within_is f m n c.in_ok-found.ensures.found) refl
+    (subst (λ t. BeginsLines g.C.Course.writing (is_invite_found f t) size (Stands (g.C.Course.seen c.begin.new.course) (g.C.Course.keeps c.begin.new.course)) begun) c.text.ensures c.in_ok-out.ensures) in
     record {
-      done = subst (λ a. NextLineDone a (of_rest c.args.host.now.session.head.size c.args.reader.now.at) 2 c.do_found.new.host told0 m n) (sym c.answer.ensures)
-          (line_held c.in_ok-step.step f (of_rest c.args.host.now.session.head.size c.args.reader.now.at) begun 2 b.r b.run c.do_found.new.host c.args.reader.now now (g.S.Source.left c.args.input.now)
+      done = subst (λ a. NextLineDone g.C.Course.writing a (g.C.Course.writing.rest (g.C.Course.seen c.args.course.now).head.size c.args.reader.now.at) 2 (Stands (g.C.Course.seen c.do_found.new.course) (g.C.Course.keeps c.do_found.new.course)) told0 m n) (sym c.answer.ensures)
+          (line_held g.C.Course.writing c.requires.writing c.in_ok-step.step f (g.C.Course.writing.rest (g.C.Course.seen c.args.course.now).head.size c.args.reader.now.at) begun 2 b.r b.run (Stands (g.C.Course.seen c.do_found.new.course) (g.C.Course.keeps c.do_found.new.course)) c.args.reader.now now (g.S.Source.left c.args.input.now)
           (g.S.Source.left c.find_line.new.input) told0 told1 told2 c.args.page.now c.find_line.new.page c.hold_text.new.page line c.in_ok-found.ensures.found
-          b.leads c.in_ok-found.ensures.held held (subst (λ t. DoesFound c.in_ok-step.step f 2 b.r b.run c.do_found.new.host t (Some begun) (Some line)) c.text-2.ensures
-          (c.in_ok-step.ensures b.r b.run b.stands)));
+          b.leads c.in_ok-found.ensures.held held (subst (λ t. DoesFound g.C.Course.writing c.in_ok-step.step f 2 b.r b.run (Stands (g.C.Course.seen c.do_found.new.course) (g.C.Course.keeps c.do_found.new.course)) t (Some begun) (Some line)) c.text-2.ensures
+          (c.in_ok-step.ensures b.r b.run b.standing)));
       grows = grows_on told0 told1 told2 (held_grows told0 told1 c.args.page.now c.find_line.new.page [] c.in_ok-found.ensures.held)
           (held_grows told1 told2 c.find_line.new.page c.hold_text.new.page line held);
       empty = subst (λ a. HoldsNone a c.hold_text.new.page) (sym c.answer.ensures) (step_holds c.in_ok-step.step 2 c.hold_text.new.page);
@@ -59,9 +58,9 @@ returns-in_err-found-clause-done g c =
     let now = c.find_line.new.reader in
     let m = holding c.args.reader.now (g.S.Source.left c.args.input.now) told0 c.args.page.now in
     let n = holding now (g.S.Source.left c.find_line.new.input) told1 c.find_line.new.page in
-    rw p.1 (subst (λ e. NextLineDone (Err e) (of_rest c.args.host.now.session.head.size c.args.reader.now.at) 2 c.args.host.now told0 m n) (sym p.2)
-    (line_unfound c.in_err-found.field-0.0 (of_rest c.args.host.now.session.head.size c.args.reader.now.at) 2 c.args.host.now c.args.reader.now now (g.S.Source.left c.args.input.now) (g.S.Source.left c.find_line.new.input)
-    told0 told1 c.args.page.now c.find_line.new.page c.in_err-found.ensures.fault refl c.in_err-found.ensures.front c.in_err-found.ensures.unheld))
+    rw p.1 (subst (λ e. NextLineDone g.C.Course.writing (Err e) (g.C.Course.writing.rest (g.C.Course.seen c.args.course.now).head.size c.args.reader.now.at) 2 (Stands (g.C.Course.seen c.args.course.now) (g.C.Course.keeps c.args.course.now)) told0 m n) (sym p.2)
+    (line_unfound g.C.Course.writing c.in_err-found.field-0.0 (g.C.Course.writing.rest (g.C.Course.seen c.args.course.now).head.size c.args.reader.now.at) 2 (Stands (g.C.Course.seen c.args.course.now) (g.C.Course.keeps c.args.course.now)) c.args.reader.now now (g.S.Source.left c.args.input.now) (g.S.Source.left c.find_line.new.input)
+    told0 told1 c.args.page.now c.find_line.new.page c.in_err-found.ensures.fault (c.requires.writing.none_behind (g.C.Course.seen c.args.course.now).head.size c.args.reader.now.at) c.in_err-found.ensures.front c.in_err-found.ensures.unheld))
 
 pub returns-in_err-out : goal.returns-in_err-out
 returns-in_err-out g c =
@@ -72,9 +71,9 @@ returns-in_err-out g c =
     let m = holding c.args.reader.now (g.S.Source.left c.args.input.now) told0 c.args.page.now in
     let n = holding now (g.S.Source.left c.find_line.new.input) told1 c.find_line.new.page in
     rw p.1 (record {
-      done = subst (λ e. NextLineDone (Err e) (of_rest c.args.host.now.session.head.size c.args.reader.now.at) 2 c.begin.new.host told0 m n) (sym p.2)
-          (line_wanting fault.OutOfMemory (of_rest c.args.host.now.session.head.size c.args.reader.now.at) 2 c.begin.new.host c.args.reader.now now (g.S.Source.left c.args.input.now) (g.S.Source.left c.find_line.new.input)
-          told0 told1 c.args.page.now c.find_line.new.page tt refl c.in_ok-found.ensures.held);
+      done = subst (λ e. NextLineDone g.C.Course.writing (Err e) (g.C.Course.writing.rest (g.C.Course.seen c.args.course.now).head.size c.args.reader.now.at) 2 (Stands (g.C.Course.seen c.begin.new.course) (g.C.Course.keeps c.begin.new.course)) told0 m n) (sym p.2)
+          (line_wanting g.C.Course.writing fault.OutOfMemory (g.C.Course.writing.rest (g.C.Course.seen c.args.course.now).head.size c.args.reader.now.at) 2 (Stands (g.C.Course.seen c.begin.new.course) (g.C.Course.keeps c.begin.new.course)) c.args.reader.now now (g.S.Source.left c.args.input.now) (g.S.Source.left c.find_line.new.input)
+          told0 told1 c.args.page.now c.find_line.new.page tt (c.requires.writing.none_behind (g.C.Course.seen c.args.course.now).head.size c.args.reader.now.at) c.in_ok-found.ensures.held);
       grows = held_grows told0 told1 c.args.page.now c.find_line.new.page [] c.in_ok-found.ensures.held;
       empty = subst (λ e. HoldsNone {T = Bool} (Err e) c.find_line.new.page) (sym p.2) tt;
       read = subst (λ e. ReadsCause {T = Bool} (Err e) (g.S.Source.faults c.args.input.now) (g.S.Source.faults c.find_line.new.input)) (sym p.2)
@@ -84,16 +83,16 @@ returns-in_err-out g c =
 
 pub do_found-requires : goal.do_found-requires
 do_found-requires g c =
-    let size = c.args.host.now.session.head.size in
+    let size = (g.C.Course.seen c.args.course.now).head.size in
     let f = c.in_ok-found.found in
     let now = c.find_line.new.reader in
     let begun = text_of c.in_ok-out.out in
     let m = holding c.args.reader.now (g.S.Source.left c.args.input.now) (g.K.Sink.told c.args.output.now) c.args.page.now in
     let n = holding now (g.S.Source.left c.find_line.new.input) (g.K.Sink.told c.find_line.new.output) c.find_line.new.page in
-    let b : SecondBegins f size c.args.reader.now.at now.text begun c.begin.new.host =
-    second_leads (is_invite_found f now.text) f size c.args.reader.now.at now.text begun c.begin.new.host (within_is f m n c.in_ok-found.ensures.found) refl
-    (subst (λ t. BeginsRun (is_invite_found f t) size c.begin.new.host begun) c.text.ensures c.in_ok-out.ensures) in
-    record { course = record { run = b.run; is_run = b.stands.is_run }; read = c.in_default.not-Failed }
+    let b : SecondBegins g.C.Course.writing f size c.args.reader.now.at now.text begun (Stands (g.C.Course.seen c.begin.new.course) (g.C.Course.keeps c.begin.new.course)) =
+    second_leads g.C.Course.writing c.requires.writing (is_invite_found f now.text) f size c.args.reader.now.at now.text begun (Stands (g.C.Course.seen c.begin.new.course) (g.C.Course.keeps c.begin.new.course)) (within_is f m n c.in_ok-found.ensures.found) refl
+    (subst (λ t. BeginsLines g.C.Course.writing (is_invite_found f t) size (Stands (g.C.Course.seen c.begin.new.course) (g.C.Course.keeps c.begin.new.course)) begun) c.text.ensures c.in_ok-out.ensures) in
+    record { course = record { r = b.r; run = b.run; standing = b.standing.kept }; read = c.in_default.not-Failed }
 
 pub returns-in_err-step : goal.returns-in_err-step
 returns-in_err-step g c =
@@ -104,9 +103,9 @@ returns-in_err-step g c =
     let m = holding c.args.reader.now (g.S.Source.left c.args.input.now) told0 c.args.page.now in
     let n = holding now (g.S.Source.left c.find_line.new.input) told1 c.find_line.new.page in
     rw p.1 (record {
-      done = subst (λ e. NextLineDone (Err e) (of_rest c.args.host.now.session.head.size c.args.reader.now.at) 2 c.do_found.new.host told0 m n) (sym p.2)
-          (line_wanting fault.OutOfMemory (of_rest c.args.host.now.session.head.size c.args.reader.now.at) 2 c.do_found.new.host c.args.reader.now now (g.S.Source.left c.args.input.now) (g.S.Source.left c.find_line.new.input)
-          told0 told1 c.args.page.now c.find_line.new.page tt refl c.in_ok-found.ensures.held);
+      done = subst (λ e. NextLineDone g.C.Course.writing (Err e) (g.C.Course.writing.rest (g.C.Course.seen c.args.course.now).head.size c.args.reader.now.at) 2 (Stands (g.C.Course.seen c.do_found.new.course) (g.C.Course.keeps c.do_found.new.course)) told0 m n) (sym p.2)
+          (line_wanting g.C.Course.writing fault.OutOfMemory (g.C.Course.writing.rest (g.C.Course.seen c.args.course.now).head.size c.args.reader.now.at) 2 (Stands (g.C.Course.seen c.do_found.new.course) (g.C.Course.keeps c.do_found.new.course)) c.args.reader.now now (g.S.Source.left c.args.input.now) (g.S.Source.left c.find_line.new.input)
+          told0 told1 c.args.page.now c.find_line.new.page tt (c.requires.writing.none_behind (g.C.Course.seen c.args.course.now).head.size c.args.reader.now.at) c.in_ok-found.ensures.held);
       grows = held_grows told0 told1 c.args.page.now c.find_line.new.page [] c.in_ok-found.ensures.held;
       empty = subst (λ e. HoldsNone {T = Bool} (Err e) c.find_line.new.page) (sym p.2) tt;
       read = subst (λ e. ReadsCause {T = Bool} (Err e) (g.S.Source.faults c.args.input.now) (g.S.Source.faults c.find_line.new.input)) (sym p.2)
@@ -127,17 +126,17 @@ returns-in_err-hold_text g c =
     let m = holding c.args.reader.now (g.S.Source.left c.args.input.now) told0 c.args.page.now in
     let n = holding now (g.S.Source.left c.find_line.new.input) told2 c.hold_text.new.page in
     let front : WritesFront told1 told2 (c.find_line.new.page ++ line) = c.in_err-hold_text.ensures.front in
-    let size = c.args.host.now.session.head.size in
+    let size = (g.C.Course.seen c.args.course.now).head.size in
     let begun = text_of c.in_ok-out.out in
-    let b : SecondBegins f size c.args.reader.now.at now.text begun c.begin.new.host =
-    second_leads (is_invite_found f now.text) f size c.args.reader.now.at now.text begun c.begin.new.host (within_is f m n c.in_ok-found.ensures.found) refl
-    (subst (λ t. BeginsRun (is_invite_found f t) size c.begin.new.host begun) c.text.ensures c.in_ok-out.ensures) in
+    let b : SecondBegins g.C.Course.writing f size c.args.reader.now.at now.text begun (Stands (g.C.Course.seen c.begin.new.course) (g.C.Course.keeps c.begin.new.course)) =
+    second_leads g.C.Course.writing c.requires.writing (is_invite_found f now.text) f size c.args.reader.now.at now.text begun (Stands (g.C.Course.seen c.begin.new.course) (g.C.Course.keeps c.begin.new.course)) (within_is f m n c.in_ok-found.ensures.found) refl
+    (subst (λ t. BeginsLines g.C.Course.writing (is_invite_found f t) size (Stands (g.C.Course.seen c.begin.new.course) (g.C.Course.keeps c.begin.new.course)) begun) c.text.ensures c.in_ok-out.ensures) in
     rw p.1 (record {
-      done = subst (λ e. NextLineDone (Err e) (of_rest c.args.host.now.session.head.size c.args.reader.now.at) 2 c.do_found.new.host told0 m n) (sym p.2)
-          (line_cut answer c.in_ok-step.step f (of_rest c.args.host.now.session.head.size c.args.reader.now.at) begun 2 b.r b.run c.do_found.new.host c.args.reader.now now (g.S.Source.left c.args.input.now)
+      done = subst (λ e. NextLineDone g.C.Course.writing (Err e) (g.C.Course.writing.rest (g.C.Course.seen c.args.course.now).head.size c.args.reader.now.at) 2 (Stands (g.C.Course.seen c.do_found.new.course) (g.C.Course.keeps c.do_found.new.course)) told0 m n) (sym p.2)
+          (line_cut g.C.Course.writing c.requires.writing answer c.in_ok-step.step f (g.C.Course.writing.rest (g.C.Course.seen c.args.course.now).head.size c.args.reader.now.at) begun 2 b.r b.run (Stands (g.C.Course.seen c.do_found.new.course) (g.C.Course.keeps c.do_found.new.course)) c.args.reader.now now (g.S.Source.left c.args.input.now)
           (g.S.Source.left c.find_line.new.input) told0 told1 told2 c.args.page.now c.find_line.new.page c.hold_text.new.page line c.in_err-hold_text.ensures.fault
-          (steady_rest size c.args.reader.now.at) c.in_ok-found.ensures.found b.leads c.in_ok-found.ensures.held front c.in_err-hold_text.ensures.empty (subst (λ t. DoesFound c.in_ok-step.step f 2 b.r b.run c.do_found.new.host t (Some begun) (Some line)) c.text-2.ensures
-          (c.in_ok-step.ensures b.r b.run b.stands)));
+          (steady_rest g.C.Course.writing c.requires.writing size c.args.reader.now.at) c.in_ok-found.ensures.found b.leads c.in_ok-found.ensures.held front c.in_err-hold_text.ensures.empty (subst (λ t. DoesFound g.C.Course.writing c.in_ok-step.step f 2 b.r b.run (Stands (g.C.Course.seen c.do_found.new.course) (g.C.Course.keeps c.do_found.new.course)) t (Some begun) (Some line)) c.text-2.ensures
+          (c.in_ok-step.ensures b.r b.run b.standing)));
       grows = grows_on told0 told1 told2 (held_grows told0 told1 c.args.page.now c.find_line.new.page [] c.in_ok-found.ensures.held)
           (front_grows told1 told2 (c.find_line.new.page ++ line) front);
       empty = subst (λ e. HoldsNone {T = Bool} (Err e) c.hold_text.new.page) (sym p.2) (empty_holds answer c.hold_text.new.page c.in_err-hold_text.ensures.empty);

@@ -1,11 +1,11 @@
 use Rattle.wire_num.specs.Layout.{fields_at}
 use Rattle.mcs_ber.proofs.Within.{onward}
-use Rattle.viewer_rules.specs.HostAnswers.{indicated, demand_answer}
+use Rattle.viewer_rules.specs.HostAnswers.{indication, demand_answer}
 use Rattle.viewer_wire.specs.Reads.{sides}
 use Rattle.viewer_wire.proofs.demand.read_demand_packet.Goals as goal
 
 pub returns-in-Ok : goal.returns-in-Ok
-returns-in-Ok c = onward sides (indicated (demand_answer 24)) (fields_at (demand_answer 24)) _ _ _ _ (c.in-Ok.ensures.0 (demand_answer 24)) c.in-Ok.ensures.1 c.read_demand_answer.ensures
+returns-in-Ok c = onward sides (fields_at (indication (demand_answer 24))) (fields_at (demand_answer 24)) _ _ _ _ (c.in-Ok.ensures.0 (demand_answer 24)) c.in-Ok.ensures.1 c.read_demand_answer.ensures
 
 pub returns-in-Err : goal.returns-in-Err
 returns-in-Err c = (c.in-Err.ensures.0 (demand_answer 24), c.in-Err.ensures.1, c.in-Err.ensures.2)

@@ -1,7 +1,7 @@
 use Rattle.std.proofs.Common.{◌≡◌, ◌+◌, ◌∙◌, [], ◌∷◌, ◌++◌, None, length, Some, ap, sym, subst, arith}
 use Rattle.std.proofs.lemmas.Result.{err_from_is_err_and}
 use Rattle.std.specs.Prelude.{All, option_to_list}
-use Rattle.draw_ops.specs.Fits.{FitsState, broken_rule}
+use Rattle.draw_ops.specs.Fits.{FitsState, broken_rule, slot_misfit}
 use Rattle.session_rules.specs.Pending.{pending_drawings}
 use Rattle.session_rules.specs.declared.entry.Entry.TheVariants.{Draw}
 use Rattle.session_rules.specs.Journal.{reached_after_entry}
@@ -13,7 +13,7 @@ use Rattle.pending_core.specs.Showing.{all_shown}
 use Rattle.std.specs.Vec.{vec_len, vec_capacity}
 use Rattle.session_core.specs.Standing.{reached_of, IsOpen}
 use Rattle.session_core.proofs.Sessions.{sound_now, appended, journal_push, answered, goes_on, entry_now}
-use Rattle.pending_core.proofs.TextShown.{keeps_rules}
+use Rattle.pending_core.proofs.TextShown.{keeps_rules, has_slots}
 use Rattle.session_core.proofs.MarkSteps.{marked_on, one_keeps, noted_as}
 use Rattle.session_core.proofs.DrawLimits.{draw_room, draw_pixels}
 use Rattle.session_core.proofs.Accepting.{accepted, draw_refused, draw_stays}
@@ -65,6 +65,15 @@ draw-requires-clause-rules c =
     let legal = c.in_ok-may_draw.ensures c.self.inside.head (length ks) (sym h.surface_size) in
     subst (λ z. broken_rule z c.args.d ≡ None) (sym h.surface_size)
     (keeps_rules c.self.inside.head.size s.surface.state c.args.d (FitsState-legal c.self.inside.head (reached_of s (length ks)) c.args.v c.args.d legal))
+
+pub draw-requires-clause-slots : goal.draw-requires-clause-slots
+draw-requires-clause-slots c =
+    let h = c.self.invariant.is_session in
+    let s = c.self.inside.standing in
+    let ks = c.self.inside.kept.items in
+    let legal = c.in_ok-may_draw.ensures c.self.inside.head (length ks) (sym h.surface_size) in
+    subst (λ z. slot_misfit z s.surface.state c.args.d.shape ≡ None) (sym h.surface_size)
+    (has_slots c.self.inside.head.size s.surface.state c.args.d (FitsState-legal c.self.inside.head (reached_of s (length ks)) c.args.v c.args.d legal))
 
 pub draw-requires-clause-entries : goal.draw-requires-clause-entries
 draw-requires-clause-entries c =

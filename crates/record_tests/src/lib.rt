@@ -1,7 +1,0 @@
-//! Tests of records: the worked bytes.
-#![tactic(auto)]
-
-#[cfg(test)]
-mod replayed;
-#[cfg(test)]
-mod written;
