@@ -7,6 +7,7 @@ use Rattle.std.proofs.Math.Nat.{min-le_left}
 use Rattle.std.specs.Io.KnownBytes.{Appends, Consumes, Keeps, IsAtEnd}
 use Rattle.std.proofs.KnownBytes.{Appends-trans, Appends-nil, Appends-kept, Consumes-nil, Consumes-trans, Consumes-kept, Keeps-refl}
 use Rattle.headline.specs.Fronts.{IsFront}
+use Rattle.edge_io.specs.Outside.{Input, Output, Outside, outside}
 use Rattle.px_core.specs.declared.surface.Size.{Size}
 use Rattle.session_rules.specs.Journal.{Head}
 use Rattle.headline.specs.Headline.{ConfirmAllCaches, HasSessionSize}
@@ -26,7 +27,7 @@ use Rattle.answer_run.specs.declared.ending.Ending.{Ending}
 use Rattle.answer_run.specs.declared.ending.Ending.TheVariants as ending
 use Rattle.answer_run.specs.Service.{last_word, end_said, end_met, end_so_far, ending_at, ending_by, ultimatum_of, Service, first_service, heard_of, asked_of, written_of, service_after, ending_of, answer_of}
 use Rattle.answer_run.specs.Visits.{IsGuest, IsReady, HasCaches, frames_by, WritesCause, ReadsCause, IsWriteFault, IsFault}
-use Rattle.answer_run.specs.Serves.{fault_of, IsAnswerOf, Tells, ServesStream, RunsAnswer, IsServiceOf, moment, GoesOn, Continues, Gives, ServedAll, IsServedFront, ServedAFront, PieceDone, WentOn, IsClosed, PieceStops, ServedPiece, StopsBy, ServedNext, end_of_part, StopsHeard, HeardDone, DoesHeard, IsAsFar}
+use Rattle.answer_run.specs.Serves.{fault_of, IsAnswerOf, Tells, ServesStream, RunsAnswer, IsServiceOf, GoesOn, Continues, Gives, ServedAll, IsServedFront, ServedAFront, PieceDone, WentOn, IsClosed, PieceStops, ServedPiece, StopsBy, ServedNext, end_of_part, StopsHeard, HeardDone, DoesHeard, IsAsFar}
 use Rattle.answer_run.specs.Serves.StopsHeard.{Before, AtEnd}
 use Rattle.frame_rules.specs.Encoder.{Encoder}
 use Rattle.script_rules.specs.CaptureText.{Run}
@@ -165,14 +166,14 @@ none_stopped head s still = record {
   is_front = λ more. record { rest = answer_of head s more; joined = refl };
 }
 
-pub nothing_stopped : (head : Head) (s : Service) (ahead told : Option (List ℕ)) → heard s.hearing [] ≡ silent s.hearing → ServedAFront head s (moment ahead told) (moment ahead told)
-nothing_stopped head s ahead told still = record {
+pub nothing_stopped : (head : Head) (s : Service) (now : Outside) → heard s.hearing [] ≡ silent s.hearing → ServedAFront head s now now
+nothing_stopped head s now still = record {
   served = [];
   last = [];
   text = [];
-  are_handed = Consumes-nil ahead;
+  are_handed = Consumes-nil now.input.left;
   at_once = omega arith;
-  written = Appends-nil told;
+  written = Appends-nil now.output.told;
   front = none_stopped head s still;
 }
 
@@ -201,9 +202,9 @@ consumed_ends (Some all) (Some left) head s bytes how c far closed is caches =
     subst (Gives head s (answer_of head s bytes) how) (sym c) (record { answer = same.answer; ending = same.ending ∙ is; caches = subst ConfirmAllCaches (sym same.asked) caches })
 
 -- of the bytes of a read a front of what is due was written
-consumed_front : (ahead left : Option (List ℕ)) (head : Head) (s : Service) (bytes : List ℕ) (told telling : Option (List ℕ)) → Consumes ahead left bytes → length bytes ≤ read_room
-    → heard s.hearing [] ≡ silent s.hearing → PieceStops head s bytes told telling → ServedAFront head s (moment ahead told) (moment left telling)
-consumed_front ahead left head s bytes told telling c few still stops = record {
+consumed_front : (head : Head) (s : Service) (bytes : List ℕ) (before now : Outside) → Consumes before.input.left now.input.left bytes → length bytes ≤ read_room
+    → heard s.hearing [] ≡ silent s.hearing → PieceStops head s bytes before.output.told now.output.told → ServedAFront head s before now
+consumed_front head s bytes before now c few still stops = record {
   served = [];
   last = bytes;
   text = stops.text;
@@ -216,29 +217,28 @@ consumed_front ahead left head s bytes told telling c few still stops = record {
   };
 }
 
-write_stops : (why : AnswerFault) (head : Head) (s : Service) (ahead left told telling : Option (List ℕ)) → IsWriteFault why → ServedAFront head s (moment ahead told) (moment left telling)
-    → StopsBy why head s (moment ahead told) (moment left telling)
-write_stops (fault.Refused k at) head s ahead left told telling f d = absurd f
-write_stops fault.Truncated head s ahead left told telling f d = absurd f
-write_stops fault.NotInvited head s ahead left told telling f d = absurd f
-write_stops fault.ReadFault head s ahead left told telling f d = absurd f
-write_stops fault.WriteFault head s ahead left told telling f d = d
-write_stops fault.OutOfMemory head s ahead left told telling f d = d
+write_stops : (why : AnswerFault) (head : Head) (s : Service) (before now : Outside) → IsWriteFault why → ServedAFront head s before now → StopsBy why head s before now
+write_stops (fault.Refused k at) head s before now f d = absurd f
+write_stops fault.Truncated head s before now f d = absurd f
+write_stops fault.NotInvited head s before now f d = absurd f
+write_stops fault.ReadFault head s before now f d = absurd f
+write_stops fault.WriteFault head s before now f d = d
+write_stops fault.OutOfMemory head s before now f d = d
 
-pub next_served : (result : Result (Option Ending) AnswerFault) (head : Head) (old new : Serving) (bytes : List ℕ) (ahead left told telling : Option (List ℕ)) → Consumes ahead left bytes
-    → length bytes ≤ read_room → IfErr result IsWriteFault → ((s : Service) → IsServiceOf head old s → ServedPiece result head s bytes new told telling)
-    → (s : Service) → IsServiceOf head old s → ServedNext result head s new (moment ahead told) (moment left telling)
-next_served (Ok None) head old new bytes ahead left told telling c few f p s i = record { handed = bytes; is_handed = c; done = p s i }
-next_served (Ok (Some how)) head old new bytes ahead left told telling c few f p s i =
+pub next_served : (result : Result (Option Ending) AnswerFault) (head : Head) (old new : Serving) (bytes : List ℕ) (before now : Outside)
+    → Consumes before.input.left now.input.left bytes → length bytes ≤ read_room → IfErr result IsWriteFault
+    → ((s : Service) → IsServiceOf head old s → ServedPiece result head s bytes new before.output.told now.output.told)
+    → (s : Service) → IsServiceOf head old s → ServedNext result head s new before now
+next_served (Ok None) head old new bytes before now c few f p s i = record { handed = bytes; is_handed = c; done = p s i }
+next_served (Ok (Some how)) head old new bytes before now c few f p s i =
     let d = p s i in
     record {
       text = answer_of head s bytes;
       written = d.written;
-      gives = consumed_ends ahead left head s bytes how c (far_after head s bytes i.as_far) d.closed d.is d.caches;
+      gives = consumed_ends before.input.left now.input.left head s bytes how c (far_after head s bytes i.as_far) d.closed d.is d.caches;
       number = d.number;
     }
-next_served (Err why) head old new bytes ahead left told telling c few f p s i =
-    write_stops why head s ahead left told telling f (consumed_front ahead left head s bytes told telling c few i.still (p s i))
+next_served (Err why) head old new bytes before now c few f p s i = write_stops why head s before now f (consumed_front head s bytes before now c few i.still (p s i))
 
 -- ---- the end of the stream
 
@@ -352,15 +352,20 @@ none_ahead (Some bytes) head old s how end i e = subst (Gives head s [] how) (sy
   caches = subst ConfirmAllCaches (sym (last_asked head s i.still)) tt;
 })
 
-pub end_served : (how : Ending) (head : Head) (old new : Serving) (ahead left told : Option (List ℕ)) → IsAtEnd ahead
+pub end_served : (how : Ending) (head : Head) (old new : Serving) (i j : Input) (o : Output) → IsAtEnd i.left
     → ((head : Head) (s : Service) → IsServiceOf head old s → how ≡ ending_of head s []) → (s : Service) → IsServiceOf head old s
-    → ServedNext (Ok (Some how)) head s new (moment ahead told) (moment left told)
-end_served how head old new ahead left told end is s i = record { text = []; written = Appends-nil told; gives = none_ahead ahead head old s how end i (is head s i); number = subst IsNumbered (sym (is head s i)) (service_numbered head s [] i.safe) }
+    → ServedNext (Ok (Some how)) head s new (outside i o) (outside j o)
+end_served how head old new i j o end is s service = record {
+  text = [];
+  written = Appends-nil o.told;
+  gives = none_ahead i.left head old s how end service (is head s service);
+  number = subst IsNumbered (sym (is head s service)) (service_numbered head s [] service.safe);
+}
 
 -- a read that failed
-pub failed_served : (head : Head) (old new : Serving) (ahead left told : Option (List ℕ)) → Keeps ahead left → (s : Service) → IsServiceOf head old s
-    → ServedNext (Err fault.ReadFault) head s new (moment ahead told) (moment left told)
-failed_served head old new ahead left told kept s i = (kept, Keeps-refl told)
+pub failed_served : (head : Head) (old new : Serving) (i j : Input) (o : Output) → Keeps i.left j.left → (s : Service) → IsServiceOf head old s
+    → ServedNext (Err fault.ReadFault) head s new (outside i o) (outside j o)
+failed_served head old new i j o kept s service = (kept, Keeps-refl o.told)
 
 -- ---- the whole stream
 
@@ -383,14 +388,16 @@ gives_joined None mid head s t text more how c d = tt
 gives_joined (Some all) None head s t text more how c d = absurd c
 gives_joined (Some all) (Some rest) head s t text more how c d = record { answer = c.answer ∙ ap (λ xs. text ++ xs) d.answer; ending = c.ending ∙ d.ending; caches = c.caches d.caches }
 
-all_joined : (head : Head) (s : Service) (bytes : List ℕ) (how : Ending) (old : Serving) (ahead mid told some telling : Option (List ℕ)) → Consumes ahead mid bytes
-    → PieceDone head s bytes old told some → ServedAll head (service_after head s bytes) how (moment mid some) telling → ServedAll head s how (moment ahead told) telling
-all_joined head s bytes how old ahead mid told some telling k c d =
+all_joined : (head : Head) (s : Service) (bytes : List ℕ) (how : Ending) (old : Serving) (before mid : Outside) (telling : Option (List ℕ))
+    → Consumes before.input.left mid.input.left bytes → PieceDone head s bytes old before.output.told mid.output.told → ServedAll head (service_after head s bytes) how mid telling
+    → ServedAll head s how before telling
+all_joined head s bytes how old before mid telling k c d =
     let t = service_after head s bytes in
     record {
       text = written_of head s bytes ++ d.text;
-      written = Appends-trans told some telling (written_of head s bytes) d.text c.written d.written;
-      gives = gives_joined ahead mid head s t (written_of head s bytes) d.text how (consumed_goes_on ahead mid head s bytes k c.is_service.as_far c.unended c.caches) d.gives;
+      written = Appends-trans before.output.told mid.output.told telling (written_of head s bytes) d.text c.written d.written;
+      gives = gives_joined before.input.left mid.input.left head s t (written_of head s bytes) d.text how
+          (consumed_goes_on before.input.left mid.input.left head s bytes k c.is_service.as_far c.unended c.caches) d.gives;
       number = d.number;
     }
 
@@ -423,16 +430,16 @@ module _ (head : Head) (s : Service) (bytes served last text : List ℕ)
   served_joined : IsServedFront head (service_after head s bytes) served last text → IsServedFront head s (bytes ++ served) last (written_of head s bytes ++ text)
   served_joined f = record { served_first = first_joined f.served_first; is_front = λ more. more_joined more (f.is_front more) }
 
-front_joined : (head : Head) (s : Service) (bytes : List ℕ) (old : Serving) (ahead mid left told some telling : Option (List ℕ)) → Consumes ahead mid bytes
-    → PieceDone head s bytes old told some → ServedAFront head (service_after head s bytes) (moment mid some) (moment left telling)
-    → ServedAFront head s (moment ahead told) (moment left telling)
-front_joined head s bytes old ahead mid left told some telling k c d = record {
+front_joined : (head : Head) (s : Service) (bytes : List ℕ) (old : Serving) (before mid now : Outside) → Consumes before.input.left mid.input.left bytes
+    → PieceDone head s bytes old before.output.told mid.output.told → ServedAFront head (service_after head s bytes) mid now → ServedAFront head s before now
+front_joined head s bytes old before mid now k c d = record {
   served = bytes ++ d.served;
   last = d.last;
   text = written_of head s bytes ++ d.text;
-  are_handed = subst (Consumes ahead left) (sym (append_assoc bytes d.served d.last)) (Consumes-trans ahead mid left bytes (d.served ++ d.last) k d.are_handed);
+  are_handed = subst (Consumes before.input.left now.input.left) (sym (append_assoc bytes d.served d.last))
+      (Consumes-trans before.input.left mid.input.left now.input.left bytes (d.served ++ d.last) k d.are_handed);
   at_once = d.at_once;
-  written = Appends-trans told some telling (written_of head s bytes) d.text c.written d.written;
+  written = Appends-trans before.output.told mid.output.told now.output.told (written_of head s bytes) d.text c.written d.written;
   front = served_joined head s bytes d.served d.last d.text c.is_service.as_far c.unended c.caches d.front;
 }
 
@@ -470,35 +477,45 @@ no_fault ending.NotInvited fault.ReadFault f e = cc e
 no_fault ending.NotInvited fault.WriteFault f e = cc e
 no_fault ending.NotInvited fault.OutOfMemory f e = cc e
 
-pub answered : (result : Result (Unit {0}) AnswerFault) (size : Size) (owner : List ℕ) (how : Ending) (ahead told telling : Option (List ℕ)) → HasSessionSize (owners_head size owner) → IsAnswerOf result how
-    → ServedAll (owners_head size owner) (first_service size) how (moment ahead told) telling → (left : Option (List ℕ)) → RunsAnswer result size owner ahead left told telling
-answered (Ok x) size owner how ahead told telling sized is d left = stream_by size owner how None ahead told telling d.text sized is d.written d.gives
-answered (Err (fault.Refused k at)) size owner how ahead told telling sized is d left = stream_by size owner how (Some (fault.Refused k at)) ahead told telling d.text sized is d.written d.gives
-answered (Err fault.Truncated) size owner how ahead told telling sized is d left = stream_by size owner how (Some fault.Truncated) ahead told telling d.text sized is d.written d.gives
-answered (Err fault.NotInvited) size owner how ahead told telling sized is d left = stream_by size owner how (Some fault.NotInvited) ahead told telling d.text sized is d.written d.gives
-answered (Err fault.ReadFault) size owner how ahead told telling sized is d left = absurd (no_fault how fault.ReadFault tt is)
-answered (Err fault.WriteFault) size owner how ahead told telling sized is d left = absurd (no_fault how fault.WriteFault tt is)
-answered (Err fault.OutOfMemory) size owner how ahead told telling sized is d left = absurd (no_fault how fault.OutOfMemory tt is)
+pub answered : (result : Result (Unit {0}) AnswerFault) (size : Size) (owner : List ℕ) (how : Ending) (before : Outside) (telling : Option (List ℕ)) → HasSessionSize (owners_head size owner)
+    → IsAnswerOf result how → ServedAll (owners_head size owner) (first_service size) how before telling → (left : Option (List ℕ))
+    → RunsAnswer result size owner before.input.left left before.output.told telling
+answered (Ok x) size owner how before telling sized is d left = stream_by size owner how None before.input.left before.output.told telling d.text sized is d.written d.gives
+answered (Err (fault.Refused k at)) size owner how before telling sized is d left =
+    stream_by size owner how (Some (fault.Refused k at)) before.input.left before.output.told telling d.text sized is d.written d.gives
+answered (Err fault.Truncated) size owner how before telling sized is d left =
+    stream_by size owner how (Some fault.Truncated) before.input.left before.output.told telling d.text sized is d.written d.gives
+answered (Err fault.NotInvited) size owner how before telling sized is d left =
+    stream_by size owner how (Some fault.NotInvited) before.input.left before.output.told telling d.text sized is d.written d.gives
+answered (Err fault.ReadFault) size owner how before telling sized is d left = absurd (no_fault how fault.ReadFault tt is)
+answered (Err fault.WriteFault) size owner how before telling sized is d left = absurd (no_fault how fault.WriteFault tt is)
+answered (Err fault.OutOfMemory) size owner how before telling sized is d left = absurd (no_fault how fault.OutOfMemory tt is)
 
 -- a front where the stream is told
-fronts_by : (size : Size) (owner : List ℕ) (ahead left told telling : Option (List ℕ)) → HasSessionSize (owners_head size owner)
-    → ServedAFront (owners_head size owner) (first_service size) (moment ahead told) (moment left telling) → Tells ahead (λ stream. WritesAFront size owner stream left told telling)
-fronts_by size owner None left told telling sized d = tt
-fronts_by size owner (Some stream) None told telling sized d = absurd d.are_handed
-fronts_by size owner (Some stream) (Some rest) told telling sized d =
+front_by : (size : Size) (owner : List ℕ) (ahead left told telling : Option (List ℕ)) (served last text : List ℕ) → HasSessionSize (owners_head size owner)
+    → Consumes ahead left (served ++ last) → length last ≤ read_room → Appends told telling text → IsServedFront (owners_head size owner) (first_service size) served last text
+    → Tells ahead (λ stream. WritesAFront size owner stream left told telling)
+front_by size owner None left told telling served last text sized k few w d = tt
+front_by size owner (Some stream) None told telling served last text sized k few w d = absurd k
+front_by size owner (Some stream) (Some rest) told telling served last text sized k few w d =
     let head = owners_head size owner in
-    let f = d.front.is_front rest in
+    let f = d.is_front rest in
     record {
-      served = d.served;
-      last = d.last;
-      text = d.text;
-      are_handed = d.are_handed;
-      at_once = d.at_once;
-      written = d.written;
-      served_first = d.front.served_first;
-      for_handed = subst (λ xs. IsFront d.text (answer_of head (first_service size) xs)) (append-nil (d.served ++ d.last)) (d.front.is_front []);
-      is_answer = front_shows size owner stream d.text sized (subst (λ xs. IsFront d.text (answer_of head (first_service size) xs)) (sym d.are_handed) f);
+      served = served;
+      last = last;
+      text = text;
+      are_handed = k;
+      at_once = few;
+      written = w;
+      served_first = d.served_first;
+      for_handed = subst (λ xs. IsFront text (answer_of head (first_service size) xs)) (append-nil (served ++ last)) (d.is_front []);
+      is_answer = front_shows size owner stream text sized (subst (λ xs. IsFront text (answer_of head (first_service size) xs)) (sym k) f);
     }
+
+fronts_by : (size : Size) (owner : List ℕ) (before now : Outside) → HasSessionSize (owners_head size owner) → ServedAFront (owners_head size owner) (first_service size) before now
+    → Tells before.input.left (λ stream. WritesAFront size owner stream now.input.left before.output.told now.output.told)
+fronts_by size owner before now sized d =
+    front_by size owner before.input.left now.input.left before.output.told now.output.told d.served d.last d.text sized d.are_handed d.at_once d.written d.front
 
 -- bytes behind which the code stands for a service bring no end
 said_within : (n : ℕ) (word : Option Ending) → end_said (end_within n) word ≡ word
@@ -547,21 +564,22 @@ handed_by size owner bytes serving (Some stream) (Some rest) told telling sized 
       is_answer = front_shows size owner stream (written_of head s bytes) sized (record { rest = answer_of head (service_after head s bytes) rest; joined = whole });
     }
 
-pub stopped : (why : AnswerFault) (size : Size) (owner bytes : List ℕ) (serving : Serving) (ahead mid left told some telling : Option (List ℕ)) → HasSessionSize (owners_head size owner)
-    → Consumes ahead mid bytes → PieceDone (owners_head size owner) (first_service size) bytes serving told some
-    → StopsBy why (owners_head size owner) (service_after (owners_head size owner) (first_service size) bytes) (moment mid some) (moment left telling)
-    → RunsAnswer (Err why) size owner ahead left told telling
-stopped (fault.Refused j at) size owner bytes serving ahead mid left told some telling sized k c d = absurd d
-stopped fault.Truncated size owner bytes serving ahead mid left told some telling sized k c d = absurd d
-stopped fault.NotInvited size owner bytes serving ahead mid left told some telling sized k c d = absurd d
-stopped fault.ReadFault size owner bytes serving ahead mid left told some telling sized k c d =
+pub stopped : (why : AnswerFault) (size : Size) (owner bytes : List ℕ) (serving : Serving) (before mid now : Outside) → HasSessionSize (owners_head size owner)
+    → Consumes before.input.left mid.input.left bytes → PieceDone (owners_head size owner) (first_service size) bytes serving before.output.told mid.output.told
+    → StopsBy why (owners_head size owner) (service_after (owners_head size owner) (first_service size) bytes) mid now
+    → RunsAnswer (Err why) size owner before.input.left now.input.left before.output.told now.output.told
+stopped (fault.Refused j at) size owner bytes serving before mid now sized k c d = absurd d
+stopped fault.Truncated size owner bytes serving before mid now sized k c d = absurd d
+stopped fault.NotInvited size owner bytes serving before mid now sized k c d = absurd d
+stopped fault.ReadFault size owner bytes serving before mid now sized k c d =
     let head = owners_head size owner in
     let text = written_of head (first_service size) bytes in
-    handed_by size owner bytes serving ahead left told telling sized (Consumes-kept ahead mid left bytes k d.0) (Appends-kept told some telling text c.written d.1) some c
-stopped fault.WriteFault size owner bytes serving ahead mid left told some telling sized k c d =
-    fronts_by size owner ahead left told telling sized (front_joined (owners_head size owner) (first_service size) bytes serving ahead mid left told some telling k c d)
-stopped fault.OutOfMemory size owner bytes serving ahead mid left told some telling sized k c d =
-    fronts_by size owner ahead left told telling sized (front_joined (owners_head size owner) (first_service size) bytes serving ahead mid left told some telling k c d)
+    handed_by size owner bytes serving before.input.left now.input.left before.output.told now.output.told sized (Consumes-kept before.input.left mid.input.left now.input.left bytes k d.0)
+    (Appends-kept before.output.told mid.output.told now.output.told text c.written d.1) mid.output.told c
+stopped fault.WriteFault size owner bytes serving before mid now sized k c d =
+    fronts_by size owner before now sized (front_joined (owners_head size owner) (first_service size) bytes serving before mid now k c d)
+stopped fault.OutOfMemory size owner bytes serving before mid now sized k c d =
+    fronts_by size owner before now sized (front_joined (owners_head size owner) (first_service size) bytes serving before mid now k c d)
 
 -- an answer has its number
 pub number_answered : (result : Result (Unit {0}) AnswerFault) (how : Ending) → IsAnswerOf result how → IsNumbered how → IfErr result IsNumberedFault
@@ -579,37 +597,36 @@ number_answered (Err fault.OutOfMemory) how is n = tt
 
 -- ---- the loop
 
-pub went_on_first : (head : Head) (s : Service) (serving : Serving) (ahead told : Option (List ℕ)) → IsServiceOf head serving s
-    → WentOn head s serving (moment ahead told) (moment ahead told)
-went_on_first head s serving ahead told i = record { handed = []; is_handed = Consumes-nil ahead; done = none_served head s serving told i }
+pub went_on_first : (head : Head) (s : Service) (serving : Serving) (now : Outside) → IsServiceOf head serving s → WentOn head s serving now now
+went_on_first head s serving now i = record { handed = []; is_handed = Consumes-nil now.input.left; done = none_served head s serving now.output.told i }
 
-module _ (head : Head) (s : Service) (old new : Serving) (ahead mid left told some telling : Option (List ℕ)) (w : WentOn head s old (moment ahead told) (moment mid some)) where
-  pub went_further : ((t : Service) → IsServiceOf head old t → ServedNext (Ok None) head t new (moment mid some) (moment left telling)) → WentOn head s new (moment ahead told) (moment left telling)
+module _ (head : Head) (s : Service) (old new : Serving) (before mid now : Outside) (w : WentOn head s old before mid) where
+  pub went_further : ((t : Service) → IsServiceOf head old t → ServedNext (Ok None) head t new mid now) → WentOn head s new before now
   went_further d =
       let n = d (service_after head s w.handed) w.done.is_service in
       record {
         handed = w.handed ++ n.handed;
-        is_handed = Consumes-trans ahead mid left w.handed n.handed w.is_handed n.is_handed;
-        done = some_joined head s w.handed n.handed old new told some telling w.done n.done;
+        is_handed = Consumes-trans before.input.left mid.input.left now.input.left w.handed n.handed w.is_handed n.is_handed;
+        done = some_joined head s w.handed n.handed old new before.output.told mid.output.told now.output.told w.done n.done;
       }
 
-  pub ended_at : (how : Ending) → ((t : Service) → IsServiceOf head old t → ServedNext (Ok (Some how)) head t new (moment mid some) (moment left telling)) → ServedAll head s how (moment ahead told) telling
-  ended_at how d = all_joined head s w.handed how old ahead mid told some telling w.is_handed w.done (d (service_after head s w.handed) w.done.is_service)
+  pub ended_at : (how : Ending) → ((t : Service) → IsServiceOf head old t → ServedNext (Ok (Some how)) head t new mid now) → ServedAll head s how before now.output.told
+  ended_at how d = all_joined head s w.handed how old before mid now.output.told w.is_handed w.done (d (service_after head s w.handed) w.done.is_service)
 
 -- a fault ended it
-pub stopped_at : (why : AnswerFault) (size : Size) (owner : List ℕ) (old new : Serving) (ahead mid left told some telling : Option (List ℕ)) → HasSessionSize (owners_head size owner)
-    → WentOn (owners_head size owner) (first_service size) old (moment ahead told) (moment mid some)
-    → ((t : Service) → IsServiceOf (owners_head size owner) old t → ServedNext (Err why) (owners_head size owner) t new (moment mid some) (moment left telling))
-    → RunsAnswer (Err why) size owner ahead left told telling
-stopped_at why size owner old new ahead mid left told some telling sized w d =
-    stopped why size owner w.handed old ahead mid left told some telling sized w.is_handed w.done
-    (d (service_after (owners_head size owner) (first_service size) w.handed) w.done.is_service)
+pub stopped_at : (why : AnswerFault) (size : Size) (owner : List ℕ) (old new : Serving) (before mid now : Outside) → HasSessionSize (owners_head size owner)
+    → WentOn (owners_head size owner) (first_service size) old before mid
+    → ((t : Service) → IsServiceOf (owners_head size owner) old t → ServedNext (Err why) (owners_head size owner) t new mid now)
+    → RunsAnswer (Err why) size owner before.input.left now.input.left before.output.told now.output.told
+stopped_at why size owner old new before mid now sized w d =
+    stopped why size owner w.handed old before mid now sized w.is_handed w.done (d (service_after (owners_head size owner) (first_service size) w.handed) w.done.is_service)
 
-pub no_more_reads : (size : Size) (owner : List ℕ) (old : Serving) (ahead mid told some : Option (List ℕ)) → HasSessionSize (owners_head size owner)
-    → WentOn (owners_head size owner) (first_service size) old (moment ahead told) (moment mid some) → RunsAnswer (Err fault.OutOfMemory) size owner ahead mid told some
-no_more_reads size owner old ahead mid told some sized w =
-    stopped fault.OutOfMemory size owner w.handed old ahead mid mid told some some sized w.is_handed w.done
-    (nothing_stopped (owners_head size owner) (service_after (owners_head size owner) (first_service size) w.handed) mid some w.done.is_service.still)
+pub no_more_reads : (size : Size) (owner : List ℕ) (old : Serving) (before now : Outside) → HasSessionSize (owners_head size owner)
+    → WentOn (owners_head size owner) (first_service size) old before now
+    → RunsAnswer (Err fault.OutOfMemory) size owner before.input.left now.input.left before.output.told now.output.told
+no_more_reads size owner old before now sized w =
+    stopped fault.OutOfMemory size owner w.handed old before now now sized w.is_handed w.done
+    (nothing_stopped (owners_head size owner) (service_after (owners_head size owner) (first_service size) w.handed) now w.done.is_service.still)
 
 -- a service before the first byte
 still_first : (size : Size) → heard (first_service size).hearing [] ≡ silent (first_service size).hearing

@@ -6,6 +6,7 @@ use Rattle.std.specs.declared.option.Option.TheVariants.{Some, None}
 use Rattle.std.specs.declared.result.Result.{Result}
 use Rattle.std.specs.declared.result.Result.TheVariants.{Ok, Err}
 use Rattle.px_core.specs.declared.surface.Size.{Size}
+use Rattle.edge_io.specs.Outside.{Outside}
 use Rattle.edge_io.specs.Sink.{WritesFront}
 use Rattle.headline.specs.Fronts.{IsFront}
 use Rattle.session_rules.specs.Journal.{Head}
@@ -116,14 +117,6 @@ pub record IsServiceOf (head : Head) (serving : Serving) (s : Service) : Type 0 
   pub unrefused : IsUnrefused s.hearing.stage
   pub safe : IsSound s.hearing.stage
 
--- what is told at a moment: the bytes ahead, by the input, and what was written, by the output
-pub record Moment : Type 0 where
-  pub ahead : Option (List ℕ)
-  pub told : Option (List ℕ)
-
-abbrev pub moment : (ahead told : Option (List ℕ)) → Moment
-moment ahead told = record { ahead = ahead; told = told }
-
 -- what is due for these bytes of one service is this text, and then what is due for those of another
 pub record GoesOn (head : Head) (s : Service) (bytes text : List ℕ) (t : Service) (left : List ℕ) : Type 0 where
   pub answer : answer_of head s bytes ≡ text ++ answer_of head t left
@@ -142,10 +135,10 @@ pub record Gives (head : Head) (s : Service) (text : List ℕ) (how : Ending) (b
   pub caches : ConfirmAllCaches (asked_of head s bytes)
 
 -- all of it was, and it ended so
-pub record ServedAll (head : Head) (s : Service) (how : Ending) (before : Moment) (telling : Option (List ℕ)) : Type 0 where
+pub record ServedAll (head : Head) (s : Service) (how : Ending) (before : Outside) (telling : Option (List ℕ)) : Type 0 where
   pub text : List ℕ
-  pub written : Appends before.told telling text
-  pub gives : Tells before.ahead (Gives head s text how)
+  pub written : Appends before.output.told telling text
+  pub gives : Tells before.input.left (Gives head s text how)
   pub number : IsNumbered how
 
 -- a text begins with all that is due for the bytes before the last read, and is a front of what is due with those of it, whatever follows
@@ -154,13 +147,13 @@ pub record IsServedFront (head : Head) (s : Service) (served last text : List �
   pub is_front : (more : List ℕ) → IsFront text (answer_of head s ((served ++ last) ++ more))
 
 -- bytes were read and served but for the last read, of which a front of what is due was written
-pub record ServedAFront (head : Head) (s : Service) (before now : Moment) : Type 0 where
+pub record ServedAFront (head : Head) (s : Service) (before now : Outside) : Type 0 where
   pub served : List ℕ
   pub last : List ℕ
   pub text : List ℕ
-  pub are_handed : Consumes before.ahead now.ahead (served ++ last)
+  pub are_handed : Consumes before.input.left now.input.left (served ++ last)
   pub at_once : length last ≤ read_room
-  pub written : Appends before.told now.told text
+  pub written : Appends before.output.told now.output.told text
   pub front : IsServedFront head s served last text
 
 -- nothing that comes after these bytes counts: the stream is over or refused, or the client wasn't let in
@@ -176,10 +169,10 @@ pub record PieceDone (head : Head) (s : Service) (bytes : List ℕ) (new : Servi
   pub caches : ConfirmAllCaches (asked_of head s bytes)
 
 -- bytes were read and served, and the service goes on
-pub record WentOn (head : Head) (s : Service) (new : Serving) (before now : Moment) : Type 0 where
+pub record WentOn (head : Head) (s : Service) (new : Serving) (before now : Outside) : Type 0 where
   pub handed : List ℕ
-  pub is_handed : Consumes before.ahead now.ahead handed
-  pub done : PieceDone head s handed new before.told now.told
+  pub is_handed : Consumes before.input.left now.input.left handed
+  pub done : PieceDone head s handed new before.output.told now.output.told
 
 -- bytes were done, and with them the service
 pub record PieceEnds (head : Head) (s : Service) (bytes : List ℕ) (how : Ending) (told telling : Option (List ℕ)) : Type 0 where
@@ -202,11 +195,11 @@ ServedPiece (Ok (Some how)) head s bytes new told telling = PieceEnds head s byt
 ServedPiece (Err why) head s bytes new told telling = PieceStops head s bytes told telling
 
 -- a read failed: it took nothing, and nothing was written
-abbrev pub ReadFails : (before now : Moment) → Type 0
-ReadFails before now = Keeps before.ahead now.ahead × Keeps before.told now.told
+abbrev pub ReadFails : (before now : Outside) → Type 0
+ReadFails before now = Keeps before.input.left now.input.left × Keeps before.output.told now.output.told
 
 -- how far a service was done that a fault ends
-abbrev pub StopsBy : AnswerFault → Head → Service → (before now : Moment) → Type 0
+abbrev pub StopsBy : AnswerFault → Head → Service → (before now : Outside) → Type 0
 StopsBy (fault.Refused k at) head s before now = ⊥
 StopsBy fault.Truncated head s before now = ⊥
 StopsBy fault.NotInvited head s before now = ⊥
@@ -215,9 +208,9 @@ StopsBy fault.WriteFault head s before now = ServedAFront head s before now
 StopsBy fault.OutOfMemory head s before now = ServedAFront head s before now
 
 -- what the next bytes did: the service goes on, or it ended; or it was stopped by a fault
-abbrev pub ServedNext : Result (Option Ending) AnswerFault → Head → Service → Serving → (before now : Moment) → Type 0
+abbrev pub ServedNext : Result (Option Ending) AnswerFault → Head → Service → Serving → (before now : Outside) → Type 0
 ServedNext (Ok None) head s new before now = WentOn head s new before now
-ServedNext (Ok (Some how)) head s new before now = ServedAll head s how before now.told
+ServedNext (Ok (Some how)) head s new before now = ServedAll head s how before now.output.told
 ServedNext (Err why) head s new before now = StopsBy why head s before now
 
 -- ---- what was heard

@@ -1,6 +1,7 @@
 //! A client's service, piece by piece of its stream.
 
 ghost use Rattle.std.specs.Prelude.{◌≡◌, ◌≢◌, ◌<◌, ◌≤◌, [], length, take, IsTrue, IfOk, IfErr};
+ghost use Rattle.edge_io.specs.Outside.{outside_of};
 ghost use Rattle.px_core.specs.Rectangle.{is_session_size};
 ghost use Rattle.session_rules.specs.Journal.{Head};
 ghost use Rattle.conn_rules.specs.Placed.{AreBytes};
@@ -8,7 +9,7 @@ ghost use Rattle.answer_run.specs.Asking.{owners_head};
 ghost use Rattle.answer_run.specs.Service.{Service, ending_of};
 ghost use Rattle.answer_run.specs.Cut.{read_room};
 ghost use Rattle.answer_run.specs.Visits.{IsReady, WritesCause, ReadsCause, IsWriteFault, IsFault};
-ghost use Rattle.answer_run.specs.Serves.{IsServiceOf, IsRefusal, end_of_part, ServedPiece, ServedNext, moment};
+ghost use Rattle.answer_run.specs.Serves.{IsServiceOf, IsRefusal, end_of_part, ServedPiece, ServedNext};
 
 use crate::heard::{do_heard, have_caches};
 use crate::visitor::Visitor;
@@ -44,7 +45,7 @@ pub fn serve_next<S: Source, K: Sink>(
     requires part { AreBytes serving.old.conn.hearing.part }
     requires room { length buffer.old ≡ read_room }
     ensures done { (s : Service) → IsServiceOf (owners_head size owner.now) serving.old s → ServedNext result (owners_head size owner.now) s serving.new
-        (moment (S.left input.old) (K.told output.old)) (moment (S.left input.new) (K.told output.new)) }
+        (outside_of S.Source K.Sink input.old output.old) (outside_of S.Source K.Sink input.new output.new) }
     ensures room { length buffer.new ≡ length buffer.old }
     ensures fault { IfErr result IsFault }
     ensures read { ReadsCause result (S.faults input.old) (S.faults input.new) }

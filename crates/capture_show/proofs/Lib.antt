@@ -1,3 +1,7 @@
+mod Words
+pub mod Lines
+pub mod Cutting
+pub mod Judging
 pub mod Steps
 pub mod Texts
 pub mod Showing

@@ -16,9 +16,9 @@ use Rattle.order_means.specs.FrameMarks.{ClientReading, Refusal, read_stream, re
 use Rattle.order_means.proofs.Pieces.{read_joined}
 use Rattle.client_view.specs.Views.{capped}
 use Rattle.client_view.specs.Clients.{ClientOf, IsReading}
-use Rattle.capture_read.specs.declared.capture_reader.Told.{Told}
-use Rattle.capture_read.specs.declared.capture_reader.Told.TheVariants as told
-use Rattle.capture_read.specs.Reading.{CaptureReading, StandsBefore, Allows, ReadsLine, BreaksLine, Finds, counted}
+use Rattle.capture_show.specs.declared.capture_reader.Told.{Told}
+use Rattle.capture_show.specs.declared.capture_reader.Told.TheVariants as told
+use Rattle.capture_show.specs.Reading.{CaptureReading, StandsBefore, Allows, ReadsLine, BreaksLine, Finds, counted}
 use Rattle.capture_show.specs.declared.stage.Stage.{Stage}
 use Rattle.capture_show.specs.declared.stage.Stage.TheVariants as stage
 use Rattle.capture_show.specs.Stages.{GoesOn, HasNotJoined, HasJoined, HasRead, HasRefused, HasBroken, Stands, StandsFor, Shows}

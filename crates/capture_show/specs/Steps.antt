@@ -9,8 +9,8 @@ use Rattle.client_view.specs.declared.client_fault.ClientFault.{ClientFault}
 use Rattle.client_view.specs.declared.client_fault.ClientFault.TheVariants as client
 use Rattle.client_view.specs.Views.{capped}
 use Rattle.client_view.specs.Clients.{ClientOf, IsReading}
-use Rattle.capture_read.specs.declared.capture_reader.Told.{Told}
-use Rattle.capture_read.specs.declared.capture_reader.Told.TheVariants as told
+use Rattle.capture_show.specs.declared.capture_reader.Told.{Told}
+use Rattle.capture_show.specs.declared.capture_reader.Told.TheVariants as told
 use Rattle.capture_show.specs.declared.stage.Stage.{Stage}
 use Rattle.capture_show.specs.declared.stage.Stage.TheVariants as stage
 

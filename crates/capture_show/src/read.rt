@@ -3,8 +3,8 @@ ghost use Rattle.std.specs.Prelude.{IfErr};
 ghost use Rattle.capture_show.specs.Answers.{ReadsCapture, ReadCause, IsReadFault};
 
 use crate::ShowFault;
+use crate::capture_reader::{CaptureReader, Told};
 use crate::stage::{Stage, advance};
-use capture_read::{CaptureReader, Told};
 use edge_io::Source;
 use std::alloc::Global;
 use std::sync::Wait;

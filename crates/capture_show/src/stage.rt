@@ -3,8 +3,8 @@ ghost use Rattle.std.specs.Prelude.{◌≡◌, IfOk};
 ghost use Rattle.capture_show.specs.Steps.{Joins, FeedsClient, Feeds, Breaks, Advances, RefusesFor, place_of};
 
 use crate::OutOfMemory;
+use crate::capture_reader::Told;
 use caps_sets::Confirmed;
-use capture_read::Told;
 use client_view::{Client, ClientFault};
 use px_core::Size;
 use std::alloc::Global;

@@ -20,6 +20,9 @@ pub record Outside : Type 0 where
   pub input : Input
   pub output : Output
 
+abbrev pub outside : Input → Output → Outside
+outside input output = record { input = input; output = output }
+
 -- as which input a source is seen
 abbrev pub input_of : {S : Type 0} → sources.Ghosts S → S → Input
 input_of source x = record { left = source.left x; faults = source.faults x }
@@ -30,15 +33,14 @@ output_of sink x = record { told = sink.told x; faults = sink.faults x }
 
 -- as what a source and a sink are seen together
 abbrev pub outside_of : {S K : Type 0} → sources.Ghosts S → sinks.Ghosts K → S → K → Outside
-outside_of source sink x y = record { input = input_of source x; output = output_of sink y }
+outside_of source sink x y = outside (input_of source x) (output_of sink y)
 
 module _ {L Reader Writer Spent : Type 0} (link : links.Ghosts L Reader Writer Spent) where
   -- as what a link is seen that was given
   abbrev pub outside_given : L → Outside
-  outside_given x =
-      record { input = record { left = link.left x; faults = link.reader_faults x }; output = record { told = link.told x; faults = link.writer_faults x } }
+  outside_given x = outside (record { left = link.left x; faults = link.reader_faults x }) (record { told = link.told x; faults = link.writer_faults x })
 
   -- as what a link is seen that came back
   abbrev pub outside_spent : Spent → Outside
   outside_spent x =
-      record { input = record { left = link.spent_left x; faults = link.spent_reader_faults x }; output = record { told = link.spent_told x; faults = link.spent_writer_faults x } }
+      outside (record { left = link.spent_left x; faults = link.spent_reader_faults x }) (record { told = link.spent_told x; faults = link.spent_writer_faults x })

@@ -11,9 +11,9 @@ use Rattle.session_rules.specs.Journal.{Head}
 use Rattle.grow_lock.specs.Journal.{StartsWith}
 use Rattle.grow_lock.proofs.Lists.{starts_trans}
 use Rattle.serve_rules.specs.Turns.{SessionPass}
-use Rattle.serve_rules.specs.declared.told.ConnReport.{ConnReport}
-use Rattle.link_run.specs.Links.{LinkState}
-use Rattle.gate_run.specs.Gates.{given_state, spent_state, IsServed, EachServed}
+use Rattle.serve_rules.specs.declared.noted.ConnReport.{ConnReport}
+use Rattle.edge_io.specs.Outside.{Outside, outside_given, outside_spent}
+use Rattle.gate_run.specs.Gates.{IsServed, EachServed}
 use Rattle.gate_run.specs.OpenGate.{HaveNoPlaceInCommon, EndsAll}
 use Rattle.gate_run.specs.Working.{EndsWork}
 
@@ -22,7 +22,7 @@ abbrev pub places_of : ConnReport → List ℕ
 places_of report = report.places.list
 
 -- what was served stays so as the journal goes on
-pub each_goes_on : (head : Head) (first j more : List Entry) (links : List LinkState) (reports : List ConnReport) (spents : List LinkState) → StartsWith more j
+pub each_goes_on : (head : Head) (first j more : List Entry) (links : List Outside) (reports : List ConnReport) (spents : List Outside) → StartsWith more j
     → EachServed head first j links reports spents → EachServed head first more links reports spents
 each_goes_on head first j more [] [] [] h e = tt
 each_goes_on head first j more [] [] (s ∷ ss) h e = absurd e
@@ -35,7 +35,7 @@ each_goes_on head first j more (l ∷ ls) (r ∷ rs) (s ∷ ss) h e = (
 )
 
 -- one more link was served
-pub each_and_one : (head : Head) (first j : List Entry) (links : List LinkState) (reports : List ConnReport) (spents : List LinkState) (link : LinkState) (report : ConnReport) (spent : LinkState)
+pub each_and_one : (head : Head) (first j : List Entry) (links : List Outside) (reports : List ConnReport) (spents : List Outside) (link : Outside) (report : ConnReport) (spent : Outside)
     → EachServed head first j links reports spents → IsServed head first j link report spent → EachServed head first j (links ++ link ∷ []) (reports ++ report ∷ []) (spents ++ spent ∷ [])
 each_and_one head first j [] [] [] link report spent e one = (one, tt)
 each_and_one head first j [] [] (s ∷ ss) link report spent e one = absurd e
@@ -73,7 +73,7 @@ module _ {L Reader Writer Spent : Type 0} (link : links.Ghosts L Reader Writer S
   pub one_more_ended : (pass after : SessionPass) (given : List L) (next : L) (reports reports' : List ConnReport) (old now new : List Spent) → HasEnded pass given reports old now
       → EndsWork link head first next pass after reports reports' now new → HasEnded after (given ++ next ∷ []) reports' old new
   one_more_ended pass after given next reports reports' old now new h w =
-      let gives = given_state link in let spends = spent_state link in let all = h.all in
+      let gives = outside_given link in let spends = outside_spent link in let all = h.all in
       let served = each_and_one head first after.seen (map gives given) reports (map spends all.spents) (gives next) w.report (spends w.spent)
       (each_goes_on head first pass.seen after.seen (map gives given) reports (map spends all.spents) w.grows all.served) w.served in
       record {

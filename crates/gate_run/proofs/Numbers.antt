@@ -7,8 +7,8 @@ use Rattle.session_rules.specs.declared.entry.Entry.TheVariants.{Join}
 use Rattle.session_rules.specs.Journal.{Head, IsLegalJournal}
 use Rattle.session_rules.proofs.Joins.{join_place}
 use Rattle.serve_rules.proofs.Lists.{got_more}
-use Rattle.serve_rules.specs.declared.told.ConnReport.{ConnReport}
-use Rattle.link_run.specs.Links.{LinkState}
+use Rattle.serve_rules.specs.declared.noted.ConnReport.{ConnReport}
+use Rattle.edge_io.specs.Outside.{Outside}
 use Rattle.link_run.specs.Serving.{JoinsFirst}
 use Rattle.link_run.proofs.Reports.{viewers_first_place}
 use Rattle.gate_run.specs.Gates.{EachServed, AreApart}
@@ -19,7 +19,7 @@ abbrev pub HasJoined : List Entry → ConnReport → Type 0
 HasJoined j report = (report.viewer ≡ 0 → ⊥) → JoinsFirst report.viewer report.places.list j
 
 -- so has each report of links that were served
-pub each_has_joined : (head : Head) (first j : List Entry) (links : List LinkState) (reports : List ConnReport) (spents : List LinkState) → EachServed head first j links reports spents
+pub each_has_joined : (head : Head) (first j : List Entry) (links : List Outside) (reports : List ConnReport) (spents : List Outside) → EachServed head first j links reports spents
     → All (HasJoined j) reports
 each_has_joined head first j [] [] [] e = All-nil (HasJoined j)
 each_has_joined head first j [] [] (s ∷ ss) e = absurd e

@@ -6,8 +6,8 @@ use Rattle.session_rules.specs.declared.entry.Entry.{Entry}
 use Rattle.session_rules.specs.Journal.{Head, IsLegalJournal}
 use Rattle.grow_lock.specs.Journal.{StartsWith}
 use Rattle.grow_lock.proofs.Lists.{none_has}
-use Rattle.serve_rules.specs.declared.told.ConnReport.{ConnReport}
-use Rattle.link_run.specs.Links.{LinkState}
+use Rattle.serve_rules.specs.declared.noted.ConnReport.{ConnReport}
+use Rattle.edge_io.specs.Outside.{Outside}
 use Rattle.gate_run.specs.declared.served.GateEnd.{GateEnd}
 use Rattle.gate_run.specs.declared.served.GateEnd.TheVariants.{Ended, Failed, NoListen}
 use Rattle.gate_run.specs.Gates.{GateState, EachServed, AreApart, IsAllReported, AskedFor, EndCause, ServesGate}
@@ -27,7 +27,7 @@ asked_for Ended port links before opened after o same cause = same ∙ o.asked
 asked_for Failed port links before opened after o same cause = same ∙ o.asked
 asked_for NoListen port links before opened after o same cause = absurd cause
 
-end_cause : (end : GateEnd) (port links : ℕ) (joined : List LinkState) (before opened after : GateState) → before.ended ≡ false → Opens port links before opened
+end_cause : (end : GateEnd) (port links : ℕ) (joined : List Outside) (before opened after : GateState) → before.ended ≡ false → Opens port links before opened
     → GivesNoMore end opened.ended after.ended opened.faults after.faults → EndCause end joined before after
 end_cause Ended port links joined before opened after new o cause = (new, cause.0, cause.1 ∙ o.faults)
 end_cause Failed port links joined before opened after new o cause = (cause.0 ∙ o.ended, subst (λ f. Rose f after.faults) o.faults cause.1)

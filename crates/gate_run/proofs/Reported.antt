@@ -5,7 +5,7 @@ use Rattle.std.proofs.lemmas.List.Elements.{Contains-append_cases}
 use Rattle.session_rules.specs.declared.entry.Entry.{Entry}
 use Rattle.grow_lock.specs.Journal.{StartsWith}
 use Rattle.grow_lock.proofs.Lists.{none_has}
-use Rattle.serve_rules.specs.declared.told.ConnReport.{ConnReport}
+use Rattle.serve_rules.specs.declared.noted.ConnReport.{ConnReport}
 use Rattle.gate_run.specs.Gates.{StandsIn, IsAllReported}
 use Rattle.gate_run.specs.OpenGate.{HaveNoPlaceInCommon}
 use Rattle.gate_run.proofs.Ending.{places_of}

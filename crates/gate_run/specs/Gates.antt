@@ -10,8 +10,8 @@ use Rattle.session_rules.specs.declared.entry.Entry.{Entry}
 use Rattle.session_rules.specs.Journal.{Head, IsLegalJournal}
 use Rattle.grow_lock.specs.Journal.{StartsWith, IsDisjoint}
 use Rattle.serve_rules.specs.Turns.{SessionPass}
-use Rattle.serve_rules.specs.declared.told.ConnReport.{ConnReport}
-use Rattle.link_run.specs.Links.{LinkState, link_state}
+use Rattle.serve_rules.specs.declared.noted.ConnReport.{ConnReport}
+use Rattle.edge_io.specs.Outside.{Outside, outside_given, outside_spent}
 use Rattle.link_run.specs.Serving.{ServesViewer}
 use Rattle.gate_run.specs.declared.served.GateEnd.{GateEnd}
 use Rattle.gate_run.specs.declared.served.GateEnd.TheVariants.{Ended, Failed, NoListen}
@@ -20,30 +20,21 @@ use Rattle.gate_run.specs.declared.served.GateEnd.TheVariants.{Ended, Failed, No
 
 -- the links that a gate gave and those that came back, what it was asked to open, whether it has ended, and how often it has failed
 pub record GateState : Type 0 where
-  pub given : List LinkState
-  pub finished : List LinkState
+  pub given : List Outside
+  pub finished : List Outside
   pub asked : Option Asked
   pub ended : Bool
   pub faults : ℕ
 
-module _ {L Reader Writer Spent : Type 0} (link : links.Ghosts L Reader Writer Spent) where
-  -- a link as it was given
-  abbrev pub given_state : L → LinkState
-  given_state x = link_state (link.left x) (link.told x) (link.reader_faults x) (link.writer_faults x)
-
-  -- a link as it came back
-  abbrev pub spent_state : Spent → LinkState
-  spent_state x = link_state (link.spent_left x) (link.spent_told x) (link.spent_reader_faults x) (link.spent_writer_faults x)
-
 -- a gate as it is now
 abbrev pub gate_state : {G L Reader Writer Spent : Type 0} → gates.Ghosts G L Reader Writer Spent → links.Ghosts L Reader Writer Spent → G → GateState
 gate_state gate link x =
-    record { given = map (given_state link) (gate.given x); finished = map (spent_state link) (gate.finished x); asked = gate.asked x; ended = gate.ended x; faults = gate.faults x }
+    record { given = map (outside_given link) (gate.given x); finished = map (outside_spent link) (gate.finished x); asked = gate.asked x; ended = gate.ended x; faults = gate.faults x }
 
 -- ---- its links
 
 -- a link was served by a pass of its own, which had no turn before and has seen a first journal, and what it saw is the front of another one
-pub record IsServed (head : Head) (first j : List Entry) (link : LinkState) (report : ConnReport) (spent : LinkState) : Type 0 where
+pub record IsServed (head : Head) (first j : List Entry) (link : Outside) (report : ConnReport) (spent : Outside) : Type 0 where
   pub before : SessionPass
   pub after : SessionPass
   pub no_turn : before.found ≡ []
@@ -53,7 +44,7 @@ pub record IsServed (head : Head) (first j : List Entry) (link : LinkState) (rep
   pub within : StartsWith j after.seen
 
 -- links were served, each with its report and as it came back
-abbrev pub EachServed : Head → List Entry → List Entry → List LinkState → List ConnReport → List LinkState → Type 0
+abbrev pub EachServed : Head → List Entry → List Entry → List Outside → List ConnReport → List Outside → Type 0
 EachServed head first j [] [] [] = ⊤
 EachServed head first j [] [] (spent ∷ spents) = ⊥
 EachServed head first j [] (report ∷ reports) spents = ⊥
@@ -92,7 +83,7 @@ AskedFor Failed port links before after = after ≡ Some (record { port = port; 
 AskedFor NoListen port links before after = after ≡ before
 
 -- how the serving ended: the gate said that no further link will come, or its count of faults rose, in the last case before it gave any link
-abbrev pub EndCause : GateEnd → List LinkState → GateState → GateState → Type 0
+abbrev pub EndCause : GateEnd → List Outside → GateState → GateState → Type 0
 EndCause Ended joined before after = (before.ended ≡ false) × (after.ended ≡ true) × (after.faults ≡ before.faults)
 EndCause Failed joined before after = (after.ended ≡ before.ended) × Rose before.faults after.faults
 EndCause NoListen joined before after = (joined ≡ []) × (after.ended ≡ before.ended) × Rose before.faults after.faults
@@ -100,8 +91,8 @@ EndCause NoListen joined before after = (joined ≡ []) × (after.ended ≡ befo
 -- a gate was opened and its links were served, over a session that had a first journal and ends with another one: the links that were given and those that came
 -- back, in one order with the reports, which have all that was appended
 pub record ServesGate (head : Head) (first : List Entry) (port links : ℕ) (before after : GateState) (j : List Entry) (reports : List ConnReport) (end : GateEnd) : Type 0 where
-  pub joined : List LinkState
-  pub spent : List LinkState
+  pub joined : List Outside
+  pub spent : List Outside
   pub given : after.given ≡ before.given ++ joined
   pub finished : after.finished ≡ before.finished ++ spent
   pub served : EachServed head first j joined reports spent

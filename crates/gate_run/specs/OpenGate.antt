@@ -8,11 +8,11 @@ use Rattle.edge_io.specs.declared.link.Link as links
 use Rattle.session_rules.specs.declared.entry.Entry.{Entry}
 use Rattle.session_rules.specs.Journal.{Head, IsLegalJournal}
 use Rattle.grow_lock.specs.Journal.{IsDisjoint}
-use Rattle.serve_rules.specs.declared.told.ConnReport.{ConnReport}
-use Rattle.link_run.specs.Links.{LinkState}
+use Rattle.serve_rules.specs.declared.noted.ConnReport.{ConnReport}
+use Rattle.edge_io.specs.Outside.{Outside, outside_given, outside_spent}
 use Rattle.gate_run.specs.declared.served.GateEnd.{GateEnd}
 use Rattle.gate_run.specs.declared.served.GateEnd.TheVariants.{Ended, Failed, NoListen}
-use Rattle.gate_run.specs.Gates.{GateState, given_state, spent_state, EachServed, AreApart, IsAllReported}
+use Rattle.gate_run.specs.Gates.{GateState, EachServed, AreApart, IsAllReported}
 
 -- a gate is open for so many links
 abbrev pub IsOpenFor : ℕ → Option Asked → Type 0
@@ -33,13 +33,13 @@ module _ {L Reader Writer Spent : Type 0} (link : links.Ghosts L Reader Writer S
   pub record EndsAll (head : Head) (first j : List Entry) (given : List L) (reports : List ConnReport) (finished_old finished_new : List Spent) : Type 0 where
     pub spents : List Spent
     pub finished : finished_new ≡ finished_old ++ spents
-    pub served : EachServed head first j (map (given_state link) given) reports (map (spent_state link) spents)
+    pub served : EachServed head first j (map (outside_given link) given) reports (map (outside_spent link) spents)
     pub places : AllPairs HaveNoPlaceInCommon reports
 
 -- the links of an open gate were served, over a session that had a first journal and ends with another one
 pub record ServesLinks (head : Head) (first : List Entry) (before after : GateState) (j : List Entry) (reports : List ConnReport) (end : GateEnd) : Type 0 where
-  pub joined : List LinkState
-  pub spent : List LinkState
+  pub joined : List Outside
+  pub spent : List Outside
   pub given : after.given ≡ before.given ++ joined
   pub finished : after.finished ≡ before.finished ++ spent
   pub served : EachServed head first j joined reports spent

@@ -7,11 +7,11 @@ use Rattle.grow_lock.specs.Journal.{StartsWith, IsDisjoint}
 use Rattle.grow_lock.specs.Passes.{LockModel, IsPassOf}
 use Rattle.grow_lock.specs.Shares.{Share, covers}
 use Rattle.serve_rules.specs.Turns.{SessionPass}
-use Rattle.serve_rules.specs.declared.told.ConnReport.{ConnReport}
-use Rattle.link_run.specs.Links.{LinkState}
+use Rattle.serve_rules.specs.declared.noted.ConnReport.{ConnReport}
+use Rattle.edge_io.specs.Outside.{Outside, outside_given, outside_spent}
 use Rattle.link_run.specs.Serving.{ServesViewer}
 use Rattle.gate_run.specs.declared.jobs.Job.{Job}
-use Rattle.gate_run.specs.Gates.{given_state, spent_state, IsServed}
+use Rattle.gate_run.specs.Gates.{IsServed}
 
 -- a part of the lock is in one of these shares
 abbrev pub IsAmong : List Share → List Bool → Type 0
@@ -27,7 +27,7 @@ abbrev pub IsFresh : SessionPass → Type 0
 IsFresh pass = (pass.found ≡ []) × (pass.mine ≡ [])
 
 -- a link was served by a pass of a lock, which is one of that lock again
-pub record IsDone (lock : LockModel Head Entry) (before : SessionPass) (link : LinkState) (after : SessionPass) (report : ConnReport) (spent : LinkState) : Type 0 where
+pub record IsDone (lock : LockModel Head Entry) (before : SessionPass) (link : Outside) (after : SessionPass) (report : ConnReport) (spent : Outside) : Type 0 where
   pub of_lock : IsPassOf lock after
   pub serves : ServesViewer lock.head before after report link spent
 
@@ -38,14 +38,14 @@ module _ {L Reader Writer Spent : Type 0} (link : links.Ghosts L Reader Writer S
     pub fresh : IsFresh job.given.pass.value
     pub since : StartsWith job.given.pass.value.seen lock.first
     pub handle : IfSome job.handle (λ h. (h.promise.lock.value ≡ job.given.lock.value) × (h.promise.pass.value ≡ job.given.pass.value) × (h.promise.link.value ≡ job.given.link.value))
-    pub outcome : IfSome job.outcome (λ o. IsDone job.given.lock.value job.given.pass.value (given_state link job.given.link.value) o.pass o.report (spent_state link o.spent))
+    pub outcome : IfSome job.outcome (λ o. IsDone job.given.lock.value job.given.pass.value (outside_given link job.given.link.value) o.pass o.report (outside_spent link o.spent))
     pub one : is_some job.handle || is_some job.outcome ≡ true
 
   -- a job was ended: its pass met this one, and its report and what is left of its link were handed on
   pub record EndsWork (head : Head) (first : List Entry) (given : L) (before after : SessionPass) (reports_old reports_new : List ConnReport) (finished_old finished_new : List Spent) : Type 0 where
     pub report : ConnReport
     pub spent : Spent
-    pub served : IsServed head first after.seen (given_state link given) report (spent_state link spent)
+    pub served : IsServed head first after.seen (outside_given link given) report (outside_spent link spent)
     pub grows : StartsWith after.seen before.seen
     pub mine : after.mine ≡ before.mine ++ report.places.list
     pub disjoint : IsDisjoint before.mine report.places.list

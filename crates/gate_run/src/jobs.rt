@@ -5,7 +5,7 @@ ghost use Rattle.session_rules.specs.declared.entry.Entry.{Entry};
 ghost use Rattle.session_rules.specs.Journal.{Head};
 ghost use Rattle.grow_lock.specs.Journal.{StartsWith};
 ghost use Rattle.grow_lock.specs.Passes.{LockModel, IsPassOf};
-ghost use Rattle.gate_run.specs.Gates.{given_state, spent_state};
+ghost use Rattle.edge_io.specs.Outside.{outside_given, outside_spent};
 ghost use Rattle.gate_run.specs.Working.{IsFresh, IsDone, IsWork};
 
 use crate::ended::Ended;
@@ -36,7 +36,7 @@ pub struct Given<L: Link> {
 }
 
 impl<L: Link> Promise<Outcome<L::Spent>> for Given<L> {
-    ghost kept_by = { λ p o. IsDone p.lock.value p.pass.value (given_state L.Link p.link.value) o.pass o.report (spent_state L.Link o.spent) };
+    ghost kept_by = { λ p o. IsDone p.lock.value p.pass.value (outside_given L.Link p.link.value) o.pass o.report (outside_spent L.Link o.spent) };
 }
 
 /// The work for a link: in a thread, or done where it has ended or no thread could be started.
@@ -61,7 +61,7 @@ impl<L: Link> Job<L> {
     /// Waits for the work's thread, if it has one, and gives what it came to.
     pub fn finish<R: Threads>(self, rt: &R, lock: &GrowLock<Session>) -> Outcome<L::Spent>
         requires { IsWork L.Link lock.now self }
-        ensures { IsDone lock.now self.given.pass.value (given_state L.Link self.given.link.value) result.pass result.report (spent_state L.Link result.spent) }
+        ensures { IsDone lock.now self.given.pass.value (outside_given L.Link self.given.link.value) result.pass result.report (outside_spent L.Link result.spent) }
     {
         let Job {
             given: _,
@@ -87,7 +87,7 @@ fn serve_link<R: Threads + Wait + Sync, L: Link>(
 ) -> Outcome<L::Spent>
     requires lock { IsPassOf lock.now pass }
     requires number { number < vec_len ended.now.behind }
-    ensures { IsDone lock.now pass (given_state L.Link link) result.pass result.report (spent_state L.Link result.spent) }
+    ensures { IsDone lock.now pass (outside_given L.Link link) result.pass result.report (outside_spent L.Link result.spent) }
 {
     let (pass, report, spent) = serve_viewer(rt, alloc, lock, pass, link);
     ended.put(rt, number);
@@ -133,7 +133,7 @@ where
         promise,
         move || -> Outcome<L::Spent>
             requires { IsPassOf lock.now pass × (number < vec_len ended.now.behind) × IsSync R.row }
-            ensures { IsDone lock.entry.now pass (given_state L.Link link) result.pass result.report (spent_state L.Link result.spent) }
+            ensures { IsDone lock.entry.now pass (outside_given L.Link link) result.pass result.report (outside_spent L.Link result.spent) }
         { serve_link(rt, alloc, lock, ended, number, pass, link) },
     ) {
         Ok(handle) => Job {

@@ -1,21 +1,19 @@
 -- The mode answer: its words, and the statuses that it ends with.
-use Rattle.std.specs.Prelude.{◌≡◌, ◌≢◌, ℕ, ◌+◌, List, [], ◌∷◌, Option, None, IsTrue, IfErr, codes, if◌then◌else◌}
+use Rattle.std.specs.Prelude.{◌≡◌, ◌≢◌, ℕ, ◌+◌, List, [], ◌∷◌, Option, None, IsTrue, IfErr}
 use Rattle.std.specs.Option.{option_and_then}
 use Rattle.std.specs.Bool.{then_some}
 use Rattle.std.specs.declared.result.Result.{Result}
 use Rattle.std.specs.declared.result.Result.TheVariants.{Ok, Err}
 use Rattle.px_core.specs.declared.surface.Size.{Size}
 use Rattle.px_core.specs.Rectangle.{is_session_size}
-use Rattle.line_text.specs.Words.{is_same_word}
 use Rattle.line_text.specs.Numbers.{number_up_to}
 use Rattle.script_rules.specs.Script.{is_name, size_with}
-use Rattle.command_words.specs.HostWords.{RequestOf}
 use Rattle.answer_run.specs.Serves.{IsNumberedFault, RunsAnswer}
 use Rattle.answer_run.specs.Visits.{ReadsCause, WritesCause}
 use Rattle.answer_run.specs.declared.fault.AnswerFault.{AnswerFault}
 use Rattle.answer_run.specs.declared.fault.AnswerFault.TheVariants as fault
 use Rattle.host_program.specs.declared.answering.Client.{Client}
-use Rattle.host_program.specs.Outside.{Outside}
+use Rattle.edge_io.specs.Outside.{Outside}
 
 -- the owner of a session with a picture of this size
 abbrev pub client_with : Size → List ℕ → Client
@@ -29,16 +27,13 @@ size_of_words w h = option_and_then (λ m. option_and_then (size_with m) (number
 abbrev pub client_of_words : List ℕ → List ℕ → List ℕ → Option Client
 client_of_words w h owner = option_and_then (λ size. then_some (is_name owner) (client_with size owner)) (size_of_words w h)
 
+-- the arguments of the mode
 abbrev pub client_of_args : List (List ℕ) → Option Client
 client_of_args [] = None
 client_of_args (w ∷ []) = None
 client_of_args (w ∷ h ∷ []) = None
 client_of_args (w ∷ h ∷ owner ∷ []) = client_of_words w h owner
 client_of_args (w ∷ h ∷ owner ∷ more ∷ args) = None
-
--- whom a request asks to serve
-abbrev pub client_of : RequestOf → Option Client
-client_of request = if is_same_word request.mode (codes "answer") then client_of_args request.args else None
 
 -- a client that may be served: its picture is a session's, and its owner has a name
 pub record IsServable (client : Client) : Type 0 where
@@ -63,6 +58,6 @@ pub record RunsService (status : ℕ) (client : Client) (before now : Outside) :
   pub answer : Result (Unit {0}) AnswerFault
   pub status_is : status ≡ answer_status answer
   pub number : IfErr answer IsNumberedFault
-  pub serves : RunsAnswer answer client.size client.owner before.left now.left before.told now.told
-  pub read_cause : ReadsCause answer before.reads now.reads
-  pub write_cause : WritesCause answer before.writes now.writes
+  pub serves : RunsAnswer answer client.size client.owner before.input.left now.input.left before.output.told now.output.told
+  pub read_cause : ReadsCause answer before.input.faults now.input.faults
+  pub write_cause : WritesCause answer before.output.faults now.output.faults

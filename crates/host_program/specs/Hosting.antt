@@ -4,9 +4,10 @@ use Rattle.std.specs.Io.KnownBytes.{Appends}
 use Rattle.std.specs.declared.option.Option.{Option}
 use Rattle.std.specs.declared.result.Result.{Result}
 use Rattle.edge_io.specs.Sink.{WritesFront}
+use Rattle.edge_io.specs.Outside.{Output}
 use Rattle.session_rules.specs.declared.entry.Entry.{Entry}
 use Rattle.session_rules.specs.Journal.{Head}
-use Rattle.serve_rules.specs.declared.told.ConnReport.{ConnReport}
+use Rattle.serve_rules.specs.declared.noted.ConnReport.{ConnReport}
 use Rattle.gate_run.specs.declared.served.GateEnd.{GateEnd}
 use Rattle.gate_run.specs.declared.served.GateEnd.TheVariants.{Ended, Failed, NoListen}
 use Rattle.gate_run.specs.Gates.{GateState, ServesGate}
@@ -29,43 +30,42 @@ served_status Failed answer = 7
 served_status NoListen answer = 7
 
 -- the links' lines were written; after a fault of the sink, whose count rose, and after want of memory a front of them
-pub record WritesLinks (answer : Result (Unit {0}) ScriptFault) (reports : List ConnReport) (told telling : Option (List ℕ)) (writes wrote : ℕ) : Type 0 where
-  pub written : OnOk answer (Appends told telling (served_text reports))
-  pub front : OnErr answer (WritesFront told telling (served_text reports))
+pub record WritesLinks (answer : Result (Unit {0}) ScriptFault) (reports : List ConnReport) (before now : Output) : Type 0 where
+  pub written : OnOk answer (Appends before.told now.told (served_text reports))
+  pub front : OnErr answer (WritesFront before.told now.told (served_text reports))
   pub fault : IfErr answer IsWriteFault
-  pub write_cause : WritesCause answer writes wrote
+  pub write_cause : WritesCause answer before.faults now.faults
 
 -- the links' lines were written, also where the gate failed: all of them unless the output's count of faults rose or memory was wanted, and else a front; but nothing
 -- where the gate can't be opened
-abbrev pub WritesIfOpened : GateEnd → Result (Unit {0}) ScriptFault → List ConnReport → (told telling : Option (List ℕ)) → (writes wrote : ℕ) → Type 0
-WritesIfOpened Ended answer reports told telling writes wrote = WritesLinks answer reports told telling writes wrote
-WritesIfOpened Failed answer reports told telling writes wrote = WritesLinks answer reports told telling writes wrote
-WritesIfOpened NoListen answer reports told telling writes wrote = (telling ≡ told) × (wrote ≡ writes)
+abbrev pub WritesIfOpened : GateEnd → Result (Unit {0}) ScriptFault → List ConnReport → (before now : Output) → Type 0
+WritesIfOpened Ended answer reports before now = WritesLinks answer reports before now
+WritesIfOpened Failed answer reports before now = WritesLinks answer reports before now
+WritesIfOpened NoListen answer reports before now = now ≡ before
 
 -- what was written after a gate's end, and the exit status
-pub record PrintsLinks (status : ℕ) (end : GateEnd) (reports : List ConnReport) (told telling : Option (List ℕ)) (writes wrote : ℕ) : Type 0 where
+pub record PrintsLinks (status : ℕ) (end : GateEnd) (reports : List ConnReport) (before now : Output) : Type 0 where
   pub answer : Result (Unit {0}) ScriptFault
   pub status_is : status ≡ served_status end answer
-  pub writes_links : WritesIfOpened end answer reports told telling writes wrote
+  pub writes_links : WritesIfOpened end answer reports before now
 
 -- the links of the gate were served, over one session whose journal is legal, with each change made by the holder of control, and the line of each one's report was written: 0 is that the gate ended and all of them
 -- stand there, 5 and 6 are a fault of the sink and want of memory behind a front of them, and 7 is a fault of the gate, whose count rose
-pub record HostsLinks (status : ℕ) (hosting : HostingOf) (before now : GateState) (told telling : Option (List ℕ)) (writes wrote : ℕ) : Type 0 where
+pub record HostsLinks (status : ℕ) (hosting : HostingOf) (given spent : GateState) (before now : Output) : Type 0 where
   pub j : List Entry
   pub reports : List ConnReport
   pub end : GateEnd
-  pub serves : ServesGate (head_of hosting) [] hosting.port hosting.links before now j reports end
+  pub serves : ServesGate (head_of hosting) [] hosting.port hosting.links given spent j reports end
   pub changes : ChangedByHolders (head_of hosting) j
-  pub prints : PrintsLinks status end reports told telling writes wrote
+  pub prints : PrintsLinks status end reports before now
 
 -- memory was wanted before the gate was opened: nothing was done
-pub record WantsMemory (status : ℕ) (before now : GateState) (told telling : Option (List ℕ)) (writes wrote : ℕ) : Type 0 where
+pub record WantsMemory (status : ℕ) (given spent : GateState) (before now : Output) : Type 0 where
   pub status_is : status ≡ 6
-  pub gate : now ≡ before
-  pub told_is : telling ≡ told
-  pub writes_are : wrote ≡ writes
+  pub gate : spent ≡ given
+  pub output : now ≡ before
 
 -- what a run of the mode comes to
-pub data RunsServe (status : ℕ) (hosting : HostingOf) (before now : GateState) (told telling : Option (List ℕ)) (writes wrote : ℕ) : Type 0 where
-  Wants : WantsMemory status before now told telling writes wrote → RunsServe status hosting before now told telling writes wrote
-  Hosts : HostsLinks status hosting before now told telling writes wrote → RunsServe status hosting before now told telling writes wrote
+pub data RunsServe (status : ℕ) (hosting : HostingOf) (given spent : GateState) (before now : Output) : Type 0 where
+  Wants : WantsMemory status given spent before now → RunsServe status hosting given spent before now
+  Hosts : HostsLinks status hosting given spent before now → RunsServe status hosting given spent before now

@@ -1,4 +1,3 @@
-pub mod Outside
 pub mod Changes
 pub mod Statuses
 pub mod Loading
@@ -8,3 +7,4 @@ pub mod Links
 pub mod Hosting
 pub mod Recording
 pub mod Top
+pub mod Mode

@@ -1,5 +1,5 @@
 -- The mode serve: its words.
-use Rattle.std.specs.Prelude.{ℕ, nat_le, List, [], ◌∷◌, length, Option, Some, None, IsTrue, codes, if◌then◌else◌}
+use Rattle.std.specs.Prelude.{ℕ, nat_le, List, [], ◌∷◌, length, Option, Some, None, IsTrue, if◌then◌else◌}
 use Rattle.std.specs.Option.{option_map, option_and_then}
 use Rattle.std.specs.Bool.{then_some}
 use Rattle.std.specs.Io.BufRead.{ends_with_byte, strip_last}
@@ -11,10 +11,8 @@ use Rattle.session_rules.specs.Journal.{Row}
 use Rattle.session_rules.specs.Steps.{are_names_distinct}
 use Rattle.session_core.specs.declared.head.Invite.{Invite}
 use Rattle.session_core.specs.SessionModel.{AreInvited}
-use Rattle.line_text.specs.Words.{is_same_word}
 use Rattle.script_rules.specs.Script.{is_name}
 use Rattle.script_rules.specs.Capture.{number_between}
-use Rattle.command_words.specs.HostWords.{RequestOf}
 use Rattle.host_program.specs.Answering.{size_of_words}
 
 -- what the words ask to serve: so many links of a port, in a session with a picture of this size, whose viewers join by these rows
@@ -77,13 +75,10 @@ abbrev pub hosting_of_words : (port w h links owner : List ℕ) → List (List �
 hosting_of_words port w h links owner guests = option_and_then (λ p. option_and_then (λ size. option_and_then (λ n. option_map (hosting_with p n size)
     (rows_of_words owner guests)) (number_between 1 most_links links)) (size_of_words w h)) (number_between 1 most_port port)
 
+-- the arguments of the mode
 abbrev pub hosting_of_args : List (List ℕ) → Option HostingOf
 hosting_of_args (port ∷ w ∷ h ∷ links ∷ owner ∷ guests) = hosting_of_words port w h links owner guests
 hosting_of_args args = None
-
--- what a request asks to serve
-abbrev pub hosting_of : RequestOf → Option HostingOf
-hosting_of request = if is_same_word request.mode (codes "serve") then hosting_of_args request.args else None
 
 -- a session may have this size and these rows
 pub record IsHostable (hosting : HostingOf) : Type 0 where

@@ -1,22 +1,17 @@
-//! The mode `answer`: its words, and the status that it ends with.
+//! The mode `answer`: its arguments, and the status that it ends with.
 
-ghost use Rattle.std.specs.Prelude.{◌≡◌, IfSome, IfErr};
+ghost use Rattle.std.specs.Prelude.{◌≡◌, map, IfSome, IfErr};
 ghost use Rattle.answer_run.specs.Serves.{IsNumberedFault};
-ghost use Rattle.host_program.specs.Answering.{client_of, client_of_words, answer_status, IsServable};
+ghost use Rattle.host_program.specs.Answering.{client_of_args, client_of_words, answer_status, IsServable};
 
 use crate::size::size_of_words;
 use answer_run::AnswerFault;
-use command_words::Request;
 use command_words::status::{
     DONE, ENDED_EARLY, NOT_INVITED, OUT_OF_MEMORY, READ_FAULT, WRITE_FAULT,
 };
 use info_lic::Name;
-use line_text::is_same_word;
 use px_core::Size;
 use script_lines::is_name;
-
-/// The word of the mode that serves one client.
-const ANSWER: &str = "answer";
 
 /// How many arguments it has: columns, rows and the owner's name.
 const ARGS: usize = 3;
@@ -31,15 +26,11 @@ pub(crate) struct Client {
     pub owner: Name,
 }
 
-/// Whom a request of the mode asks to serve, where it is one.
-pub(crate) fn client_of(request: &Request<'_>) -> Option<Client>
-    ensures form { result ≡ client_of request.now }
+/// Whom these arguments of the mode ask to serve.
+pub(crate) fn client_of_args(args: &[&str]) -> Option<Client>
+    ensures form { result ≡ client_of_args (map (λ s. s.now) args.now) }
     ensures range { IfSome result IsServable }
 {
-    if !is_same_word(request.mode().as_bytes(), ANSWER.as_bytes()) {
-        return None;
-    }
-    let args = request.args();
     if args.len() != ARGS {
         return None;
     }

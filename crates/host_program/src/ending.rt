@@ -1,17 +1,12 @@
 //! How the program ends.
 
-ghost use Rattle.std.specs.Prelude.{◌≡◌, ℕ, [], Some, None, false, map, string_bytes, IsTrue, IfSome, IsNone};
+ghost use Rattle.std.specs.Prelude.{◌≡◌, [], Some, None, false, map, string_bytes, IfSome, IsNone};
 ghost use Rattle.std.specs.Process.{exit_status};
-ghost use Rattle.host_program.specs.declared.answering.Client.{Client};
-ghost use Rattle.host_program.specs.declared.loading.Load.{Load};
-ghost use Rattle.host_program.specs.Answering.{RunsService};
+ghost use Rattle.edge_io.specs.Outside.{output_of, outside_of};
 ghost use Rattle.gate_run.specs.Gates.{gate_state};
-ghost use Rattle.host_program.specs.Loading.{RunsDemo};
-ghost use Rattle.host_program.specs.Recording.{RunsRecord, RunsReplay};
-ghost use Rattle.host_program.specs.Serving.{HostingOf};
-ghost use Rattle.host_program.specs.Hosting.{RunsServe};
-ghost use Rattle.host_program.specs.Outside.{outside};
-ghost use Rattle.host_program.specs.Top.{asks_for_script, asks_for_record, stop_asked, asks_for_mode, client_asked, load_asked, hosting_asked, RunsMode, WritesUsage};
+ghost use Rattle.host_program.specs.declared.mode.Mode.{Mode};
+ghost use Rattle.host_program.specs.Mode.{mode_of, reads_if, opens_if};
+ghost use Rattle.host_program.specs.Top.{RunsMode, WritesUsage};
 
 use crate::host::top;
 use command_words::status::OUT_OF_MEMORY;
@@ -59,28 +54,15 @@ impl Ending {
     ) -> Ending
         requires unused { G.given gate.old ≡ [] }
         requires open { G.ended gate.old ≡ false }
-        ensures script { IfSome words (λ ws. IsTrue (asks_for_script (map string_bytes ws.items)) → RunsMode result
-            (outside (S.left input.old) (K.told output.old) (S.faults input.old) (K.faults output.old))
-            (outside (S.left input.new) (K.told output.new) (S.faults input.new) (K.faults output.new))) }
-        ensures answer { IfSome words (λ ws. (client : Client) → client_asked (map string_bytes ws.items) ≡ Some client → RunsService result client
-            (outside (S.left input.old) (K.told output.old) (S.faults input.old) (K.faults output.old))
-            (outside (S.left input.new) (K.told output.new) (S.faults input.new) (K.faults output.new))) }
-        ensures demo { IfSome words (λ ws. (load : Load) → load_asked (map string_bytes ws.items) ≡ Some load
-            → RunsDemo result load (K.told output.old) (K.told output.new) (K.faults output.old) (K.faults output.new)) }
-        ensures record { IfSome words (λ ws. IsTrue (asks_for_record (map string_bytes ws.items)) → RunsRecord result
-            (outside (S.left input.old) (K.told output.old) (S.faults input.old) (K.faults output.old))
-            (outside (S.left input.new) (K.told output.new) (S.faults input.new) (K.faults output.new))) }
-        ensures replay { IfSome words (λ ws. (stop : ℕ) → stop_asked (map string_bytes ws.items) ≡ Some stop → RunsReplay result stop
-            (outside (S.left input.old) (K.told output.old) (S.faults input.old) (K.faults output.old))
-            (outside (S.left input.new) (K.told output.new) (S.faults input.new) (K.faults output.new))) }
-        ensures serve { IfSome words (λ ws. (hosting : HostingOf) → hosting_asked (map string_bytes ws.items) ≡ Some hosting → RunsServe result hosting
-            (gate_state G.Gate G.Link.Link gate.old) (gate_state G.Gate G.Link.Link gate.new)
-            (K.told output.old) (K.told output.new) (K.faults output.old) (K.faults output.new)) }
-        ensures usage { IfSome words (λ ws. asks_for_mode (map string_bytes ws.items) ≡ false
-            → WritesUsage result (K.told output.old) (K.told output.new) (K.faults output.old) (K.faults output.new)) }
+        ensures mode { IfSome words (λ ws. (mode : Mode) → mode_of (map string_bytes ws.items) ≡ Some mode → RunsMode mode result
+            (outside_of S.Source K.Sink input.old output.old) (outside_of S.Source K.Sink input.new output.new)
+            (gate_state G.Gate G.Link.Link gate.old) (gate_state G.Gate G.Link.Link gate.new)) }
+        ensures usage { IfSome words (λ ws. mode_of (map string_bytes ws.items) ≡ None
+            → WritesUsage result (output_of K.Sink output.old) (output_of K.Sink output.new)) }
         ensures memory { IsNone words → result ≡ 6 }
         ensures nothing { IsNone words → (input.new ≡ input.old) × (output.new ≡ output.old) × (gate.new ≡ gate.old) }
-        ensures gate { IfSome words (λ ws. hosting_asked (map string_bytes ws.items) ≡ None → gate.new ≡ gate.old) }
+        ensures input { IfSome words (λ ws. reads_if (mode_of (map string_bytes ws.items)) ≡ false → input.new ≡ input.old) }
+        ensures gate { IfSome words (λ ws. opens_if (mode_of (map string_bytes ws.items)) ≡ false → gate.new ≡ gate.old) }
     {
         match words {
             Some(words) => Ending {

@@ -1,35 +1,25 @@
-ghost use Rattle.std.specs.Prelude.{◌≡◌, ℕ, [], false, Some, None, map, string_bytes, IsTrue, IfSome};
+ghost use Rattle.std.specs.Prelude.{◌≡◌, [], false, Some, None, map, string_bytes};
+ghost use Rattle.edge_io.specs.Outside.{output_of, outside_of};
 ghost use Rattle.gate_run.specs.Gates.{gate_state};
-ghost use Rattle.host_program.specs.declared.answering.Client.{Client};
-ghost use Rattle.host_program.specs.Outside.{outside};
-ghost use Rattle.host_program.specs.declared.loading.Load.{Load};
-ghost use Rattle.host_program.specs.Answering.{client_of, IsServable, RunsService};
-ghost use Rattle.host_program.specs.Loading.{load_of, RunsDemo};
-ghost use Rattle.host_program.specs.Recording.{is_record, stop_of, RunsRecord, RunsReplay};
-ghost use Rattle.host_program.specs.Serving.{HostingOf, hosting_of};
-ghost use Rattle.host_program.specs.Hosting.{RunsServe};
+ghost use Rattle.host_program.specs.declared.mode.Mode.{Mode};
+ghost use Rattle.host_program.specs.Mode.{mode_of, reads_input, reads_if, opens_gate, opens_if, IsRunnable};
 ghost use Rattle.host_program.specs.Statuses.{script_status};
-ghost use Rattle.host_program.specs.Top.{asks_for_script, asks_for_record, stop_asked, asks_for_reading, asks_for_mode, client_asked, load_asked, hosting_asked, is_script_request, RunsMode, WritesUsage};
+ghost use Rattle.host_program.specs.Top.{RunsMode, WritesUsage};
 
-use crate::answering::{answer_status, client_of};
+use crate::answering::answer_status;
 use crate::hosting::host_links;
-use crate::loading::load_of;
-use crate::recording::{is_record, replay_status, stop_of};
-use crate::serving::hosting_of;
+use crate::mode::{Mode, mode_of};
+use crate::recording::replay_status;
 use answer_run::run_answer;
+use command_words::OutOfMemory;
 use command_words::status::{BAD_WORDS, DONE, OUT_OF_MEMORY, READ_FAULT, REFUSED, WRITE_FAULT};
-use command_words::{OutOfMemory, Request};
 use demo_run::run_demo;
 use edge_io::{Gate, Sink, Source};
-use line_text::is_same_word;
 use record_run::{record_script, replay_record};
 use script_run::{ScriptFault, put, run_script};
 use std::alloc::Global;
 use std::sync::Wait;
 use std::thread::Threads;
-
-/// The word of the mode that reads a script and writes its capture.
-const SCRIPT: &str = "script";
 
 /// What is printed where the words ask for no mode.
 const USAGE: &[u8] = b"usage: rdp_host MODE ARGS\n";
@@ -52,151 +42,55 @@ pub fn top<R: Threads + Wait + Sync, S: Source, K: Sink, G: Gate>(
 ) -> u8
     requires unused { G.given gate.old ≡ [] }
     requires open { G.ended gate.old ≡ false }
-    // The capture's own clause: whatever the script, and however its joins, inputs, drawings, refreshes, takes and departures stand among
-    // each other, each viewer's bytes in what is written are never refused, and each mark shows the picture after exactly the journal
-    // entries that the frame's take found; each change was made by the holder of control.
-    ensures script { IsTrue (asks_for_script (map string_bytes words.now)) → RunsMode result
-        (outside (S.left input.old) (K.told output.old) (S.faults input.old) (K.faults output.old))
-        (outside (S.left input.new) (K.told output.new) (S.faults input.new) (K.faults output.new)) }
-    // The answer's own clause: whatever the client's stream, what is written is its answer to the byte, in which its frames are never
-    // refused, and each mark shows the picture after exactly the journal entries that the frame's take found. After a failed read exactly
-    // what is due for the bytes that were handed out stands there.
-    ensures answer { (client : Client) → client_asked (map string_bytes words.now) ≡ Some client → RunsService result client
-        (outside (S.left input.old) (K.told output.old) (S.faults input.old) (K.faults output.old))
-        (outside (S.left input.new) (K.told output.new) (S.faults input.new) (K.faults output.new)) }
-    // The line of the demonstration load's counts, of which the marks are those that its viewers' clients read.
-    ensures demo { (load : Load) → load_asked (map string_bytes words.now) ≡ Some load
-        → RunsDemo result load (K.told output.old) (K.told output.new) (K.faults output.old) (K.faults output.new) }
-    // The record's own clause: the size, the rows and the journal of the script's steps, up to the first line that breaks a rule; nothing
-    // where that is the first line, and a front of it after a fault.
-    ensures record { IsTrue (asks_for_record (map string_bytes words.now)) → RunsRecord result
-        (outside (S.left input.old) (K.told output.old) (S.faults input.old) (K.faults output.old))
-        (outside (S.left input.new) (K.told output.new) (S.faults input.new) (K.faults output.new)) }
-    // The picture after so many entries of the record that the input is, or the line that says why there is none.
-    ensures replay { (stop : ℕ) → stop_asked (map string_bytes words.now) ≡ Some stop → RunsReplay result stop
-        (outside (S.left input.old) (K.told output.old) (S.faults input.old) (K.faults output.old))
-        (outside (S.left input.new) (K.told output.new) (S.faults input.new) (K.faults output.new)) }
-    // The gate's own clause: for one legal journal, that of the session which all links share, each link was served as its report says,
-    // and the lines of the reports are written in the order of the links.
-    ensures serve { (hosting : HostingOf) → hosting_asked (map string_bytes words.now) ≡ Some hosting → RunsServe result hosting
-        (gate_state G.Gate G.Link.Link gate.old) (gate_state G.Gate G.Link.Link gate.new)
-        (K.told output.old) (K.told output.new) (K.faults output.old) (K.faults output.new) }
-    ensures usage { asks_for_mode (map string_bytes words.now) ≡ false
-        → WritesUsage result (K.told output.old) (K.told output.new) (K.faults output.old) (K.faults output.new) }
-    ensures input { asks_for_reading (map string_bytes words.now) ≡ false → input.new ≡ input.old }
-    ensures gate { hosting_asked (map string_bytes words.now) ≡ None → gate.new ≡ gate.old }
+    // What the words ask for was done. In the modes `script` and `answer`, and for each link of `serve`: whatever the script, the client's
+    // stream or the links, and however joins, inputs, drawings, refreshes, takes and departures stand among each other, each viewer's bytes
+    // in what is written are never refused, and each mark shows the picture after exactly the journal entries that the frame's take found;
+    // each change was made by the holder of control. The lines of the links' reports stand in the links' order. The record is that of the
+    // script's size, rows and journal; the picture of a replay that after so many entries; the demonstration's line has its run's counts.
+    // After a fault or want of memory what was written is a front of it, as each mode's part says.
+    ensures mode { (mode : Mode) → mode_of (map string_bytes words.now) ≡ Some mode → RunsMode mode result
+        (outside_of S.Source K.Sink input.old output.old) (outside_of S.Source K.Sink input.new output.new)
+        (gate_state G.Gate G.Link.Link gate.old) (gate_state G.Gate G.Link.Link gate.new) }
+    ensures usage { mode_of (map string_bytes words.now) ≡ None
+        → WritesUsage result (output_of K.Sink output.old) (output_of K.Sink output.new) }
+    ensures input { reads_if (mode_of (map string_bytes words.now)) ≡ false → input.new ≡ input.old }
+    ensures gate { opens_if (mode_of (map string_bytes words.now)) ≡ false → gate.new ≡ gate.old }
 {
-    match Request::read(alloc, words) {
-        Ok(Some(request)) if is_script(&request) => status(run_script(alloc, input, output)),
-        Ok(Some(request)) => run_other(rt, alloc, &request, input, output, gate),
+    match mode_of(alloc, words) {
+        Ok(Some(mode)) => run(rt, alloc, mode, input, output, gate),
         Ok(None) => refuse_words(output),
         Err(OutOfMemory) => OUT_OF_MEMORY,
     }
 }
 
-/// Does what a request of another mode than `script` asks for, where it asks for something.
-fn run_other<R: Threads + Wait + Sync, S: Source, K: Sink, G: Gate>(
+/// Does what a mode asks for, and answers the exit status.
+fn run<R: Threads + Wait + Sync, S: Source, K: Sink, G: Gate>(
     rt: &R,
     alloc: Global,
-    request: &Request<'_>,
+    mode: Mode,
     input: &mut S,
     output: &mut K,
     gate: &mut G,
 ) -> u8
+    requires runnable { IsRunnable mode }
     requires unused { G.given gate.old ≡ [] }
     requires open { G.ended gate.old ≡ false }
-    ensures answer { IfSome (client_of request.now) (λ client. RunsService result client
-        (outside (S.left input.old) (K.told output.old) (S.faults input.old) (K.faults output.old))
-        (outside (S.left input.new) (K.told output.new) (S.faults input.new) (K.faults output.new))) }
-    ensures demo { IfSome (load_of request.now) (λ load. RunsDemo result load
-        (K.told output.old) (K.told output.new) (K.faults output.old) (K.faults output.new)) }
-    ensures serve { IfSome (hosting_of request.now) (λ hosting. RunsServe result hosting
-        (gate_state G.Gate G.Link.Link gate.old) (gate_state G.Gate G.Link.Link gate.new)
-        (K.told output.old) (K.told output.new) (K.faults output.old) (K.faults output.new)) }
-    ensures record { IsTrue (is_record request.now) → RunsRecord result
-        (outside (S.left input.old) (K.told output.old) (S.faults input.old) (K.faults output.old))
-        (outside (S.left input.new) (K.told output.new) (S.faults input.new) (K.faults output.new)) }
-    ensures replay { IfSome (stop_of request.now) (λ stop. RunsReplay result stop
-        (outside (S.left input.old) (K.told output.old) (S.faults input.old) (K.faults output.old))
-        (outside (S.left input.new) (K.told output.new) (S.faults input.new) (K.faults output.new))) }
-    ensures usage { client_of request.now ≡ None → load_of request.now ≡ None → is_record request.now ≡ false → stop_of request.now ≡ None
-        → hosting_of request.now ≡ None → WritesUsage result (K.told output.old) (K.told output.new) (K.faults output.old) (K.faults output.new) }
-    ensures input { client_of request.now ≡ None → is_record request.now ≡ false → stop_of request.now ≡ None → input.new ≡ input.old }
-    ensures gate { hosting_of request.now ≡ None → gate.new ≡ gate.old }
+    ensures mode { RunsMode mode result
+        (outside_of S.Source K.Sink input.old output.old) (outside_of S.Source K.Sink input.new output.new)
+        (gate_state G.Gate G.Link.Link gate.old) (gate_state G.Gate G.Link.Link gate.new) }
+    ensures input { reads_input mode ≡ false → input.new ≡ input.old }
+    ensures gate { opens_gate mode ≡ false → gate.new ≡ gate.old }
 {
-    if let Some(client) = client_of(request) {
-        let answer = run_answer(alloc, client.size, &client.owner, input, output);
-        return answer_status(answer);
+    match mode {
+        Mode::Script => status(run_script(alloc, input, output)),
+        Mode::Record => status(record_script(alloc, input, output)),
+        Mode::Answer(client) => {
+            answer_status(run_answer(alloc, client.size, &client.owner, input, output))
+        }
+        Mode::Demo(load) => status(run_demo(alloc, load.seed, load.steps, output)),
+        Mode::Replay(stop) => replay_status(replay_record(rt, alloc, stop, input, output)),
+        Mode::Serve(hosting) => host_links(rt, alloc, &hosting, output, gate),
     }
-    match load_of(request) {
-        Some(load) => status(run_demo(alloc, load.seed, load.steps, output)),
-        None => run_recording(rt, alloc, request, input, output, gate),
-    }
-}
-
-/// Records a script, or replays a record, where a request asks for one of these, or serves the links that it asks for.
-fn run_recording<R: Threads + Wait + Sync, S: Source, K: Sink, G: Gate>(
-    rt: &R,
-    alloc: Global,
-    request: &Request<'_>,
-    input: &mut S,
-    output: &mut K,
-    gate: &mut G,
-) -> u8
-    requires unused { G.given gate.old ≡ [] }
-    requires open { G.ended gate.old ≡ false }
-    ensures record { IsTrue (is_record request.now) → RunsRecord result
-        (outside (S.left input.old) (K.told output.old) (S.faults input.old) (K.faults output.old))
-        (outside (S.left input.new) (K.told output.new) (S.faults input.new) (K.faults output.new)) }
-    ensures replay { IfSome (stop_of request.now) (λ stop. RunsReplay result stop
-        (outside (S.left input.old) (K.told output.old) (S.faults input.old) (K.faults output.old))
-        (outside (S.left input.new) (K.told output.new) (S.faults input.new) (K.faults output.new))) }
-    ensures serve { IfSome (hosting_of request.now) (λ hosting. RunsServe result hosting
-        (gate_state G.Gate G.Link.Link gate.old) (gate_state G.Gate G.Link.Link gate.new)
-        (K.told output.old) (K.told output.new) (K.faults output.old) (K.faults output.new)) }
-    ensures usage { is_record request.now ≡ false → stop_of request.now ≡ None → hosting_of request.now ≡ None
-        → WritesUsage result (K.told output.old) (K.told output.new) (K.faults output.old) (K.faults output.new) }
-    ensures input { is_record request.now ≡ false → stop_of request.now ≡ None → input.new ≡ input.old }
-    ensures gate { hosting_of request.now ≡ None → gate.new ≡ gate.old }
-{
-    if is_record(request) {
-        return status(record_script(alloc, input, output));
-    }
-    match stop_of(request) {
-        Some(stop) => replay_status(replay_record(rt, alloc, stop, input, output)),
-        None => run_serve(rt, alloc, request, output, gate),
-    }
-}
-
-/// Serves the links that a request asks for, where it asks for some.
-fn run_serve<R: Threads + Wait + Sync, K: Sink, G: Gate>(
-    rt: &R,
-    alloc: Global,
-    request: &Request<'_>,
-    output: &mut K,
-    gate: &mut G,
-) -> u8
-    requires unused { G.given gate.old ≡ [] }
-    requires open { G.ended gate.old ≡ false }
-    ensures serve { IfSome (hosting_of request.now) (λ hosting. RunsServe result hosting
-        (gate_state G.Gate G.Link.Link gate.old) (gate_state G.Gate G.Link.Link gate.new)
-        (K.told output.old) (K.told output.new) (K.faults output.old) (K.faults output.new)) }
-    ensures usage { hosting_of request.now ≡ None
-        → WritesUsage result (K.told output.old) (K.told output.new) (K.faults output.old) (K.faults output.new) }
-    ensures gate { hosting_of request.now ≡ None → gate.new ≡ gate.old }
-{
-    match hosting_of(alloc, request) {
-        Ok(Some(hosting)) => host_links(rt, alloc, &hosting, output, gate),
-        Ok(None) => refuse_words(output),
-        Err(OutOfMemory) => OUT_OF_MEMORY,
-    }
-}
-
-/// Whether a request is the mode `script`, which has no argument.
-fn is_script(request: &Request<'_>) -> bool
-    ensures { result ≡ is_script_request (Some request.now) }
-{
-    is_same_word(request.mode().as_bytes(), SCRIPT.as_bytes()) && request.args().is_empty()
 }
 
 /// The exit status that an answer of a script's run is.
@@ -214,7 +108,7 @@ pub(crate) fn status(answer: Result<(), ScriptFault>) -> u8
 
 /// Writes the usage line, and answers the status of words that ask for no mode.
 fn refuse_words<K: Sink>(output: &mut K) -> u8
-    ensures { WritesUsage result (K.told output.old) (K.told output.new) (K.faults output.old) (K.faults output.new) }
+    ensures { WritesUsage result (output_of K.Sink output.old) (output_of K.Sink output.new) }
 {
     match put(output, USAGE) {
         Ok(()) => BAD_WORDS,

@@ -1,6 +1,7 @@
 //! The mode `serve`: a gate's links are served over one session, and then the line of each is written.
 
 ghost use Rattle.std.specs.Prelude.{◌≡◌, [], false};
+ghost use Rattle.edge_io.specs.Outside.{output_of};
 ghost use Rattle.gate_run.specs.Gates.{gate_state};
 ghost use Rattle.host_program.specs.Serving.{IsHostable};
 ghost use Rattle.host_program.specs.Hosting.{PrintsLinks, RunsServe, served_status};
@@ -31,7 +32,7 @@ pub(crate) fn host_links<R: Threads + Wait + Sync, K: Sink, G: Gate>(
     requires unused { G.given gate.old ≡ [] }
     requires open { G.ended gate.old ≡ false }
     ensures { RunsServe result hosting.now (gate_state G.Gate G.Link.Link gate.old) (gate_state G.Gate G.Link.Link gate.new)
-        (K.told output.old) (K.told output.new) (K.faults output.old) (K.faults output.new) }
+        (output_of K.Sink output.old) (output_of K.Sink output.new) }
 {
     let Ok(session) = Session::new(alloc, hosting.size, &hosting.rows) else {
         return OUT_OF_MEMORY;
@@ -45,7 +46,7 @@ pub(crate) fn host_links<R: Threads + Wait + Sync, K: Sink, G: Gate>(
 /// Writes the line of each link after the gate's end, unless the gate couldn't be opened, and answers the exit status. Where the gate
 /// failed it is that of its fault, whatever the output does.
 fn print_links<K: Sink>(alloc: Global, output: &mut K, reports: &[ConnReport], end: GateEnd) -> u8
-    ensures { PrintsLinks result end reports.now (K.told output.old) (K.told output.new) (K.faults output.old) (K.faults output.new) }
+    ensures { PrintsLinks result end reports.now (output_of K.Sink output.old) (output_of K.Sink output.new) }
 {
     match end {
         GateEnd::Ended | GateEnd::Failed => served_status(end, put_links(alloc, output, reports)),

@@ -9,6 +9,7 @@ mod host;
 mod hosting;
 mod links;
 mod loading;
+mod mode;
 mod recording;
 mod serving;
 mod size;

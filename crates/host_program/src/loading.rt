@@ -1,13 +1,9 @@
-//! The mode `demo`: its words.
+//! The mode `demo`: its arguments.
 
-ghost use Rattle.std.specs.Prelude.{◌≡◌};
-ghost use Rattle.host_program.specs.Loading.{load_of, load_of_words};
+ghost use Rattle.std.specs.Prelude.{◌≡◌, map};
+ghost use Rattle.host_program.specs.Loading.{load_of_args, load_of_words};
 
-use command_words::Request;
-use line_text::{is_same_word, read_number};
-
-/// The word of the mode that runs the demonstration load.
-const DEMO: &str = "demo";
+use line_text::read_number;
 
 /// How many arguments it has.
 const ARGS: usize = 2;
@@ -22,14 +18,10 @@ pub(crate) struct Load {
     pub steps: u32,
 }
 
-/// The load that a request of the mode asks for, where it is one.
-pub(crate) fn load_of(request: &Request<'_>) -> Option<Load>
-    ensures form { result ≡ load_of request.now }
+/// The load that these arguments of the mode ask for.
+pub(crate) fn load_of_args(args: &[&str]) -> Option<Load>
+    ensures form { result ≡ load_of_args (map (λ s. s.now) args.now) }
 {
-    if !is_same_word(request.mode().as_bytes(), DEMO.as_bytes()) {
-        return None;
-    }
-    let args = request.args();
     if args.len() != ARGS {
         return None;
     }

@@ -1,20 +1,17 @@
-//! The mode `serve`: its words.
+//! The mode `serve`: its arguments.
 
 ghost use Rattle.std.specs.Prelude.{◌≡◌, map, IfOk, IfSome};
 ghost use Rattle.script_rules.specs.Capture.{number_between};
-ghost use Rattle.host_program.specs.Serving.{hosting_of, hosting_of_args, IsHostable};
+ghost use Rattle.host_program.specs.Serving.{hosting_of_args, IsHostable};
 
 use crate::guests::rows_of_words;
 use crate::size::size_of_words;
-use command_words::{OutOfMemory, Request};
-use line_text::{is_same_word, read_number};
+use command_words::OutOfMemory;
+use line_text::read_number;
 use px_core::Size;
 use session_core::Invite;
 use std::alloc::Global;
 use std::marker::Model;
-
-/// The word of the mode that serves the clients that connect to a port.
-const SERVE: &str = "serve";
 
 /// The greatest port, and the most links (profile).
 const MOST: u64 = 65_535;
@@ -37,22 +34,8 @@ impl Model for Hosting {
     ghost view = { λ h. record { port = h.port; links = h.links; size = h.size; rows = rows_of h.rows.items } };
 }
 
-/// What a request of the mode asks to serve, where it is one.
-pub(crate) fn hosting_of(
-    alloc: Global,
-    request: &Request<'_>,
-) -> Result<Option<Hosting>, OutOfMemory>
-    ensures form { IfOk result (λ hosting. hosting ≡ hosting_of request.now) }
-    ensures range { IfOk result (λ hosting. IfSome hosting IsHostable) }
-{
-    if !is_same_word(request.mode().as_bytes(), SERVE.as_bytes()) {
-        return Ok(None);
-    }
-    hosting_of_args(alloc, request.args())
-}
-
 /// What these arguments ask to serve: a port, columns and rows of pixels, how many links, the owner's name and the guests.
-fn hosting_of_args(alloc: Global, args: &[&str]) -> Result<Option<Hosting>, OutOfMemory>
+pub(crate) fn hosting_of_args(alloc: Global, args: &[&str]) -> Result<Option<Hosting>, OutOfMemory>
     ensures form { IfOk result (λ hosting. hosting ≡ hosting_of_args (map (λ s. s.now) args.now)) }
     ensures range { IfOk result (λ hosting. IfSome hosting IsHostable) }
 {

@@ -7,9 +7,9 @@ use Rattle.session_rules.specs.declared.entry.Entry.{Entry}
 use Rattle.serve_rules.specs.Turns.{SessionPass}
 use Rattle.serve_rules.specs.Events.{Act, HappenFrom}
 use Rattle.serve_rules.specs.Notices.{events_in}
-use Rattle.serve_rules.specs.declared.told.ConnReport.{ConnReport}
+use Rattle.serve_rules.specs.declared.noted.ConnReport.{ConnReport}
 use Rattle.serve_rules.proofs.Rows.{ann, click, click_at, unclicked, no_click_is_dropped_up_to_the_leave}
-use Rattle.link_run.specs.Links.{LinkState}
+use Rattle.edge_io.specs.Outside.{Outside}
 use Rattle.link_run.specs.Ending.{is_cut}
 use Rattle.link_run.specs.Serving.{IsVisit}
 
@@ -19,7 +19,7 @@ one_act [] undone e none = absurd (let f : click ∷ [] ≡ [] = e ∙ none in c
 one_act (a ∷ []) undone e none = (a.at, let f : click ≡ a.event = cc e in λ i. record { event = sym f i; at = a.at } ∷ [])
 one_act (a ∷ b ∷ acts) undone e none = absurd (cc e)
 
-no_click_is_dropped : (before after : SessionPass) (report : ConnReport) (link spent : LinkState) (read : List ℕ) → (visit : IsVisit ann before after report link spent read)
+no_click_is_dropped : (before after : SessionPass) (report : ConnReport) (link spent : Outside) (read : List ℕ) → (visit : IsVisit ann before after report link spent read)
     → after.seen ≡ unclicked → report.viewer ≡ 1 → is_cut report.end ≡ false → events_in visit.steps ≡ click ∷ [] → visit.leave ≡ 1 ∷ [] → ⊥
 no_click_is_dropped before after report link spent read visit seen viewer free events own =
     let one = one_act visit.acts visit.undone (sym events ∙ visit.events) (visit.all free) in

@@ -2,11 +2,11 @@
 use Rattle.std.proofs.Common.{◌≡◌, ℕ, ◌+◌, [], ⊎_elim, arith}
 use Rattle.session_rules.specs.Journal.{Head}
 use Rattle.serve_rules.specs.Turns.{SessionPass}
-use Rattle.serve_rules.specs.declared.told.ConnReport.{ConnReport}
-use Rattle.link_run.specs.Links.{LinkState}
+use Rattle.serve_rules.specs.declared.noted.ConnReport.{ConnReport}
+use Rattle.edge_io.specs.Outside.{Outside}
 use Rattle.link_run.specs.Serving.{IsOutside, IsVisit, ServesViewer, JoinsFirst}
 
-module _ (head : Head) (p q : SessionPass) (report : ConnReport) (link spent : LinkState) where
+module _ (head : Head) (p q : SessionPass) (report : ConnReport) (link spent : Outside) where
   never_zero : (n : ℕ) → report.viewer ≡ n + 1 → report.viewer ≡ 0 → ⊥
   never_zero n is zero_is = omega (arith, is, zero_is)
 

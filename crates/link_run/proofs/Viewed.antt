@@ -1,9 +1,9 @@
 -- What was done for a viewer between its Join and the end of its connection.
 use Rattle.std.proofs.Common.{◌≡◌, ℕ, ◌≤◌, List, [], ◌∷◌, ◌++◌, length, sym, refl, ap, ◌∙◌, subst, ⊎_elim, arith, map, drop}
 use Rattle.std.specs.Prelude.{true, false, Result, Ok, Err}
-use Rattle.std.specs.declared.option.Option.{Option}
 use Rattle.std.specs.Io.KnownBytes.{Consumes, Appends}
 use Rattle.std.proofs.KnownBytes.{Consumes-nil, Appends-nil}
+use Rattle.edge_io.specs.Outside.{Outside}
 use Rattle.wire_num.specs.declared.out_of_memory.OutOfMemory.{OutOfMemory as NoMemory}
 use Rattle.caps_sets.specs.declared.confirmed.Confirmed.{Confirmed}
 use Rattle.conn_rules.specs.declared.conn_step.ConnStep.{ConnStep}
@@ -22,12 +22,12 @@ use Rattle.serve_rules.specs.declared.ends.ConnEnd.{ConnEnd}
 use Rattle.serve_rules.specs.declared.ends.ConnEnd.TheVariants.{Left, Refused, Truncated, NotInvited, RoomFull, JoinsSpent, ReadFault, WriteFault, OutOfMemory}
 use Rattle.serve_rules.specs.declared.ends.SideEnd.{SideEnd}
 use Rattle.serve_rules.specs.declared.ends.SideEnd.TheVariants.{Done, Stopped}
-use Rattle.serve_rules.specs.declared.told.Told.{Told}
+use Rattle.serve_rules.specs.declared.noted.Noted.{Noted}
 use Rattle.serve_rules.proofs.Handling.{handles_nothing}
-use Rattle.viewer_run.specs.Sending.{AtLeast, IsPresentAtEach, IsSendEnd}
+use Rattle.viewer_sides.specs.Sending.{AtLeast, IsPresentAtEach, IsSendEnd}
 use Rattle.viewer_run.specs.Frames.{first_take, FramesSent}
 use Rattle.viewer_run.specs.Serving.{ViewEnd, EndsSending, Attends, IsShownLast, wants_last}
-use Rattle.viewer_run.specs.Arriving.{Stays, IsUntouched}
+use Rattle.viewer_run.specs.Arriving.{Stays}
 use Rattle.viewer_run.specs.declared.visits.FirstFrame.{FirstFrame}
 use Rattle.viewer_run.proofs.Attending.{wants_left}
 use Rattle.link_run.specs.Ending.{is_cut}
@@ -35,16 +35,16 @@ use Rattle.link_run.specs.Serving.{BeginsWith}
 
 -- the stream was read on, its events handled, and frames sent, between two states of the pass
 pub record Viewed (head : Head) (v : ℕ) (confirmed : Confirmed) (rest : List ConnStep) (conn : Hearing) (joined after : SessionPass) (places places' : List ℕ) (n n' : Notice)
-    (left left' : Option (List ℕ)) (rf rf' : ℕ) (out out' : Option (List ℕ)) (wf wf' : ℕ) (end : ConnEnd) : Type 0 where
+    (before now : Outside) (end : ConnEnd) : Type 0 where
   pub fed : List ℕ
-  pub taken : Consumes left left' fed
+  pub taken : Consumes before.input.left now.input.left fed
   pub steps : List ConnStep
   pub undone : List ConnStep
   pub front : rest ++ (heard conn fed).steps ≡ steps ++ undone
   pub all : is_cut end ≡ false → undone ≡ []
   pub handles : Handles head v (events_in steps) joined after places places'
   pub notice : n' ≡ notice_after_all n steps
-  pub ends : ViewEnd left fed (heard conn fed).after n' rf rf' wf wf' end
+  pub ends : ViewEnd fed (heard conn fed).after n' before now end
   pub takes : List TakeOf
   pub last : ℕ
   pub follow : TakesFollow 0 takes last
@@ -58,9 +58,9 @@ pub record Viewed (head : Head) (v : ℕ) (confirmed : Confirmed) (rest : List C
   pub written : List ℕ
   pub unwritten : List ℕ
   pub bytes : joined_bytes (bytes_of_takes head.size confirmed after.seen first_encoder takes) ≡ written ++ unwritten
-  pub told : Appends out out' written
+  pub told : Appends before.output.told now.output.told written
   pub all_written : is_cut end ≡ false → unwritten ≡ []
-  pub calm : is_cut end ≡ false → wf' ≡ wf
+  pub calm : is_cut end ≡ false → now.output.faults ≡ before.output.faults
   pub shown : wants_last end n' ≡ true → is_present v (reached_at head.size after.seen (length after.seen)).viewers ≡ true → last ≡ length after.seen
 
 cut_sending : (end : ConnEnd) → IsSendEnd (Done end) → is_cut end ≡ false → ⊥
@@ -84,14 +84,13 @@ no_write end free is = cc (sym free ∙ ap is_cut is)
 no_want : (end : ConnEnd) → is_cut end ≡ false → end ≡ OutOfMemory → ⊥
 no_want end free is = cc (sym free ∙ ap is_cut is)
 
-module _ (head : Head) (v : ℕ) (confirmed : Confirmed) (rest : List ConnStep) (conn : Hearing) (p q : SessionPass) (told told' : Told) (left left' : Option (List ℕ)) (rf rf' : ℕ)
-    (out out' : Option (List ℕ)) (wf wf' : ℕ) (end : ConnEnd) where
-  viewed_first : is_present v (reached_at head.size p.seen (length p.seen)).viewers ≡ true → (sender : SenderModel) → Attends head v confirmed rest conn sender p q told told' left left' rf rf' out out' wf wf' end
-      → IsShownLast head v q sender end (notice_in told')
-      → Viewed head v confirmed rest conn p q told.places.list told'.places.list (notice_in told) (notice_in told') left left' rf rf' out out' wf wf' end
-  viewed_first here sender a shown =
-      let r = a.reads in
-      let f : FramesSent head v confirmed sender p q out out' wf wf' a.sent = a.frames in record {
+module _ (head : Head) (v : ℕ) (confirmed : Confirmed) (rest : List ConnStep) (conn : Hearing) (p q : SessionPass) (a b : Noted) (before now : Outside) (end : ConnEnd) where
+  viewed_first : is_present v (reached_at head.size p.seen (length p.seen)).viewers ≡ true → (sender : SenderModel) → Attends head v confirmed rest conn sender p q a b before now end
+      → IsShownLast head v q sender end (notice_in b)
+      → Viewed head v confirmed rest conn p q a.places.list b.places.list (notice_in a) (notice_in b) before now end
+  viewed_first here sender x shown =
+      let r = x.reads in
+      let f : FramesSent head v confirmed sender p q before.output now.output x.sent = x.frames in record {
         fed = r.fed;
         taken = r.taken;
         steps = r.steps;
@@ -109,7 +108,7 @@ module _ (head : Head) (v : ℕ) (confirmed : Confirmed) (rest : List ConnStep) 
         up_to_date = f.up_to_date;
         present = (
           ap (λ (j : List Entry). is_present v (reached_at head.size j (length p.seen)).viewers) f.grows.1
-              ∙ (ap (λ (x : Reached). is_present v x.viewers) (reached_at-append head.size p.seen f.grows.0 (length p.seen) (omega arith)) ∙ here),
+              ∙ (ap (λ (y : Reached). is_present v y.viewers) (reached_at-append head.size p.seen f.grows.0 (length p.seen) (omega arith)) ∙ here),
           f.present,
         );
         more_found = f.more_found;
@@ -119,27 +118,27 @@ module _ (head : Head) (v : ℕ) (confirmed : Confirmed) (rest : List ConnStep) 
         unwritten = f.unwritten;
         bytes = f.bytes;
         told = f.told;
-        all_written = λ free. f.all (uncut_stopped a.sent end a.ended f.only free);
-        calm = λ free. f.calm (uncut_stopped a.sent end a.ended f.only free);
+        all_written = λ free. f.all (uncut_stopped x.sent end x.ended f.only free);
+        calm = λ free. f.calm (uncut_stopped x.sent end x.ended f.only free);
         shown = λ wants still.
-            let free : is_cut end ≡ false = ap is_cut (wants_left end (notice_in told') wants) in
-            sym (f.after_is (uncut_stopped a.sent end a.ended f.only free)).2 ∙ shown wants still;
+            let free : is_cut end ≡ false = ap is_cut (wants_left end (notice_in b) wants) in
+            sym (f.after_is (uncut_stopped x.sent end x.ended f.only free)).2 ∙ shown wants still;
       }
 
-  viewed_none : q ≡ p → IsUntouched told told' left left' rf rf' out out' wf wf' → end ≡ OutOfMemory
-      → Viewed head v confirmed rest conn p q told.places.list told'.places.list (notice_in told) (notice_in told') left left' rf rf' out out' wf wf' end
-  viewed_none same still is =
+  viewed_none : q ≡ p → b ≡ a → now ≡ before → end ≡ OutOfMemory
+      → Viewed head v confirmed rest conn p q a.places.list b.places.list (notice_in a) (notice_in b) before now end
+  viewed_none same noted still is =
       let cut : is_cut end ≡ true = ap is_cut is in record {
         fed = [];
-        taken = subst (λ (x : Option (List ℕ)). Consumes left x []) (sym still.1.0) (Consumes-nil left);
+        taken = subst (λ (x : Outside). Consumes before.input.left x.input.left []) (sym still) (Consumes-nil before.input.left);
         steps = [];
         undone = rest ++ (heard conn []).steps;
         front = refl;
         all = λ free. absurd (cc (sym cut ∙ free));
-        handles = subst (λ (x : SessionPass). Handles head v [] p x told.places.list told'.places.list) (sym same)
-            (subst (λ (t : Told). Handles head v [] p p told.places.list t.places.list) (sym still.0) (handles_nothing head v p told.places.list));
-        notice = ap notice_in still.0;
-        ends = subst (ViewEnd left [] (heard conn []).after (notice_in told') rf rf' wf wf') (sym is) tt;
+        handles = subst (λ (x : SessionPass). Handles head v [] p x a.places.list b.places.list) (sym same)
+            (subst (λ (t : Noted). Handles head v [] p p a.places.list t.places.list) (sym noted) (handles_nothing head v p a.places.list));
+        notice = ap notice_in noted;
+        ends = subst (ViewEnd [] (heard conn []).after (notice_in b) before now) (sym is) tt;
         takes = [];
         last = 0;
         follow = refl;
@@ -153,10 +152,10 @@ module _ (head : Head) (v : ℕ) (confirmed : Confirmed) (rest : List ConnStep) 
         written = [];
         unwritten = [];
         bytes = refl;
-        told = subst (λ (x : Option (List ℕ)). Appends out x []) (sym still.1.2) (Appends-nil out);
+        told = subst (λ (x : Outside). Appends before.output.told x.output.told []) (sym still) (Appends-nil before.output.told);
         all_written = λ free. refl;
-        calm = λ free. still.1.3;
-        shown = λ wants here. absurd (cc (sym cut ∙ ap is_cut (wants_left end (notice_in told') wants)));
+        calm = λ free. ap (λ (x : Outside). x.output.faults) still;
+        shown = λ wants here. absurd (cc (sym cut ∙ ap is_cut (wants_left end (notice_in b) wants)));
       }
     where
       nil : (xs : List ℕ) → xs ++ [] ≡ xs
@@ -164,7 +163,7 @@ module _ (head : Head) (v : ℕ) (confirmed : Confirmed) (rest : List ConnStep) 
       nil (x ∷ xs) = ap (λ l. x ∷ l) (nil xs)
 
   -- in either way in which a viewer stays
-  pub viewed : is_present v (reached_at head.size p.seen (length p.seen)).viewers ≡ true → (first : Result FirstFrame NoMemory) → Stays head v confirmed first rest conn p q told told' left left' rf rf' out out' wf wf' end
-      → Viewed head v confirmed rest conn p q told.places.list told'.places.list (notice_in told) (notice_in told') left left' rf rf' out out' wf wf' end
+  pub viewed : is_present v (reached_at head.size p.seen (length p.seen)).viewers ≡ true → (first : Result FirstFrame NoMemory) → Stays head v confirmed first rest conn p q a b before now end
+      → Viewed head v confirmed rest conn p q a.places.list b.places.list (notice_in a) (notice_in b) before now end
   viewed here (Ok first) s = viewed_first here s.0 s.1 s.2
-  viewed here (Err refusal) s = viewed_none s.0 s.1 s.2
+  viewed here (Err refusal) s = viewed_none s.0 s.1 s.2 s.3

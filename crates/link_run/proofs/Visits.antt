@@ -4,11 +4,11 @@ use Rattle.std.proofs.lemmas.List.{append_cancel_left}
 use Rattle.std.proofs.lemmas.List.Elements.{All-cons}
 use Rattle.std.specs.List.{range_with_len}
 use Rattle.std.specs.Prelude.{Option, Some, Bool, true, false, All, slice_get, option_to_list, Ok}
-use Rattle.std.specs.declared.option.Option as std_option
 use Rattle.std.specs.declared.option.Option.TheVariants as std
 use Rattle.std.specs.Io.KnownBytes.{Appends}
 use Rattle.std.proofs.KnownBytes.{Appends-trans}
 use Rattle.edge_io.specs.Faults.{Rose}
+use Rattle.edge_io.specs.Outside.{Input, Output, Outside, outside}
 use Rattle.px_core.specs.declared.surface.Size.{Size}
 use Rattle.px_core.specs.Rectangle.{is_session_size}
 use Rattle.caps_sets.specs.declared.confirmed.Confirmed.{Confirmed}
@@ -35,8 +35,8 @@ use Rattle.serve_rules.specs.Notices.{Notice, events_in, notice_after_all, notic
 use Rattle.serve_rules.specs.Reading.{IsUnended, IsWhole}
 use Rattle.serve_rules.specs.declared.ends.ConnEnd.{ConnEnd}
 use Rattle.serve_rules.specs.declared.ends.ConnEnd.TheVariants.{Left, Refused, Truncated, NotInvited, RoomFull, JoinsSpent, ReadFault, WriteFault, OutOfMemory}
-use Rattle.serve_rules.specs.declared.told.ConnReport.{ConnReport}
-use Rattle.serve_rules.specs.declared.told.Told.{Told}
+use Rattle.serve_rules.specs.declared.noted.ConnReport.{ConnReport}
+use Rattle.serve_rules.specs.declared.noted.Noted.{Noted}
 use Rattle.serve_rules.proofs.Handling.{handles_more, high_stays}
 use Rattle.serve_rules.proofs.Noticing.{events_then}
 use Rattle.serve_rules.proofs.Ascending.{places_ascend, places_are_of_events}
@@ -45,15 +45,14 @@ use Rattle.serve_rules.proofs.ReadOn.{consumes_then}
 use Rattle.viewer_run.specs.declared.guest.Guest.{Guest}
 use Rattle.viewer_run.specs.declared.arriving.Visit.{Visit}
 use Rattle.viewer_run.specs.Greeting.{Greets}
-use Rattle.viewer_run.specs.Sending.{AtLeast}
+use Rattle.viewer_sides.specs.Sending.{AtLeast}
 use Rattle.viewer_run.specs.Serving.{ViewEnd, wants_last}
 use Rattle.viewer_run.specs.Visiting.{leave_if, leave_place}
 use Rattle.viewer_run.specs.Arriving.{no_notice, IsUnnoted, ServesArrival}
 use Rattle.viewer_run.specs.Ending.{ultimatum_at}
 use Rattle.viewer_run.proofs.Attending.{wants_left}
 use Rattle.viewer_run.proofs.Coming.{present_by}
-use Rattle.viewer_run.proofs.TakesOn.{present_stays, bytes_stay}
-use Rattle.link_run.specs.Links.{link_state}
+use Rattle.viewer_sides.proofs.TakesOn.{present_stays, bytes_stay}
 use Rattle.link_run.specs.Ending.{is_cut, SaysLast, Writes}
 use Rattle.link_run.specs.Served.{ReportsVisit}
 use Rattle.link_run.specs.Serving.{HasLeftElsewhere, BeginsWith, ServesViewer}
@@ -66,42 +65,42 @@ use Rattle.link_run.proofs.Standing.{ascend_below, ascend_then, got_on, leave_st
 -- ---- ends
 
 -- a view's end is that of the whole connection, of which it read the second stretch
-view_then : (left left' : std_option.Option (List ℕ)) (xs ys : List ℕ) (h : Hearing) (n m : Notice) (rf rf' rf'' wf wf' wf'' : ℕ) (end : ConnEnd)
-    → (IsWhole left' ys → IsWhole left (xs ++ ys)) → rf' ≡ rf → wf' ≡ wf → (is_cut end ≡ false → n ≡ m) → ViewEnd left' ys h n rf' rf'' wf' wf'' end
-    → ViewEnd left (xs ++ ys) h m rf rf'' wf wf'' end
-view_then left left' xs ys h n m rf rf' rf'' wf wf' wf'' Left whole a b same e =
+view_then : (xs ys : List ℕ) (h : Hearing) (n m : Notice) (link between now : Outside) (end : ConnEnd)
+    → (IsWhole between.input.left ys → IsWhole link.input.left (xs ++ ys)) → between.input.faults ≡ link.input.faults → between.output.faults ≡ link.output.faults
+    → (is_cut end ≡ false → n ≡ m) → ViewEnd ys h n between now end → ViewEnd (xs ++ ys) h m link now end
+view_then xs ys h n m link between now Left whole a b same e =
     λ unended. let x = e (subst IsUnended (sym (same refl)) unended) in (whole x.0, x.1)
-view_then left left' xs ys h n m rf rf' rf'' wf wf' wf'' (Refused k at) whole a b same e = e
-view_then left left' xs ys h n m rf rf' rf'' wf wf' wf'' Truncated whole a b same e = (subst IsUnended (same refl) e.0, whole e.1, e.2)
-view_then left left' xs ys h n m rf rf' rf'' wf wf' wf'' NotInvited whole a b same e = e
-view_then left left' xs ys h n m rf rf' rf'' wf wf' wf'' RoomFull whole a b same e = e
-view_then left left' xs ys h n m rf rf' rf'' wf wf' wf'' JoinsSpent whole a b same e = e
-view_then left left' xs ys h n m rf rf' rf'' wf wf' wf'' ReadFault whole a b same e = subst (λ (k : ℕ). Rose k rf'') a e
-view_then left left' xs ys h n m rf rf' rf'' wf wf' wf'' WriteFault whole a b same e = subst (λ (k : ℕ). Rose k wf'') b e
-view_then left left' xs ys h n m rf rf' rf'' wf wf' wf'' OutOfMemory whole a b same e = tt
+view_then xs ys h n m link between now (Refused k at) whole a b same e = e
+view_then xs ys h n m link between now Truncated whole a b same e = (subst IsUnended (same refl) e.0, whole e.1, e.2)
+view_then xs ys h n m link between now NotInvited whole a b same e = e
+view_then xs ys h n m link between now RoomFull whole a b same e = e
+view_then xs ys h n m link between now JoinsSpent whole a b same e = e
+view_then xs ys h n m link between now ReadFault whole a b same e = subst (λ (k : ℕ). Rose k now.input.faults) a e
+view_then xs ys h n m link between now WriteFault whole a b same e = subst (λ (k : ℕ). Rose k now.output.faults) b e
+view_then xs ys h n m link between now OutOfMemory whole a b same e = tt
 
 -- an end that stays behind the last word
-view_onto : (left : std_option.Option (List ℕ)) (read : List ℕ) (h : Hearing) (n : Notice) (rf rf' wf wf1 wf2 : ℕ) (end : ConnEnd) → wf2 ≡ wf1
-    → ViewEnd left read h n rf rf' wf wf1 end → ViewEnd left read h n rf rf' wf wf2 end
-view_onto left read h n rf rf' wf wf1 wf2 Left w e = e
-view_onto left read h n rf rf' wf wf1 wf2 (Refused k at) w e = e
-view_onto left read h n rf rf' wf wf1 wf2 Truncated w e = e
-view_onto left read h n rf rf' wf wf1 wf2 NotInvited w e = e
-view_onto left read h n rf rf' wf wf1 wf2 RoomFull w e = e
-view_onto left read h n rf rf' wf wf1 wf2 JoinsSpent w e = e
-view_onto left read h n rf rf' wf wf1 wf2 ReadFault w e = e
-view_onto left read h n rf rf' wf wf1 wf2 WriteFault w e = subst (λ (k : ℕ). Rose wf k) (sym w) e
-view_onto left read h n rf rf' wf wf1 wf2 OutOfMemory w e = tt
+view_onto : (read : List ℕ) (h : Hearing) (n : Notice) (link : Outside) (input : Input) (mid now : Output) (end : ConnEnd) → now.faults ≡ mid.faults
+    → ViewEnd read h n link (outside input mid) end → ViewEnd read h n link (outside input now) end
+view_onto read h n link input mid now Left w e = e
+view_onto read h n link input mid now (Refused k at) w e = e
+view_onto read h n link input mid now Truncated w e = e
+view_onto read h n link input mid now NotInvited w e = e
+view_onto read h n link input mid now RoomFull w e = e
+view_onto read h n link input mid now JoinsSpent w e = e
+view_onto read h n link input mid now ReadFault w e = e
+view_onto read h n link input mid now WriteFault w e = subst (λ (k : ℕ). Rose link.output.faults k) (sym w) e
+view_onto read h n link input mid now OutOfMemory w e = tt
 
 -- behind the last word
-view_said : (left : std_option.Option (List ℕ)) (read : List ℕ) (h : Hearing) (n : Notice) (rf rf' wf wf1 wf2 : ℕ) (end said : ConnEnd) (asked : Bool)
-    (out out' : std_option.Option (List ℕ)) → ViewEnd left read h n rf rf' wf wf1 end → ((ultimatum_at end asked ≡ [] → ⊥) → wf1 ≡ wf)
-    → Said end asked said out out' wf1 wf2 → ViewEnd left read h n rf rf' wf wf2 said
-view_said left read h n rf rf' wf wf1 wf2 end said asked out out' e calm s = ⊎_elim
-    (λ (l : (said ≡ end) × (wf2 ≡ wf1)). subst (ViewEnd left read h n rf rf' wf wf2) (sym l.0) (view_onto left read h n rf rf' wf wf1 wf2 end l.1 e))
-    (λ (r : IsCutShort end asked said wf1 wf2). ⊎_elim
-    (λ (x : (said ≡ WriteFault) × Rose wf1 wf2). subst (ViewEnd left read h n rf rf' wf wf2) (sym x.0) (subst (λ (k : ℕ). Rose k wf2) (calm r.due) x.1))
-    (λ (m : said ≡ OutOfMemory). subst (ViewEnd left read h n rf rf' wf wf2) (sym m) tt)
+view_said : (read : List ℕ) (h : Hearing) (n : Notice) (link : Outside) (input : Input) (mid now : Output) (end said : ConnEnd) (asked : Bool)
+    → ViewEnd read h n link (outside input mid) end → ((ultimatum_at end asked ≡ [] → ⊥) → mid.faults ≡ link.output.faults)
+    → Said end asked said mid now → ViewEnd read h n link (outside input now) said
+view_said read h n link input mid now end said asked e calm s = ⊎_elim
+    (λ (l : (said ≡ end) × (now.faults ≡ mid.faults)). subst (ViewEnd read h n link (outside input now)) (sym l.0) (view_onto read h n link input mid now end l.1 e))
+    (λ (r : IsCutShort end asked said mid now). ⊎_elim
+    (λ (x : (said ≡ WriteFault) × Rose mid.faults now.faults). subst (ViewEnd read h n link (outside input now)) (sym x.0) (subst (λ (k : ℕ). Rose k now.faults) (calm r.due) x.1))
+    (λ (m : said ≡ OutOfMemory). subst (ViewEnd read h n link (outside input now)) (sym m) tt)
     r.how)
     s.stays
 
@@ -121,9 +120,9 @@ begins_said : (n : ℕ) (end said : ConnEnd) (takes : List TakeOf) → (end ≡ 
 begins_said n end said [] keeps b = keeps b
 begins_said n end said (t ∷ takes) keeps b = b
 
-want_stays : (end : ConnEnd) (asked : Bool) (said : ConnEnd) (out out' : std_option.Option (List ℕ)) (wf wf' : ℕ) → Said end asked said out out' wf wf' → end ≡ OutOfMemory → said ≡ OutOfMemory
-want_stays end asked said out out' wf wf' s is = ⊎_elim (λ (l : (said ≡ end) × (wf' ≡ wf)). l.0 ∙ is)
-    (λ (r : IsCutShort end asked said wf wf'). absurd (r.due (ap (λ (x : ConnEnd). ultimatum_at x asked) is))) s.stays
+want_stays : (end : ConnEnd) (asked : Bool) (said : ConnEnd) (o o' : Output) → Said end asked said o o' → end ≡ OutOfMemory → said ≡ OutOfMemory
+want_stays end asked said o o' s is = ⊎_elim (λ (l : (said ≡ end) × (o'.faults ≡ o.faults)). l.0 ∙ is)
+    (λ (r : IsCutShort end asked said o o'). absurd (r.due (ap (λ (x : ConnEnd). ultimatum_at x asked) is))) s.stays
 
 pushed : (xs : List Entry) (x : Entry) → length (xs ++ x ∷ []) ≡ suc (length xs)
 pushed [] x = refl
@@ -151,36 +150,36 @@ leave_mine v base false place at = ap (λ (o : Option ℕ). option_to_list o) (s
 
 -- ---- the visit
 
-module _ (head : Head) (p p1 r : SessionPass) (size : Size) (conn : Hearing) (name : List ℕ) (guest : Guest) (visit : Visit) (told0 noted : Told) (said : ConnEnd)
-    (left left1 left2 out out1 mid out2 : std_option.Option (List ℕ)) (rf rf1 rf2 wf wf1 wm wf2 : ℕ) where
+module _ (head : Head) (p p1 r : SessionPass) (size : Size) (conn : Hearing) (name : List ℕ) (guest : Guest) (visit : Visit) (nothing noted : Noted) (said : ConnEnd)
+    (link between spent : Outside) (mid : Output) where
   visited_as : size ≡ head.size → is_session_size head.size.w head.size.h ≡ true → HasAllCaches guest.confirmed → Idles p p1 → IsLegalJournal head r.seen
-      → Greets (first_hearing size) conn [] name left left1 out out1 rf rf1 wf wf1 (Ok (Some guest)) → IsUnnoted told0
-      → (sa : ServesArrival head guest.name guest.confirmed guest.rest.items conn p1 r told0 noted left1 left2 rf1 rf2 out1 mid wf1 wm visit)
-      → SaysLast visit.end noted.shutdown said mid out2 wm wf2
-      → ServesViewer head p r (record { viewer = sa.arrival.v; end = said; places = noted.places }) (link_state left out rf wf) (link_state left2 out2 rf2 wf2)
+      → Greets (first_hearing size) conn [] name link between (Ok (Some guest)) → IsUnnoted nothing
+      → (sa : ServesArrival head guest.name guest.confirmed guest.rest.items conn p1 r nothing noted between (outside spent.input mid) visit)
+      → SaysLast visit.end noted.shutdown said mid spent.output
+      → ServesViewer head p r (record { viewer = sa.arrival.v; end = said; places = noted.places }) link spent
   visited_as same sized caches idle legal given unnoted sa says =
-      let a : Greets (first_hearing head.size) conn [] name left left1 out out1 rf rf1 wf wf1 (Ok (Some guest))
-      = subst (λ (z : Size). Greets (first_hearing z) conn [] name left left1 out out1 rf rf1 wf wf1 (Ok (Some guest))) same given in
+      let a : Greets (first_hearing head.size) conn [] name link between (Ok (Some guest))
+      = subst (λ (z : Size). Greets (first_hearing z) conn [] name link between (Ok (Some guest))) same given in
       let v : ℕ = sa.arrival.v in
       let confirmed : Confirmed = guest.confirmed in
       let q : SessionPass = sa.joined in
       let u : SessionPass = sa.viewed in
       let b : List Entry = sa.arrives.base in
       let role = sa.arrives.role in
-      let t1 : Told = sa.told in
-      let n0 : Told = sa.noted in
+      let t1 : Noted = sa.noted_viewed in
+      let n0 : Noted = sa.noted_joined in
       let q_len : length q.seen ≡ suc (length b) = ap (λ (l : List Entry). length l) sa.arrives.turn.seen ∙ pushed b (Join v role) in
       let join_q : slice_get q.seen (length b) ≡ Some (Join v role)
       = subst (λ (l : List Entry). slice_get l (length b) ≡ Some (Join v role)) (sym sa.arrives.turn.seen) (got_end b (Join v role)) in
-      let view : Viewed head v confirmed guest.rest.items conn q u n0.places.list t1.places.list (notice_in n0) (notice_in t1) left1 left2 rf1 rf2 out1 mid wf1 wm visit.end
-      = viewed head v confirmed guest.rest.items conn q u n0 t1 left1 left2 rf1 rf2 out1 mid wf1 wm visit.end
+      let view : Viewed head v confirmed guest.rest.items conn q u n0.places.list t1.places.list (notice_in n0) (notice_in t1) between (outside spent.input mid) visit.end
+      = viewed head v confirmed guest.rest.items conn q u n0 t1 between (outside spent.input mid) visit.end
       (present_by (is_present v (reached_at head.size q.seen (length q.seen)).viewers) head.size q.seen v (length b) (length q.seen) role refl join_q q_len)
       sa.arrival.first sa.stays in
       let place : Option ℕ = sa.leaves.0 in
       let c : List Entry = sa.leaves.1.base in
       let here : Bool = is_present v (reached_at head.size c (length c)).viewers in
       let turn : IsTurn u r c (leave_if here v) = sa.leaves.1.turn in
-      let s : Said visit.end noted.shutdown said mid out2 wm wf2 = said_last visit.end noted.shutdown said mid out2 wm wf2 says in
+      let s : Said visit.end noted.shutdown said mid spent.output = said_last visit.end noted.shutdown said mid spent.output says in
       -- the journal
       let join : ℕ = length b in
       let on_u : StartsWith u.seen q.seen = view.handles.grows in
@@ -207,16 +206,16 @@ module _ (head : Head) (p p1 r : SessionPass) (size : Size) (conn : Hearing) (na
       let of : AreOfEvents v r.seen (places_of head v r.seen done.acts) = places_are_of_events head v r.seen (suc (length b)) done.acts done.high happen in
       let all_places : noted.places.list ≡ length b ∷ (places_of head v r.seen done.acts ++ option_to_list place)
       = sa.leaves.2 ∙ ap (λ (l : List ℕ). l ++ option_to_list place)
-      (done.places ∙ ap (λ (l : List ℕ). l ++ places_of head v r.seen done.acts) (sa.noted_places ∙ ap (λ (l : List ℕ). l ++ length b ∷ []) unnoted.0)) in
+      (done.places ∙ ap (λ (l : List ℕ). l ++ places_of head v r.seen done.acts) (sa.joined_places ∙ ap (λ (l : List ℕ). l ++ length b ∷ []) unnoted.0)) in
       -- the stream
       let read : List ℕ = a.fed ++ view.fed in
       let steps : List ConnStep = guest.rest.items ++ (heard conn view.fed).steps in
       let stream : IsReadyStream head.size a.fed view.fed conn guest.name confirmed guest.rest.items
       = ready_stream head.size a.fed view.fed conn guest.name confirmed guest.rest.items a.came.1 a.came.2 in
       let free_of : is_cut said ≡ false → is_cut visit.end ≡ false
-      = λ free. ap is_cut (sym (uncut_before visit.end noted.shutdown said mid out2 wm wf2 s free)) ∙ free in
+      = λ free. ap is_cut (sym (uncut_before visit.end noted.shutdown said mid spent.output s free)) ∙ free in
       let same_notice : is_cut visit.end ≡ false → notice_in t1 ≡ notice_after_all no_notice steps
-      = λ free. view.notice ∙ (ap (λ (n : Notice). notice_after_all n view.steps) (sa.noted_notice ∙ unnoted.1)
+      = λ free. view.notice ∙ (ap (λ (n : Notice). notice_after_all n view.steps) (sa.joined_notice ∙ unnoted.1)
       ∙ ap (notice_after_all no_notice) (sym (view.front ∙ (ap (λ l. view.steps ++ l) (view.all free) ∙ append-nil view.steps)))) in
       -- the frames
       let frames : List ℕ = joined_bytes (bytes_of_takes head.size confirmed r.seen first_encoder view.takes) in
@@ -244,7 +243,7 @@ module _ (head : Head) (p p1 r : SessionPass) (size : Size) (conn : Hearing) (na
       ∙ append_assoc p.mine (length b ∷ []) (places_of head v r.seen done.acts)) in
       record {
         read = a.fed ++ view.fed;
-        taken = consumes_then left left1 left2 a.fed view.fed a.taken view.taken;
+        taken = consumes_then link.input.left between.input.left spent.input.left a.fed view.fed a.taken view.taken;
         grows = starts_trans r.seen b p.seen on_b (starts_trans b p1.seen p.seen sa.arrives.turn.goes_on (idle_grows p p1 idle));
         legal = legal;
         mine = turn.mine ∙ (ap₂ ◌++◌ mine_u (leave_mine v c here place sa.leaves.1.place_is)
@@ -286,7 +285,7 @@ module _ (head : Head) (p p1 r : SessionPass) (size : Size) (conn : Hearing) (na
           last = view.last;
           follow = view.follow;
           within_takes = within;
-          begins = begins_said (suc (length b)) visit.end said view.takes (want_stays visit.end noted.shutdown said mid out2 wm wf2 s)
+          begins = begins_said (suc (length b)) visit.end said view.takes (want_stays visit.end noted.shutdown said mid spent.output s)
               (subst (λ (n : ℕ). BeginsWith n visit.end view.takes) q_len view.begins);
           up_to_date = subst (λ (n : ℕ). AtLeast n (drop 1 view.takes)) q_len view.up_to_date;
           present = present_stays head v r.seen u.seen view.takes 0 view.last view.follow view.within_seen on_r view.present;
@@ -298,11 +297,11 @@ module _ (head : Head) (p p1 r : SessionPass) (size : Size) (conn : Hearing) (na
           word = ultimatum_at visit.end noted.shutdown;
           word_is = word_of (is_cut said) said noted.shutdown (notice_after_all no_notice steps).shutdown (ultimatum_at visit.end noted.shutdown)
               (λ free. ap (λ (n : Notice). n.shutdown) (sa.notice ∙ same_notice (free_of free))) s.word;
-          writes = subst (λ (l : List ℕ). Writes said l (link_state left out rf wf) (link_state left2 out2 rf2 wf2))
+          writes = subst (λ (l : List ℕ). Writes said l link spent)
               (append_assoc (host_handshake head.size read).replies frames (ultimatum_at visit.end noted.shutdown))
-              (writes_said visit.end noted.shutdown said ((host_handshake head.size read).replies ++ frames) (a.written ++ view.written) view.unwritten (link_state left out rf wf)
-              (link_state left2 out2 rf2 wf2) mid wm wf2 (ap₂ ◌++◌ replied (same_frames ∙ view.bytes) ∙ sym (append_assoc a.written view.written view.unwritten))
-              (Appends-trans out out1 mid a.written view.written a.told view.told) view.all_written s);
+              (writes_said visit.end noted.shutdown said ((host_handshake head.size read).replies ++ frames) (a.written ++ view.written) view.unwritten link spent mid
+              (ap₂ ◌++◌ replied (same_frames ∙ view.bytes) ∙ sym (append_assoc a.written view.written view.unwritten))
+              (Appends-trans link.output.told between.output.told mid.told a.written view.written a.told view.told) view.all_written s);
           sees = takes_see head confirmed (frame_shows_journal head confirmed) sized caches r.seen legal view.takes view.last view.follow within;
           viewed = view.written;
           viewed_front = record { rest = view.unwritten; joined = same_frames ∙ view.bytes };
@@ -311,21 +310,22 @@ module _ (head : Head) (p p1 r : SessionPass) (size : Size) (conn : Hearing) (na
           in_order = ⊎_elim
               (λ (none : view.unwritten ≡ []). inl (sym (same_frames ∙ (view.bytes ∙ (ap (λ l. view.written ++ l) none ∙ append-nil view.written)))))
               (λ (still : s.written ≡ []). inr still)
-              (whole_or_still visit.end noted.shutdown said view.unwritten mid out2 wm wf2 view.all_written s);
-          told = subst (Appends out out2)
+              (whole_or_still visit.end noted.shutdown said view.unwritten mid spent.output view.all_written s);
+          told = subst (Appends link.output.told spent.output.told)
               (append_assoc a.written view.written s.written ∙ ap (λ l. l ++ (view.written ++ s.written)) (sym replied))
-              (Appends-trans out mid out2 (a.written ++ view.written) s.written (Appends-trans out out1 mid a.written view.written a.told view.told) s.told);
+              (Appends-trans link.output.told mid.told spent.output.told (a.written ++ view.written) s.written
+              (Appends-trans link.output.told between.output.told mid.told a.written view.written a.told view.told) s.told);
           sees_first = front_sees head.size confirmed r.seen (map (λ (t : TakeOf). t.number) view.takes) frames view.written
               (takes_see head confirmed (frame_shows_journal head confirmed) sized caches r.seen legal view.takes view.last view.follow within)
               (record { rest = view.unwritten; joined = same_frames ∙ view.bytes });
-          ends = view_said left read (host_handshake head.size read).after (notice_after_all no_notice steps) rf rf2 wf wm wf2 visit.end said noted.shutdown mid out2
-              (view_then left left1 a.fed view.fed (host_handshake head.size read).after (notice_in t1) (notice_after_all no_notice steps) rf rf1 rf2 wf wf1 wm visit.end
-              (consumes_then left left1 (std.Some []) a.fed view.fed a.taken) a.came.3 a.came.4 same_notice
-              (subst (λ (h : Hearing). ViewEnd left1 view.fed h (notice_in t1) rf1 rf2 wf1 wm visit.end) (sym stream.after) view.ends))
+          ends = view_said read (host_handshake head.size read).after (notice_after_all no_notice steps) link spent.input mid spent.output visit.end said noted.shutdown
+              (view_then a.fed view.fed (host_handshake head.size read).after (notice_in t1) (notice_after_all no_notice steps) link between (outside spent.input mid) visit.end
+              (consumes_then link.input.left between.input.left (std.Some []) a.fed view.fed a.taken) a.came.3 a.came.4 same_notice
+              (subst (λ (h : Hearing). ViewEnd view.fed h (notice_in t1) between (outside spent.input mid) visit.end) (sym stream.after) view.ends))
               (λ due. view.calm (due_uncut visit.end noted.shutdown due) ∙ a.came.4) s;
           shown = λ wants.
               let free : is_cut said ≡ false = ap is_cut (wants_left said (notice_after_all no_notice steps) wants) in
-              let stays : said ≡ visit.end = uncut_before visit.end noted.shutdown said mid out2 wm wf2 s free in
+              let stays : said ≡ visit.end = uncut_before visit.end noted.shutdown said mid spent.output s free in
               last_shown head.size v u.seen c r.seen (length b) role (places_of head v r.seen done.acts) view.handles.high view.last here place noted.places.list
               (is_present v (reached_at head.size u.seen (length u.seen)).viewers) refl
               (view.shown (ap₂ wants_last (sym stays) (same_notice (free_of free)) ∙ wants)) join_u below_u turn.goes_on turn.seen sa.leaves.1.place_is of asc
@@ -335,13 +335,13 @@ module _ (head : Head) (p p1 r : SessionPass) (size : Size) (conn : Hearing) (na
 
   -- with its report
   pub visited : (report : ConnReport) → report.end ≡ said → size ≡ head.size → is_session_size head.size.w head.size.h ≡ true → HasAllCaches guest.confirmed → Idles p p1
-      → IsLegalJournal head r.seen → Greets (first_hearing size) conn [] name left left1 out out1 rf rf1 wf wf1 (Ok (Some guest)) → IsUnnoted told0
-      → ServesArrival head guest.name guest.confirmed guest.rest.items conn p1 r told0 noted left1 left2 rf1 rf2 out1 mid wf1 wm visit
-      → ReportsVisit visit noted report → SaysLast visit.end noted.shutdown said mid out2 wm wf2
-      → ServesViewer head p r report (link_state left out rf wf) (link_state left2 out2 rf2 wf2)
+      → IsLegalJournal head r.seen → Greets (first_hearing size) conn [] name link between (Ok (Some guest)) → IsUnnoted nothing
+      → ServesArrival head guest.name guest.confirmed guest.rest.items conn p1 r nothing noted between (outside spent.input mid) visit
+      → ReportsVisit visit noted report → SaysLast visit.end noted.shutdown said mid spent.output
+      → ServesViewer head p r report link spent
   visited report is_end same sized caches idle legal given unnoted sa reported says =
       let viewer : report.viewer ≡ sa.arrival.v = reported.viewer ∙ sa.viewer in
       let is : report ≡ record { viewer = sa.arrival.v; end = said; places = noted.places }
       = λ i. record { viewer = viewer i; end = is_end i; places = reported.places i } in
-      subst (λ (x : ConnReport). ServesViewer head p r x (link_state left out rf wf) (link_state left2 out2 rf2 wf2)) (sym is)
+      subst (λ (x : ConnReport). ServesViewer head p r x link spent) (sym is)
       (visited_as same sized caches idle legal given unnoted sa says)

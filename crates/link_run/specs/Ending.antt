@@ -1,13 +1,12 @@
 -- The last word to a client, and what of all that was due to it was written.
 use Rattle.std.specs.Prelude.{◌≡◌, ◌⊎◌, ℕ, Bool, true, false, List, [], ◌++◌, Result, Ok, Err, IsOk}
-use Rattle.std.specs.declared.option.Option.{Option}
 use Rattle.std.specs.Io.KnownBytes.{Appends}
 use Rattle.mcs_dom.specs.Ultimatum.{ultimatum_packet}
 use Rattle.serve_rules.specs.declared.ends.ConnEnd.{ConnEnd}
 use Rattle.serve_rules.specs.declared.ends.ConnEnd.TheVariants.{Left, Refused, Truncated, NotInvited, RoomFull, JoinsSpent, ReadFault, WriteFault, OutOfMemory}
 use Rattle.viewer_run.specs.Greeting.{Replies}
 use Rattle.viewer_run.specs.Ending.{ultimatum_at}
-use Rattle.link_run.specs.Links.{LinkState}
+use Rattle.edge_io.specs.Outside.{Output, Outside}
 
 -- whether a write failed or memory was wanted, so that what was written may have been cut
 abbrev pub is_cut : ConnEnd → Bool
@@ -35,11 +34,11 @@ abbrev pub IsLastWord : ConnEnd → Bool → List ℕ → Type 0
 IsLastWord end asked word = IsWordAt (is_cut end) end asked word
 
 -- these bytes were written, or a front of them where that may have been cut
-pub record Writes (end : ConnEnd) (bytes : List ℕ) (link spent : LinkState) : Type 0 where
+pub record Writes (end : ConnEnd) (bytes : List ℕ) (link spent : Outside) : Type 0 where
   pub written : List ℕ
   pub unwritten : List ℕ
   pub whole : bytes ≡ written ++ unwritten
-  pub told : Appends link.told spent.told written
+  pub told : Appends link.output.told spent.output.told written
   pub all : is_cut end ≡ false → unwritten ≡ []
 
 -- an end stays, unless its last word met another one
@@ -48,6 +47,6 @@ end_after end (Ok done) = end
 end_after end (Err other) = other
 
 -- the last word that is due at an end was said, or a front of it, which is another end
-abbrev pub SaysLast : ConnEnd → Bool → ConnEnd → Option (List ℕ) → Option (List ℕ) → ℕ → ℕ → Type 0
-SaysLast end asked said out out' wf wf' = (result : Result (Unit {0}) ConnEnd)
-    × Replies out out' (ultimatum_at end asked) wf wf' result × (ultimatum_at end asked ≡ [] → IsOk result) × (said ≡ end_after end result)
+abbrev pub SaysLast : ConnEnd → Bool → ConnEnd → (before now : Output) → Type 0
+SaysLast end asked said before now = (result : Result (Unit {0}) ConnEnd)
+    × Replies (ultimatum_at end asked) before now result × (ultimatum_at end asked ≡ [] → IsOk result) × (said ≡ end_after end result)

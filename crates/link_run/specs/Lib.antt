@@ -1,4 +1,3 @@
-pub mod Links
 pub mod Ending
 pub mod Serving
 pub mod Served

@@ -4,12 +4,12 @@ use Rattle.conn_rules.specs.Hearing.{Hearing}
 use Rattle.session_rules.specs.Journal.{Head}
 use Rattle.serve_rules.specs.Turns.{SessionPass}
 use Rattle.serve_rules.specs.declared.ends.ConnEnd.{ConnEnd}
-use Rattle.serve_rules.specs.declared.told.ConnReport.{ConnReport}
-use Rattle.serve_rules.specs.declared.told.Told.{Told}
+use Rattle.serve_rules.specs.declared.noted.ConnReport.{ConnReport}
+use Rattle.serve_rules.specs.declared.noted.Noted.{Noted}
 use Rattle.viewer_run.specs.declared.guest.Guest.{Guest}
 use Rattle.viewer_run.specs.declared.arriving.Visit.{Visit}
 use Rattle.viewer_run.specs.Arriving.{GuestServed}
-use Rattle.link_run.specs.Links.{LinkState}
+use Rattle.edge_io.specs.Outside.{Output, Outside, outside}
 use Rattle.link_run.specs.Ending.{SaysLast}
 
 -- a connection is reported as one of nobody
@@ -18,19 +18,18 @@ pub record ReportsNobody (report : ConnReport) : Type 0 where
   pub none : report.places.list ≡ []
 
 -- or as a viewer's
-pub record ReportsVisit (visit : Visit) (told : Told) (report : ConnReport) : Type 0 where
+pub record ReportsVisit (visit : Visit) (noted : Noted) (report : ConnReport) : Type 0 where
   pub viewer : report.viewer ≡ visit.v
-  pub places : report.places ≡ told.places
+  pub places : report.places ≡ noted.places
 
 -- a connection is reported, and the last word that is due at its end was said
-abbrev pub IsReported : Result (Visit × Told) ConnEnd → ConnReport → LinkState → LinkState → Type 0
-IsReported (Ok (visit, told)) report between spent =
-    ReportsVisit visit told report × SaysLast visit.end told.shutdown report.end between.told spent.told between.writes spent.writes
-IsReported (Err end) report between spent = ReportsNobody report × SaysLast end false report.end between.told spent.told between.writes spent.writes
+abbrev pub IsReported : Result (Visit × Noted) ConnEnd → ConnReport → (between spent : Output) → Type 0
+IsReported (Ok (visit, noted)) report between spent = ReportsVisit visit noted report × SaysLast visit.end noted.shutdown report.end between spent
+IsReported (Err end) report between spent = ReportsNobody report × SaysLast end false report.end between spent
 
 -- a client that is ready was served, and the last word to it was said, from what was written before to what was written after
-pub record ServesReady (head : Head) (guest : Guest) (conn : Hearing) (before after : SessionPass) (report : ConnReport) (link spent : LinkState) : Type 0 where
-  pub came : Result (Visit × Told) ConnEnd
-  pub between : LinkState
-  pub guest_served : GuestServed head guest conn before after link.left spent.left link.reads spent.reads link.told between.told link.writes between.writes came
-  pub reported : IsReported came report between spent
+pub record ServesReady (head : Head) (guest : Guest) (conn : Hearing) (before after : SessionPass) (report : ConnReport) (link spent : Outside) : Type 0 where
+  pub came : Result (Visit × Noted) ConnEnd
+  pub between : Output
+  pub guest_served : GuestServed head guest conn before after link (outside spent.input between) came
+  pub reported : IsReported came report between spent.output

@@ -29,13 +29,13 @@ use Rattle.serve_rules.specs.Notices.{events_in, notice_after_all}
 use Rattle.serve_rules.specs.Reading.{IsWhole, IsNoRefusal}
 use Rattle.serve_rules.specs.declared.ends.ConnEnd.{ConnEnd}
 use Rattle.serve_rules.specs.declared.ends.ConnEnd.TheVariants.{Left, Refused, Truncated, NotInvited, RoomFull, JoinsSpent, ReadFault, WriteFault, OutOfMemory}
-use Rattle.serve_rules.specs.declared.told.ConnReport.{ConnReport}
+use Rattle.serve_rules.specs.declared.noted.ConnReport.{ConnReport}
 use Rattle.viewer_run.specs.Greeting.{Greeting, greeting, StillConnects}
 use Rattle.viewer_run.specs.Greeting.Greeting.{IsReady, HasLeft}
-use Rattle.viewer_run.specs.Sending.{AtLeast, IsPresentAtEach}
+use Rattle.viewer_sides.specs.Sending.{AtLeast, IsPresentAtEach}
 use Rattle.viewer_run.specs.Serving.{ViewEnd, wants_last}
 use Rattle.viewer_run.specs.Arriving.{no_notice}
-use Rattle.link_run.specs.Links.{LinkState}
+use Rattle.edge_io.specs.Outside.{Outside}
 use Rattle.link_run.specs.Ending.{is_cut, IsLastWord, Writes}
 
 -- ---- a client that didn't join
@@ -51,19 +51,19 @@ pub record IsTurnedAwayAs (head : Head) (after : SessionPass) (g : Greeting) (fa
 
 -- when the connection of a client ends so that didn't join: by what its steps came to, where its stream stands, which is cut only where it isn't refused, and what
 -- of it was read
-abbrev pub OutsideEnd : Head → SessionPass → Greeting → Hearing → List ℕ → LinkState → LinkState → ConnEnd → Type 0
+abbrev pub OutsideEnd : Head → SessionPass → Greeting → Hearing → List ℕ → Outside → Outside → ConnEnd → Type 0
 OutsideEnd head after g h read link spent Left = g ≡ HasLeft
 OutsideEnd head after g h read link spent (Refused k at) = StillConnects g × (end_of h ≡ RefusedAt k at)
-OutsideEnd head after g h read link spent Truncated = StillConnects g × IsWhole link.left read × IsNoRefusal (end_of h)
+OutsideEnd head after g h read link spent Truncated = StillConnects g × IsWhole link.input.left read × IsNoRefusal (end_of h)
 OutsideEnd head after g h read link spent NotInvited = IsTurnedAwayAs head after g join.NotInvited
 OutsideEnd head after g h read link spent RoomFull = IsTurnedAwayAs head after g join.RoomFull
 OutsideEnd head after g h read link spent JoinsSpent = IsTurnedAwayAs head after g join.JoinsSpent
-OutsideEnd head after g h read link spent ReadFault = Rose link.reads spent.reads
-OutsideEnd head after g h read link spent WriteFault = Rose link.writes spent.writes
+OutsideEnd head after g h read link spent ReadFault = Rose link.input.faults spent.input.faults
+OutsideEnd head after g h read link spent WriteFault = Rose link.output.faults spent.output.faults
 OutsideEnd head after g h read link spent OutOfMemory = ⊤
 
 -- a client didn't join: the replies to what it sent were written, and the last word
-pub record IsOutside (head : Head) (after : SessionPass) (report : ConnReport) (link spent : LinkState) (read : List ℕ) : Type 0 where
+pub record IsOutside (head : Head) (after : SessionPass) (report : ConnReport) (link spent : Outside) (read : List ℕ) : Type 0 where
   pub nobody : report.viewer ≡ 0
   pub none : report.places.list ≡ []
   pub word : List ℕ
@@ -89,7 +89,7 @@ BeginsWith n end [] = end ≡ OutOfMemory
 BeginsWith n end (t ∷ takes) = t.number ≡ n
 
 -- a client joined as a viewer and was served until its connection ended
-pub record IsVisit (head : Head) (before after : SessionPass) (report : ConnReport) (link spent : LinkState) (read : List ℕ) : Type 0 where
+pub record IsVisit (head : Head) (before after : SessionPass) (report : ConnReport) (link spent : Outside) (read : List ℕ) : Type 0 where
   -- what the client's stream comes to: it is ready by a name, and these steps follow
   pub name : List ℕ
   pub confirmed : Confirmed
@@ -144,10 +144,10 @@ pub record IsVisit (head : Head) (before after : SessionPass) (report : ConnRepo
   pub said : List ℕ
   pub said_front : IsFront said word
   pub in_order : (viewed ≡ joined_bytes (bytes_of_takes head.size confirmed after.seen first_encoder takes)) ⊎ (said ≡ [])
-  pub told : Appends link.told spent.told ((host_handshake head.size read).replies ++ (viewed ++ said))
+  pub told : Appends link.output.told spent.output.told ((host_handshake head.size read).replies ++ (viewed ++ said))
   pub sees_first : SeesFirstOfJournal head.size confirmed after.seen (map (λ (t : TakeOf). t.number) takes) viewed
   -- the connection's end, and the last mark at it
-  pub ends : ViewEnd link.left read (host_handshake head.size read).after (notice_after_all no_notice steps) link.reads spent.reads link.writes spent.writes report.end
+  pub ends : ViewEnd read (host_handshake head.size read).after (notice_after_all no_notice steps) link spent report.end
   pub shown : wants_last report.end (notice_after_all no_notice steps) ≡ true
       → All (λ place. place < last) (join ∷ places_of head report.viewer after.seen acts) ⊎ HasLeftElsewhere report.viewer after.seen report.places.list
 
@@ -155,9 +155,9 @@ pub record IsVisit (head : Head) (before after : SessionPass) (report : ConnRepo
 
 -- a client's connection was served over the session behind a lock: what was read of it is its stream, and the entries of its pass are those that the report has;
 -- the pass still has all of the lock that it had, so each pass that was split off from it has come back
-pub record ServesViewer (head : Head) (before after : SessionPass) (report : ConnReport) (link spent : LinkState) : Type 0 where
+pub record ServesViewer (head : Head) (before after : SessionPass) (report : ConnReport) (link spent : Outside) : Type 0 where
   pub read : List ℕ
-  pub taken : Consumes link.left spent.left read
+  pub taken : Consumes link.input.left spent.input.left read
   pub grows : StartsWith after.seen before.seen
   pub legal : IsLegalJournal head after.seen
   pub mine : after.mine ≡ before.mine ++ report.places.list

@@ -1,5 +1,6 @@
 //! The last word to a client, and what is reported of its connection.
 ghost use Rattle.std.specs.Prelude.{◌≡◌, [], false};
+ghost use Rattle.edge_io.specs.Outside.{output_of};
 ghost use Rattle.link_run.specs.Ending.{SaysLast};
 
 use edge_io::Sink;
@@ -9,7 +10,7 @@ use viewer_run::put_last;
 
 /// Says the last word that is due at an end; where it can't be written, the end is that.
 pub(crate) fn say_last<K: Sink>(alloc: Global, output: &mut K, end: ConnEnd, asked: bool) -> ConnEnd
-    ensures { SaysLast end asked result (K.told output.old) (K.told output.new) (K.faults output.old) (K.faults output.new) }
+    ensures { SaysLast end asked result (output_of K.Sink output.old) (output_of K.Sink output.new) }
 {
     match put_last(alloc, output, end, asked) {
         Ok(()) => end,
@@ -21,7 +22,7 @@ pub(crate) fn say_last<K: Sink>(alloc: Global, output: &mut K, end: ConnEnd, ask
 pub(crate) fn turn_away<K: Sink>(alloc: Global, output: &mut K, end: ConnEnd) -> ConnReport
     ensures nobody { result.viewer ≡ 0 }
     ensures none { result.places.list ≡ [] }
-    ensures last { SaysLast end false result.end (K.told output.old) (K.told output.new) (K.faults output.old) (K.faults output.new) }
+    ensures last { SaysLast end false result.end (output_of K.Sink output.old) (output_of K.Sink output.new) }
 {
     let end = say_last(alloc, output, end, false);
     ConnReport {

@@ -1,5 +1,6 @@
 //! A client's connection, served from its first byte to its last.
 ghost use Rattle.std.specs.Prelude.{◌≡◌, [], IsTrue, ℕ, List};
+ghost use Rattle.edge_io.specs.Outside.{output_of, outside_of, outside_given, outside_spent};
 ghost use Rattle.px_core.specs.Rectangle.{is_session_size};
 ghost use Rattle.caps_sets.specs.declared.confirmed.Confirmed.{Confirmed as ConfirmedModel};
 ghost use Rattle.frame_rules.specs.Describes.{HasAllCaches};
@@ -8,7 +9,6 @@ ghost use Rattle.conn_rules.specs.Placed.{AreBytes, ArePlaced};
 ghost use Rattle.session_rules.specs.Journal.{IsLegalJournal};
 ghost use Rattle.grow_lock.specs.Passes.{IsPassOf};
 ghost use Rattle.link_run.specs.Ending.{SaysLast};
-ghost use Rattle.link_run.specs.Links.{link_state};
 ghost use Rattle.link_run.specs.Served.{ServesReady};
 ghost use Rattle.link_run.specs.Serving.{ServesViewer};
 
@@ -17,7 +17,7 @@ use caps_sets::Confirmed;
 use conn_core::Conn;
 use edge_io::{Link, Sink, Source};
 use grow_lock::{GrowLock, Pass};
-use serve_rules::{ConnEnd, ConnReport, Told};
+use serve_rules::{ConnEnd, ConnReport, Noted};
 use session_core::Session;
 use std::alloc::Global;
 use std::sync::Wait;
@@ -34,8 +34,8 @@ pub fn serve_viewer<R: Threads + Wait + Sync, L: Link>(
 ) -> (Pass<Session>, ConnReport, L::Spent)
     requires { IsPassOf lock.now pass }
     ensures lock { IsPassOf lock.now result.0 }
-    ensures served { ServesViewer lock.now.head pass result.0 result.1 (link_state (L.left link) (L.told link) (L.reader_faults link) (L.writer_faults link))
-        (link_state (L.spent_left result.2) (L.spent_told result.2) (L.spent_reader_faults result.2) (L.spent_writer_faults result.2)) }
+    ensures served { ServesViewer lock.now.head pass result.0 result.1 (outside_given L.Link link)
+        (outside_spent L.Link result.2) }
 {
     let (mut reader, mut writer) = link.split();
     let (pass, report) = serve_pair(rt, alloc, lock, pass, &mut reader, &mut writer);
@@ -53,8 +53,8 @@ pub fn serve_pair<R: Threads + Wait + Sync, S: Source + Send, K: Sink + Send>(
 ) -> (Pass<Session>, ConnReport)
     requires { IsPassOf lock.now pass }
     ensures lock { IsPassOf lock.now result.0 }
-    ensures served { ServesViewer lock.now.head pass result.0 result.1 (link_state (S.left input.old) (K.told output.old) (S.faults input.old) (K.faults output.old))
-        (link_state (S.left input.new) (K.told output.new) (S.faults input.new) (K.faults output.new)) }
+    ensures served { ServesViewer lock.now.head pass result.0 result.1 (outside_of S.Source K.Sink input.old output.old)
+        (outside_of S.Source K.Sink input.new output.new) }
 {
     let (pass, size) = size_of(rt, lock, pass);
     let Ok(mut conn) = Conn::new(alloc, size) else {
@@ -83,8 +83,8 @@ fn serve_ready<R: Threads + Wait + Sync, S: Source + Send, K: Sink + Send>(
     requires placed { ArePlaced guest.now.rest.items }
     ensures lock { IsPassOf lock.now result.0 }
     ensures legal { IsLegalJournal lock.now.head result.0.seen }
-    ensures served { ServesReady lock.now.head guest.now conn.old.hearing pass result.0 result.1 (link_state (S.left input.old) (K.told output.old) (S.faults input.old) (K.faults output.old))
-        (link_state (S.left input.new) (K.told output.new) (S.faults input.new) (K.faults output.new)) }
+    ensures served { ServesReady lock.now.head guest.now conn.old.hearing pass result.0 result.1 (outside_of S.Source K.Sink input.old output.old)
+        (outside_of S.Source K.Sink input.new output.new) }
     ensures caches { HasAllCaches guest.now.confirmed }
 {
     recall_all_caches(&guest.confirmed);
@@ -96,17 +96,17 @@ fn serve_ready<R: Threads + Wait + Sync, S: Source + Send, K: Sink + Send>(
 }
 
 /// Says the last word to a viewer who has left, and reports its connection.
-fn report_of<K: Sink>(alloc: Global, output: &mut K, visited: (Visit, Told)) -> ConnReport
+fn report_of<K: Sink>(alloc: Global, output: &mut K, visited: (Visit, Noted)) -> ConnReport
     ensures viewer { result.viewer ≡ visited.0.v }
     ensures places { result.places ≡ visited.1.places }
-    ensures last { SaysLast visited.0.end visited.1.shutdown result.end (K.told output.old) (K.told output.new) (K.faults output.old) (K.faults output.new) }
+    ensures last { SaysLast visited.0.end visited.1.shutdown result.end (output_of K.Sink output.old) (output_of K.Sink output.new) }
 {
-    let (visit, told) = visited;
-    let end = say_last(alloc, output, visit.end, told.shutdown);
+    let (visit, noted) = visited;
+    let end = say_last(alloc, output, visit.end, noted.shutdown);
     ConnReport {
         viewer: visit.v,
         end,
-        places: told.places,
+        places: noted.places,
     }
 }
 

@@ -5,6 +5,7 @@ use Rattle.std.specs.declared.option.Option.{Option}
 use Rattle.std.specs.declared.option.Option.TheVariants.{Some, None}
 use Rattle.px_core.specs.declared.surface.Size.{Size}
 use Rattle.edge_io.specs.Faults.{Rose}
+use Rattle.edge_io.specs.Outside.{Output, Outside, outside_given, outside_spent}
 use Rattle.edge_io.specs.Sink.{WritesFront}
 use Rattle.edge_io.specs.declared.dial.Dial as dials
 use Rattle.edge_io.specs.declared.link.Link as links
@@ -70,44 +71,17 @@ due v x = x.text ++ leave_at (status_of v x.after)
 
 -- ---- links and dials
 
--- a link at a moment: the bytes that the host has left and those that it was told, where the link tells them, and how many faults met its reads and its writes
-pub record LinkState : Type 0 where
-  pub left : Option (List ℕ)
-  pub told : Option (List ℕ)
-  pub reads : ℕ
-  pub writes : ℕ
-
-abbrev pub link_state : (left told : Option (List ℕ)) (reads writes : ℕ) → LinkState
-link_state left told reads writes = record { left = left; told = told; reads = reads; writes = writes }
-
 -- the links that a dial gave and those that came back, the port that was asked for last, and how often it has failed
 pub record DialState : Type 0 where
-  pub given : List LinkState
-  pub finished : List LinkState
+  pub given : List Outside
+  pub finished : List Outside
   pub asked : Option ℕ
   pub faults : ℕ
-
-module _ {L Reader Writer Spent : Type 0} (link : links.Ghosts L Reader Writer Spent) where
-  -- a link as it was given
-  abbrev pub given_state : L → LinkState
-  given_state x = link_state (link.left x) (link.told x) (link.reader_faults x) (link.writer_faults x)
-
-  -- a link as it came back
-  abbrev pub spent_state : Spent → LinkState
-  spent_state x = link_state (link.spent_left x) (link.spent_told x) (link.spent_reader_faults x) (link.spent_writer_faults x)
 
 -- a dial as it is now
 abbrev pub dial_state : {D L Reader Writer Spent : Type 0} → dials.Ghosts D L Reader Writer Spent → links.Ghosts L Reader Writer Spent → D → DialState
 dial_state dial link x =
-    record { given = map (given_state link) (dial.given x); finished = map (spent_state link) (dial.finished x); asked = dial.asked x; faults = dial.faults x }
-
--- the output at a moment: what was printed, where it tells it, and how many faults its writes met
-pub record OutputState : Type 0 where
-  pub told : Option (List ℕ)
-  pub writes : ℕ
-
-abbrev pub output_state : Option (List ℕ) → ℕ → OutputState
-output_state told writes = record { told = told; writes = writes }
+    record { given = map (outside_given link) (dial.given x); finished = map (outside_spent link) (dial.finished x); asked = dial.asked x; faults = dial.faults x }
 
 -- ---- how a host is watched
 
@@ -124,13 +98,17 @@ AreAll left read = IfSome left (λ bytes. bytes ≡ read)
 
 -- the link as it came back, by how watching the host ended: it was told all that is due, but for a front of it where it couldn't be written or memory was wanting; one
 -- count rose where a fault ended it; and where the bytes ask for 35 without a fault they are all that the host gave
-abbrev pub Tells : WatchEnd → ViewingOf → (read : List ℕ) → Watched → LinkState → LinkState → Type 0
+abbrev pub Tells : WatchEnd → ViewingOf → (read : List ℕ) → Watched → Outside → Outside → Type 0
 Tells Decided v read x before now =
-    Appends before.told now.told (due v x) × (status_of v x.after ≡ 35 → AreAll before.left read) × (now.reads ≡ before.reads) × (now.writes ≡ before.writes)
+    Appends before.output.told now.output.told (due v x) × (status_of v x.after ≡ 35 → AreAll before.input.left read)
+    × (now.input.faults ≡ before.input.faults) × (now.output.faults ≡ before.output.faults)
 Tells Unread v read x before now =
-    Appends before.told now.told (due v x) × (status_of v x.after ≡ 35) × Rose before.reads now.reads × (now.writes ≡ before.writes)
-Tells Unsaid v read x before now = WritesFront before.told now.told (due v x) × (now.reads ≡ before.reads) × Rose before.writes now.writes
-Tells Spent v read x before now = WritesFront before.told now.told (due v x) × (now.reads ≡ before.reads) × (now.writes ≡ before.writes)
+    Appends before.output.told now.output.told (due v x) × (status_of v x.after ≡ 35)
+    × Rose before.input.faults now.input.faults × (now.output.faults ≡ before.output.faults)
+Tells Unsaid v read x before now =
+    WritesFront before.output.told now.output.told (due v x) × (now.input.faults ≡ before.input.faults) × Rose before.output.faults now.output.faults
+Tells Spent v read x before now =
+    WritesFront before.output.told now.output.told (due v x) × (now.input.faults ≡ before.input.faults) × (now.output.faults ≡ before.output.faults)
 
 -- the exit status, by the status that the bytes ask for and by what the printing is answered
 abbrev pub printed_status : ℕ → Result (Unit {0}) ShowFault → ℕ
@@ -140,32 +118,32 @@ printed_status status (Err WriteFault) = 5
 printed_status status (Err OutOfMemory) = 6
 
 -- what the host's bytes show was printed whole; a front of it where a write of the output failed, whose count rose, or memory was wanting
-pub record Prints (status : ℕ) (v : ViewingOf) (w : Watching) (before now : OutputState) : Type 0 where
+pub record Prints (status : ℕ) (v : ViewingOf) (w : Watching) (before now : Output) : Type 0 where
   pub answer : Result (Unit {0}) ShowFault
   pub status_is : status ≡ printed_status (status_of v w) answer
   pub written : Writes answer (text_of (look_shown v.confirmed w)) before.told now.told
   pub fault : IfErr answer IsWriteFault
-  pub cause : WriteCause answer before.writes now.writes
+  pub cause : WriteCause answer before.faults now.faults
 
 -- what was printed, and the exit status, by how watching the host ended: only where its bytes decide is anything printed
-abbrev pub Ends : WatchEnd → ℕ → ViewingOf → Watching → OutputState → OutputState → Type 0
+abbrev pub Ends : WatchEnd → ℕ → ViewingOf → Watching → Output → Output → Type 0
 Ends Decided status v w before now = Prints status v w before now
 Ends Unread status v w before now = (status ≡ 4) × (now ≡ before)
 Ends Unsaid status v w before now = (status ≡ 5) × (now ≡ before)
 Ends Spent status v w before now = (status ≡ 6) × (now ≡ before)
 
 -- a host was watched over a link: these bytes of it were read, and what the connection sequence makes of them is what it was told and what was printed
-pub record WatchesHost (status : ℕ) (v : ViewingOf) (before now : LinkState) (output printed : OutputState) : Type 0 where
+pub record WatchesHost (status : ℕ) (v : ViewingOf) (before now : Outside) (output printed : Output) : Type 0 where
   pub read : List ℕ
-  pub reads : Consumes before.left now.left read
+  pub reads : Consumes before.input.left now.input.left read
   pub end : WatchEnd
   pub tells : Tells end v read (viewer_handshake v.name v.confirmed read) before now
   pub ends : Ends end status v (viewer_handshake v.name v.confirmed read).after output printed
 
 -- the port was dialled, and its link came back in every case
-pub record ViewsHost (status : ℕ) (v : ViewingOf) (before now : DialState) (output printed : OutputState) : Type 0 where
-  pub link : LinkState
-  pub spent : LinkState
+pub record ViewsHost (status : ℕ) (v : ViewingOf) (before now : DialState) (output printed : Output) : Type 0 where
+  pub link : Outside
+  pub spent : Outside
   pub asked : now.asked ≡ Some v.port
   pub given : now.given ≡ before.given ++ link ∷ []
   pub finished : now.finished ≡ before.finished ++ spent ∷ []
@@ -173,7 +151,7 @@ pub record ViewsHost (status : ℕ) (v : ViewingOf) (before now : DialState) (ou
   pub watches : WatchesHost status v link spent output printed
 
 -- the port was dialled, and nobody took the call: 7, and the dial's count rose
-pub record IsUndialled (status : ℕ) (v : ViewingOf) (before now : DialState) (output printed : OutputState) : Type 0 where
+pub record IsUndialled (status : ℕ) (v : ViewingOf) (before now : DialState) (output printed : Output) : Type 0 where
   pub status_is : status ≡ 7
   pub asked : now.asked ≡ Some v.port
   pub given : now.given ≡ before.given
@@ -182,13 +160,13 @@ pub record IsUndialled (status : ℕ) (v : ViewingOf) (before now : DialState) (
   pub unprinted : printed ≡ output
 
 -- memory was wanting before the dial: 6, and nothing was done
-pub record WantsMemory (status : ℕ) (before now : DialState) (output printed : OutputState) : Type 0 where
+pub record WantsMemory (status : ℕ) (before now : DialState) (output printed : Output) : Type 0 where
   pub status_is : status ≡ 6
   pub undialled : now ≡ before
   pub unprinted : printed ≡ output
 
 -- what a run of the viewer comes to
-pub data Views (status : ℕ) (v : ViewingOf) (before now : DialState) (output printed : OutputState) : Type 0 where
+pub data Views (status : ℕ) (v : ViewingOf) (before now : DialState) (output printed : Output) : Type 0 where
   Wants : WantsMemory status before now output printed → Views status v before now output printed
   Undialled : IsUndialled status v before now output printed → Views status v before now output printed
   Watches : ViewsHost status v before now output printed → Views status v before now output printed
@@ -200,9 +178,9 @@ abbrev pub usage : List ℕ
 usage = codes "usage: rdp_view PORT NAME MARKS PRESET" ++ 10 ∷ []
 
 -- the usage was written: 2 is that it stands there; 5 and 6 are a fault of the output, whose count rose, and want of memory, with a front of it there
-pub record WritesUsage (status : ℕ) (before now : OutputState) : Type 0 where
+pub record WritesUsage (status : ℕ) (before now : Output) : Type 0 where
   pub answer : Result (Unit {0}) ShowFault
   pub status_is : status ≡ printed_status 2 answer
   pub written : Writes answer usage before.told now.told
   pub fault : IfErr answer IsWriteFault
-  pub cause : WriteCause answer before.writes now.writes
+  pub cause : WriteCause answer before.faults now.faults

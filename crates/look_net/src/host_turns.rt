@@ -1,13 +1,13 @@
 //! A host that is watched over a link, until its bytes decide how that ends.
-ghost use Rattle.std.specs.Prelude.{◌≡◌, ◌≢◌, ◌++◌, ◌<◌, ℕ, List, Some, None, Err, length};
+ghost use Rattle.std.specs.Prelude.{◌≡◌, ◌≢◌, ◌++◌, ◌<◌, Some, None, Err, length};
 ghost use Rattle.std.specs.Bool.{MatchBool};
-ghost use Rattle.std.specs.declared.option.Option.{Option};
+ghost use Rattle.edge_io.specs.Outside.{Input, output_of, outside, outside_of};
 ghost use Rattle.client_view.specs.Views.{capped};
 ghost use Rattle.command_words.specs.ViewWords.{ViewingOf};
 ghost use Rattle.viewer_rules.specs.ClientPackets.{connection_request};
 ghost use Rattle.viewer_rules.specs.ViewerHandshake.{Watching, Watched, watched, first_watching};
 ghost use Rattle.look_net.specs.Looks.{IsWatching, FeedsLook};
-ghost use Rattle.look_net.specs.Views.{marks_in, link_state};
+ghost use Rattle.look_net.specs.Views.{marks_in};
 ghost use Rattle.look_net.specs.HostTurns.{IsLookOf, Asks, IsRead, Says, SaysDue, Turns, WatchesTurn, WatchesAll};
 
 use crate::end::End;
@@ -37,8 +37,8 @@ pub(crate) fn watch<R: Wait, S: Source, K: Sink>(
     requires look { IsLookOf viewing.now look.old }
     requires first { IsWatching first_watching look.old }
     ensures watches { WatchesAll (Some result) viewing.now look.new
-        (link_state (S.left reader.old) (K.told writer.old) (S.faults reader.old) (K.faults writer.old))
-        (link_state (S.left reader.new) (K.told writer.new) (S.faults reader.new) (K.faults writer.new)) }
+        (outside_of S.Source K.Sink reader.old writer.old)
+        (outside_of S.Source K.Sink reader.new writer.new) }
     ensures look { IsLookOf viewing.now look.new }
 {
     match greet(alloc, look, writer) {
@@ -58,7 +58,7 @@ pub(crate) fn watch<R: Wait, S: Source, K: Sink>(
 
 /// Says what goes at once.
 fn greet<K: Sink>(alloc: Global, look: &Look, writer: &mut K) -> Option<End>
-    ensures { Says result connection_request (K.told writer.old) (K.told writer.new) (K.faults writer.old) (K.faults writer.new) }
+    ensures { Says result connection_request (output_of K.Sink writer.old) (output_of K.Sink writer.new) }
 {
     let mut text = Vec::new(alloc);
     match look.start(&mut text) {
@@ -79,8 +79,8 @@ fn watch_turn<S: Source, K: Sink>(
     requires room { 0 < length buf.old }
     requires look { IsLookOf viewing.now look.old }
     ensures turn { (w : Watching) → IsRead 35 viewing.now w look.old → WatchesTurn result viewing.now w look.new
-        (link_state (S.left reader.old) (K.told writer.old) (S.faults reader.old) (K.faults writer.old))
-        (link_state (S.left reader.new) (K.told writer.new) (S.faults reader.new) (K.faults writer.new)) }
+        (outside_of S.Source K.Sink reader.old writer.old)
+        (outside_of S.Source K.Sink reader.new writer.new) }
     ensures look { IsLookOf viewing.now look.new }
     ensures room { length buf.new ≡ length buf.old }
 {
@@ -100,9 +100,9 @@ fn hear<K: Sink>(
     writer: &mut K,
 ) -> Option<End>
     requires look { IsLookOf viewing.now look.old }
-    ensures turns { (w : Watching) (left rest : Option (List ℕ)) (reads : ℕ) → IsWatching w look.old
+    ensures turns { (w : Watching) (before after : Input) → after.faults ≡ before.faults → IsWatching w look.old
         → Turns result viewing.now bytes.now (watched viewing.now.name viewing.now.confirmed w bytes.now) look.new
-        (link_state left (K.told writer.old) reads (K.faults writer.old)) (link_state rest (K.told writer.new) reads (K.faults writer.new)) }
+        (outside before (output_of K.Sink writer.old)) (outside after (output_of K.Sink writer.new)) }
     ensures look { IsLookOf viewing.now look.new }
 {
     text.clear();
@@ -139,7 +139,7 @@ fn marks_of(look: &Look) -> u64
 /// Says what is due behind a read, with the ultimatum once the marks are there, and answers what was asked or what kept it from being said.
 /// Where no memory was left nothing more is said.
 fn say_due<K: Sink>(asked: Option<End>, text: &mut Vec<u8>, writer: &mut K) -> Option<End>
-    ensures { SaysDue asked result text.old.items (K.told writer.old) (K.told writer.new) (K.faults writer.old) (K.faults writer.new) }
+    ensures { SaysDue asked result text.old.items (output_of K.Sink writer.old) (output_of K.Sink writer.new) }
 {
     match asked {
         Some(End::OutOfMemory) => asked,
@@ -153,7 +153,7 @@ fn say_due<K: Sink>(asked: Option<End>, text: &mut Vec<u8>, writer: &mut K) -> O
 
 /// Says a text, if there is one; `None` where that was done.
 fn say<K: Sink>(writer: &mut K, text: &[u8]) -> Option<End>
-    ensures { Says result text.now (K.told writer.old) (K.told writer.new) (K.faults writer.old) (K.faults writer.new) }
+    ensures { Says result text.now (output_of K.Sink writer.old) (output_of K.Sink writer.new) }
 {
     if text.is_empty() {
         return None;

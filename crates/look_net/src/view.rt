@@ -6,7 +6,8 @@ ghost use Rattle.viewer_rules.specs.Shown.{look_refusal};
 ghost use Rattle.capture_show.specs.Shown.{text_of};
 ghost use Rattle.capture_show.specs.Answers.{Writes, WriteCause, IsWriteFault};
 ghost use Rattle.look_net.specs.Looks.{IsWatching};
-ghost use Rattle.look_net.specs.Views.{dial_state, output_state, look_shown, printed_status, Ends, Views, WritesUsage};
+ghost use Rattle.edge_io.specs.Outside.{output_of};
+ghost use Rattle.look_net.specs.Views.{dial_state, look_shown, printed_status, Ends, Views, WritesUsage};
 ghost use Rattle.look_net.specs.HostTurns.{IsLookOf, IsEnd, watch_end};
 
 use crate::end::End;
@@ -44,9 +45,9 @@ pub fn view_top<R: Wait, D: Dial, K: Sink>(
     // status stands exactly where it is listed, unless a fault, whose count rose, or want of memory ended the run.
     ensures view { (v : ViewingOf) → view_of_words (map string_bytes words.now) ≡ Some v → Views result v
         (dial_state D.Dial D.Link.Link dial.old) (dial_state D.Dial D.Link.Link dial.new)
-        (output_state (K.told output.old) (K.faults output.old)) (output_state (K.told output.new) (K.faults output.new)) }
+        (output_of K.Sink output.old) (output_of K.Sink output.new) }
     ensures usage { view_of_words (map string_bytes words.now) ≡ None → WritesUsage result
-        (output_state (K.told output.old) (K.faults output.old)) (output_state (K.told output.new) (K.faults output.new)) }
+        (output_of K.Sink output.old) (output_of K.Sink output.new) }
     ensures dial { view_of_words (map string_bytes words.now) ≡ None → dial.new ≡ dial.old }
 {
     match view_of_words(alloc, words) {
@@ -66,7 +67,7 @@ fn view_host<R: Wait, D: Dial, K: Sink>(
 ) -> u8
     requires { 0 < viewing.now.marks }
     ensures { Views result viewing.now (dial_state D.Dial D.Link.Link dial.old) (dial_state D.Dial D.Link.Link dial.new)
-        (output_state (K.told output.old) (K.faults output.old)) (output_state (K.told output.new) (K.faults output.new)) }
+        (output_of K.Sink output.old) (output_of K.Sink output.new) }
 {
     let Ok(mut look) = Look::new(alloc, viewing.name, viewing.confirmed) else {
         return OUT_OF_MEMORY;
@@ -83,7 +84,7 @@ fn view_host<R: Wait, D: Dial, K: Sink>(
 /// Prints what came of watching a host; the answer is the exit status.
 fn print_end<K: Sink>(alloc: Global, end: End, look: &Look, output: &mut K) -> u8
     ensures { (v : ViewingOf) (w : Watching) → IsLookOf v look.now → IsEnd end v w look.now → Ends (watch_end end) result v w
-        (output_state (K.told output.old) (K.faults output.old)) (output_state (K.told output.new) (K.faults output.new)) }
+        (output_of K.Sink output.old) (output_of K.Sink output.new) }
 {
     match end {
         End::Marks => printed(DONE, print_look(alloc, look, output)),
@@ -122,7 +123,7 @@ fn printed(status: u8, answer: Result<(), ShowFault>) -> u8
 
 /// Writes the usage line, and answers the status of words that ask for nothing.
 fn refuse_words<K: Sink>(output: &mut K) -> u8
-    ensures { WritesUsage result (output_state (K.told output.old) (K.faults output.old)) (output_state (K.told output.new) (K.faults output.new)) }
+    ensures { WritesUsage result (output_of K.Sink output.old) (output_of K.Sink output.new) }
 {
     printed(BAD_WORDS, put(output, USAGE))
 }

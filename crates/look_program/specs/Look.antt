@@ -1,20 +1,9 @@
 -- What the program does, by its words.
 use Rattle.std.specs.Prelude.{◌≡◌, ℕ, List, [], ◌∷◌, ◌++◌, Bool, true, false, codes, Result, Ok, Err, IfErr}
-use Rattle.std.specs.declared.option.Option.{Option}
+use Rattle.edge_io.specs.Outside.{Output, Outside}
 use Rattle.capture_show.specs.Answers.{ShowsCapture, Writes, ReadCause, WriteCause, IsWriteFault}
 use Rattle.capture_show.specs.declared.show_fault.ShowFault.{ShowFault}
 use Rattle.capture_show.specs.declared.show_fault.ShowFault.TheVariants.{ReadFault, WriteFault, OutOfMemory}
-
--- what stands outside of the program at a moment: what the input has left and what was written, where they tell it, and how many faults
--- each of them met
-pub record Outside : Type 0 where
-  pub left : Option (List ℕ)
-  pub told : Option (List ℕ)
-  pub reads : ℕ
-  pub writes : ℕ
-
-abbrev pub outside : (left told : Option (List ℕ)) (reads writes : ℕ) → Outside
-outside left told reads writes = record { left = left; told = told; reads = reads; writes = writes }
 
 -- what is printed where the words name no viewer
 abbrev pub usage : List ℕ
@@ -43,15 +32,15 @@ usage_status (Err fault) = fault_status fault
 pub record LooksAt (status viewer : ℕ) (before now : Outside) : Type 0 where
   pub answer : Result Bool ShowFault
   pub status_is : status ≡ look_status answer
-  pub capture : ShowsCapture answer viewer before.left now.left before.told now.told
-  pub read_cause : ReadCause answer before.reads now.reads
-  pub write_cause : WriteCause answer before.writes now.writes
+  pub capture : ShowsCapture answer viewer before.input.left now.input.left before.output.told now.output.told
+  pub read_cause : ReadCause answer before.input.faults now.input.faults
+  pub write_cause : WriteCause answer before.output.faults now.output.faults
 
 -- the usage was written: 2 is that it stands there; 5 and 6 are a fault of the sink, whose count rose, and want of memory, with a front
 -- of it there
-pub record WritesUsage (status : ℕ) (told telling : Option (List ℕ)) (writes wrote : ℕ) : Type 0 where
+pub record WritesUsage (status : ℕ) (before now : Output) : Type 0 where
   pub answer : Result (Unit {0}) ShowFault
   pub status_is : status ≡ usage_status answer
-  pub written : Writes answer usage told telling
+  pub written : Writes answer usage before.told now.told
   pub fault : IfErr answer IsWriteFault
-  pub write_cause : WriteCause answer writes wrote
+  pub write_cause : WriteCause answer before.faults now.faults

@@ -2,8 +2,9 @@
 
 ghost use Rattle.std.specs.Prelude.{◌≡◌, ℕ, Some, None, map, string_bytes, IfSome, IsNone};
 ghost use Rattle.std.specs.Process.{exit_status};
+ghost use Rattle.edge_io.specs.Outside.{output_of, outside_of};
 ghost use Rattle.command_words.specs.LookWords.{viewer_of_words};
-ghost use Rattle.look_program.specs.Look.{outside, LooksAt, WritesUsage};
+ghost use Rattle.look_program.specs.Look.{LooksAt, WritesUsage};
 
 use crate::top::look_top;
 use command_words::status::OUT_OF_MEMORY;
@@ -38,10 +39,10 @@ impl Ending {
         output: &mut K,
     ) -> Ending
         ensures look { IfSome words (λ ws. (viewer : ℕ) → viewer_of_words (map string_bytes ws.items) ≡ Some viewer → LooksAt result viewer
-            (outside (S.left input.old) (K.told output.old) (S.faults input.old) (K.faults output.old))
-            (outside (S.left input.new) (K.told output.new) (S.faults input.new) (K.faults output.new))) }
+            (outside_of S.Source K.Sink input.old output.old)
+            (outside_of S.Source K.Sink input.new output.new)) }
         ensures usage { IfSome words (λ ws. viewer_of_words (map string_bytes ws.items) ≡ None
-            → WritesUsage result (K.told output.old) (K.told output.new) (K.faults output.old) (K.faults output.new)) }
+            → WritesUsage result (output_of K.Sink output.old) (output_of K.Sink output.new)) }
         ensures memory { IsNone words → result ≡ 6 }
         ensures nothing { IsNone words → (input.new ≡ input.old) × (output.new ≡ output.old) }
     {

@@ -1,6 +1,7 @@
 ghost use Rattle.std.specs.Prelude.{ℕ, ◌≡◌, Some, None, map, string_bytes};
+ghost use Rattle.edge_io.specs.Outside.{output_of, outside_of};
 ghost use Rattle.command_words.specs.LookWords.{viewer_of_words};
-ghost use Rattle.look_program.specs.Look.{outside, fault_status, look_status, LooksAt, WritesUsage};
+ghost use Rattle.look_program.specs.Look.{fault_status, look_status, LooksAt, WritesUsage};
 
 use capture_show::{ShowFault, put, show_capture};
 use command_words::status::{BAD_WORDS, DONE, OUT_OF_MEMORY, READ_FAULT, REFUSED, WRITE_FAULT};
@@ -25,10 +26,10 @@ pub fn look_top<R: Wait, S: Source, K: Sink>(
 ) -> u8
     // Where the input tells its bytes, and memory isn't wanting: what is written is just what the capture in them shows the viewer.
     ensures look { (viewer : ℕ) → viewer_of_words (map string_bytes words.now) ≡ Some viewer → LooksAt result viewer
-        (outside (S.left input.old) (K.told output.old) (S.faults input.old) (K.faults output.old))
-        (outside (S.left input.new) (K.told output.new) (S.faults input.new) (K.faults output.new)) }
+        (outside_of S.Source K.Sink input.old output.old)
+        (outside_of S.Source K.Sink input.new output.new) }
     ensures usage { viewer_of_words (map string_bytes words.now) ≡ None
-        → WritesUsage result (K.told output.old) (K.told output.new) (K.faults output.old) (K.faults output.new) }
+        → WritesUsage result (output_of K.Sink output.old) (output_of K.Sink output.new) }
     ensures input { viewer_of_words (map string_bytes words.now) ≡ None → input.new ≡ input.old }
 {
     match viewer_of_words(alloc, words) {
@@ -62,7 +63,7 @@ fn fault_status(fault: ShowFault) -> u8
 
 /// Writes the usage line, and answers the status of words that name no viewer.
 fn refuse_words<K: Sink>(output: &mut K) -> u8
-    ensures { WritesUsage result (K.told output.old) (K.told output.new) (K.faults output.old) (K.faults output.new) }
+    ensures { WritesUsage result (output_of K.Sink output.old) (output_of K.Sink output.new) }
 {
     match put(output, USAGE) {
         Ok(()) => BAD_WORDS,

@@ -3,7 +3,8 @@
 ghost use Rattle.std.specs.Prelude.{◌≡◌, ℕ, Some, None, map, string_bytes, IfSome, IsNone};
 ghost use Rattle.std.specs.Process.{exit_status};
 ghost use Rattle.command_words.specs.ViewWords.{ViewingOf, view_of_words};
-ghost use Rattle.look_net.specs.Views.{dial_state, output_state, Views, WritesUsage};
+ghost use Rattle.edge_io.specs.Outside.{output_of};
+ghost use Rattle.look_net.specs.Views.{dial_state, Views, WritesUsage};
 
 use command_words::status::OUT_OF_MEMORY;
 use edge_io::{Dial, Sink};
@@ -49,9 +50,9 @@ impl Ending {
     ) -> Ending
         ensures view { IfSome words (λ ws. (v : ViewingOf) → view_of_words (map string_bytes ws.items) ≡ Some v → Views result v
             (dial_state D.Dial D.Link.Link dial.old) (dial_state D.Dial D.Link.Link dial.new)
-            (output_state (K.told output.old) (K.faults output.old)) (output_state (K.told output.new) (K.faults output.new))) }
+            (output_of K.Sink output.old) (output_of K.Sink output.new)) }
         ensures usage { IfSome words (λ ws. view_of_words (map string_bytes ws.items) ≡ None → WritesUsage result
-            (output_state (K.told output.old) (K.faults output.old)) (output_state (K.told output.new) (K.faults output.new))) }
+            (output_of K.Sink output.old) (output_of K.Sink output.new)) }
         ensures memory { IsNone words → result ≡ 6 }
         ensures nothing { IsNone words → (dial.new ≡ dial.old) × (output.new ≡ output.old) }
         ensures dial { IfSome words (λ ws. view_of_words (map string_bytes ws.items) ≡ None → dial.new ≡ dial.old) }

@@ -45,18 +45,18 @@ consumes_then (Some a) (Some b) None xs ys p q = absurd q
 consumes_then (Some a) (Some b) (Some c) xs ys p q = p ∙ (ap (λ l. xs ++ l) q ∙ sym (append_assoc xs ys c))
 
 -- an end of the second stretch is one of both: what the second left is what both did, and the first met no fault
-end_then : (flagged : Bool) (xs ys : List ℕ) (h : Hearing) (notice : Notice) (i j k : Input) (end : SideEnd)
-    → (IsWhole j.left ys → IsWhole i.left (xs ++ ys)) → j.faults ≡ i.faults → ReadEnd flagged ys h notice j k end → ReadEnd flagged (xs ++ ys) h notice i k end
-end_then flagged xs ys h notice i j k (Done Left) whole same e = λ unended. let x = e unended in (whole x.0, x.1)
-end_then flagged xs ys h notice i j k (Done (Refused k at)) whole same e = e
-end_then flagged xs ys h notice i j k (Done Truncated) whole same e = (e.0, whole e.1, e.2)
-end_then flagged xs ys h notice i j k (Done NotInvited) whole same e = e
-end_then flagged xs ys h notice i j k (Done RoomFull) whole same e = e
-end_then flagged xs ys h notice i j k (Done JoinsSpent) whole same e = e
-end_then flagged xs ys h notice i j k (Done ReadFault) whole same e = subst (λ (n : ℕ). Rose n k.faults) same e
-end_then flagged xs ys h notice i j k (Done WriteFault) whole same e = e
-end_then flagged xs ys h notice i j k (Done OutOfMemory) whole same e = e
-end_then flagged xs ys h notice i j k Stopped whole same e = e
+end_then : (flagged : Bool) (xs ys : List ℕ) (h : Hearing) (notice : Notice) (i j l : Input) (end : SideEnd)
+    → (IsWhole j.left ys → IsWhole i.left (xs ++ ys)) → j.faults ≡ i.faults → ReadEnd flagged ys h notice j l end → ReadEnd flagged (xs ++ ys) h notice i l end
+end_then flagged xs ys h notice i j l (Done Left) whole same e = λ unended. let x = e unended in (whole x.0, x.1)
+end_then flagged xs ys h notice i j l (Done (Refused k at)) whole same e = e
+end_then flagged xs ys h notice i j l (Done Truncated) whole same e = (e.0, whole e.1, e.2)
+end_then flagged xs ys h notice i j l (Done NotInvited) whole same e = e
+end_then flagged xs ys h notice i j l (Done RoomFull) whole same e = e
+end_then flagged xs ys h notice i j l (Done JoinsSpent) whole same e = e
+end_then flagged xs ys h notice i j l (Done ReadFault) whole same e = subst (λ (n : ℕ). Rose n l.faults) same e
+end_then flagged xs ys h notice i j l (Done WriteFault) whole same e = e
+end_then flagged xs ys h notice i j l (Done OutOfMemory) whole same e = e
+end_then flagged xs ys h notice i j l Stopped whole same e = e
 
 -- bytes behind others: where nothing was read behind a Bye or a Shutdown of the second ones, none was of both, if the first ones had none
 stops_then : (rest steps : List ConnStep) (h k : Hearing) (n m : Notice) (xs ys : List ℕ) → rest ++ (heard h xs).steps ≡ steps → m ≡ notice_after_all n steps

@@ -13,6 +13,7 @@ use Rattle.draw_ops.specs.Slots.{Loaded}
 use Rattle.caps_sets.specs.declared.confirmed.Confirmed.{Confirmed}
 use Rattle.caps_sets.specs.Confirmed.{full, bare, sized}
 use Rattle.caps_sets.specs.CapabilitySets.{nothing}
+use Rattle.px_core.specs.declared.depth.Depth.TheVariants.{Bits24}
 use Rattle.order_fields.specs.NamedDrawing.{NamedDrawing}
 use Rattle.frame_rules.specs.Blocks.{least_free, positions_of}
 use Rattle.session_rules.specs.Pending.{Pending}
@@ -58,7 +59,7 @@ entries_of_the_brush_cache = refl
 glyph_levels : has_glyph_level 0 ∷ has_glyph_level 1 ∷ has_glyph_level 2 ∷ has_glyph_level 3 ∷ [] ≡ false ∷ true ∷ true ∷ false ∷ []
 glyph_levels = refl
 
-dst_alone : supports (record nothing { dst = true }) (pending corner (Dst corner 0x55)) (Dst corner 0x55) ≡ true
+dst_alone : supports (record (nothing Bits24) { dst = true }) (pending corner (Dst corner 0x55)) (Dst corner 0x55) ≡ true
 dst_alone = refl
 
 abbrev mixed : Shape

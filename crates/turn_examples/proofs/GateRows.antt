@@ -2,7 +2,7 @@
 use Rattle.std.proofs.Common.{◌≡◌, ◌∷◌, [], ℕ, List, refl, ap, true, false, arith}
 use Rattle.std.specs.Prelude.{Option}
 use Rattle.edge_io.specs.Gate.{Asked}
-use Rattle.serve_rules.specs.declared.told.ConnReport.{ConnReport}
+use Rattle.serve_rules.specs.declared.noted.ConnReport.{ConnReport}
 use Rattle.gate_run.specs.declared.served.GateEnd.TheVariants.{Ended, Failed, NoListen}
 use Rattle.gate_run.specs.Gates.{GateState, AreApart, AskedFor, EndCause}
 use Rattle.script_rules.specs.Capture.{ended}

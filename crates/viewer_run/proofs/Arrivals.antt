@@ -1,7 +1,7 @@
 -- A client that is ready joins, is attended to, and leaves.
 use Rattle.std.proofs.Common.{◌≡◌, ℕ, ◌+◌, ◌-◌, List, [], ◌∷◌, length, sym, ap, ◌∙◌, subst, arith}
 use Rattle.std.specs.Prelude.{Result, Ok, Err, MatchResult}
-use Rattle.std.specs.declared.option.Option.{Option}
+use Rattle.edge_io.specs.Outside.{Outside}
 use Rattle.wire_num.specs.declared.out_of_memory.OutOfMemory.{OutOfMemory}
 use Rattle.caps_sets.specs.declared.confirmed.Confirmed.{Confirmed}
 use Rattle.session_rules.specs.declared.entry.Entry.{Entry}
@@ -14,7 +14,7 @@ use Rattle.viewer_sender.specs.Senders.{SenderModel}
 use Rattle.serve_rules.specs.Turns.{SessionPass, IsTurn}
 use Rattle.serve_rules.specs.Notices.{notice_in}
 use Rattle.serve_rules.specs.declared.ends.ConnEnd.{ConnEnd}
-use Rattle.serve_rules.specs.declared.told.Told.{Told}
+use Rattle.serve_rules.specs.declared.noted.Noted.{Noted}
 use Rattle.viewer_run.specs.Visiting.{IsFirst, ArrivesIn, IsTurnedAwayIn}
 use Rattle.viewer_run.specs.Serving.{Attends, IsShownLast}
 use Rattle.viewer_run.specs.Arriving.{Stays}
@@ -35,13 +35,13 @@ last_place p q base entry turn =
 
 -- a viewer whose first frame was taken was attended to
 pub stays_first : (head : Head) (v : ℕ) (confirmed : Confirmed) (given : Result FirstFrame OutOfMemory) (first : FirstFrame) (rest : List ConnStep) (conn : Hearing)
-    (t : SenderModel) (p q : SessionPass) (told told' : Told) (left left' : Option (List ℕ)) (f f' : ℕ) (out out' : Option (List ℕ)) (w w' : ℕ) (end : ConnEnd)
+    (t : SenderModel) (p q : SessionPass) (a b : Noted) (before after : Outside) (end : ConnEnd)
     → given ≡ Ok first → IsFirst head p.seen v confirmed given
-    → Attends head v first.sender.confirmed rest conn t p q told told' left left' f f' out out' w w' end → IsShownLast head v q t end (notice_in told')
-    → Stays head v confirmed given rest conn p q told told' left left' f f' out out' w w' end
-stays_first head v confirmed (Ok other) first rest conn t p q told told' left left' f f' out out' w w' end is fresh attends whole =
+    → Attends head v first.sender.confirmed rest conn t p q a b before after end → IsShownLast head v q t end (notice_in b)
+    → Stays head v confirmed given rest conn p q a b before after end
+stays_first head v confirmed (Ok other) first rest conn t p q a b before after end is fresh attends whole =
     let same : first ≡ other = sym (cc is) in
     let confirms : first.sender.confirmed ≡ confirmed
     = ap (λ (x : FirstFrame). x.sender.confirmed) same ∙ (ap (λ (s : SenderModel). s.confirmed) fresh.2.sender ∙ fresh.1.confirms) in
-    (t, subst (λ (x : Confirmed). Attends head v x rest conn t p q told told' left left' f f' out out' w w' end) confirms attends, whole)
-stays_first head v confirmed (Err refusal) first rest conn t p q told told' left left' f f' out out' w w' end is fresh attends whole = absurd (cc is)
+    (t, subst (λ (x : Confirmed). Attends head v x rest conn t p q a b before after end) confirms attends, whole)
+stays_first head v confirmed (Err refusal) first rest conn t p q a b before after end is fresh attends whole = absurd (cc is)

@@ -1,8 +1,8 @@
 -- A viewer's sides and its first frame, until its connection ends.
 use Rattle.std.proofs.Common.{◌≡◌, ℕ, ◌<◌, ⊎_elim, List, [], ◌++◌, map, sym, refl, ap, ◌∙◌, subst, arith, append_assoc, inl, inr}
 use Rattle.std.specs.Prelude.{Bool, true, false}
-use Rattle.std.specs.declared.option.Option.{Option}
 use Rattle.edge_io.specs.Faults.{Rose}
+use Rattle.edge_io.specs.Outside.{Input, Output, Outside, outside}
 use Rattle.caps_sets.specs.declared.confirmed.Confirmed.{Confirmed}
 use Rattle.session_rules.specs.declared.entry.Entry.{Entry}
 use Rattle.session_rules.specs.Journal.{Head}
@@ -21,44 +21,43 @@ use Rattle.serve_rules.specs.declared.ends.ConnEnd.{ConnEnd}
 use Rattle.serve_rules.specs.declared.ends.ConnEnd.TheVariants.{Left, Refused, Truncated, NotInvited, RoomFull, JoinsSpent, ReadFault, WriteFault, OutOfMemory}
 use Rattle.serve_rules.specs.declared.ends.SideEnd.{SideEnd}
 use Rattle.serve_rules.specs.declared.ends.SideEnd.TheVariants.{Done, Stopped}
-use Rattle.serve_rules.specs.declared.told.Told.{Told}
+use Rattle.serve_rules.specs.declared.noted.Noted.{Noted}
 use Rattle.grow_lock.proofs.Shares.{holds_same}
 use Rattle.serve_rules.proofs.Handling.{handles_nothing, handles_more}
 use Rattle.serve_rules.proofs.Lists.{within_back}
 use Rattle.serve_rules.proofs.ReadOn.{reads_then}
-use Rattle.viewer_run.specs.Sending.{IsSendEnd, SendsOn}
+use Rattle.viewer_sides.specs.Sending.{IsSendEnd, SendsOn}
 use Rattle.viewer_run.specs.Frames.{FirstSent, FramesSent}
 use Rattle.viewer_run.specs.Serving.{ViewEnd, ReadsTo, EndsSending, SidesServe, Attends, ended_by, wants_last, end_of_last}
 use Rattle.viewer_run.proofs.FromFirst.{first_alone, first_then, frames_then}
-use Rattle.viewer_run.proofs.Stretches.{same_none}
-use Rattle.viewer_run.proofs.TakesOn.{present_stays, bytes_stay, encoder_stays}
+use Rattle.viewer_sides.proofs.Stretches.{same_none}
+use Rattle.viewer_sides.proofs.TakesOn.{present_stays, bytes_stay, encoder_stays}
 
 -- ---- the end of the reading is that of the connection
 
-view_end : (flagged : Bool) (left : Option (List ℕ)) (fed : List ℕ) (h : Hearing) (n : Notice) (f f' w w' : ℕ) (end : ConnEnd) → ReadEnd flagged left fed h n f f' (Done end)
-    → ViewEnd left fed h n f f' w w' end
-view_end flagged left fed h n f f' w w' Left e = e
-view_end flagged left fed h n f f' w w' (Refused k at) e = e
-view_end flagged left fed h n f f' w w' Truncated e = e
-view_end flagged left fed h n f f' w w' NotInvited e = e
-view_end flagged left fed h n f f' w w' RoomFull e = e
-view_end flagged left fed h n f f' w w' JoinsSpent e = e
-view_end flagged left fed h n f f' w w' ReadFault e = e
-view_end flagged left fed h n f f' w w' WriteFault e = absurd e
-view_end flagged left fed h n f f' w w' OutOfMemory e = tt
+view_end : (flagged : Bool) (fed : List ℕ) (h : Hearing) (n : Notice) (i j : Outside) (end : ConnEnd) → ReadEnd flagged fed h n i.input j.input (Done end) → ViewEnd fed h n i j end
+view_end flagged fed h n i j Left e = e
+view_end flagged fed h n i j (Refused k at) e = e
+view_end flagged fed h n i j Truncated e = e
+view_end flagged fed h n i j NotInvited e = e
+view_end flagged fed h n i j RoomFull e = e
+view_end flagged fed h n i j JoinsSpent e = e
+view_end flagged fed h n i j ReadFault e = e
+view_end flagged fed h n i j WriteFault e = absurd e
+view_end flagged fed h n i j OutOfMemory e = tt
 
 -- and where it is that of the sending
-cut_end : (left : Option (List ℕ)) (fed : List ℕ) (h : Hearing) (n : Notice) (f f' w w' : ℕ) (end : ConnEnd) → IsSendEnd (Done end)
-    → (Done end ≡ Done WriteFault → Rose w w') → ViewEnd left fed h n f f' w w' end
-cut_end left fed h n f f' w w' Left only cause = absurd only
-cut_end left fed h n f f' w w' (Refused k at) only cause = absurd only
-cut_end left fed h n f f' w w' Truncated only cause = absurd only
-cut_end left fed h n f f' w w' NotInvited only cause = absurd only
-cut_end left fed h n f f' w w' RoomFull only cause = absurd only
-cut_end left fed h n f f' w w' JoinsSpent only cause = absurd only
-cut_end left fed h n f f' w w' ReadFault only cause = absurd only
-cut_end left fed h n f f' w w' WriteFault only cause = cause refl
-cut_end left fed h n f f' w w' OutOfMemory only cause = tt
+cut_end : (fed : List ℕ) (h : Hearing) (n : Notice) (i j : Outside) (end : ConnEnd) → IsSendEnd (Done end)
+    → (Done end ≡ Done WriteFault → Rose i.output.faults j.output.faults) → ViewEnd fed h n i j end
+cut_end fed h n i j Left only cause = absurd only
+cut_end fed h n i j (Refused k at) only cause = absurd only
+cut_end fed h n i j Truncated only cause = absurd only
+cut_end fed h n i j NotInvited only cause = absurd only
+cut_end fed h n i j RoomFull only cause = absurd only
+cut_end fed h n i j JoinsSpent only cause = absurd only
+cut_end fed h n i j ReadFault only cause = absurd only
+cut_end fed h n i j WriteFault only cause = cause refl
+cut_end fed h n i j OutOfMemory only cause = tt
 
 cut_only : (end : ConnEnd) → IsSendEnd (Done end) → (end ≡ WriteFault → ⊥) → (end ≡ OutOfMemory → ⊥) → ⊥
 cut_only Left only no_write no_memory = only
@@ -71,10 +70,10 @@ cut_only ReadFault only no_write no_memory = only
 cut_only WriteFault only no_write no_memory = no_write refl
 cut_only OutOfMemory only no_write no_memory = no_memory refl
 
-module _ (head : Head) (v : ℕ) (rest : List ConnStep) (conn : Hearing) (p q : SessionPass) (told told' : Told) (left left' : Option (List ℕ)) (f f' w w' : ℕ) (end : ConnEnd) where
+module _ (head : Head) (v : ℕ) (rest : List ConnStep) (conn : Hearing) (p q : SessionPass) (a b : Noted) (i j : Outside) (end : ConnEnd) where
   -- the stream was read to its end
-  pub read_to : (flagged : Bool) (conn' : Hearing) → ReadsOn head v rest flagged conn conn' p q told told' left left' f f' (Done end)
-      → ReadsTo head v rest conn p q told told' left left' f f' w w' end
+  pub read_to : (flagged : Bool) (conn' : Hearing) → ReadsOn head v rest flagged conn conn' p q a b i.input j.input (Done end)
+      → ReadsTo head v rest conn p q a b i j end
   read_to flagged conn' h = record {
     fed = h.fed;
     taken = h.taken;
@@ -86,12 +85,12 @@ module _ (head : Head) (v : ℕ) (rest : List ConnStep) (conn : Hearing) (p q : 
     room = h.room;
     notice = h.notice;
     stops = h.stops;
-    ends = view_end flagged left h.fed (heard conn h.fed).after (notice_in told') f f' w w' end h.ends;
+    ends = view_end flagged h.fed (heard conn h.fed).after (notice_in b) i j end h.ends;
   }
 
   -- sending came to its end before
-  pub cut_to : (flagged : Bool) (conn' : Hearing) (read : SideEnd) → ReadsOn head v rest flagged conn conn' p q told told' left left' f f' read
-      → IsSendEnd (Done end) → (Done end ≡ Done WriteFault → Rose w w') → ReadsTo head v rest conn p q told told' left left' f f' w w' end
+  pub cut_to : (flagged : Bool) (conn' : Hearing) (read : SideEnd) → ReadsOn head v rest flagged conn conn' p q a b i.input j.input read
+      → IsSendEnd (Done end) → (Done end ≡ Done WriteFault → Rose i.output.faults j.output.faults) → ReadsTo head v rest conn p q a b i j end
   cut_to flagged conn' read h only cause = record {
     fed = h.fed;
     taken = h.taken;
@@ -103,31 +102,32 @@ module _ (head : Head) (v : ℕ) (rest : List ConnStep) (conn : Hearing) (p q : 
     room = h.room;
     notice = h.notice;
     stops = h.stops;
-    ends = cut_end left h.fed (heard conn h.fed).after (notice_in told') f f' w w' end only cause;
+    ends = cut_end h.fed (heard conn h.fed).after (notice_in b) i j end only cause;
   }
 
 -- nothing was read
-pub unread_to : (head : Head) (v : ℕ) (rest : List ConnStep) (conn : Hearing) (p : SessionPass) (told : Told) (left : Option (List ℕ)) (f w w' : ℕ) (end : ConnEnd)
-    → 0 < told.places.room → IsSendEnd (Done end) → (Done end ≡ Done WriteFault → Rose w w') → ReadsTo head v rest conn p p told told left left f f w w' end
-unread_to head v rest conn p told left f w w' end room only cause = record {
+pub unread_to : (head : Head) (v : ℕ) (rest : List ConnStep) (conn : Hearing) (p : SessionPass) (noted : Noted) (i : Input) (o o' : Output) (end : ConnEnd)
+    → 0 < noted.places.room → IsSendEnd (Done end) → (Done end ≡ Done WriteFault → Rose o.faults o'.faults)
+    → ReadsTo head v rest conn p p noted noted (outside i o) (outside i o') end
+unread_to head v rest conn p noted i o o' end room only cause = record {
   fed = [];
-  taken = same_none left;
+  taken = same_none i.left;
   steps = [];
   undone = rest ++ (heard conn []).steps;
   front = refl;
   all = λ no_write no_memory. absurd (cut_only end only no_write no_memory);
-  handles = handles_nothing head v p told.places.list;
+  handles = handles_nothing head v p noted.places.list;
   room = room;
   notice = refl;
   stops = inl refl;
-  ends = cut_end left [] (heard conn []).after (notice_in told) f f w w' end only cause;
+  ends = cut_end [] (heard conn []).after (notice_in noted) (outside i o) (outside i o') end only cause;
 }
 
 -- ---- what was sent stays so as the pass goes on
 
-pub sends_stay : (head : Head) (s s' : SenderModel) (p q r : SessionPass) (told told' : Option (List ℕ)) (f f' : ℕ) (end : SideEnd) (turns : List ℕ)
-    → SendsOn head s s' p q told told' f f' end → StartsWith r.seen q.seen → r.found ≡ q.found ++ turns → SendsOn head s s' p r told told' f f' end
-sends_stay head s s' p q r told told' f f' end turns h grows found =
+pub sends_stay : (head : Head) (s s' : SenderModel) (p q r : SessionPass) (o o' : Output) (end : SideEnd) (turns : List ℕ)
+    → SendsOn head s s' p q o o' end → StartsWith r.seen q.seen → r.found ≡ q.found ++ turns → SendsOn head s s' p r o o' end
+sends_stay head s s' p q r o o' end turns h grows found =
     let size = head.size in
     let c = s.confirmed in
     let bytes_same : (e : Encoder) → bytes_of_takes size c r.seen e h.takes ≡ bytes_of_takes size c q.seen e h.takes
@@ -157,39 +157,37 @@ sends_stay head s s' p q r told told' f f' end turns h grows found =
 
 -- ---- both sides
 
-module _ (head : Head) (v : ℕ) (rest : List ConnStep) (conn conn' : Hearing) (s s' : SenderModel) (p q : SessionPass) (told told' : Told) (left left' : Option (List ℕ)) (f f' : ℕ)
-    (out out' : Option (List ℕ)) (w w' : ℕ) where
+module _ (head : Head) (v : ℕ) (rest : List ConnStep) (conn conn' : Hearing) (s s' : SenderModel) (p q : SessionPass) (a b : Noted) (i j : Input) (o o' : Output) where
   -- one of them met the connection's end
-  pub sides_ended : (read sent : SideEnd) (end : ConnEnd) → ReadsOn head v rest true conn conn' p q told told' left left' f f' read → SendsOn head s s' p q out out' w w' sent
-      → Done end ≡ ended_by read sent → SidesServe head v rest conn s s' p q told told' left left' f f' out out' w w' end
+  pub sides_ended : (read sent : SideEnd) (end : ConnEnd) → ReadsOn head v rest true conn conn' p q a b i j read → SendsOn head s s' p q o o' sent
+      → Done end ≡ ended_by read sent → SidesServe head v rest conn s s' p q a b (outside i o) (outside j o') end
   sides_ended read (Done other) end r d e =
       let same : other ≡ end = sym (cc e) in
-      let sent : SendsOn head s s' p q out out' w w' (Done end) = subst (λ (x : ConnEnd). SendsOn head s s' p q out out' w w' (Done x)) same d in record {
-        reads = cut_to head v rest conn p q told told' left left' f f' w w' end true conn' read r sent.only sent.cause;
+      let sent : SendsOn head s s' p q o o' (Done end) = subst (λ (x : ConnEnd). SendsOn head s s' p q o o' (Done x)) same d in record {
+        reads = cut_to head v rest conn p q a b (outside i o) (outside j o') end true conn' read r sent.only sent.cause;
         sent = Done end;
         sends = sent;
         ended = inr refl;
       }
   sides_ended read Stopped end r d e = record {
-    reads = read_to head v rest conn p q told told' left left' f f' w w' end true conn'
-        (subst (λ (x : SideEnd). ReadsOn head v rest true conn conn' p q told told' left left' f f' x) (sym e) r);
+    reads = read_to head v rest conn p q a b (outside i o) (outside j o') end true conn'
+        (subst (λ (x : SideEnd). ReadsOn head v rest true conn conn' p q a b i j x) (sym e) r);
     sent = Stopped;
     sends = d;
     ended = inl refl;
   }
 
   -- neither did, and the stream was read on
-  pub sides_read_on : (read sent : SideEnd) (end : ConnEnd) (conn'' : Hearing) (z : SessionPass) (told'' : Told) (left'' : Option (List ℕ)) (f'' : ℕ)
-      → ReadsOn head v rest true conn conn' p q told told' left left' f f' read → SendsOn head s s' p q out out' w w' sent → Stopped ≡ ended_by read sent
-      → ReadsOn head v [] false conn' conn'' q z told' told'' left' left'' f' f'' (Done end)
-      → SidesServe head v rest conn s s' p z told told'' left left'' f f'' out out' w w' end
-  sides_read_on read (Done other) end conn'' z told'' left'' f'' r d e on = absurd (cc e)
-  sides_read_on read Stopped end conn'' z told'' left'' f'' r d e on = record {
-    reads = read_to head v rest conn p z told told'' left left'' f f'' w w' end false conn''
-        (reads_then head v rest false conn conn' conn'' p q z told told' told'' left left' left'' f f' f'' (Done end)
-        (subst (λ (x : SideEnd). ReadsOn head v rest true conn conn' p q told told' left left' f f' x) (sym e) r) on);
+  pub sides_read_on : (read sent : SideEnd) (end : ConnEnd) (conn'' : Hearing) (z : SessionPass) (c : Noted) (l : Input)
+      → ReadsOn head v rest true conn conn' p q a b i j read → SendsOn head s s' p q o o' sent → Stopped ≡ ended_by read sent
+      → ReadsOn head v [] false conn' conn'' q z b c j l (Done end) → SidesServe head v rest conn s s' p z a c (outside i o) (outside l o') end
+  sides_read_on read (Done other) end conn'' z c l r d e on = absurd (cc e)
+  sides_read_on read Stopped end conn'' z c l r d e on = record {
+    reads = read_to head v rest conn p z a c (outside i o) (outside l o') end false conn''
+        (reads_then head v rest false conn conn' conn'' p q z a b c i j l (Done end)
+        (subst (λ (x : SideEnd). ReadsOn head v rest true conn conn' p q a b i j x) (sym e) r) on);
     sent = Stopped;
-    sends = sends_stay head s s' p q z out out' w w' Stopped on.handles.more_found d on.handles.grows on.handles.found;
+    sends = sends_stay head s s' p q z o o' Stopped on.handles.more_found d on.handles.grows on.handles.found;
     ended = inl refl;
   }
 
@@ -200,27 +198,53 @@ read_stopped read Stopped e = sym e
 
 -- ---- the first frame before
 
+-- an end counts the output's faults as well from before what was written without one
+view_before : (fed : List ℕ) (h : Hearing) (n : Notice) (i : Input) (o o' : Output) (now : Outside) (end : ConnEnd) → o'.faults ≡ o.faults
+    → ViewEnd fed h n (outside i o') now end → ViewEnd fed h n (outside i o) now end
+view_before fed h n i o o' now Left calm e = e
+view_before fed h n i o o' now (Refused k at) calm e = e
+view_before fed h n i o o' now Truncated calm e = e
+view_before fed h n i o o' now NotInvited calm e = e
+view_before fed h n i o o' now RoomFull calm e = e
+view_before fed h n i o o' now JoinsSpent calm e = e
+view_before fed h n i o o' now ReadFault calm e = e
+view_before fed h n i o o' now WriteFault calm e = subst (λ (m : ℕ). Rose m now.output.faults) calm e
+view_before fed h n i o o' now OutOfMemory calm e = tt
+
 module _ (head : Head) (v : ℕ) (confirmed : Confirmed) (rest : List ConnStep) (conn : Hearing) where
   -- it wasn't sent
-  pub attends_cut : (t : SenderModel) (p : SessionPass) (told : Told) (left : Option (List ℕ)) (f : ℕ) (out out' : Option (List ℕ)) (w w' : ℕ) (end : ConnEnd) → 0 < told.places.room
-      → FirstSent head v confirmed p.seen t out out' w w' (Done end) → Attends head v confirmed rest conn t p p told told left left f f out out' w w' end
-  attends_cut t p told left f out out' w w' end room a = record {
-    reads = unread_to head v rest conn p told left f w w' end room a.only a.cause;
+  pub attends_cut : (t : SenderModel) (p : SessionPass) (noted : Noted) (i : Input) (o o' : Output) (end : ConnEnd) → 0 < noted.places.room
+      → FirstSent head v confirmed p.seen t o o' (Done end) → Attends head v confirmed rest conn t p p noted noted (outside i o) (outside i o') end
+  attends_cut t p noted i o o' end room a = record {
+    reads = unread_to head v rest conn p noted i o o' end room a.only a.cause;
     sent = Done end;
-    frames = first_alone head v confirmed t p out out' w w' (Done end) a;
+    frames = first_alone head v confirmed t p o o' (Done end) a;
     ended = inr refl;
   }
 
   -- it was, and both sides did their work
-  pub attends_all : (t u : SenderModel) (p q : SessionPass) (told told' : Told) (left left' : Option (List ℕ)) (f f' : ℕ) (out out' out'' : Option (List ℕ)) (w w' w'' : ℕ)
-      (end : ConnEnd) → FirstSent head v confirmed p.seen t out out' w w' Stopped → SidesServe head v rest conn t u p q told told' left left' f f' out' out'' w' w'' end
-      → Attends head v confirmed rest conn u p q told told' left left' f f' out out'' w w'' end
-  attends_all t u p q told told' left left' f f' out out' out'' w w' w'' end a b = record {
-    reads = subst (λ (n : ℕ). ReadsTo head v rest conn p q told told' left left' f f' n w'' end) (a.calm refl) b.reads;
-    sent = b.sent;
-    frames = first_then head v confirmed t u p q out out' out'' w w' w'' b.sent a b.sends;
-    ended = b.ended;
-  }
+  pub attends_all : (t u : SenderModel) (p q : SessionPass) (a b : Noted) (i : Input) (o o' : Output) (now : Outside) (end : ConnEnd)
+      → FirstSent head v confirmed p.seen t o o' Stopped → SidesServe head v rest conn t u p q a b (outside i o') now end
+      → Attends head v confirmed rest conn u p q a b (outside i o) now end
+  attends_all t u p q a b i o o' now end first x =
+      let h = x.reads in record {
+        reads = record {
+          fed = h.fed;
+          taken = h.taken;
+          steps = h.steps;
+          undone = h.undone;
+          front = h.front;
+          all = h.all;
+          handles = h.handles;
+          room = h.room;
+          notice = h.notice;
+          stops = h.stops;
+          ends = view_before h.fed (heard conn h.fed).after (notice_in b) i o o' now end (first.calm refl) h.ends;
+        };
+        sent = x.sent;
+        frames = first_then head v confirmed t u p q o o' now.output x.sent first x.sends;
+        ended = x.ended;
+      }
 
 -- ---- the last frame behind
 
@@ -243,25 +267,24 @@ wants_left WriteFault n e = absurd (cc e)
 wants_left OutOfMemory n e = absurd (cc e)
 
 -- the connection's end behind it
-last_end : (left : Option (List ℕ)) (fed : List ℕ) (h : Hearing) (n : Notice) (f f' w w' : ℕ) (sent : SideEnd) → IsSendEnd sent → (sent ≡ Done WriteFault → Rose w w')
-    → ViewEnd left fed h n f f' w w' Left → ViewEnd left fed h n f f' w w' (end_of_last sent)
-last_end left fed h n f f' w w' (Done end) only cause e = cut_end left fed h n f f' w w' end only cause
-last_end left fed h n f f' w w' Stopped only cause e = e
+last_end : (fed : List ℕ) (h : Hearing) (n : Notice) (before : Outside) (j : Input) (o o' : Output) (sent : SideEnd) → IsSendEnd sent
+    → (sent ≡ Done WriteFault → Rose before.output.faults o'.faults) → ViewEnd fed h n before (outside j o) Left → ViewEnd fed h n before (outside j o') (end_of_last sent)
+last_end fed h n before j o o' (Done end) only cause e = cut_end fed h n before (outside j o') end only cause
+last_end fed h n before j o o' Stopped only cause e = e
 
 ends_last : (sent : SideEnd) → EndsSending sent (end_of_last sent)
 ends_last (Done end) = inr refl
 ends_last Stopped = inl refl
 
 module _ (head : Head) (v : ℕ) (confirmed : Confirmed) (rest : List ConnStep) (conn : Hearing) where
-  pub attends_last : (t u : SenderModel) (p q r : SessionPass) (told told' : Told) (left left' : Option (List ℕ)) (f f' : ℕ) (out out' out'' : Option (List ℕ)) (w w' w'' : ℕ)
-      (end : ConnEnd) (sent : SideEnd) → Attends head v confirmed rest conn t p q told told' left left' f f' out out' w w' end → end ≡ Left
-      → SendsOn head t u q r out' out'' w' w'' sent → r.mine ≡ q.mine → r.share ≡ q.share
-      → Attends head v confirmed rest conn u p r told told' left left' f f' out out'' w w'' (end_of_last sent)
-  attends_last t u p q r told told' left left' f f' out out' out'' w w' w'' end sent a is d mine share =
+  pub attends_last : (t u : SenderModel) (p q r : SessionPass) (b c : Noted) (before : Outside) (j : Input) (o o' : Output) (end : ConnEnd) (sent : SideEnd)
+      → Attends head v confirmed rest conn t p q b c before (outside j o) end → end ≡ Left → SendsOn head t u q r o o' sent → r.mine ≡ q.mine → r.share ≡ q.share
+      → Attends head v confirmed rest conn u p r b c before (outside j o') (end_of_last sent)
+  attends_last t u p q r b c before j o o' end sent a is d mine share =
       let h = a.reads in
-      let frames : FramesSent head v confirmed t p q out out' w w' Stopped
-      = subst (FramesSent head v confirmed t p q out out' w w') (left_stopped a.sent end a.ended a.frames.only is) a.frames in
-      let both : FramesSent head v confirmed u p r out out'' w w'' sent = frames_then head v confirmed t u p q r out out' out'' w w' w'' sent frames d in
+      let frames : FramesSent head v confirmed t p q before.output o Stopped
+      = subst (FramesSent head v confirmed t p q before.output o) (left_stopped a.sent end a.ended a.frames.only is) a.frames in
+      let both : FramesSent head v confirmed u p r before.output o' sent = frames_then head v confirmed t u p q r before.output o o' sent frames d in
       record {
         reads = record {
           fed = h.fed;
@@ -270,12 +293,12 @@ module _ (head : Head) (v : ℕ) (confirmed : Confirmed) (rest : List ConnStep) 
           undone = h.undone;
           front = h.front;
           all = λ no_write no_memory. h.all (λ wrote. absurd (cc (sym is ∙ wrote))) (λ wanted. absurd (cc (sym is ∙ wanted)));
-          handles = handles_more head v (events_in h.steps) p q r told.places.list told'.places.list d.more_found h.handles d.grows d.found mine (holds_same r.share q.share share);
+          handles = handles_more head v (events_in h.steps) p q r b.places.list c.places.list d.more_found h.handles d.grows d.found mine (holds_same r.share q.share share);
           room = h.room;
           notice = h.notice;
           stops = h.stops;
-          ends = last_end left h.fed (heard conn h.fed).after (notice_in told') f f' w w'' sent d.only both.cause
-              (subst (ViewEnd left h.fed (heard conn h.fed).after (notice_in told') f f' w w') is h.ends);
+          ends = last_end h.fed (heard conn h.fed).after (notice_in c) before j o o' sent d.only both.cause
+              (subst (ViewEnd h.fed (heard conn h.fed).after (notice_in c) before (outside j o)) is h.ends);
         };
         sent = sent;
         frames = both;

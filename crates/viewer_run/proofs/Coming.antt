@@ -1,7 +1,7 @@
 -- A viewer comes, takes its first and its last frame, and goes.
 use Rattle.std.proofs.Common.{◌≡◌, ℕ, suc, ◌+◌, ◌<◌, List, [], ◌∷◌, ◌++◌, length, sym, refl, ap, ◌∙◌, subst, arith, append-nil, length-append}
-use Rattle.std.specs.Prelude.{Bool, true, false, ◌==◌, not, ◌&&◌, ◌||◌, Option, Some, None, option_to_list, Result, Ok, Err, IfOk, MatchResult, slice_get, if◌then◌else◌}
-use Rattle.std.proofs.lemmas.Bool.{eqb-true, eq-eqb}
+use Rattle.std.specs.Prelude.{Bool, true, false, ◌==◌, not, ◌&&◌, ◌||◌, Option, Some, None, option_to_list, Result, Ok, Err, IfOk, MatchResult, slice_get}
+use Rattle.std.proofs.lemmas.Bool.{eqb-true}
 use Rattle.wire_num.specs.declared.out_of_memory.OutOfMemory.{OutOfMemory}
 use Rattle.px_core.specs.declared.surface.Size.{Size}
 use Rattle.px_core.specs.Tiles.{all_tiles, share_tile}
@@ -28,7 +28,8 @@ use Rattle.serve_rules.specs.Turns.{SessionPass}
 use Rattle.serve_rules.proofs.Lists.{got_end}
 use Rattle.serve_rules.proofs.Turning.{TurnFacts, turned}
 use Rattle.viewer_run.specs.declared.visits.Arrival.{Arrival}
-use Rattle.viewer_run.specs.Sending.{TakesAs}
+use Rattle.viewer_sides.specs.Sending.{TakesAs}
+use Rattle.viewer_sides.proofs.Asked.{replaced_here}
 use Rattle.viewer_run.specs.Visiting.{IsFirst, IsUpToDate, Arrives, ArrivesIn, IsTurnedAway, IsTurnedAwayIn, leave_if, LeavesHere, LeavesIn}
 
 -- ---- a join
@@ -173,9 +174,6 @@ pub caught_up : (session : SessionModel) (s : SenderModel) → is_suppressed ses
     → (s.number == length session.journal) ≡ true
 caught_up session s free e = no_news (is_suppressed session s.v) (s.number == length session.journal) (share_tile session.head.size (asked_by session s.v) all_tiles)
     (not_taken (is_work session (desk_of s)) session s e) free
-
-pub replaced_here : (v : ℕ) (stop : Bool) (kept : PerViewer Bool) → replaced_for v stop kept v ≡ stop
-replaced_here v stop kept = ap (λ (b : Bool). if b then stop else kept v) (eq-eqb v v refl)
 
 pub up_to_date : (session mid : SessionModel) (s : SenderModel) (v : ℕ) (result : Result Taken OutOfMemory) → s.v ≡ v
     → is_suppressed mid ≡ replaced_for v false (is_suppressed session) → mid.journal ≡ session.journal

@@ -1,8 +1,8 @@
 -- A viewer's first frame, and the frames behind it.
 use Rattle.std.proofs.Common.{◌≡◌, ℕ, ◌+◌, ◌≤◌, List, [], ◌∷◌, ◌++◌, length, sym, refl, ap, ap₂, ◌∙◌, subst, arith, append_assoc, append-nil, map}
 use Rattle.std.proofs.KnownBytes.{Appends-trans}
-use Rattle.std.specs.declared.option.Option.{Option}
 use Rattle.edge_io.specs.Faults.{Rose}
+use Rattle.edge_io.specs.Outside.{Output}
 use Rattle.px_core.specs.declared.surface.Size.{Size}
 use Rattle.caps_sets.specs.declared.confirmed.Confirmed.{Confirmed}
 use Rattle.session_rules.specs.declared.entry.Entry.{Entry}
@@ -19,19 +19,19 @@ use Rattle.grow_lock.proofs.Lists.{starts_itself, starts_trans, length_starts}
 use Rattle.serve_rules.specs.Turns.{SessionPass}
 use Rattle.serve_rules.specs.declared.ends.SideEnd.{SideEnd}
 use Rattle.serve_rules.specs.declared.ends.SideEnd.TheVariants.{Stopped}
-use Rattle.viewer_run.specs.Sending.{TakesFrame, SendsFrame, IsPresentAtEach, SendsOn}
+use Rattle.viewer_sides.specs.Sending.{TakesFrame, SendsFrame, IsPresentAtEach, SendsOn}
 use Rattle.viewer_run.specs.Visiting.{IsFresh}
 use Rattle.viewer_run.specs.Frames.{first_take, FirstSent, FramesSent}
 use Rattle.std.proofs.lemmas.List.{map-append}
 use Rattle.serve_rules.specs.Events.{IsWithin}
 use Rattle.serve_rules.proofs.Lists.{within_then}
-use Rattle.viewer_run.proofs.TakesOn.{follow_then, at_least_lower, at_least_then, present_then, present_stays, joined_then, bytes_then, encoder_then, bytes_stay, encoder_stays}
-use Rattle.viewer_run.proofs.OneTake.{stands_taken}
+use Rattle.viewer_sides.proofs.TakesOn.{follow_then, at_least_lower, at_least_then, present_then, present_stays, joined_then, bytes_then, encoder_then, bytes_stay, encoder_stays}
+use Rattle.viewer_sides.proofs.OneTake.{stands_taken}
 
 -- the first take's frame was sent
-pub first_sent : (head : Head) (j : List Entry) (v : ℕ) (confirmed : Confirmed) (s t u : SenderModel) (take : TakeModel) (told told' : Option (List ℕ)) (f f' : ℕ) (end : SideEnd)
-    → IsFresh s v confirmed → TakesFrame head j s t take → SendsFrame t u take told told' f f' end → FirstSent head v confirmed j u told told' f f' end
-first_sent head j v confirmed s t u take told told' f f' end fresh h fr =
+pub first_sent : (head : Head) (j : List Entry) (v : ℕ) (confirmed : Confirmed) (s t u : SenderModel) (take : TakeModel) (o o' : Output) (end : SideEnd)
+    → IsFresh s v confirmed → TakesFrame head j s t take → SendsFrame t u take o o' end → FirstSent head v confirmed j u o o' end
+first_sent head j v confirmed s t u take o o' end fresh h fr =
     let size = head.size in
     let c = s.confirmed in
     let e : Encoder = first_encoder in
@@ -75,9 +75,9 @@ first_sent head j v confirmed s t u take told told' f f' end fresh h fr =
 
 module _ (head : Head) (v : ℕ) (confirmed : Confirmed) where
   -- no frame behind the first one
-  pub first_alone : (u : SenderModel) (p : SessionPass) (told told' : Option (List ℕ)) (f f' : ℕ) (end : SideEnd) → FirstSent head v confirmed p.seen u told told' f f' end
-      → FramesSent head v confirmed u p p told told' f f' end
-  first_alone u p told told' f f' end a = record {
+  pub first_alone : (u : SenderModel) (p : SessionPass) (o o' : Output) (end : SideEnd) → FirstSent head v confirmed p.seen u o o' end
+      → FramesSent head v confirmed u p p o o' end
+  first_alone u p o o' end a = record {
     asked = a.asked;
     later = [];
     last = length p.seen;
@@ -102,9 +102,9 @@ module _ (head : Head) (v : ℕ) (confirmed : Confirmed) where
   }
 
   -- a send side's frames behind it
-  pub first_then : (t u : SenderModel) (p q : SessionPass) (told told' told'' : Option (List ℕ)) (f f' f'' : ℕ) (end : SideEnd)
-      → FirstSent head v confirmed p.seen t told told' f f' Stopped → SendsOn head t u p q told' told'' f' f'' end → FramesSent head v confirmed u p q told told'' f f'' end
-  first_then t u p q told told' told'' f f' f'' end a b =
+  pub first_then : (t u : SenderModel) (p q : SessionPass) (o o' o'' : Output) (end : SideEnd)
+      → FirstSent head v confirmed p.seen t o o' Stopped → SendsOn head t u p q o' o'' end → FramesSent head v confirmed u p q o o'' end
+  first_then t u p q o o' o'' end a b =
       let size = head.size in
       let w = a.after_is refl in
       let first : TakeOf = first_take p.seen a.asked in
@@ -135,7 +135,7 @@ module _ (head : Head) (v : ℕ) (confirmed : Confirmed) where
         written = a.written ++ b.written;
         unwritten = y.0;
         bytes = ap₂ ◌++◌ first_bytes later_bytes ∙ sym (append_assoc a.written b.written y.0);
-        told = Appends-trans told told' told'' a.written b.written a.told b.told;
+        told = Appends-trans o.told o'.told o''.told a.written b.written a.told b.told;
         all = y.2;
         after_is = λ stopped. let z = b.after_is stopped in (
           z.0 ∙ w.0,
@@ -145,14 +145,14 @@ module _ (head : Head) (v : ℕ) (confirmed : Confirmed) where
           subst (Follows u) (sym (ap₂ (λ (d : Confirmed) (k : Encoder). encoder_after_takes size d q.seen k b.takes) (sym w.1) mid_same)) (z.4 mid w.4),
         );
         only = b.only;
-        cause = λ is. subst (λ (n : ℕ). Rose n f'') (a.calm refl) (b.cause is);
+        cause = λ is. subst (λ (n : ℕ). Rose n o''.faults) (a.calm refl) (b.cause is);
         calm = λ stopped. b.calm stopped ∙ a.calm refl;
       }
 
   -- further frames behind all of these
-  pub frames_then : (t u : SenderModel) (p q r : SessionPass) (told told' told'' : Option (List ℕ)) (f f' f'' : ℕ) (end : SideEnd)
-      → FramesSent head v confirmed t p q told told' f f' Stopped → SendsOn head t u q r told' told'' f' f'' end → FramesSent head v confirmed u p r told told'' f f'' end
-  frames_then t u p q r told told' told'' f f' f'' end a b =
+  pub frames_then : (t u : SenderModel) (p q r : SessionPass) (o o' o'' : Output) (end : SideEnd)
+      → FramesSent head v confirmed t p q o o' Stopped → SendsOn head t u q r o' o'' end → FramesSent head v confirmed u p r o o'' end
+  frames_then t u p q r o o' o'' end a b =
       let size = head.size in
       let w = a.after_is refl in
       let takes : List TakeOf = first_take p.seen a.asked ∷ a.later in
@@ -189,7 +189,7 @@ module _ (head : Head) (v : ℕ) (confirmed : Confirmed) where
         bytes = ap joined_bytes (bytes_then size confirmed r.seen e takes b.takes)
             ∙ (joined_then (bytes_of_takes size confirmed r.seen e takes) (bytes_of_takes size confirmed r.seen (encoder_after_takes size confirmed r.seen e takes) b.takes)
             ∙ (ap₂ ◌++◌ first_bytes later_bytes ∙ sym (append_assoc a.written b.written y.0)));
-        told = Appends-trans told told' told'' a.written b.written a.told b.told;
+        told = Appends-trans o.told o'.told o''.told a.written b.written a.told b.told;
         all = y.2;
         after_is = λ stopped. let z = b.after_is stopped in (
           z.0 ∙ w.0,
@@ -200,6 +200,6 @@ module _ (head : Head) (v : ℕ) (confirmed : Confirmed) where
               ∙ ap₂ (λ (d : Confirmed) (k : Encoder). encoder_after_takes size d r.seen k b.takes) (sym w.1) mid_same)) (z.4 mid w.4),
         );
         only = b.only;
-        cause = λ is. subst (λ (n : ℕ). Rose n f'') (a.calm refl) (b.cause is);
+        cause = λ is. subst (λ (n : ℕ). Rose n o''.faults) (a.calm refl) (b.cause is);
         calm = λ stopped. b.calm stopped ∙ a.calm refl;
       }

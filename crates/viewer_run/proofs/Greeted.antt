@@ -4,6 +4,7 @@ use Rattle.std.proofs.KnownBytes.{Appends-nil, Appends-trans}
 use Rattle.std.specs.Prelude.{Option, Some, None, Result, Ok, Err, IfOk}
 use Rattle.std.specs.Io.KnownBytes.{Consumes}
 use Rattle.edge_io.specs.Faults.{Rose}
+use Rattle.edge_io.specs.Outside.{Input, Output, Outside, outside}
 use Rattle.conn_rules.specs.declared.conn_step.ConnStep.{ConnStep}
 use Rattle.conn_rules.specs.declared.conn_step.ConnStep.TheVariants as step
 use Rattle.conn_rules.specs.Hearing.{Hearing, Heard, heard, then_heard}
@@ -34,55 +35,55 @@ greeting_then n m (step.Bye ∷ xs) ys e = absurd (cc e)
 greeting_then n m (step.Packet ∷ xs) ys e = greeting_then n m xs ys e
 
 -- an end of the second stretch is one of both
-end_then : (left left' : Option (List ℕ)) (xs ys unwritten : List ℕ) (g : Greeting) (after new : Hearing) (name : List ℕ) (rf rf' rf'' wf wf' wf'' : ℕ)
-    (r : Result (Option Guest) ConnEnd) → (IsWhole left' ys → IsWhole left (xs ++ ys)) → rf' ≡ rf → wf' ≡ wf
-    → GreetEnd left' ys unwritten g after new name rf' rf'' wf' wf'' r → GreetEnd left (xs ++ ys) unwritten g after new name rf rf'' wf wf'' r
-end_then left left' xs ys unwritten g after new name rf rf' rf'' wf wf' wf'' (Ok None) whole a b e = (e.0, e.1, e.2, e.3 ∙ a, e.4 ∙ b, e.5)
-end_then left left' xs ys unwritten g after new name rf rf' rf'' wf wf' wf'' (Ok (Some guest)) whole a b e = (e.0, e.1, e.2, e.3 ∙ a, e.4 ∙ b)
-end_then left left' xs ys unwritten g after new name rf rf' rf'' wf wf' wf'' (Err Left) whole a b e = (e.0, e.1, e.2 ∙ b)
-end_then left left' xs ys unwritten g after new name rf rf' rf'' wf wf' wf'' (Err (Refused k at)) whole a b e = (e.0, e.1, e.2, e.3 ∙ b)
-end_then left left' xs ys unwritten g after new name rf rf' rf'' wf wf' wf'' (Err Truncated) whole a b e = (e.0, e.1, whole e.2, e.3 ∙ b, e.4)
-end_then left left' xs ys unwritten g after new name rf rf' rf'' wf wf' wf'' (Err NotInvited) whole a b e = e
-end_then left left' xs ys unwritten g after new name rf rf' rf'' wf wf' wf'' (Err RoomFull) whole a b e = e
-end_then left left' xs ys unwritten g after new name rf rf' rf'' wf wf' wf'' (Err JoinsSpent) whole a b e = e
-end_then left left' xs ys unwritten g after new name rf rf' rf'' wf wf' wf'' (Err ReadFault) whole a b e = (e.0, subst (λ (n : ℕ). Rose n rf'') a e.1)
-end_then left left' xs ys unwritten g after new name rf rf' rf'' wf wf' wf'' (Err WriteFault) whole a b e = subst (λ (n : ℕ). Rose n wf'') b e
-end_then left left' xs ys unwritten g after new name rf rf' rf'' wf wf' wf'' (Err OutOfMemory) whole a b e = e
+end_then : (xs ys unwritten : List ℕ) (g : Greeting) (after new : Hearing) (name : List ℕ) (i j l : Outside)
+    (r : Result (Option Guest) ConnEnd) → (IsWhole j.input.left ys → IsWhole i.input.left (xs ++ ys)) → j.input.faults ≡ i.input.faults → j.output.faults ≡ i.output.faults
+    → GreetEnd ys unwritten g after new name j l r → GreetEnd (xs ++ ys) unwritten g after new name i l r
+end_then xs ys unwritten g after new name i j l (Ok None) whole a b e = (e.0, e.1, e.2, e.3 ∙ a, e.4 ∙ b, e.5)
+end_then xs ys unwritten g after new name i j l (Ok (Some guest)) whole a b e = (e.0, e.1, e.2, e.3 ∙ a, e.4 ∙ b)
+end_then xs ys unwritten g after new name i j l (Err Left) whole a b e = (e.0, e.1, e.2 ∙ b)
+end_then xs ys unwritten g after new name i j l (Err (Refused k at)) whole a b e = (e.0, e.1, e.2, e.3 ∙ b)
+end_then xs ys unwritten g after new name i j l (Err Truncated) whole a b e = (e.0, e.1, whole e.2, e.3 ∙ b, e.4)
+end_then xs ys unwritten g after new name i j l (Err NotInvited) whole a b e = e
+end_then xs ys unwritten g after new name i j l (Err RoomFull) whole a b e = e
+end_then xs ys unwritten g after new name i j l (Err JoinsSpent) whole a b e = e
+end_then xs ys unwritten g after new name i j l (Err ReadFault) whole a b e = (e.0, subst (λ (n : ℕ). Rose n l.input.faults) a e.1)
+end_then xs ys unwritten g after new name i j l (Err WriteFault) whole a b e = subst (λ (n : ℕ). Rose n l.output.faults) b e
+end_then xs ys unwritten g after new name i j l (Err OutOfMemory) whole a b e = e
 
 -- a stretch after one that went well
-pub greets_then : (h m k : Hearing) (n n' n'' : List ℕ) (left left' left'' told told' told'' : Option (List ℕ)) (rf rf' rf'' wf wf' wf'' : ℕ) (r : Result (Option Guest) ConnEnd)
-    → Greets h m n n' left left' told told' rf rf' wf wf' (Ok None) → Greets m k n' n'' left' left'' told' told'' rf' rf'' wf' wf'' r
-    → Greets h k n n'' left left'' told told'' rf rf'' wf wf'' r
-greets_then h m k n n' n'' left left' left'' told told' told'' rf rf' rf'' wf wf' wf'' r a b =
+pub greets_then : (h m k : Hearing) (n n' n'' : List ℕ) (before between after : Outside) (r : Result (Option Guest) ConnEnd)
+    → Greets h m n n' before between (Ok None) → Greets m k n' n'' between after r → Greets h k n n'' before after r
+greets_then h m k n n' n'' before between after r a b =
     let both : heard h (a.fed ++ b.fed) ≡ then_heard (heard h a.fed) (heard m b.fed)
     = heard_then h a.fed b.fed ∙ ap (λ (x : Hearing). then_heard (heard h a.fed) (heard x b.fed)) (sym a.came.1) in
     let steps : greeting n (heard h (a.fed ++ b.fed)).steps ≡ greeting n' (heard m b.fed).steps
     = ap (λ (x : Heard). greeting n x.steps) both ∙ greeting_then n n' (heard h a.fed).steps (heard m b.fed).steps a.came.2 in
-    let after : (heard h (a.fed ++ b.fed)).after ≡ (heard m b.fed).after = ap (λ (x : Heard). x.after) both in
+    let stands : (heard h (a.fed ++ b.fed)).after ≡ (heard m b.fed).after = ap (λ (x : Heard). x.after) both in
     record {
       fed = a.fed ++ b.fed;
-      taken = consumes_then left left' left'' a.fed b.fed a.taken b.taken;
+      taken = consumes_then before.input.left between.input.left after.input.left a.fed b.fed a.taken b.taken;
       written = a.written ++ b.written;
       unwritten = b.unwritten;
       replies = ap (λ (x : Heard). x.replies) both
           ∙ (ap₂ ◌++◌ (a.replies ∙ (ap (λ l. a.written ++ l) a.came.0 ∙ append-nil a.written)) b.replies ∙ sym (append_assoc a.written b.written b.unwritten));
-      told = Appends-trans told told' told'' a.written b.written a.told b.told;
-      came = subst (λ (x : Hearing). GreetEnd left (a.fed ++ b.fed) b.unwritten (greeting n (heard h (a.fed ++ b.fed)).steps) x k n'' rf rf'' wf wf'' r) (sym after)
-          (subst (λ (g : Greeting). GreetEnd left (a.fed ++ b.fed) b.unwritten g (heard m b.fed).after k n'' rf rf'' wf wf'' r) (sym steps)
-          (end_then left left' a.fed b.fed b.unwritten (greeting n' (heard m b.fed).steps) (heard m b.fed).after k n'' rf rf' rf'' wf wf' wf'' r
-          (consumes_then left left' (Some []) a.fed b.fed a.taken) a.came.3 a.came.4 b.came));
+      told = Appends-trans before.output.told between.output.told after.output.told a.written b.written a.told b.told;
+      came = subst (λ (x : Hearing). GreetEnd (a.fed ++ b.fed) b.unwritten (greeting n (heard h (a.fed ++ b.fed)).steps) x k n'' before after r) (sym stands)
+          (subst (λ (g : Greeting). GreetEnd (a.fed ++ b.fed) b.unwritten g (heard m b.fed).after k n'' before after r) (sym steps)
+          (end_then a.fed b.fed b.unwritten (greeting n' (heard m b.fed).steps) (heard m b.fed).after k n'' before between after r
+          (consumes_then before.input.left between.input.left (Some []) a.fed b.fed a.taken) a.came.3 a.came.4 b.came));
     }
 
 -- nothing was read
-pub greets_none : (h : Hearing) (n : List ℕ) (left less told : Option (List ℕ)) (rf rf' wf : ℕ) (r : Result (Option Guest) ConnEnd) → Consumes left less []
-    → (heard h []).replies ≡ [] → GreetEnd left [] [] (greeting n (heard h []).steps) (heard h []).after h n rf rf' wf wf r → Greets h h n n left less told told rf rf' wf wf r
-greets_none h n left less told rf rf' wf r taken quiet e = record {
+pub greets_none : (h : Hearing) (n : List ℕ) (i j : Input) (o : Output) (r : Result (Option Guest) ConnEnd) → Consumes i.left j.left []
+    → (heard h []).replies ≡ [] → GreetEnd [] [] (greeting n (heard h []).steps) (heard h []).after h n (outside i o) (outside j o) r
+    → Greets h h n n (outside i o) (outside j o) r
+greets_none h n i j o r taken quiet e = record {
   fed = [];
   taken = taken;
   written = [];
   unwritten = [];
   replies = quiet;
-  told = Appends-nil told;
+  told = Appends-nil o.told;
   came = e;
 }
 

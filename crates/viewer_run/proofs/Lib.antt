@@ -1,13 +1,4 @@
-pub mod Handled
-pub mod Legal
-pub mod OneStep
-pub mod Streams
-pub mod Stretches
-pub mod TakesOn
-pub mod OneTake
-pub mod SendOn
 pub mod Coming
-pub mod Asked
 pub mod Greeted
 pub mod FromFirst
 pub mod Attending

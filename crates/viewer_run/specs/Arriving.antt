@@ -1,7 +1,7 @@
 -- What is done for a client that is ready, from its Join to its Leave.
 use Rattle.std.specs.Prelude.{◌≡◌, ◌⊎◌, ℕ, false, ◌++◌, ◌∷◌, List, [], length, Option, option_to_list, Result, Ok, Err}
-use Rattle.std.specs.declared.option.Option as std_option
 use Rattle.wire_num.specs.declared.out_of_memory.OutOfMemory.{OutOfMemory}
+use Rattle.edge_io.specs.Outside.{Outside}
 use Rattle.caps_sets.specs.declared.confirmed.Confirmed.{Confirmed}
 use Rattle.session_rules.specs.declared.entry.Entry.{Entry}
 use Rattle.session_rules.specs.Journal.{Head}
@@ -15,7 +15,7 @@ use Rattle.serve_rules.specs.declared.ends.ConnEnd.TheVariants as ends
 use Rattle.session_core.specs.declared.faults.JoinFault.{JoinFault}
 use Rattle.session_core.specs.declared.faults.JoinFault.TheVariants as join
 use Rattle.viewer_run.specs.declared.guest.Guest.{Guest}
-use Rattle.serve_rules.specs.declared.told.Told.{Told}
+use Rattle.serve_rules.specs.declared.noted.Noted.{Noted}
 use Rattle.viewer_run.specs.Visiting.{IsFirst, ArrivesIn, IsTurnedAwayIn, LeavesIn}
 use Rattle.viewer_run.specs.Serving.{Attends, IsShownLast}
 use Rattle.viewer_run.specs.declared.arriving.Visit.{Visit}
@@ -26,21 +26,13 @@ use Rattle.viewer_run.specs.declared.visits.FirstFrame.{FirstFrame}
 abbrev pub IsFirstOfSome : Head → List Entry → ℕ → Result FirstFrame OutOfMemory → Type 0
 IsFirstOfSome head j v first = (confirmed : Confirmed) × IsFirst head j v confirmed first
 
--- nothing was read or written
-abbrev pub IsStill : std_option.Option (List ℕ) → std_option.Option (List ℕ) → ℕ → ℕ → std_option.Option (List ℕ) → std_option.Option (List ℕ) → ℕ → ℕ → Type 0
-IsStill left left' rf rf' out out' wf wf' = (left' ≡ left) × (rf' ≡ rf) × (out' ≡ out) × (wf' ≡ wf)
-
--- nor noted
-abbrev pub IsUntouched : Told → Told → std_option.Option (List ℕ) → std_option.Option (List ℕ) → ℕ → ℕ → std_option.Option (List ℕ) → std_option.Option (List ℕ) → ℕ → ℕ → Type 0
-IsUntouched told told' left left' rf rf' out out' wf wf' = (told' ≡ told) × IsStill left left' rf rf' out out' wf wf'
-
--- a viewer who joined was attended to until its connection ended; where memory was wanted for its first frame nothing was read, written or handled
-abbrev pub Stays : Head → ℕ → Confirmed → Result FirstFrame OutOfMemory → List ConnStep → Hearing → SessionPass → SessionPass → Told → Told
-    → std_option.Option (List ℕ) → std_option.Option (List ℕ) → ℕ → ℕ → std_option.Option (List ℕ) → std_option.Option (List ℕ) → ℕ → ℕ → ConnEnd → Type 0
-Stays head v confirmed (Ok first) rest conn joined viewed told told' left left' rf rf' out out' wf wf' end = (sender : SenderModel)
-    × Attends head v confirmed rest conn sender joined viewed told told' left left' rf rf' out out' wf wf' end × IsShownLast head v viewed sender end (notice_in told')
-Stays head v confirmed (Err refusal) rest conn joined viewed told told' left left' rf rf' out out' wf wf' end =
-    (viewed ≡ joined) × IsUntouched told told' left left' rf rf' out out' wf wf' × (end ≡ ends.OutOfMemory)
+-- a viewer who joined was attended to until its connection ended; where memory was wanted for its first frame nothing was read, written, noted or handled
+abbrev pub Stays : Head → ℕ → Confirmed → Result FirstFrame OutOfMemory → List ConnStep → Hearing → (joined viewed : SessionPass) → (noted_old noted_new : Noted)
+    → (before now : Outside) → ConnEnd → Type 0
+Stays head v confirmed (Ok first) rest conn joined viewed noted_old noted_new before now end = (sender : SenderModel)
+    × Attends head v confirmed rest conn sender joined viewed noted_old noted_new before now end × IsShownLast head v viewed sender end (notice_in noted_new)
+Stays head v confirmed (Err refusal) rest conn joined viewed noted_old noted_new before now end =
+    (viewed ≡ joined) × (noted_new ≡ noted_old) × (now ≡ before) × (end ≡ ends.OutOfMemory)
 
 -- a viewer left in a turn of its own, and the place of its Leave, if it was present, joined a list of places
 abbrev pub LeavesNoted : Head → ℕ → SessionPass → SessionPass → List ℕ → List ℕ → Type 0
@@ -48,28 +40,28 @@ LeavesNoted head v before after places places' = (place : Option ℕ) × LeavesI
 
 -- a client joined by its name, was attended to until its connection ended, and left: the states of its pass at its Join and at its connection's end, and what was
 -- noted there; the places noted are its Join's, its events', and its Leave's
-pub record ServesArrival (head : Head) (name : List ℕ) (confirmed : Confirmed) (rest : List ConnStep) (conn : Hearing) (before after : SessionPass) (told_old told_new : Told)
-    (left_old left_new : std_option.Option (List ℕ)) (rf rf' : ℕ) (out_old out_new : std_option.Option (List ℕ)) (wf wf' : ℕ) (visit : Visit) : Type 0 where
+pub record ServesArrival (head : Head) (name : List ℕ) (confirmed : Confirmed) (rest : List ConnStep) (conn : Hearing) (before after : SessionPass) (noted_old noted_new : Noted)
+    (outside_old outside_new : Outside) (visit : Visit) : Type 0 where
   pub joined : SessionPass
   pub arrival : Arrival
   pub viewer : visit.v ≡ arrival.v
   pub arrives : ArrivesIn head name confirmed before joined arrival
-  pub noted : Told
-  pub noted_places : noted.places.list ≡ told_old.places.list ++ length arrives.base ∷ []
-  pub noted_notice : notice_in noted ≡ notice_in told_old
+  pub noted_joined : Noted
+  pub joined_places : noted_joined.places.list ≡ noted_old.places.list ++ length arrives.base ∷ []
+  pub joined_notice : notice_in noted_joined ≡ notice_in noted_old
   pub viewed : SessionPass
-  pub told : Told
-  pub stays : Stays head arrival.v confirmed arrival.first rest conn joined viewed noted told left_old left_new rf rf' out_old out_new wf wf' visit.end
-  pub leaves : LeavesNoted head arrival.v viewed after told.places.list told_new.places.list
-  pub notice : notice_in told_new ≡ notice_in told
+  pub noted_viewed : Noted
+  pub stays : Stays head arrival.v confirmed arrival.first rest conn joined viewed noted_joined noted_viewed outside_old outside_new visit.end
+  pub leaves : LeavesNoted head arrival.v viewed after noted_viewed.places.list noted_new.places.list
+  pub notice : notice_in noted_new ≡ notice_in noted_viewed
 
 -- nothing was announced
 abbrev pub no_notice : Notice
 no_notice = record { bye = false; shutdown = false; quiet = false }
 
 -- nothing was noted
-abbrev pub IsUnnoted : Told → Type 0
-IsUnnoted told = (told.places.list ≡ []) × (notice_in told ≡ no_notice)
+abbrev pub IsUnnoted : Noted → Type 0
+IsUnnoted noted = (noted.places.list ≡ []) × (notice_in noted ≡ no_notice)
 
 -- how the connection of a client ends that didn't join
 abbrev pub end_of_join : JoinFault → ConnEnd
@@ -84,9 +76,7 @@ DoesNotJoin head name before after end =
     ((fault : JoinFault) × IsTurnedAwayIn head name before after fault × (end ≡ end_of_join fault)) ⊎ ((after ≡ before) × (end ≡ ends.OutOfMemory))
 
 -- a client that is ready was served, or it didn't join and nothing was read or written
-abbrev pub GuestServed : Head → Guest → Hearing → SessionPass → SessionPass → std_option.Option (List ℕ) → std_option.Option (List ℕ) → ℕ → ℕ
-    → std_option.Option (List ℕ) → std_option.Option (List ℕ) → ℕ → ℕ → Result (Visit × Told) ConnEnd → Type 0
-GuestServed head guest conn before after left left' rf rf' out out' wf wf' (Ok (visit, noted)) = (told : Told) × IsUnnoted told
-    × ServesArrival head guest.name guest.confirmed guest.rest.items conn before after told noted left left' rf rf' out out' wf wf' visit
-GuestServed head guest conn before after left left' rf rf' out out' wf wf' (Err end) =
-    DoesNotJoin head guest.name before after end × IsStill left left' rf rf' out out' wf wf'
+abbrev pub GuestServed : Head → Guest → Hearing → (before after : SessionPass) → (outside_old outside_new : Outside) → Result (Visit × Noted) ConnEnd → Type 0
+GuestServed head guest conn before after outside_old outside_new (Ok (visit, noted)) = (nothing : Noted) × IsUnnoted nothing
+    × ServesArrival head guest.name guest.confirmed guest.rest.items conn before after nothing noted outside_old outside_new visit
+GuestServed head guest conn before after outside_old outside_new (Err end) = DoesNotJoin head guest.name before after end × (outside_new ≡ outside_old)

@@ -2,6 +2,7 @@
 use Rattle.std.specs.Prelude.{◌≡◌, ℕ, ⊤, List, [], ◌∷◌, ◌++◌, Result, Ok, Err, Option, Some, None}
 use Rattle.std.specs.Io.KnownBytes.{Consumes, Appends}
 use Rattle.edge_io.specs.Faults.{Rose}
+use Rattle.edge_io.specs.Outside.{Output, Outside}
 use Rattle.edge_io.specs.Sink.{WritesFront}
 use Rattle.caps_sets.specs.declared.confirmed.Confirmed.{Confirmed}
 use Rattle.conn_rules.specs.declared.conn_step.ConnStep.{ConnStep}
@@ -38,32 +39,35 @@ greeting name (step.Packet ∷ xs) = greeting name xs
 abbrev pub StillConnects : Greeting → Type 0
 StillConnects g = (name : List ℕ) × (g ≡ Connects name)
 
--- when a client's connection sequence comes to this, which goes on, and ends in the midst, only where its stream isn't refused: by what was left of its stream and what of it was read, which of the replies weren't written, what its steps
--- came to, where the stream stands and where the connection does, and the counts of faults of the input and the output
-abbrev pub GreetEnd : Option (List ℕ) → List ℕ → List ℕ → Greeting → Hearing → Hearing → List ℕ → ℕ → ℕ → ℕ → ℕ → Result (Option Guest) ConnEnd → Type 0
-GreetEnd left fed unwritten g after new name rf rf' wf wf' (Ok None) = (unwritten ≡ []) × (new ≡ after) × (g ≡ Connects name) × (rf' ≡ rf) × (wf' ≡ wf) × IsNoRefusal (end_of after)
-GreetEnd left fed unwritten g after new name rf rf' wf wf' (Ok (Some guest)) =
-    (unwritten ≡ []) × (new ≡ after) × (g ≡ IsReady guest.name guest.confirmed guest.rest.items) × (rf' ≡ rf) × (wf' ≡ wf)
-GreetEnd left fed unwritten g after new name rf rf' wf wf' (Err Left) = (unwritten ≡ []) × (g ≡ HasLeft) × (wf' ≡ wf)
-GreetEnd left fed unwritten g after new name rf rf' wf wf' (Err (Refused k at)) = (unwritten ≡ []) × StillConnects g × (end_of after ≡ RefusedAt k at) × (wf' ≡ wf)
-GreetEnd left fed unwritten g after new name rf rf' wf wf' (Err Truncated) = (unwritten ≡ []) × StillConnects g × IsWhole left fed × (wf' ≡ wf) × IsNoRefusal (end_of after)
-GreetEnd left fed unwritten g after new name rf rf' wf wf' (Err NotInvited) = ⊥
-GreetEnd left fed unwritten g after new name rf rf' wf wf' (Err RoomFull) = ⊥
-GreetEnd left fed unwritten g after new name rf rf' wf wf' (Err JoinsSpent) = ⊥
-GreetEnd left fed unwritten g after new name rf rf' wf wf' (Err ReadFault) = (unwritten ≡ []) × Rose rf rf'
-GreetEnd left fed unwritten g after new name rf rf' wf wf' (Err WriteFault) = Rose wf wf'
-GreetEnd left fed unwritten g after new name rf rf' wf wf' (Err OutOfMemory) = ⊤
+-- when a client's connection sequence comes to this, which goes on, and ends in the midst, only where its stream isn't refused: by what of its stream was read, which
+-- of the replies weren't written, what its steps came to, where the stream stands and where the connection does, the name that it gave last, and the outside before
+-- and now
+abbrev pub GreetEnd : (fed unwritten : List ℕ) → Greeting → (after new : Hearing) → List ℕ → (before now : Outside) → Result (Option Guest) ConnEnd → Type 0
+GreetEnd fed unwritten g after new name before now (Ok None) =
+    (unwritten ≡ []) × (new ≡ after) × (g ≡ Connects name) × (now.input.faults ≡ before.input.faults) × (now.output.faults ≡ before.output.faults) × IsNoRefusal (end_of after)
+GreetEnd fed unwritten g after new name before now (Ok (Some guest)) =
+    (unwritten ≡ []) × (new ≡ after) × (g ≡ IsReady guest.name guest.confirmed guest.rest.items) × (now.input.faults ≡ before.input.faults) × (now.output.faults ≡ before.output.faults)
+GreetEnd fed unwritten g after new name before now (Err Left) = (unwritten ≡ []) × (g ≡ HasLeft) × (now.output.faults ≡ before.output.faults)
+GreetEnd fed unwritten g after new name before now (Err (Refused k at)) =
+    (unwritten ≡ []) × StillConnects g × (end_of after ≡ RefusedAt k at) × (now.output.faults ≡ before.output.faults)
+GreetEnd fed unwritten g after new name before now (Err Truncated) =
+    (unwritten ≡ []) × StillConnects g × IsWhole before.input.left fed × (now.output.faults ≡ before.output.faults) × IsNoRefusal (end_of after)
+GreetEnd fed unwritten g after new name before now (Err NotInvited) = ⊥
+GreetEnd fed unwritten g after new name before now (Err RoomFull) = ⊥
+GreetEnd fed unwritten g after new name before now (Err JoinsSpent) = ⊥
+GreetEnd fed unwritten g after new name before now (Err ReadFault) = (unwritten ≡ []) × Rose before.input.faults now.input.faults
+GreetEnd fed unwritten g after new name before now (Err WriteFault) = Rose before.output.faults now.output.faults
+GreetEnd fed unwritten g after new name before now (Err OutOfMemory) = ⊤
 
 -- a stretch of a connection sequence: what was read was fed to the connection, and its replies, or a front of them, were written
-pub record Greets (conn_old conn_new : Hearing) (name_old name_new : List ℕ) (left_old left_new told_old told_new : Option (List ℕ)) (rf_old rf_new wf_old wf_new : ℕ)
-    (result : Result (Option Guest) ConnEnd) : Type 0 where
+pub record Greets (conn_old conn_new : Hearing) (name_old name_new : List ℕ) (before now : Outside) (result : Result (Option Guest) ConnEnd) : Type 0 where
   pub fed : List ℕ
-  pub taken : Consumes left_old left_new fed
+  pub taken : Consumes before.input.left now.input.left fed
   pub written : List ℕ
   pub unwritten : List ℕ
   pub replies : (heard conn_old fed).replies ≡ written ++ unwritten
-  pub told : Appends told_old told_new written
-  pub came : GreetEnd left_old fed unwritten (greeting name_old (heard conn_old fed).steps) (heard conn_old fed).after conn_new name_new rf_old rf_new wf_old wf_new result
+  pub told : Appends before.output.told now.output.told written
+  pub came : GreetEnd fed unwritten (greeting name_old (heard conn_old fed).steps) (heard conn_old fed).after conn_new name_new before now result
 
 -- the whole sequence: a client is ready, or its connection ends
 abbrev pub with_guest : Result Guest ConnEnd → Result (Option Guest) ConnEnd
@@ -71,17 +75,17 @@ with_guest (Ok guest) = Ok (Some guest)
 with_guest (Err end) = Err end
 
 -- replies were written, or a front of them
-abbrev pub Replies : Option (List ℕ) → Option (List ℕ) → List ℕ → ℕ → ℕ → Result (Unit {0}) ConnEnd → Type 0
-Replies old new bytes wf wf' (Ok done) = Appends old new bytes × (wf' ≡ wf)
-Replies old new bytes wf wf' (Err Left) = ⊥
-Replies old new bytes wf wf' (Err (Refused k at)) = ⊥
-Replies old new bytes wf wf' (Err Truncated) = ⊥
-Replies old new bytes wf wf' (Err NotInvited) = ⊥
-Replies old new bytes wf wf' (Err RoomFull) = ⊥
-Replies old new bytes wf wf' (Err JoinsSpent) = ⊥
-Replies old new bytes wf wf' (Err ReadFault) = ⊥
-Replies old new bytes wf wf' (Err WriteFault) = WritesFront old new bytes × Rose wf wf'
-Replies old new bytes wf wf' (Err OutOfMemory) = WritesFront old new bytes × (wf' ≡ wf)
+abbrev pub Replies : List ℕ → (before now : Output) → Result (Unit {0}) ConnEnd → Type 0
+Replies bytes before now (Ok done) = Appends before.told now.told bytes × (now.faults ≡ before.faults)
+Replies bytes before now (Err Left) = ⊥
+Replies bytes before now (Err (Refused k at)) = ⊥
+Replies bytes before now (Err Truncated) = ⊥
+Replies bytes before now (Err NotInvited) = ⊥
+Replies bytes before now (Err RoomFull) = ⊥
+Replies bytes before now (Err JoinsSpent) = ⊥
+Replies bytes before now (Err ReadFault) = ⊥
+Replies bytes before now (Err WriteFault) = WritesFront before.told now.told bytes × Rose before.faults now.faults
+Replies bytes before now (Err OutOfMemory) = WritesFront before.told now.told bytes × (now.faults ≡ before.faults)
 
 -- what was said of a client whose steps came to this
 abbrev pub GuestOf : Greeting → List ℕ → Result (Option Guest) ConnEnd → Type 0

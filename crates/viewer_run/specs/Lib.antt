@@ -1,8 +1,3 @@
-pub mod Handling
-pub mod Doing
-pub mod Feeding
-pub mod Asking
-pub mod Sending
 pub mod Visiting
 pub mod Greeting
 pub mod Ending

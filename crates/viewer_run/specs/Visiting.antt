@@ -19,7 +19,7 @@ use Rattle.viewer_sender.specs.Senders.{SenderModel, IsIdle, Follows}
 use Rattle.serve_rules.specs.Turns.{SessionPass, IsTurn}
 use Rattle.serve_rules.specs.declared.ends.SideEnd.{SideEnd}
 use Rattle.serve_rules.specs.declared.ends.SideEnd.TheVariants.{Stopped}
-use Rattle.viewer_run.specs.Sending.{TakesFrame}
+use Rattle.viewer_sides.specs.Sending.{TakesFrame}
 use Rattle.viewer_run.specs.declared.visits.Arrival.{Arrival}
 use Rattle.viewer_run.specs.declared.visits.FirstFrame.{FirstFrame}
 
@@ -62,10 +62,6 @@ pub record IsTurnedAwayIn (head : Head) (name : List ℕ) (before after : Sessio
   pub base : List Entry
   pub turn : IsTurn before after base []
   pub answer : IsAnswered (join_answer (Err fault)) (answer_at head (reached_at head.size base (length base)) (JoinStep name))
-
--- a viewer isn't present after a journal
-abbrev pub IsAbsent : Head → ℕ → List Entry → Type 0
-IsAbsent head v j = is_present v (reached_at head.size j (length j)).viewers ≡ false
 
 -- a take that finds nothing for a viewer who is present leaves it with all of the journal
 abbrev pub IsUpToDate : Head → ℕ → List Entry → ℕ → Result Taken OutOfMemory → Type 0

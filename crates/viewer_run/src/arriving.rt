@@ -1,16 +1,17 @@
 //! A client that is ready joins, is attended to, and leaves.
 ghost use Rattle.std.specs.Prelude.{◌≡◌, ◌≤◌, ◌<◌, ◌-◌, ◌++◌, ◌∷◌, ◌+◌, [], length, MatchResult, IfOk};
+ghost use Rattle.edge_io.specs.Outside.{outside_of};
 ghost use Rattle.caps_sets.specs.declared.confirmed.Confirmed.{Confirmed};
 ghost use Rattle.conn_rules.specs.Placed.{AreBytes, ArePlaced};
 ghost use Rattle.session_rules.specs.Journal.{IsLegalJournal};
 ghost use Rattle.grow_lock.specs.Passes.{IsPassOf};
 ghost use Rattle.serve_rules.specs.Notices.{notice_in};
 ghost use Rattle.viewer_run.specs.Visiting.{IsFirst, IsTurnedAwayIn};
-ghost use Rattle.viewer_run.specs.Arriving.{Stays, LeavesNoted, ServesArrival, IsFirstOfSome, IsUntouched, GuestServed, no_notice, end_of_join};
+ghost use Rattle.viewer_run.specs.Arriving.{Stays, LeavesNoted, ServesArrival, IsFirstOfSome, GuestServed, no_notice, end_of_join};
 
 use crate::viewing::attend_whole;
 use crate::visits::{Arrival, FirstFrame, arrive, depart};
-use crate::{ConnEnd, Guest, OutOfMemory, Places, Told};
+use crate::{ConnEnd, Guest, Noted, OutOfMemory, Places};
 use caps_sets::Confirmed;
 use conn_core::Conn;
 use conn_rules::ConnStep;
@@ -42,26 +43,26 @@ pub fn serve_arrival<R: Threads + Wait + Sync, S: Source + Send, K: Sink + Send>
     confirmed: Confirmed,
     conn: &mut Conn,
     rest: &[ConnStep],
-    told: &mut Told,
+    noted: &mut Noted,
     input: &mut S,
     output: &mut K,
 ) -> (Pass<Session>, Result<Visit, JoinFault>)
     requires lock { IsPassOf lock.now pass }
     requires part { AreBytes conn.old.hearing.part }
     requires placed { ArePlaced rest.now }
-    requires room { 2 ≤ told.old.places.room }
+    requires room { 2 ≤ noted.old.places.room }
     ensures lock { IsPassOf lock.now result.0 }
     ensures served { MatchResult result.1
-        (λ visit. ServesArrival lock.now.head name.now confirmed rest.now conn.old.hearing pass result.0 told.old told.new (S.left input.old) (S.left input.new)
-        (S.faults input.old) (S.faults input.new) (K.told output.old) (K.told output.new) (K.faults output.old) (K.faults output.new) visit)
-        (λ fault. IsTurnedAwayIn lock.now.head name.now pass result.0 fault × IsUntouched told.old told.new (S.left input.old) (S.left input.new)
-        (S.faults input.old) (S.faults input.new) (K.told output.old) (K.told output.new) (K.faults output.old) (K.faults output.new)) }
+        (λ visit. ServesArrival lock.now.head name.now confirmed rest.now conn.old.hearing pass result.0 noted.old noted.new
+        (outside_of S.Source K.Sink input.old output.old) (outside_of S.Source K.Sink input.new output.new) visit)
+        (λ fault. IsTurnedAwayIn lock.now.head name.now pass result.0 fault × (noted.new ≡ noted.old)
+        × (outside_of S.Source K.Sink input.new output.new ≡ outside_of S.Source K.Sink input.old output.old)) }
     ensures legal { IsLegalJournal lock.now.head result.0.seen }
 {
     let (pass, came) = arrive(rt, alloc, lock, pass, name, confirmed);
     match came {
         Ok(arrival) => {
-            note_join(&pass, told);
+            note_join(&pass, noted);
             let v = arrival.v;
             let (pass, end) = attend_first(
                 rt,
@@ -71,12 +72,12 @@ pub fn serve_arrival<R: Threads + Wait + Sync, S: Source + Send, K: Sink + Send>
                 v,
                 conn,
                 rest,
-                told,
+                noted,
                 arrival.first,
                 input,
                 output,
             );
-            let pass = leave_noted(rt, lock, pass, v, told);
+            let pass = leave_noted(rt, lock, pass, v, noted);
             (pass, Ok(Visit { v, end }))
         }
         Err(fault) => (pass, Err(fault)),
@@ -94,16 +95,16 @@ pub fn serve_guest<R: Threads + Wait + Sync, S: Source + Send, K: Sink + Send>(
     conn: &mut Conn,
     input: &mut S,
     output: &mut K,
-) -> (Pass<Session>, Result<(Visit, Told), ConnEnd>)
+) -> (Pass<Session>, Result<(Visit, Noted), ConnEnd>)
     requires lock { IsPassOf lock.now pass }
     requires part { AreBytes conn.old.hearing.part }
     requires placed { ArePlaced guest.now.rest.items }
     ensures lock { IsPassOf lock.now result.0 }
-    ensures served { GuestServed lock.now.head guest.now conn.old.hearing pass result.0 (S.left input.old) (S.left input.new)
-        (S.faults input.old) (S.faults input.new) (K.told output.old) (K.told output.new) (K.faults output.old) (K.faults output.new) result.1 }
+    ensures served { GuestServed lock.now.head guest.now conn.old.hearing pass result.0
+        (outside_of S.Source K.Sink input.old output.old) (outside_of S.Source K.Sink input.new output.new) result.1 }
     ensures legal { IsLegalJournal lock.now.head pass.seen → IsLegalJournal lock.now.head result.0.seen }
 {
-    let Ok(mut told) = first_told(alloc) else {
+    let Ok(mut noted) = nothing_noted(alloc) else {
         return (pass, Err(ConnEnd::OutOfMemory));
     };
     let (pass, came) = serve_arrival(
@@ -115,24 +116,24 @@ pub fn serve_guest<R: Threads + Wait + Sync, S: Source + Send, K: Sink + Send>(
         guest.confirmed,
         conn,
         &guest.rest,
-        &mut told,
+        &mut noted,
         input,
         output,
     );
     match came {
-        Ok(visit) => (pass, Ok((visit, told))),
+        Ok(visit) => (pass, Ok((visit, noted))),
         Err(fault) => (pass, Err(end_of_join(fault))),
     }
 }
 
 /// Nothing noted yet, and room for two places.
-fn first_told(alloc: Global) -> Result<Told, OutOfMemory>
-    ensures list { IfOk result (λ told. told.places.list ≡ []) }
-    ensures room { IfOk result (λ told. 2 ≤ told.places.room) }
-    ensures notice { IfOk result (λ told. notice_in told ≡ no_notice) }
+fn nothing_noted(alloc: Global) -> Result<Noted, OutOfMemory>
+    ensures list { IfOk result (λ noted. noted.places.list ≡ []) }
+    ensures room { IfOk result (λ noted. 2 ≤ noted.places.room) }
+    ensures notice { IfOk result (λ noted. notice_in noted ≡ no_notice) }
 {
     let places = Places::new(alloc)?;
-    Ok(Told {
+    Ok(Noted {
         places,
         bye: false,
         shutdown: false,
@@ -153,14 +154,14 @@ fn end_of_join(fault: JoinFault) -> ConnEnd
 }
 
 /// Notes the place of a Join, with which what the pass has seen ends.
-fn note_join(pass: &Pass<Session>, told: &mut Told)
+fn note_join(pass: &Pass<Session>, noted: &mut Noted)
     requires some { 0 < length pass.now.seen }
-    requires room { 0 < told.old.places.room }
-    ensures list { told.new.places.list ≡ told.old.places.list ++ (length pass.now.seen - 1) ∷ [] }
-    ensures room { told.new.places.room + 1 ≡ told.old.places.room }
-    ensures notice { notice_in told.new ≡ notice_in told.old }
+    requires room { 0 < noted.old.places.room }
+    ensures list { noted.new.places.list ≡ noted.old.places.list ++ (length pass.now.seen - 1) ∷ [] }
+    ensures room { noted.new.places.room + 1 ≡ noted.old.places.room }
+    ensures notice { notice_in noted.new ≡ notice_in noted.old }
 {
-    told.places.add(pass.seen() - 1);
+    noted.places.add(pass.seen() - 1);
 }
 
 /// Attends to a viewer who has joined, unless memory was wanted for its first frame.
@@ -172,7 +173,7 @@ fn attend_first<R: Threads + Wait + Sync, S: Source + Send, K: Sink + Send>(
     v: u32,
     conn: &mut Conn,
     rest: &[ConnStep],
-    told: &mut Told,
+    noted: &mut Noted,
     first: Result<FirstFrame, OutOfMemory>,
     input: &mut S,
     output: &mut K,
@@ -180,18 +181,18 @@ fn attend_first<R: Threads + Wait + Sync, S: Source + Send, K: Sink + Send>(
     requires lock { IsPassOf lock.now pass }
     requires part { AreBytes conn.old.hearing.part }
     requires placed { ArePlaced rest.now }
-    requires room { 0 < told.old.places.room }
+    requires room { 0 < noted.old.places.room }
     requires first { IsFirstOfSome lock.now.head pass.seen v first }
     ensures lock { IsPassOf lock.now result.0 }
-    ensures room { 0 < told.new.places.room }
+    ensures room { 0 < noted.new.places.room }
     ensures stays { (confirmed : Confirmed) → IsFirst lock.now.head pass.seen v confirmed first
-        → Stays lock.now.head v confirmed first rest.now conn.old.hearing pass result.0 told.old told.new (S.left input.old) (S.left input.new)
-        (S.faults input.old) (S.faults input.new) (K.told output.old) (K.told output.new) (K.faults output.old) (K.faults output.new) result.1 }
+        → Stays lock.now.head v confirmed first rest.now conn.old.hearing pass result.0 noted.old noted.new
+        (outside_of S.Source K.Sink input.old output.old) (outside_of S.Source K.Sink input.new output.new) result.1 }
 {
     match first {
         Ok(first) => {
             let (pass, _, end) = attend_whole(
-                rt, alloc, lock, pass, v, conn, rest, told, first, input, output,
+                rt, alloc, lock, pass, v, conn, rest, noted, first, input, output,
             );
             (pass, end)
         }
@@ -205,18 +206,18 @@ fn leave_noted<R: Wait>(
     lock: &GrowLock<Session>,
     pass: Pass<Session>,
     v: u32,
-    told: &mut Told,
+    noted: &mut Noted,
 ) -> Pass<Session>
     requires lock { IsPassOf lock.now pass }
-    requires room { 0 < told.old.places.room }
+    requires room { 0 < noted.old.places.room }
     ensures lock { IsPassOf lock.now result }
-    ensures leaves { LeavesNoted lock.now.head v pass result told.old.places.list told.new.places.list }
+    ensures leaves { LeavesNoted lock.now.head v pass result noted.old.places.list noted.new.places.list }
     ensures legal { IsLegalJournal lock.now.head result.seen }
-    ensures notice { notice_in told.new ≡ notice_in told.old }
+    ensures notice { notice_in noted.new ≡ notice_in noted.old }
 {
     let (pass, place) = depart(rt, lock, pass, v);
     match place {
-        Some(at) => told.places.add(at),
+        Some(at) => noted.places.add(at),
         None => {}
     }
     pass

@@ -1,5 +1,6 @@
 //! The first and the last of a connection: the session's size, and the last word to the client.
 ghost use Rattle.std.specs.Prelude.{◌≡◌, ◌<◌, [], IsTrue, IsOk};
+ghost use Rattle.edge_io.specs.Outside.{output_of};
 ghost use Rattle.px_core.specs.Rectangle.{is_session_size};
 ghost use Rattle.mcs_dom.specs.Ultimatum.{ultimatum_packet};
 ghost use Rattle.session_rules.specs.Journal.{IsLegalJournal};
@@ -61,7 +62,7 @@ pub fn put_last<K: Sink>(
     end: ConnEnd,
     asked: bool,
 ) -> Result<(), ConnEnd>
-    ensures replies { Replies (K.told output.old) (K.told output.new) (ultimatum_at end asked) (K.faults output.old) (K.faults output.new) result }
+    ensures replies { Replies (ultimatum_at end asked) (output_of K.Sink output.old) (output_of K.Sink output.new) result }
     ensures quiet { ultimatum_at end asked ≡ [] → IsOk result }
 {
     match end {
@@ -79,7 +80,7 @@ pub fn put_last<K: Sink>(
 /// Writes a Disconnect Provider Ultimatum with this reason.
 fn put_ultimatum<K: Sink>(alloc: Global, output: &mut K, reason: u8) -> Result<(), ConnEnd>
     requires { reason < 5 }
-    ensures { Replies (K.told output.old) (K.told output.new) (ultimatum_packet reason) (K.faults output.old) (K.faults output.new) result }
+    ensures { Replies (ultimatum_packet reason) (output_of K.Sink output.old) (output_of K.Sink output.new) result }
 {
     let mut packet = Vec::new(alloc);
     if write_end(&mut packet, reason).is_err() {

@@ -1,13 +1,13 @@
 //! A client's connection sequence, until it is ready.
-ghost use Rattle.std.specs.Prelude.{◌≡◌, ◌<◌, ℕ, [], List, Option, IfOk, IsOk, length};
+ghost use Rattle.std.specs.Prelude.{◌≡◌, ◌<◌, ℕ, [], List, IfOk, IsOk, length};
 ghost use Rattle.std.specs.Io.KnownBytes.{Consumes};
+ghost use Rattle.edge_io.specs.Outside.{Input, output_of, outside, outside_of};
 ghost use Rattle.conn_rules.specs.Hearing.{end_of};
 ghost use Rattle.conn_rules.specs.Placed.{AreBytes, ArePlaced};
 ghost use Rattle.serve_rules.specs.Reading.{IsNoRefusal};
-ghost use Rattle.viewer_run.specs.Feeding.{IsHeard};
+ghost use Rattle.viewer_sides.specs.Feeding.{IsHeard};
 ghost use Rattle.viewer_run.specs.Greeting.{greeting, Greets, with_guest, Replies, GuestOf, IsRestPlaced, refusal_of};
 
-use crate::reading::{feed, new_buffer};
 use crate::{ConnEnd, SideEnd};
 use caps_sets::Confirmed;
 use conn_core::Conn;
@@ -15,6 +15,7 @@ use conn_rules::ConnStep;
 use edge_io::{Got, Sink, Source, Wrote};
 use info_lic::Name;
 use std::alloc::Global;
+use viewer_sides::{feed, new_buffer};
 
 /// A client that is ready: the name that it gave, what it confirmed, and the steps that the connection gave behind Ready.
 #[derive(Drop)]
@@ -35,8 +36,8 @@ pub fn greet<S: Source, K: Sink>(
     requires heard { IsHeard conn.old.hearing }
     requires unrefused { IsNoRefusal (end_of conn.old.hearing) }
     requires part { AreBytes conn.old.hearing.part }
-    ensures greets { (name : List ℕ) × Greets conn.old.hearing conn.new.hearing [] name (S.left input.old) (S.left input.new) (K.told output.old) (K.told output.new)
-        (S.faults input.old) (S.faults input.new) (K.faults output.old) (K.faults output.new) (with_guest result) }
+    ensures greets { (name : List ℕ) × Greets conn.old.hearing conn.new.hearing [] name
+        (outside_of S.Source K.Sink input.old output.old) (outside_of S.Source K.Sink input.new output.new) (with_guest result) }
     ensures placed { IfOk result (λ guest. AreBytes conn.new.hearing.part × ArePlaced guest.rest.items) }
 {
     let mut name = Name::new(b"");
@@ -71,8 +72,8 @@ fn greet_next<S: Source, K: Sink>(
     requires part { AreBytes conn.old.hearing.part }
     requires buffer { 0 < length buffer.old }
     ensures buffer { length buffer.new ≡ length buffer.old }
-    ensures greets { Greets conn.old.hearing conn.new.hearing name.old name.new (S.left input.old) (S.left input.new) (K.told output.old) (K.told output.new)
-        (S.faults input.old) (S.faults input.new) (K.faults output.old) (K.faults output.new) result }
+    ensures greets { Greets conn.old.hearing conn.new.hearing name.old name.new
+        (outside_of S.Source K.Sink input.old output.old) (outside_of S.Source K.Sink input.new output.new) result }
     ensures placed { IfOk result (λ met. AreBytes conn.new.hearing.part × IsRestPlaced met) }
 {
     match input.read(buffer) {
@@ -91,8 +92,8 @@ fn greet_piece<K: Sink>(
     output: &mut K,
 ) -> Result<Option<Guest>, ConnEnd>
     requires { AreBytes conn.old.hearing.part }
-    ensures greets { (left less : Option (List ℕ)) (f : ℕ) → Consumes left less bytes.now
-        → Greets conn.old.hearing conn.new.hearing name.old name.new left less (K.told output.old) (K.told output.new) f f (K.faults output.old) (K.faults output.new) result }
+    ensures greets { (before after : Input) → Consumes before.left after.left bytes.now → after.faults ≡ before.faults
+        → Greets conn.old.hearing conn.new.hearing name.old name.new (outside before (output_of K.Sink output.old)) (outside after (output_of K.Sink output.new)) result }
     ensures placed { IfOk result (λ met. AreBytes conn.new.hearing.part × IsRestPlaced met) }
 {
     let mut replies = Vec::new(alloc);
@@ -112,7 +113,7 @@ fn greet_piece<K: Sink>(
 
 /// Writes replies; where there are none the output isn't called.
 pub(crate) fn reply<K: Sink>(output: &mut K, replies: &[u8]) -> Result<(), ConnEnd>
-    ensures replies { Replies (K.told output.old) (K.told output.new) replies.now (K.faults output.old) (K.faults output.new) result }
+    ensures replies { Replies replies.now (output_of K.Sink output.old) (output_of K.Sink output.new) result }
     ensures quiet { replies.now ≡ [] → IsOk result }
 {
     if replies.is_empty() {

@@ -1,21 +1,19 @@
 //! A viewer who has joined is attended to, until its connection ends.
 ghost use Rattle.std.specs.Prelude.{◌≡◌, ◌≤◌, ◌<◌, [], false, length, Ok};
+ghost use Rattle.edge_io.specs.Outside.{input_of, output_of, outside_of};
 ghost use Rattle.conn_rules.specs.Placed.{AreBytes, ArePlaced};
 ghost use Rattle.viewer_sender.specs.Senders.{IsIdle};
 ghost use Rattle.grow_lock.specs.Passes.{IsPassOf};
 ghost use Rattle.serve_rules.specs.Reading.{ReadsOn};
 ghost use Rattle.serve_rules.specs.declared.ends.SideEnd.TheVariants.{Done, Stopped};
-ghost use Rattle.viewer_run.specs.Sending.{IsNext, SendsTaken, SendsOn};
+ghost use Rattle.viewer_sides.specs.Sending.{IsNext, SendsTaken, SendsOn};
 ghost use Rattle.viewer_run.specs.Visiting.{IsFirst, IsShownAll};
 ghost use Rattle.viewer_run.specs.Serving.{SidesServe, Attends, IsShownLast, ended_by, wants_last, end_of_last};
 ghost use Rattle.serve_rules.specs.Notices.{notice_in};
 
 use crate::frames::send_first;
-use crate::reading::{NO_MEMORY, read_side};
-use crate::sends::send_frame;
-use crate::sides::run_sides;
 use crate::visits::{FirstFrame, take_last};
-use crate::{ConnEnd, OutOfMemory, SideEnd, Told};
+use crate::{ConnEnd, Noted, OutOfMemory, SideEnd};
 use conn_core::Conn;
 use conn_rules::ConnStep;
 use edge_io::{Sink, Source};
@@ -25,6 +23,7 @@ use std::alloc::Global;
 use std::sync::Wait;
 use std::thread::Threads;
 use viewer_sender::{Sender, Taken};
+use viewer_sides::{NO_MEMORY, read_side, run_sides, send_frame};
 
 /// Sends a viewer's first frame, and then runs both its sides until the connection ends.
 pub fn attend<R: Threads + Wait + Sync, S: Source + Send, K: Sink + Send>(
@@ -35,7 +34,7 @@ pub fn attend<R: Threads + Wait + Sync, S: Source + Send, K: Sink + Send>(
     v: u32,
     conn: &mut Conn,
     rest: &[ConnStep],
-    told: &mut Told,
+    noted: &mut Noted,
     first: FirstFrame,
     input: &mut S,
     output: &mut K,
@@ -43,11 +42,11 @@ pub fn attend<R: Threads + Wait + Sync, S: Source + Send, K: Sink + Send>(
     requires lock { IsPassOf lock.now pass }
     requires part { AreBytes conn.old.hearing.part }
     requires placed { ArePlaced rest.now }
-    requires room { 0 < told.old.places.room }
+    requires room { 0 < noted.old.places.room }
     requires first { IsFirst lock.now.head pass.seen v first.sender.confirmed (Ok first) }
     ensures lock { IsPassOf lock.now result.0 }
-    ensures attends { Attends lock.now.head v first.sender.confirmed rest.now conn.old.hearing result.1 pass result.0 told.old told.new (S.left input.old) (S.left input.new)
-        (S.faults input.old) (S.faults input.new) (K.told output.old) (K.told output.new) (K.faults output.old) (K.faults output.new) result.2 }
+    ensures attends { Attends lock.now.head v first.sender.confirmed rest.now conn.old.hearing result.1 pass result.0 noted.old noted.new
+        (outside_of S.Source K.Sink input.old output.old) (outside_of S.Source K.Sink input.new output.new) result.2 }
 {
     let (mut sender, sent) = send_first(alloc, first, output);
     match sent {
@@ -61,7 +60,7 @@ pub fn attend<R: Threads + Wait + Sync, S: Source + Send, K: Sink + Send>(
                 v,
                 conn,
                 rest,
-                told,
+                noted,
                 &mut sender,
                 input,
                 output,
@@ -80,7 +79,7 @@ pub fn attend_whole<R: Threads + Wait + Sync, S: Source + Send, K: Sink + Send>(
     v: u32,
     conn: &mut Conn,
     rest: &[ConnStep],
-    told: &mut Told,
+    noted: &mut Noted,
     first: FirstFrame,
     input: &mut S,
     output: &mut K,
@@ -88,17 +87,17 @@ pub fn attend_whole<R: Threads + Wait + Sync, S: Source + Send, K: Sink + Send>(
     requires lock { IsPassOf lock.now pass }
     requires part { AreBytes conn.old.hearing.part }
     requires placed { ArePlaced rest.now }
-    requires room { 0 < told.old.places.room }
+    requires room { 0 < noted.old.places.room }
     requires first { IsFirst lock.now.head pass.seen v first.sender.confirmed (Ok first) }
     ensures lock { IsPassOf lock.now result.0 }
-    ensures attends { Attends lock.now.head v first.sender.confirmed rest.now conn.old.hearing result.1 pass result.0 told.old told.new (S.left input.old) (S.left input.new)
-        (S.faults input.old) (S.faults input.new) (K.told output.old) (K.told output.new) (K.faults output.old) (K.faults output.new) result.2 }
-    ensures whole { IsShownLast lock.now.head v result.0 result.1 result.2 (notice_in told.new) }
+    ensures attends { Attends lock.now.head v first.sender.confirmed rest.now conn.old.hearing result.1 pass result.0 noted.old noted.new
+        (outside_of S.Source K.Sink input.old output.old) (outside_of S.Source K.Sink input.new output.new) result.2 }
+    ensures whole { IsShownLast lock.now.head v result.0 result.1 result.2 (notice_in noted.new) }
 {
     let (pass, mut sender, end) = attend(
-        rt, alloc, lock, pass, v, conn, rest, told, first, input, output,
+        rt, alloc, lock, pass, v, conn, rest, noted, first, input, output,
     );
-    if wants_last(end, told) {
+    if wants_last(end, noted) {
         let (pass, sent) = send_last(rt, alloc, lock, pass, v, &mut sender, output);
         return (pass, sender, end_of_last(sent));
     }
@@ -106,11 +105,11 @@ pub fn attend_whole<R: Threads + Wait + Sync, S: Source + Send, K: Sink + Send>(
 }
 
 /// Whether a last frame is due at an end.
-fn wants_last(end: ConnEnd, told: &Told) -> bool
-    ensures { result ≡ wants_last end (notice_in told.now) }
+fn wants_last(end: ConnEnd, noted: &Noted) -> bool
+    ensures { result ≡ wants_last end (notice_in noted.now) }
 {
     match end {
-        ConnEnd::Left => !told.bye && !told.quiet,
+        ConnEnd::Left => !noted.bye && !noted.quiet,
         ConnEnd::Refused { .. }
         | ConnEnd::Truncated
         | ConnEnd::NotInvited
@@ -141,7 +140,7 @@ fn serve_sides<R: Threads + Wait + Sync, S: Source + Send, K: Sink + Send>(
     v: u32,
     conn: &mut Conn,
     rest: &[ConnStep],
-    told: &mut Told,
+    noted: &mut Noted,
     sender: &mut Sender,
     input: &mut S,
     output: &mut K,
@@ -149,20 +148,20 @@ fn serve_sides<R: Threads + Wait + Sync, S: Source + Send, K: Sink + Send>(
     requires lock { IsPassOf lock.now pass }
     requires part { AreBytes conn.old.hearing.part }
     requires placed { ArePlaced rest.now }
-    requires room { 0 < told.old.places.room }
+    requires room { 0 < noted.old.places.room }
     requires viewer { sender.old.v ≡ v }
     requires idle { IsIdle sender.old }
     requires seen { sender.old.number ≤ length pass.seen }
     ensures lock { IsPassOf lock.now result.0 }
-    ensures serves { SidesServe lock.now.head v rest.now conn.old.hearing sender.old sender.new pass result.0 told.old told.new (S.left input.old) (S.left input.new)
-        (S.faults input.old) (S.faults input.new) (K.told output.old) (K.told output.new) (K.faults output.old) (K.faults output.new) result.1 }
+    ensures serves { SidesServe lock.now.head v rest.now conn.old.hearing sender.old sender.new pass result.0 noted.old noted.new
+        (outside_of S.Source K.Sink input.old output.old) (outside_of S.Source K.Sink input.new output.new) result.1 }
 {
     let (pass, read, sent) = run_sides(
-        rt, alloc, lock, pass, v, conn, rest, told, sender, input, output,
+        rt, alloc, lock, pass, v, conn, rest, noted, sender, input, output,
     );
     match ended_by(read, sent) {
         SideEnd::Done { end } => (pass, end),
-        SideEnd::Stopped => read_out(rt, alloc, lock, pass, v, conn, told, input),
+        SideEnd::Stopped => read_out(rt, alloc, lock, pass, v, conn, noted, input),
     }
 }
 
@@ -184,17 +183,17 @@ fn read_out<R: Wait, S: Source>(
     pass: Pass<Session>,
     v: u32,
     conn: &mut Conn,
-    told: &mut Told,
+    noted: &mut Noted,
     input: &mut S,
 ) -> (Pass<Session>, ConnEnd)
     requires lock { IsPassOf lock.now pass }
     requires part { AreBytes conn.old.hearing.part }
-    requires room { 0 < told.old.places.room }
+    requires room { 0 < noted.old.places.room }
     ensures lock { IsPassOf lock.now result.0 }
-    ensures reads { ReadsOn lock.now.head v [] false conn.old.hearing conn.new.hearing pass result.0 told.old told.new
-        (S.left input.old) (S.left input.new) (S.faults input.old) (S.faults input.new) (Done result.1) }
+    ensures reads { ReadsOn lock.now.head v [] false conn.old.hearing conn.new.hearing pass result.0 noted.old noted.new
+        (input_of S.Source input.old) (input_of S.Source input.new) (Done result.1) }
 {
-    let (pass, ended) = read_side(rt, alloc, lock, pass, v, conn, &[], told, input, None);
+    let (pass, ended) = read_side(rt, alloc, lock, pass, v, conn, &[], noted, input, None);
     match ended {
         SideEnd::Done { end } => (pass, end),
         SideEnd::Stopped => unreachable!(),
@@ -218,7 +217,7 @@ pub fn send_last<R: Wait, K: Sink>(
     ensures lock { IsPassOf lock.now result.0 }
     ensures mine { result.0.mine ≡ pass.mine }
     ensures share { result.0.share ≡ pass.share }
-    ensures sends { SendsOn lock.now.head sender.old sender.new pass result.0 (K.told output.old) (K.told output.new) (K.faults output.old) (K.faults output.new) result.1 }
+    ensures sends { SendsOn lock.now.head sender.old sender.new pass result.0 (output_of K.Sink output.old) (output_of K.Sink output.new) result.1 }
     ensures whole { IsShownAll lock.now.head v result.0.seen sender.new.number result.1 }
 {
     let (pass, taken) = take_last(rt, alloc, lock, pass, v, sender);
@@ -234,7 +233,7 @@ fn send_last_taken<K: Sink>(
     output: &mut K,
 ) -> SideEnd
     requires { IsNext taken sender.old }
-    ensures { SendsTaken taken sender.old sender.new (K.told output.old) (K.told output.new) (K.faults output.old) (K.faults output.new) result }
+    ensures { SendsTaken taken sender.old sender.new (output_of K.Sink output.old) (output_of K.Sink output.new) result }
 {
     match taken {
         Ok(Taken::Frame(take)) => send_frame(alloc, take, sender, output),

@@ -7,9 +7,9 @@ ghost use Rattle.session_core.specs.SessionModel.{is_here, asked_by, is_suppress
 ghost use Rattle.viewer_sender.specs.Senders.{desk_of};
 ghost use Rattle.grow_lock.specs.Journal.{StartsWith};
 ghost use Rattle.grow_lock.specs.Passes.{IsPassOf};
-ghost use Rattle.viewer_run.specs.Asking.{suppressed_with, finds_last};
-ghost use Rattle.viewer_run.specs.Sending.{TakesAs, TakesIn};
-ghost use Rattle.viewer_run.specs.Visiting.{Arrives, ArrivesIn, IsTurnedAway, IsTurnedAwayIn, IsFirst, IsUpToDate, IsAbsent, LeavesHere, LeavesIn};
+ghost use Rattle.viewer_sides.specs.Asking.{suppressed_with, finds_last};
+ghost use Rattle.viewer_sides.specs.Sending.{TakesAs, TakesIn, IsAbsent};
+ghost use Rattle.viewer_run.specs.Visiting.{Arrives, ArrivesIn, IsTurnedAway, IsTurnedAwayIn, IsFirst, IsUpToDate, LeavesHere, LeavesIn};
 
 use crate::OutOfMemory;
 use caps_sets::Confirmed;

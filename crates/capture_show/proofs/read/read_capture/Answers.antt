@@ -1,5 +1,5 @@
 use Rattle.std.proofs.Common.{◌∙◌, rules}
-use Rattle.capture_read.specs.Reading.{ahead}
+use Rattle.capture_show.specs.Reading.{ahead}
 use Rattle.capture_show.proofs.Steps.{at_next, at_end}
 use Rattle.capture_show.proofs.read.read_capture.Goals as goal
 

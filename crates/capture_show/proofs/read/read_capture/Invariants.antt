@@ -1,5 +1,5 @@
 use Rattle.std.proofs.Common.{◌≡◌}
-use Rattle.capture_read.specs.Reading.{ahead}
+use Rattle.capture_show.specs.Reading.{ahead}
 use Rattle.capture_show.proofs.Steps.{AtLine}
 use Rattle.capture_show.proofs.read.read_capture.Given as goal
 

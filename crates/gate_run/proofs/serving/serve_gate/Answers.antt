@@ -2,7 +2,8 @@ use Rattle.std.proofs.Common.{ℕ, ◌<◌, ◌≤◌, List, length, map, Contai
 use Rattle.session_rules.specs.declared.entry.Entry.{Entry}
 use Rattle.session_rules.specs.Journal.{Head, IsLegalJournal}
 use Rattle.grow_lock.specs.Journal.{StartsWith}
-use Rattle.gate_run.specs.Gates.{gate_state, given_state, spent_state}
+use Rattle.gate_run.specs.Gates.{gate_state}
+use Rattle.edge_io.specs.Outside.{outside_given, outside_spent}
 use Rattle.gate_run.specs.OpenGate.{ServesLinks}
 use Rattle.gate_run.proofs.Opened.{serves_opened, serves_none}
 use Rattle.gate_run.proofs.serving.serve_gate.Goals as goal
@@ -13,8 +14,8 @@ returns-then-listen-clause-gate g c =
     serves_opened c.args.session.head c.args.session.journal c.args.port c.args.links (state c.args.gate.now) (state c.listen.new.self) (state c.serve_links.new.gate) served.session.journal served.reports.items served.end
     c.requires.ended
     (record {
-      given = ap (map (given_state g.G.Link.Link)) listen.given;
-      finished = ap (map (spent_state g.G.Link.Link)) listen.finished;
+      given = ap (map (outside_given g.G.Link.Link)) listen.given;
+      finished = ap (map (outside_spent g.G.Link.Link)) listen.finished;
       asked = c.if-listen.ensures.asked;
       ended = listen.ended;
       faults = c.if-listen.ensures.cause;
@@ -27,8 +28,8 @@ returns-clause-gate g c =
     let state = gate_state g.G.Gate g.G.Link.Link in let listen = c.listen.ensures in
     serves_none c.args.session.head c.args.session.journal c.args.port c.args.links (state c.args.gate.now) (state c.listen.new.self) c.close.result.journal c.in_ok-room.room.reports.items
     (record {
-      given = ap (map (given_state g.G.Link.Link)) listen.given;
-      finished = ap (map (spent_state g.G.Link.Link)) listen.finished;
+      given = ap (map (outside_given g.G.Link.Link)) listen.given;
+      finished = ap (map (outside_spent g.G.Link.Link)) listen.finished;
       asked = c.if-listen.ensures.asked;
       ended = listen.ended;
       faults = c.if-listen.ensures.cause;

@@ -1,6 +1,6 @@
 use Rattle.std.proofs.Common.{◌++◌, map, All, sym, ap, ◌∙◌, subst}
 use Rattle.std.proofs.lemmas.List.{map-append}
-use Rattle.gate_run.specs.Gates.{given_state, spent_state}
+use Rattle.edge_io.specs.Outside.{outside_given, outside_spent}
 use Rattle.gate_run.specs.OpenGate.{GivesNoMore}
 use Rattle.gate_run.specs.Working.{IsWork, IsDealtOut}
 use Rattle.gate_run.proofs.Ending.{each_goes_on}
@@ -11,7 +11,7 @@ use Rattle.gate_run.proofs.serving.serve_links.Goals as goal
 
 pub returns-clause-links : goal.returns-clause-links
 returns-clause-links g c =
-    let gives = given_state g.G.Link.Link in let spends = spent_state g.G.Link.Link in let gate = g.G.Gate in
+    let gives = outside_given g.G.Link.Link in let spends = outside_spent g.G.Link.Link in let gate = g.G.Gate in
     let opened = c.args.gate.now in let closed = c.accept_links-pass.new.gate in let after = c.finish_all-pass.new.gate in
     let taken = c.accept_links-pass.ensures.taken in let end = c.finish_all-pass.ensures in let all = end.all in
     let head = c.args.lock.head in let j = c.close.result.journal in let reports = c.finish_all-pass.new.reports.items in

@@ -22,12 +22,12 @@ returns-in-Ok-clause-served g c =
       arrival = arrival;
       viewer = refl;
       arrives = arrives;
-      noted = c.note_join.new.told;
-      noted_places = c.note_join.ensures.list
-          ∙ ap (λ (n : ℕ). c.args.told.now.places.list ++ n ∷ []) (last_place c.args.pass joined arrives.base (Join arrival.v arrives.role) arrives.turn);
-      noted_notice = c.note_join.ensures.notice;
+      noted_joined = c.note_join.new.noted;
+      joined_places = c.note_join.ensures.list
+          ∙ ap (λ (n : ℕ). c.args.noted.now.places.list ++ n ∷ []) (last_place c.args.pass joined arrives.base (Join arrival.v arrives.role) arrives.turn);
+      joined_notice = c.note_join.ensures.notice;
       viewed = c.attend_first-pass.result.0;
-      told = c.attend_first-pass.new.told;
+      noted_viewed = c.attend_first-pass.new.noted;
       stays = c.attend_first-pass.ensures.stays c.args.confirmed arrives.first;
       leaves = c.leave_noted-pass.ensures.leaves;
       notice = c.leave_noted-pass.ensures.notice;

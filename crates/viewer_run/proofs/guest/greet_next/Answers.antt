@@ -1,22 +1,23 @@
 use Rattle.std.proofs.Common.{refl, ap, sym, subst}
+use Rattle.edge_io.specs.Outside.{input_of, output_of}
 use Rattle.conn_rules.specs.Hearing.{Hearing, end_of}
 use Rattle.serve_rules.specs.Reading.{IsNoRefusal}
 use Rattle.viewer_run.specs.Greeting.{greeting}
-use Rattle.viewer_run.proofs.Stretches.{at_end, kept_none}
-use Rattle.viewer_run.proofs.Streams.{silent_steps, silent_after, silent_replies}
+use Rattle.viewer_sides.proofs.Stretches.{at_end, kept_none}
+use Rattle.viewer_sides.proofs.Streams.{silent_steps, silent_after, silent_replies}
 use Rattle.viewer_run.proofs.Greeted.{greets_none}
 use Rattle.viewer_run.proofs.guest.greet_next.Goals as goal
 
 pub returns-in-End-clause-greets : goal.returns-in-End-clause-greets
 returns-in-End-clause-greets g c =
     let h = c.args.conn.now.hearing in
-    let left = g.S.Source.left c.args.input.now in
-    greets_none h c.args.name.now left (g.S.Source.left c.read.new.self) (g.K.Sink.told c.args.output.now) (g.S.Source.faults c.args.input.now)
-    (g.S.Source.faults c.read.new.self) (g.K.Sink.faults c.args.output.now) _ (kept_none left (g.S.Source.left c.read.new.self) c.in-End.ensures.bytes.1)
+    let before = input_of g.S.Source c.args.input.now in
+    let now = input_of g.S.Source c.read.new.self in
+    greets_none h c.args.name.now before now (output_of g.K.Sink c.args.output.now) _ (kept_none before.left now.left c.in-End.ensures.bytes.1)
     (silent_replies h c.requires.heard) (
       refl,
       (c.args.name.now, ap (greeting c.args.name.now) (silent_steps h c.requires.heard)),
-      at_end left c.in-End.ensures.bytes.0,
+      at_end before.left c.in-End.ensures.bytes.0,
       refl,
       subst (λ (x : Hearing). IsNoRefusal (end_of x)) (sym (silent_after h c.requires.heard)) c.requires.unrefused,
     )
@@ -24,7 +25,7 @@ returns-in-End-clause-greets g c =
 pub returns-in-Failed-clause-greets : goal.returns-in-Failed-clause-greets
 returns-in-Failed-clause-greets g c =
     let h = c.args.conn.now.hearing in
-    let left = g.S.Source.left c.args.input.now in
-    greets_none h c.args.name.now left (g.S.Source.left c.read.new.self) (g.K.Sink.told c.args.output.now) (g.S.Source.faults c.args.input.now)
-    (g.S.Source.faults c.read.new.self) (g.K.Sink.faults c.args.output.now) _ (kept_none left (g.S.Source.left c.read.new.self) c.in-Failed.ensures.bytes)
+    let before = input_of g.S.Source c.args.input.now in
+    let now = input_of g.S.Source c.read.new.self in
+    greets_none h c.args.name.now before now (output_of g.K.Sink c.args.output.now) _ (kept_none before.left now.left c.in-Failed.ensures.bytes)
     (silent_replies h c.requires.heard) (refl, c.in-Failed.ensures.cause)

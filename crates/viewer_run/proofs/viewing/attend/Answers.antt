@@ -2,7 +2,7 @@ use Rattle.std.proofs.Common.{◌≡◌, length, subst, arith}
 use Rattle.std.specs.Prelude.{Ok}
 use Rattle.frame_plan.specs.declared.taken.Taken.TheVariants.{Frame}
 use Rattle.viewer_run.specs.Frames.{FirstSent}
-use Rattle.viewer_run.proofs.OneTake.{next_is}
+use Rattle.viewer_sides.proofs.OneTake.{next_is}
 use Rattle.viewer_run.proofs.Attending.{attends_cut, attends_all}
 use Rattle.viewer_run.proofs.viewing.attend.Goals as goal
 
@@ -19,15 +19,15 @@ send_first-sender-requires-clause-own g c =
 pub returns-in-Done-clause-attends : goal.returns-in-Done-clause-attends
 returns-in-Done-clause-attends g c =
     let r = c.send_first-sender in
-    attends_cut _ _ _ _ _ r.result.0 c.args.pass c.args.told.now _ _ _ _ _ _ c.in-Done.end c.requires.room
-    (subst (FirstSent c.args.lock.now.head c.args.v c.args.first.sender.confirmed c.args.pass.seen r.result.0 _ _ _ _) c.in-Done.is
+    attends_cut _ _ _ _ _ r.result.0 c.args.pass c.args.noted.now _ _ _ c.in-Done.end c.requires.room
+    (subst (FirstSent c.args.lock.now.head c.args.v c.args.first.sender.confirmed c.args.pass.seen r.result.0 _ _) c.in-Done.is
     (r.ensures c.args.lock.now.head c.args.pass.seen c.args.v c.args.first.sender.confirmed c.requires.first))
 
 pub returns-in-Stopped-clause-attends : goal.returns-in-Stopped-clause-attends
 returns-in-Stopped-clause-attends g c =
     let r = c.send_first-sender in
-    attends_all _ _ _ _ _ r.result.0 _ c.args.pass _ _ _ _ _ _ _ _ _ _ _ _ _ _
-    (subst (FirstSent c.args.lock.now.head c.args.v c.args.first.sender.confirmed c.args.pass.seen r.result.0 _ _ _ _) c.in-Stopped.is
+    attends_all _ _ _ _ _ r.result.0 _ c.args.pass _ _ _ _ _ _ _ _
+    (subst (FirstSent c.args.lock.now.head c.args.v c.args.first.sender.confirmed c.args.pass.seen r.result.0 _ _) c.in-Stopped.is
     (r.ensures c.args.lock.now.head c.args.pass.seen c.args.v c.args.first.sender.confirmed c.requires.first))
     c.serve_sides-pass.ensures.serves
 

@@ -3,8 +3,8 @@ use Rattle.std.specs.Prelude.{Ok, Result}
 use Rattle.wire_num.specs.declared.out_of_memory.OutOfMemory.{OutOfMemory}
 use Rattle.session_core.specs.SessionModel.{is_suppressed}
 use Rattle.frame_plan.specs.declared.taken.Taken.{Taken}
-use Rattle.viewer_run.specs.Sending.{TakesAs}
-use Rattle.viewer_run.proofs.OneTake.{took}
+use Rattle.viewer_sides.specs.Sending.{TakesAs}
+use Rattle.viewer_sides.proofs.OneTake.{took}
 use Rattle.viewer_run.proofs.Coming.{first_work}
 use Rattle.viewer_run.proofs.visits.first_frame.Goals as goal
 

@@ -1,7 +1,7 @@
 use Rattle.std.proofs.Common.{[], sym, ap, ◌∙◌, append-nil}
 use Rattle.session_core.specs.SessionModel.{SessionModel}
-use Rattle.viewer_run.proofs.Legal.{absent_so}
-use Rattle.viewer_run.proofs.OneTake.{taken_in}
+use Rattle.viewer_sides.proofs.Legal.{absent_so}
+use Rattle.viewer_sides.proofs.OneTake.{taken_in}
 use Rattle.viewer_run.proofs.Coming.{up_to_date_in}
 use Rattle.viewer_run.proofs.visits.take_last.Goals as goal
 

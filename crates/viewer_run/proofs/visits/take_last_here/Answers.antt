@@ -3,10 +3,10 @@ use Rattle.std.specs.Prelude.{Bool, false}
 use Rattle.frame_plan.specs.Plans.{taken_if, asked_if}
 use Rattle.session_core.specs.SessionModel.{asked_by}
 use Rattle.viewer_sender.specs.Senders.{desk_of}
-use Rattle.viewer_run.specs.Asking.{suppressed_with}
-use Rattle.viewer_run.proofs.OneTake.{took}
+use Rattle.viewer_sides.specs.Asking.{suppressed_with}
+use Rattle.viewer_sides.proofs.OneTake.{took}
 use Rattle.viewer_run.proofs.Coming.{up_to_date, here_stays, taken_stays}
-use Rattle.viewer_run.proofs.Asked.{away_finds_last, same_but_stopped, last_took, last_served, last_kept, last_allowed}
+use Rattle.viewer_sides.proofs.Asked.{away_finds_last, same_but_stopped, last_took, last_served, last_kept, last_allowed}
 use Rattle.viewer_run.proofs.visits.take_last_here.Goals as goal
 
 pub take-requires-clause-present : goal.take-requires-clause-present

@@ -1,4 +1,0 @@
-mod Writing
-pub mod Lines
-pub mod Cutting
-pub mod Judging

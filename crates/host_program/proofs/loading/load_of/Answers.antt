@@ -1,5 +1,0 @@
-use Rattle.host_program.proofs.Modes.{not_two}
-use Rattle.host_program.proofs.loading.load_of.Goals as goal
-
-pub returns-then-args-ne-ARGS : goal.returns-then-args-ne-ARGS
-returns-then-args-ne-ARGS c = record { form = not_two c.args.request.now _ c.args-args.result.now c.args-args.ensures (λ k. c.if-args-ne-ARGS.true k) }

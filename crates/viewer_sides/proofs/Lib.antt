@@ -1,0 +1,9 @@
+pub mod Handled
+pub mod Legal
+pub mod OneStep
+pub mod Streams
+pub mod Stretches
+pub mod TakesOn
+pub mod OneTake
+pub mod SendOn
+pub mod Asked

@@ -1,0 +1,5 @@
+pub mod Handling
+pub mod Doing
+pub mod Feeding
+pub mod Asking
+pub mod Sending
