@@ -74,7 +74,7 @@ invited_text size at lines =
 
 -- any other script
 solo_text : (size : Size) (at : ℕ) (lines : List Line)
-    → capture_of_script encoder_frames (solo_script at size lines) ≡ joined size ++ text_from (solo_run size) (script_from 2 at (solo_reading size) lines)
+    → capture_of_script encoder_frames (solo_script at size lines) ≡ joined captures size ++ text_from (solo_run size) (script_from 2 at (solo_reading size) lines)
 solo_text size at lines =
     let s = script_from 2 at (solo_reading size) lines in
     let head : s.head ≡ solo_head size = head_stays 2 at (solo_reading size) lines refl in
