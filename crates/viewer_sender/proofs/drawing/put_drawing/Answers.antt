@@ -5,6 +5,7 @@ use Rattle.rle_enc.proofs.Pending.{on_ok_as}
 use Rattle.draw_ops.specs.declared.shape.Shape.TheVariants.{Copy, Blit, Blit3, Text}
 use Rattle.frame_rules.specs.Frame.{Sent}
 use Rattle.frame_rules.specs.FrameOrders.{sending_by}
+use Rattle.frame_plan.specs.Orders.{sent_as}
 use Rattle.viewer_sender.specs.Writes.{Writes}
 use Rattle.viewer_sender.proofs.Loops.{arm}
 use Rattle.viewer_sender.proofs.drawing.put_drawing.Goals as goal
@@ -13,9 +14,9 @@ pub returns-in-Copy : goal.returns-in-Copy
 returns-in-Copy c =
     let a = c.args.writer.now in
     let b = c.put_copy.new.writer in
-    let p = c.args.pending.now in
+    let p = c.args.planned.now.pending in
     let d = c.drawing-drawing.result.now in
-    let s : Sent = record { pending = c.args.pending.now; position = c.args.position } in
+    let s : Sent = sent_as c.args.planned.now in
     let r = c.in-Copy.rect in
     let k = c.in-Copy.rop in
     let x : to_z w32 (of_z w32 c.in-Copy.sx) ≡ c.in-Copy.sx = grind (arith, to_z-of_z) in
@@ -29,9 +30,9 @@ pub returns-in-Blit : goal.returns-in-Blit
 returns-in-Blit c =
     let a = c.args.writer.now in
     let b = c.put_blit.new.writer in
-    let p = c.args.pending.now in
+    let p = c.args.planned.now.pending in
     let d = c.drawing-drawing.result.now in
-    let s : Sent = record { pending = c.args.pending.now; position = c.args.position } in
+    let s : Sent = sent_as c.args.planned.now in
     let r = c.in-Blit.rect in
     let k = c.in-Blit.rop in
     let x : to_z w32 (of_z w32 c.in-Blit.sx) ≡ c.in-Blit.sx = grind (arith, to_z-of_z) in
@@ -45,9 +46,9 @@ pub returns-in-Blit3 : goal.returns-in-Blit3
 returns-in-Blit3 c =
     let a = c.args.writer.now in
     let b = c.put_blit3.new.writer in
-    let p = c.args.pending.now in
+    let p = c.args.planned.now.pending in
     let d = c.drawing-drawing.result.now in
-    let s : Sent = record { pending = c.args.pending.now; position = c.args.position } in
+    let s : Sent = sent_as c.args.planned.now in
     let r = c.in-Blit3.rect in
     let k = c.in-Blit3.rop in
     let x : to_z w32 (of_z w32 c.in-Blit3.sx) ≡ c.in-Blit3.sx = grind (arith, to_z-of_z) in
@@ -61,9 +62,9 @@ pub returns-in-Text : goal.returns-in-Text
 returns-in-Text c =
     let a = c.args.writer.now in
     let b = c.put_text.new.writer in
-    let p = c.args.pending.now in
+    let p = c.args.planned.now.pending in
     let d = c.drawing-drawing.result.now in
-    let s : Sent = record { pending = c.args.pending.now; position = c.args.position } in
+    let s : Sent = sent_as c.args.planned.now in
     let t = c.in-Text.run' in
     let k = c.in-Text.color in
     let x : to_z w32 (of_z w32 c.in-Text.x) ≡ c.in-Text.x = grind (arith, to_z-of_z) in
