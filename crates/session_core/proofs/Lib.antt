@@ -15,3 +15,4 @@ pub mod SeenLemmas
 pub mod Opening
 pub mod SlotMisfits
 pub mod MarkSteps
+pub mod Typed

@@ -90,9 +90,9 @@ pub same_length : (ms others : List Member) → viewers_of ms ≡ viewers_of oth
 same_length ms others h = sym (length_viewers ms) ∙ ap length h ∙ length_viewers others
 
 -- what is kept of the viewers beside their numbers and roles may change
-pub members_changed : (head : Head) (s : Standing) (ks : List Kept) (marks : Marked) (count room : ℕ) (ms : List Member) → IsOpen head s ks marks count room → viewers_of ms ≡ viewers_of s.members
-    → IsOpen head (record s { members = ms }) ks marks count room
-members_changed head s ks marks count room ms h same = record {
+pub members_changed : (head : Head) (s : Standing) (ks : List Kept) (marks : Marked) (typed : Option ℕ) (count room : ℕ) (ms : List Member) → IsOpen head s ks marks typed count room → viewers_of ms ≡ viewers_of s.members
+    → IsOpen head (record s { members = ms }) ks marks typed count room
+members_changed head s ks marks typed count room ms h same = record {
   is_session = record {
     size = h.is_session.size;
     invited = h.is_session.invited;
@@ -104,6 +104,7 @@ members_changed head s ks marks count room ms h same = record {
   };
   room_left = omega (arith, h.room_left, same_length ms s.members same);
   marked = h.marked;
+  typed_last = h.typed_last;
 }
 
 -- ---- clauses on the journal, shown of what is kept as reached

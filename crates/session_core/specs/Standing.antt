@@ -1,5 +1,5 @@
 -- What a session has reached, as it is kept, and what holds of every session.
-use Rattle.std.specs.Prelude.{◌≡◌, ℕ, ◌+◌, ◌≤◌, IsTrue, List, [], length}
+use Rattle.std.specs.Prelude.{◌≡◌, ℕ, ◌+◌, ◌≤◌, IsTrue, List, [], length, Option}
 use Rattle.px_core.specs.declared.surface.Size.{Size}
 use Rattle.px_core.specs.Rectangle.{is_session_size}
 use Rattle.board_app.specs.Boards.{board_of}
@@ -10,6 +10,7 @@ use Rattle.session_core.specs.declared.kept.Kept.{Kept}
 use Rattle.session_core.specs.Members.{viewers_of}
 use Rattle.session_core.specs.SessionModel.{AreInvited}
 use Rattle.session_core.specs.Keeping.{journal_of, AllKept}
+use Rattle.session_core.specs.Typing.{last_typed}
 
 -- what is reached after so many entries
 abbrev pub reached_of : Standing → ℕ → Reached
@@ -40,8 +41,10 @@ pub record IsSession (head : Head) (s : Standing) (kept : List Kept) : Type 0 wh
   pub board_size : s.board.size ≡ head.size
   pub entries : AllKept head.size (opening_state head.size) kept
 
--- likewise, with room for the leave of each viewer, and with marks that tell what the drawings behind each front of the journal touch
-pub record IsOpen (head : Head) (s : Standing) (kept : List Kept) (marks : Marked) (count room : ℕ) : Type 0 where
+-- likewise, with room for the leave of each viewer, with marks that tell what the drawings behind each front of the journal touch, and
+-- with the code that the journal typed last
+pub record IsOpen (head : Head) (s : Standing) (kept : List Kept) (marks : Marked) (typed : Option ℕ) (count room : ℕ) : Type 0 where
   pub is_session : IsSession head s kept
   pub room_left : count + length s.members ≤ room
   pub marked : AreMarked head.size (journal_of kept) marks
+  pub typed_last : typed ≡ last_typed (journal_of kept)

@@ -14,6 +14,7 @@ mod noting;
 mod ranges;
 mod session;
 mod standing;
+mod typing;
 
 pub use draw_ops::OutOfMemory;
 pub use faults::{DrawRefusal, InputRefusal, JoinFault};

@@ -14,6 +14,7 @@ ghost use Rattle.session_rules.specs.Entering.{entry_of_step, answer_at};
 ghost use Rattle.session_rules.specs.Pending.{pending_between};
 ghost use Rattle.touch_marks.specs.Touching.{touched_by, saved_by};
 ghost use Rattle.session_core.specs.Heads.{rows_of};
+ghost use Rattle.session_core.specs.Typing.{last_typed};
 ghost use Rattle.session_core.specs.SessionModel.{new_session, reached_by, is_here, asked_by, is_suppressed, AreInvited};
 ghost use Rattle.session_core.specs.Outcomes.{IsAnswered, GoesOn};
 ghost use Rattle.session_core.specs.Entered.{answer_of_entry, entry_entered};
@@ -29,6 +30,7 @@ use crate::kept::{Kept, make_room};
 use crate::members::{asked_by, is_suppressed, role_of};
 use crate::noting::{note_all, note_reaction};
 use crate::standing::Standing;
+use crate::typing::typed_by_event;
 use draw_ops::Drawing;
 use grow_lock::Grows;
 use info_lic::Name;
@@ -51,6 +53,8 @@ pub struct Session {
     standing: Standing,
     kept: Vec<Kept>,
     marks: Marks,
+    /// The code that was typed last.
+    typed: Option<u8>,
 }
 
 impl Model for Session {
@@ -64,7 +68,7 @@ impl Model for Session {
 
     ghost view = { λ s. record { head = s.head; journal = journal_of s.kept.items; asked = asked_of s.standing.members; suppressed = suppressed_of s.standing.members } };
 
-    ghost invariant = { λ s. IsOpen s.head s.standing s.kept.items s.marks (vec_len s.kept) (vec_capacity s.kept) };
+    ghost invariant = { λ s. IsOpen s.head s.standing s.kept.items s.marks s.typed (vec_len s.kept) (vec_capacity s.kept) };
 }
 
 impl Grows for Session {
@@ -101,6 +105,7 @@ impl Session {
             standing,
             kept: Vec::new(alloc),
             marks,
+            typed: None,
         })
     }
 
@@ -267,6 +272,13 @@ impl Session {
         self.standing.holder
     }
 
+    /// The last pressed Unicode code from 21 to 7E (hexadecimal) in the journal, whoever typed it.
+    pub fn typed(&self) -> Option<u8>
+        ensures { result ≡ last_typed self.now.journal }
+    {
+        self.typed
+    }
+
     /// The number of entries.
     pub fn length(&self) -> u64
         ensures { result ≡ length self.now.journal }
@@ -421,6 +433,7 @@ impl Session {
             size,
             number,
         );
+        self.typed = typed_by_event(self.typed, e);
         self.kept.push_reserved(Kept {
             entry: Entry::Input { by: v, event: e },
             first,

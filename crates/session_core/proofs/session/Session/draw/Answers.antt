@@ -15,6 +15,7 @@ use Rattle.session_core.specs.Standing.{reached_of, IsOpen}
 use Rattle.session_core.proofs.Sessions.{sound_now, appended, journal_push, answered, goes_on, entry_now}
 use Rattle.pending_core.proofs.TextShown.{keeps_rules, has_slots}
 use Rattle.session_core.proofs.MarkSteps.{marked_on, one_keeps, noted_as}
+use Rattle.session_core.proofs.Typed.{typed_on}
 use Rattle.session_core.proofs.DrawLimits.{draw_room, draw_pixels}
 use Rattle.session_core.proofs.Accepting.{accepted, draw_refused, draw_stays}
 use Rattle.session_core.proofs.session.Session.draw.Goals as goal
@@ -55,6 +56,7 @@ invariant_of-self c = record {
   is_session = rw c.make_room.ensures.items c.self.invariant.is_session;
   room_left = omega (arith, c.self.invariant.room_left, c.make_room.ensures.length, c.make_room.ensures.capacity);
   marked = rw c.make_room.ensures.items c.self.invariant.marked;
+  typed_last = rw c.make_room.ensures.items c.self.invariant.typed_last;
 }
 
 pub draw-requires-clause-rules : goal.draw-requires-clause-rules
@@ -88,10 +90,11 @@ draw-requires-clause-pixels c =
     draw_pixels c.self.inside.head (reached_of c.self.inside.standing (length ks)) c.args.v c.args.d (c.in_ok-may_draw.ensures c.self.inside.head (length ks) (sym h.surface_size))
 
 pub invariant_of-self-then-not-draw : goal.invariant_of-self-then-not-draw
-invariant_of-self-then-not-draw c = subst (λ s. IsOpen c.self.inside.head s c.make_room.new.kept.items c.self.inside.marks (vec_len c.make_room.new.kept) (vec_capacity c.make_room.new.kept)) (sym c.if-not-draw.ensures.unchanged) (record {
+invariant_of-self-then-not-draw c = subst (λ s. IsOpen c.self.inside.head s c.make_room.new.kept.items c.self.inside.marks c.self.inside.typed (vec_len c.make_room.new.kept) (vec_capacity c.make_room.new.kept)) (sym c.if-not-draw.ensures.unchanged) (record {
   is_session = rw c.make_room.ensures.items c.self.invariant.is_session;
   room_left = omega (arith, c.self.invariant.room_left, c.make_room.ensures.length, c.make_room.ensures.capacity);
   marked = rw c.make_room.ensures.items c.self.invariant.marked;
+  typed_last = rw c.make_room.ensures.items c.self.invariant.typed_last;
 })
 
 pub note_all-requires-clause-rules : goal.note_all-requires-clause-rules
@@ -126,6 +129,7 @@ invariant_of-self-2 c =
           (omega (arith, c.len.ensures, c.make_room.ensures.length, c.self.inside.kept.ok.0))
           (noted_as head.size c.size-size.result c.from_ref.result.now (c.args.d ∷ []) c.from_ref-2.result.now (c.in_ok-shown.shown ∷ []) (c.len.result + 1) c.self.inside.marks c.note_all.new.marks
           c.size-size.ensures c.from_ref.ensures.value c.from_ref-2.ensures.value c.note_all.ensures));
+      typed_last = rw (c.push_reserved.ensures.items, c.make_room.ensures.items) (typed_on c.self.inside.typed c.self.inside.kept.items _ c.self.invariant.typed_last);
     }
 
 pub returns-clause-answer : goal.returns-clause-answer

@@ -9,6 +9,7 @@ use Rattle.session_core.specs.Keeping.{journal_of}
 use Rattle.session_core.specs.Standing.{reached_of}
 use Rattle.session_core.proofs.Sessions.{appended, journal_push, answered_entry, goes_on_entry, entry_made}
 use Rattle.session_core.proofs.MarkSteps.{marked_same}
+use Rattle.session_core.proofs.Typed.{typed_on}
 use Rattle.session_core.proofs.DrawLimits.{give_room}
 use Rattle.session_core.proofs.Accepting.{accepted, event_refused, event_stays}
 use Rattle.session_core.proofs.session.Session.give.Goals as goal
@@ -37,6 +38,7 @@ invariant_of-self c = record {
   is_session = rw c.make_room.ensures.items c.self.invariant.is_session;
   room_left = omega (arith, c.self.invariant.room_left, c.make_room.ensures.length, c.make_room.ensures.capacity);
   marked = rw c.make_room.ensures.items c.self.invariant.marked;
+  typed_last = rw c.make_room.ensures.items c.self.invariant.typed_last;
 }
 
 pub give-requires : goal.give-requires
@@ -57,6 +59,7 @@ invariant_of-self-2 c =
           (ap (λ z. z.size) c.give.ensures.surface ∙ h.surface_size) (ap (λ b. b.size) c.give.ensures.board ∙ h.board_size));
       room_left = omega (arith, c.if-not-make_room.ensures.room, c.push_reserved.ensures.len, c.push_reserved.ensures.capacity, ap length c.give.ensures.members, ap length c.list.ensures);
       marked = rw (c.push_reserved.ensures.items, c.make_room.ensures.items) (marked_same head s ks _ c.self.inside.marks h c.self.invariant.marked refl);
+      typed_last = rw (c.push_reserved.ensures.items, c.make_room.ensures.items) (typed_on c.self.inside.typed c.self.inside.kept.items _ c.self.invariant.typed_last);
     }
 
 pub returns-clause-answer : goal.returns-clause-answer

@@ -12,6 +12,7 @@ use Rattle.session_core.specs.Standing.{reached_of}
 use Rattle.session_core.proofs.MemberSteps.{kept_absent}
 use Rattle.session_core.proofs.Sessions.{sound_now, appended, journal_push, length_viewers, length_push, answered, goes_on, entry_now}
 use Rattle.session_core.proofs.MarkSteps.{marked_same}
+use Rattle.session_core.proofs.Typed.{typed_on}
 use Rattle.session_core.proofs.Leaving.{absent_past}
 use Rattle.session_core.proofs.JoinAnswers.{joined, join_legal, refused_stays, refused_answer}
 use Rattle.session_core.proofs.session.Session.join.Goals as goal
@@ -38,6 +39,7 @@ invariant_of-self c = record {
   is_session = rw c.make_room.ensures.items c.self.invariant.is_session;
   room_left = omega (arith, c.self.invariant.room_left, c.make_room.ensures.length, c.make_room.ensures.capacity);
   marked = rw c.make_room.ensures.items c.self.invariant.marked;
+  typed_last = rw c.make_room.ensures.items c.self.invariant.typed_last;
 }
 
 pub admit-v-requires-clause-joins : goal.admit-v-requires-clause-joins
@@ -71,6 +73,7 @@ invariant_of-self-2 c =
         ap length c.list.ensures,
       );
       marked = rw (c.push_reserved.ensures.items, c.make_room.ensures.items) (marked_same c.self.inside.head s ks _ c.self.inside.marks h c.self.invariant.marked refl);
+      typed_last = rw (c.push_reserved.ensures.items, c.make_room.ensures.items) (typed_on c.self.inside.typed c.self.inside.kept.items _ c.self.invariant.typed_last);
     }
 
 pub returns-clause-answer : goal.returns-clause-answer

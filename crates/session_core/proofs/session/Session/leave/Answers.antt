@@ -6,6 +6,7 @@ use Rattle.session_core.specs.Standing.{reached_of}
 use Rattle.session_core.proofs.MemberSteps.{kept_absent}
 use Rattle.session_core.proofs.Sessions.{here_is, sound_now, appended, length_viewers}
 use Rattle.session_core.proofs.MarkSteps.{marked_same}
+use Rattle.session_core.proofs.Typed.{typed_on}
 use Rattle.session_core.proofs.Leaving.{leave_legal, gone, one_fewer, replaced_where}
 use Rattle.session_core.proofs.session.Session.leave.Goals as goal
 
@@ -40,6 +41,7 @@ invariant_of-self c =
         one_fewer c.args.v (viewers_of c.self.inside.standing.members) here,
       );
       marked = rw c.push_reserved.ensures.items (marked_same c.self.inside.head c.self.inside.standing c.self.inside.kept.items _ c.self.inside.marks h c.self.invariant.marked refl);
+      typed_last = rw c.push_reserved.ensures.items (typed_on c.self.inside.typed c.self.inside.kept.items _ c.self.invariant.typed_last);
     }
 
 pub returns-clause-asked : goal.returns-clause-asked

@@ -17,7 +17,7 @@ lend-requires c = let i = c.self.inside in
 
 pub invariant_of-self : goal.invariant_of-self
 invariant_of-self c = let i = c.self.inside in
-    subst (λ (f : SurfaceOf). IsOpen i.head (record i.standing { surface = f }) i.kept.items i.marks (vec_len i.kept) (vec_capacity i.kept)) (sym c.lend.ensures.unchanged) c.self.invariant
+    subst (λ (f : SurfaceOf). IsOpen i.head (record i.standing { surface = f }) i.kept.items i.marks i.typed (vec_len i.kept) (vec_capacity i.kept)) (sym c.lend.ensures.unchanged) c.self.invariant
 
 pub returns-clause-lent : goal.returns-clause-lent
 returns-clause-lent c = let i = c.self.inside in

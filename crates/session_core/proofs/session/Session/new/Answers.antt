@@ -1,4 +1,4 @@
-use Rattle.std.proofs.Common.{◌∙◌, ◌++◌, length, ap, sym, subst, arith}
+use Rattle.std.proofs.Common.{◌∙◌, ◌++◌, length, refl, ap, sym, subst, arith}
 use Rattle.session_core.specs.Heads.{rows_of}
 use Rattle.session_core.specs.SessionModel.{AreInvited}
 use Rattle.session_core.proofs.Opening.{opened}
@@ -14,4 +14,5 @@ invariant_of-result c =
           (opened (record { size = c.args.size; rows = rows_of c.extend_from_slice.new.self.items }) c.in_ok-standing.standing c.requires.size invited c.in_ok-standing.ensures);
       room_left = omega (arith, c.new-3.ensures.len, ap length c.in_ok-standing.ensures.nobody);
       marked = rw (c.new-3.ensures.items, c.in_ok-marks.ensures) (marked_first c.args.size);
+      typed_last = rw c.new-3.ensures.items refl;
     }

@@ -16,6 +16,7 @@ use Rattle.pending_core.specs.Showing.{all_shown, shown_list}
 use Rattle.session_core.specs.Standing.{reached_of, IsOpen}
 use Rattle.session_core.proofs.Sessions.{sound_now, appended, journal_push, answered_entry, goes_on_entry, entry_made}
 use Rattle.session_core.proofs.MarkSteps.{marked_on, all_keep, noted_as}
+use Rattle.session_core.proofs.Typed.{typed_on}
 use Rattle.session_core.proofs.PendingLaws.{enough}
 use Rattle.session_core.proofs.DrawLimits.{input_room}
 use Rattle.session_core.proofs.Reacted.{reaction_fits, reaction_colors, reaction_kept}
@@ -58,6 +59,7 @@ invariant_of-self c = record {
   is_session = rw c.make_room.ensures.items c.self.invariant.is_session;
   room_left = omega (arith, c.self.invariant.room_left, c.make_room.ensures.length, c.make_room.ensures.capacity);
   marked = rw c.make_room.ensures.items c.self.invariant.marked;
+  typed_last = rw c.make_room.ensures.items c.self.invariant.typed_last;
 }
 
 pub react-requires-clause-fit : goal.react-requires-clause-fit
@@ -78,10 +80,11 @@ react-requires-clause-entries c =
     input_room c.self.inside.head (reached_of c.self.inside.standing (length ks)) c.args.v c.args.e (c.in_ok-may_react.ensures c.self.inside.head (length ks) c.requires)
 
 pub invariant_of-self-then-not-react : goal.invariant_of-self-then-not-react
-invariant_of-self-then-not-react c = subst (λ s. IsOpen c.self.inside.head s c.make_room.new.kept.items c.self.inside.marks (vec_len c.make_room.new.kept) (vec_capacity c.make_room.new.kept)) (sym c.if-not-react.ensures.unchanged) (record {
+invariant_of-self-then-not-react c = subst (λ s. IsOpen c.self.inside.head s c.make_room.new.kept.items c.self.inside.marks c.self.inside.typed (vec_len c.make_room.new.kept) (vec_capacity c.make_room.new.kept)) (sym c.if-not-react.ensures.unchanged) (record {
   is_session = rw c.make_room.ensures.items c.self.invariant.is_session;
   room_left = omega (arith, c.self.invariant.room_left, c.make_room.ensures.length, c.make_room.ensures.capacity);
   marked = rw c.make_room.ensures.items c.self.invariant.marked;
+  typed_last = rw c.make_room.ensures.items c.self.invariant.typed_last;
 })
 
 pub note_reaction-requires-clause-rules : goal.note_reaction-requires-clause-rules
@@ -124,6 +127,7 @@ invariant_of-self-2 c =
           (noted_as head.size c.size-size.result c.deref-2.result.now (board_reaction head.size (board_of s.board) c.args.e).drawings (shown_list c.in_ok-reaction.reaction.shown) (shown_list c.in_ok-reaction.reaction.shown) (c.len.result + 1)
           c.self.inside.marks c.note_reaction.new.marks c.size-size.ensures
           (c.deref-2.ensures.value ∙ (made.drawings ∙ ap (λ (z : Size). (board_reaction z (board_of s.board) c.args.e).drawings) h.surface_size)) refl c.note_reaction.ensures));
+      typed_last = rw (c.push_reserved.ensures.items, c.make_room.ensures.items) (c.typed_by_event-self-inside.ensures ∙ typed_on c.self.inside.typed c.self.inside.kept.items _ c.self.invariant.typed_last);
     }
 
 pub returns-clause-answer : goal.returns-clause-answer

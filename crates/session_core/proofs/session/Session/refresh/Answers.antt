@@ -6,7 +6,7 @@ pub ask-requires-clause-present : goal.ask-requires-clause-present
 ask-requires-clause-present c = sym (here_is _ _ _ c.args.v c.self.invariant.is_session) ∙ (rw (← c.self.view_is) at c.requires.present)
 
 pub invariant_of-self : goal.invariant_of-self
-invariant_of-self c = members_changed _ _ _ _ _ _ c.ask.new.self c.self.invariant c.ask.ensures.viewers
+invariant_of-self c = members_changed _ _ _ _ _ _ _ c.ask.new.self c.self.invariant c.ask.ensures.viewers
 
 pub returns-clause-asked : goal.returns-clause-asked
 returns-clause-asked c = rw (← c.self.view_is, ← c.size-size.ensures) c.ask.ensures.asked
