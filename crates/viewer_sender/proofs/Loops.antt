@@ -19,14 +19,14 @@ use Rattle.draw_ops.specs.declared.shape.Drawing.{Drawing}
 use Rattle.draw_ops.specs.declared.shape.Shape.{Shape}
 use Rattle.session_rules.specs.Pending.{Pending}
 use Rattle.frame_rules.specs.Frame.{Sent}
-use Rattle.frame_rules.specs.FrameOrders.{SentOrder, Use, Uses, sending, use_by, sending_by, sending_of, orders_from, uses_after, glyph_use, run_use, run_pairs, entries_of}
+use Rattle.frame_rules.specs.FrameOrders.{or_0, SentOrder, Use, Uses, sending, use_by, sending_by, sending_of, orders_from, uses_after, glyph_use, run_use, run_pairs, entries_of}
 use Rattle.frame_rules.specs.FrameOrders.SentOrder.{CacheGlyph}
 use Rattle.viewer_sender.specs.declared.writer.FrameWriter.{FrameWriter}
 use Rattle.viewer_sender.specs.Stands.{CachesStand}
 use Rattle.viewer_sender.specs.Writes.{Writes, used}
 use Rattle.viewer_sender.proofs.CacheSteps.{use_of_none}
 use Rattle.viewer_sender.proofs.UseSteps.{use_missed, writes_then, writes_as}
-use Rattle.frame_plan.specs.Orders.{cache_of, caches_of, sent_as, drawings_in, caches_in, AreChosen}
+use Rattle.frame_plan.specs.Orders.{cache_for, cache_of, caches_of, sent_as, drawings_in, caches_in, AreChosen}
 use Rattle.frame_plan.specs.declared.orders.Planned.{Planned}
 use Rattle.viewer_sender.specs.Goes.{SentGoes, AllGo}
 use Rattle.viewer_sender.specs.Runs.{run_sending, drawings_sending}
@@ -210,6 +210,11 @@ tiles_more a b u size ts t r pixels wrote is place cut =
     ∙ ap made bytes)
 
 -- ---- a drawing by its shape
+
+-- the cache that was chosen for a drawing is the one for its shape
+pub chosen_as : (c : Confirmed) (p : Pending) (d : Drawing) (shape : Shape) (n : ℕ) → n ≡ or_0 (cache_for c p p.drawing.shape) → d ≡ p.drawing → d.shape ≡ shape
+    → n ≡ or_0 (cache_for c p shape)
+chosen_as c p d shape n h e is = h ∙ (ap (λ (x : Drawing). or_0 (cache_for c p x.shape)) (sym e) ∙ ap (λ (s : Shape). or_0 (cache_for c p s)) is)
 
 -- what was written for a shape is what its drawing sends
 pub arm : (a b : FrameWriter) (sent : Sent) (p : Pending) (d : Drawing) (shape : Shape) → p ≡ sent.pending → d ≡ p.drawing → d.shape ≡ shape

@@ -7,8 +7,39 @@ use Rattle.frame_rules.specs.Frame.{Sent}
 use Rattle.frame_rules.specs.FrameOrders.{sending_by}
 use Rattle.frame_plan.specs.Orders.{sent_as}
 use Rattle.viewer_sender.specs.Writes.{Writes}
-use Rattle.viewer_sender.proofs.Loops.{arm}
+use Rattle.viewer_sender.proofs.CachesServe.{image_number_below, run_number_below}
+use Rattle.viewer_sender.proofs.Loops.{arm, chosen_as}
 use Rattle.viewer_sender.proofs.drawing.put_drawing.Goals as goal
+
+pub put_blit-requires-clause-chosen : goal.put_blit-requires-clause-chosen
+put_blit-requires-clause-chosen c =
+    chosen_as c.args.writer.now.confirmed c.args.planned.now.pending c.drawing-drawing.result.now _ c.args.planned.now.cache c.requires.chosen c.drawing-drawing.ensures c.in-Blit.is
+
+pub put_blit-requires-clause-few : goal.put_blit-requires-clause-few
+put_blit-requires-clause-few c =
+    let p = c.args.planned.now.pending in
+    let chosen = chosen_as c.args.writer.now.confirmed p c.drawing-drawing.result.now _ c.args.planned.now.cache c.requires.chosen c.drawing-drawing.ensures c.in-Blit.is in
+    image_number_below c.args.writer.now.confirmed p.image c.args.planned.now.cache c.requires.all.bitmaps chosen
+
+pub put_blit3-requires-clause-chosen : goal.put_blit3-requires-clause-chosen
+put_blit3-requires-clause-chosen c =
+    chosen_as c.args.writer.now.confirmed c.args.planned.now.pending c.drawing-drawing.result.now _ c.args.planned.now.cache c.requires.chosen c.drawing-drawing.ensures c.in-Blit3.is
+
+pub put_blit3-requires-clause-few : goal.put_blit3-requires-clause-few
+put_blit3-requires-clause-few c =
+    let p = c.args.planned.now.pending in
+    let chosen = chosen_as c.args.writer.now.confirmed p c.drawing-drawing.result.now _ c.args.planned.now.cache c.requires.chosen c.drawing-drawing.ensures c.in-Blit3.is in
+    image_number_below c.args.writer.now.confirmed p.image c.args.planned.now.cache c.requires.all.bitmaps chosen
+
+pub put_text-requires-clause-chosen : goal.put_text-requires-clause-chosen
+put_text-requires-clause-chosen c =
+    chosen_as c.args.writer.now.confirmed c.args.planned.now.pending c.drawing-drawing.result.now _ c.args.planned.now.cache c.requires.chosen c.drawing-drawing.ensures c.in-Text.is
+
+pub put_text-requires-clause-below : goal.put_text-requires-clause-below
+put_text-requires-clause-below c =
+    let p = c.args.planned.now.pending in
+    let chosen = chosen_as c.args.writer.now.confirmed p c.drawing-drawing.result.now _ c.args.planned.now.cache c.requires.chosen c.drawing-drawing.ensures c.in-Text.is in
+    run_number_below c.args.writer.now.confirmed p.glyphs c.args.planned.now.cache c.requires.all.glyphs chosen
 
 pub returns-in-Copy : goal.returns-in-Copy
 returns-in-Copy c =
