@@ -9,7 +9,7 @@ use Rattle.frame_rules.specs.Cautious.{area_of, is_cut, cut, cut_if, cut_by}
 use Rattle.frame_rules.specs.Frame.{Walk, Walked, Sent, walked, walked_as, walked_pending, walk_after, sent_from}
 use Rattle.frame_rules.specs.FrameOrders.{or_0}
 use Rattle.frame_plan.specs.declared.walk.Walker.{Walker}
-use Rattle.frame_plan.specs.Orders.{sent_to, sent_as, drawings_in, cache_in, cache_for, cache_of, caches_of, AreChosen}
+use Rattle.frame_plan.specs.Orders.{sent_as, drawings_in, cache_in, cache_for, cache_of, caches_of, AreChosen}
 use Rattle.frame_plan.specs.declared.orders.Planned.{Planned}
 use Rattle.frame_plan.specs.Walks.{walk_of, HasDecided, HasGone, HasGoneOver, HasWalkedAll}
 use Rattle.frame_plan.specs.Cuts.{AllCuttable, IsCuttable}
