@@ -8,12 +8,9 @@ ghost use Rattle.client_caches.specs.Caches.{upright_pixels};
 
 use crate::ObeyFault;
 use order_read::{pixels_of, turned_over};
-use px_core::Depth;
+use px_core::{Depth, bytes_in};
 use rle_dec::{RleFault, unpack};
 use std::alloc::Global;
-
-/// The bytes of a raw pixel.
-const PIXEL_SIZE: usize = 3;
 
 /// The pixels of three bytes each, which must be so many.
 fn raw_pixels(alloc: Global, count: usize, bytes: &[u8]) -> Result<Vec<u32>, ObeyFault>
@@ -22,7 +19,7 @@ fn raw_pixels(alloc: Global, count: usize, bytes: &[u8]) -> Result<Vec<u32>, Obe
     ensures number { IfOk result (λ pixels. length pixels.items ≡ count) }
     ensures colors { IfOk result (λ pixels. IsTrue (are_colors pixels.items)) }
 {
-    if bytes.len() != PIXEL_SIZE * count {
+    if bytes.len() != bytes_in(Depth::Bits24) * count {
         return Err(ObeyFault::Broken);
     }
     let pixels = pixels_of(alloc, bytes, Depth::Bits24)?;

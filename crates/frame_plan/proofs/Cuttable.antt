@@ -7,7 +7,7 @@ use Rattle.std.proofs.lemmas.Bool.Decides.{nat_tests}
 use Rattle.std.proofs.lemmas.Int.{ints, clamps}
 use Rattle.px_core.specs.declared.surface.Size.{Size}
 use Rattle.px_core.specs.declared.rectangle.Rect.{Rect}
-use Rattle.px_core.specs.Rectangle.{boxed, has_pixel, is_inside, is_session_size, IsPlaced}
+use Rattle.px_core.specs.Rectangle.{boxed, has_pixel, is_inside, is_session_size, IsPlaced, IsPlacedClip}
 use Rattle.draw_ops.specs.declared.shape.Drawing.{Drawing}
 use Rattle.draw_ops.specs.declared.shape.Shape.{Shape}
 use Rattle.draw_ops.specs.declared.shape.Shape.TheVariants.{Fill, Dst, Pat, Copy, Blit, Blit3, Text, Line, Save, Restore, LoadImage, LoadBrush, LoadGlyph}

@@ -1,6 +1,6 @@
 -- A record is written line by line.
 use Rattle.std.proofs.Common.{◌≡◌, ℕ, ◌+◌, List, [], ◌∷◌, ◌++◌, length, refl, ap, sym, ◌∙◌, Some, None, Bool, true, false, append_assoc, append-nil}
-use Rattle.std.specs.Prelude.{Option, option_to_list, if◌then◌else◌}
+use Rattle.std.specs.Prelude.{option_to_list, if◌then◌else◌}
 use Rattle.std.proofs.lemmas.Grind.{flat_map-append}
 use Rattle.px_core.specs.declared.surface.Size.{Size}
 use Rattle.line_text.specs.Lines.{Line, line_bytes}
@@ -10,7 +10,7 @@ use Rattle.session_rules.specs.Journal.{Row}
 use Rattle.session_rules.specs.Steps.{outcome, entries_from, play_at_first}
 use Rattle.frame_rules.specs.Encoder.{Encoder}
 use Rattle.script_rules.specs.Script.{ScriptReading, Script, Asked, LineOutcome, line_outcome, refused_at, ended_at, after_step, with_asked, proceeding, script_from}
-use Rattle.script_rules.specs.Script.{opening_by, script_after, begins_with_invite, opened_reading, solo_rows, solo_join, solo_script, invited_script, size_of_words, size_rule, text_rule}
+use Rattle.script_rules.specs.Script.{opening_by, script_after, begins_with_invite, opened_reading, solo_rows, solo_join, invited_script, size_of_words, size_rule, text_rule}
 use Rattle.script_rules.specs.Script.LineOutcome.{Breaks, Invites, Asks}
 use Rattle.script_rules.specs.Script.Opening.{Unended, Opened}
 use Rattle.script_rules.specs.CaptureText.{Run}
@@ -18,7 +18,7 @@ use Rattle.record_rules.specs.Tables.{head_bytes, entry_bytes, entries_bytes}
 use Rattle.script_run.specs.Solo.{first_run, solo_reading, solo_run}
 use Rattle.script_run.specs.Run.{refusal_at, refusal_of}
 use Rattle.script_run.specs.Outcomes.{reading_by, run_by_outcome, BreaksNone}
-use Rattle.script_run.specs.Writing.{line_text, joined, Follows, Begins, Gives, Ends, IsWriting}
+use Rattle.script_run.specs.Writing.{line_text, joined, Follows, Begins, Ends, IsWriting}
 use Rattle.script_run.proofs.Following.{head_stays, refused_by, size_stays, by_invite}
 use Rattle.record_run.specs.Recording.{steps_asked, record_of_script, record_of_opening, may_get_rows, written_of_script, written_of_opening, written_of_first}
 use Rattle.record_run.specs.Recording.{head_text, step_text, text_from, written_from}

@@ -1,13 +1,13 @@
 -- A capture is written line by line.
-use Rattle.std.proofs.Common.{◌≡◌, ℕ, ◌+◌, List, [], ◌∷◌, ◌++◌, length, refl, ap, sym, ◌∙◌, subst, Some, None, Bool, true, false, append_assoc}
-use Rattle.std.specs.Prelude.{Option, if◌then◌else◌}
+use Rattle.std.proofs.Common.{◌≡◌, ℕ, ◌+◌, List, [], ◌∷◌, ◌++◌, length, refl, ap, sym, ◌∙◌, Some, None, Bool, true, false, append_assoc}
+use Rattle.std.specs.Prelude.{if◌then◌else◌}
 use Rattle.px_core.specs.declared.surface.Size.{Size}
 use Rattle.line_text.specs.Lines.{Line, line_bytes}
 use Rattle.line_text.specs.Words.{words_of}
 use Rattle.session_rules.specs.Journal.{Head}
 use Rattle.frame_rules.specs.Encoder.{Encoder}
 use Rattle.script_rules.specs.Script.{ScriptReading, Script, Asked, LineOutcome, line_outcome, size_of_words, size_rule, text_rule}
-use Rattle.script_rules.specs.Script.{with_row, after_step, with_asked, proceeding, script_from, opening_by, script_after, begins_with_invite}
+use Rattle.script_rules.specs.Script.{after_step, with_asked, proceeding, script_from, opening_by, script_after, begins_with_invite}
 use Rattle.script_rules.specs.Script.{opened_reading, solo_join, solo_script, invited_script}
 use Rattle.script_rules.specs.Script.LineOutcome.{Breaks, Invites, Asks}
 use Rattle.script_rules.specs.Script.Opening.{Unended, Opened}
@@ -17,7 +17,7 @@ use Rattle.script_run.specs.Done.{text_of_opening, text_of_first}
 use Rattle.script_run.specs.Solo.{first_run, solo_head, solo_reading, solo_run}
 use Rattle.script_run.specs.Run.{refusal_at, refusal_of}
 use Rattle.script_run.specs.Outcomes.{reading_by, run_by_outcome, BreaksNone}
-use Rattle.script_run.specs.Writing.{line_text, joined, Follows, Begins, Gives, Ends, IsWriting}
+use Rattle.script_run.specs.Writing.{line_text, joined, Follows, Begins, Ends, IsWriting}
 use Rattle.script_run.specs.Captures.{captures, of_script, of_rest, of_lines, text_from, text_after, so_far_after}
 use Rattle.script_run.proofs.Following.{head_stays, refused_by, size_stays, by_invite}
 
@@ -74,7 +74,7 @@ invited_text size at lines =
 
 -- any other script
 solo_text : (size : Size) (at : ℕ) (lines : List Line)
-    → capture_of_script encoder_frames (solo_script at size lines) ≡ joined size ++ text_from (solo_run size) (script_from 2 at (solo_reading size) lines)
+    → capture_of_script encoder_frames (solo_script at size lines) ≡ joined captures size ++ text_from (solo_run size) (script_from 2 at (solo_reading size) lines)
 solo_text size at lines =
     let s = script_from 2 at (solo_reading size) lines in
     let head : s.head ≡ solo_head size = head_stays 2 at (solo_reading size) lines refl in

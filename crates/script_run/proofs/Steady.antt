@@ -1,5 +1,5 @@
 -- What is written line by line grows with each line.
-use Rattle.std.proofs.Common.{◌≡◌, ℕ, ◌+◌, List, [], ◌∷◌, ◌++◌, length, refl, ap, sym, ◌∙◌, subst, Some, None, Bool, true, false, append_assoc, append-nil}
+use Rattle.std.proofs.Common.{◌≡◌, ℕ, ◌+◌, List, [], ◌∷◌, ◌++◌, length, refl, sym, ◌∙◌, subst, Some, None, Bool, true, false, append_assoc, append-nil}
 use Rattle.std.specs.Prelude.{Option}
 use Rattle.px_core.specs.declared.surface.Size.{Size}
 use Rattle.line_text.specs.Lines.{Line, line_bytes}
@@ -9,8 +9,8 @@ use Rattle.script_rules.specs.Script.{ScriptReading, LineOutcome, line_outcome, 
 use Rattle.script_rules.specs.Script.LineOutcome.{Breaks, Invites, Asks}
 use Rattle.script_rules.specs.CaptureText.{Run}
 use Rattle.headline.specs.Fronts.{IsFront}
-use Rattle.script_run.specs.Outcomes.{reading_by, run_by_outcome, BreaksNone}
-use Rattle.script_run.specs.Writing.{ByLines, Writing, line_text, joined, Begins, Ends, Follows, IsSteady, IsWriting, with_next}
+use Rattle.script_run.specs.Outcomes.{reading_by, run_by_outcome}
+use Rattle.script_run.specs.Writing.{ByLines, Writing, line_text, joined, Begins, IsSteady, IsWriting, with_next}
 use Rattle.script_run.proofs.Fronts.{nothing_is_front, whole_is_front, front_behind, front_of_front}
 
 -- nothing is a front

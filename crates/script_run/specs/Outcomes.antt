@@ -1,5 +1,5 @@
 -- What a line of a script does, by its text alone.
-use Rattle.std.specs.Prelude.{ℕ, List, [], Bool, false, ◌&&◌, not, is_some, ⊤}
+use Rattle.std.specs.Prelude.{ℕ, List, Bool, false, ◌&&◌, not, is_some, ⊤}
 use Rattle.std.specs.declared.option.Option.{Option}
 use Rattle.std.specs.declared.option.Option.TheVariants.{Some, None}
 use Rattle.line_text.specs.Words.{words_of}

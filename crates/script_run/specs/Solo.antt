@@ -1,5 +1,4 @@
 -- The one viewer of a script whose second line is no invite.
-use Rattle.std.specs.Prelude.{ℕ, List}
 use Rattle.px_core.specs.declared.surface.Size.{Size}
 use Rattle.session_rules.specs.Journal.{Head}
 use Rattle.frame_rules.specs.Encoder.{Encoder}

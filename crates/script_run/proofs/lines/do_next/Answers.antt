@@ -1,4 +1,4 @@
-use Rattle.std.proofs.Common.{[], ◌++◌, ◌∙◌, refl, sym, subst, Bool, Some}
+use Rattle.std.proofs.Common.{[], ◌++◌, ◌∙◌, sym, subst, Bool, Some}
 use Rattle.std.proofs.lemmas.Result.{err_from_is_err_and}
 use Rattle.std.specs.Prelude.{Err}
 use Rattle.edge_io.specs.Sink.{WritesFront}
@@ -11,7 +11,7 @@ use Rattle.script_run.specs.Progress.{NextLineDone}
 use Rattle.script_run.proofs.Steady.{steady_lines}
 use Rattle.script_run.proofs.Held.{held_grows, front_grows, grows_on}
 use Rattle.script_run.proofs.NextLine.{leads_on, found_reads, fault_reads, found_is_same, step_writes, step_holds, empty_holds, fault_writes, writes_after}
-use Rattle.script_run.proofs.HeldLines.{holding, line_held, line_cut, line_wanting, line_unfound}
+use Rattle.script_run.proofs.HeldLines.{holding, line_held, line_cut, line_wanting, line_unfound, line_unread}
 use Rattle.script_run.specs.Texts.{text_of}
 use Rattle.script_run.proofs.lines.do_next.Goals as goal
 
@@ -105,3 +105,8 @@ returns-in_err-hold_text g c =
           (writes_after answer (g.K.Sink.faults c.args.output.now) (g.K.Sink.faults c.find_line.new.output) (g.K.Sink.faults c.hold_text.new.output) c.in_ok-found.ensures.cause
           (fault_writes answer (g.K.Sink.faults c.find_line.new.output) (g.K.Sink.faults c.hold_text.new.output) c.in_err-hold_text.ensures.cause));
     })
+
+pub returns-in-Failed-clause-done : goal.returns-in-Failed-clause-done
+returns-in-Failed-clause-done g c = λ r run standing. line_unread c.in_ok-found.found (g.C.Course.writing.from c.args.k c.args.reader.now.at r run) c.args.reader.now c.find_line.new.reader
+    (g.S.Source.left c.args.input.now) (g.S.Source.left c.find_line.new.input) (g.K.Sink.told c.args.output.now) (g.K.Sink.told c.find_line.new.output)
+    c.args.page.now c.find_line.new.page c.in_ok-found.ensures.found (c.requires.writing.none c.args.k c.args.reader.now.at r run) c.in-Failed.is c.in_ok-found.ensures.held c.in_ok-found.ensures.part

@@ -11,7 +11,7 @@ use Rattle.script_run.specs.Progress.{NextLineDone}
 use Rattle.script_run.proofs.Steady.{steady_rest}
 use Rattle.script_run.proofs.Held.{held_grows, front_grows, grows_on}
 use Rattle.script_run.proofs.NextLine.{found_reads, fault_reads, found_is_same, step_writes, step_holds, empty_holds, fault_writes, writes_after, within_is}
-use Rattle.script_run.proofs.HeldLines.{holding, line_held, line_cut, line_wanting, line_unfound}
+use Rattle.script_run.proofs.HeldLines.{holding, line_held, line_cut, line_wanting, line_unfound, line_unread}
 use Rattle.script_run.specs.Outcomes.{is_invite_found}
 use Rattle.script_run.proofs.SecondLine.{SecondBegins, second_leads}
 use Rattle.script_run.specs.Texts.{text_of}
@@ -147,3 +147,8 @@ returns-in_err-hold_text g c =
           (writes_after answer (g.K.Sink.faults c.args.output.now) (g.K.Sink.faults c.find_line.new.output) (g.K.Sink.faults c.hold_text.new.output) c.in_ok-found.ensures.cause
           (fault_writes answer (g.K.Sink.faults c.find_line.new.output) (g.K.Sink.faults c.hold_text.new.output) c.in_err-hold_text.ensures.cause));
     })
+
+pub returns-in-Failed-clause-done : goal.returns-in-Failed-clause-done
+returns-in-Failed-clause-done g c = line_unread c.in_ok-found.found (g.C.Course.writing.rest (g.C.Course.seen c.args.course.now).head.size c.args.reader.now.at) c.args.reader.now c.find_line.new.reader
+    (g.S.Source.left c.args.input.now) (g.S.Source.left c.find_line.new.input) (g.K.Sink.told c.args.output.now) (g.K.Sink.told c.find_line.new.output)
+    c.args.page.now c.find_line.new.page c.in_ok-found.ensures.found (c.requires.writing.none_behind (g.C.Course.seen c.args.course.now).head.size c.args.reader.now.at) c.in-Failed.is c.in_ok-found.ensures.held c.in_ok-found.ensures.part

@@ -1,8 +1,5 @@
-use Rattle.line_text.specs.Words.{words_of}
-use Rattle.session_rules.specs.Steps.Step.{JoinStep}
 use Rattle.record_run.proofs.Recorders.{step_stands}
 use Rattle.record_run.proofs.recorder.RecorderCourse.join.Goals as goal
 
 pub returns : goal.returns
-returns c = step_stands c.args.self.now c.record_join.new.self (record { step = JoinStep c.args.name.now; preset = words_of c.args.preset.now; confirmed = c.args.confirmed })
-    c.args.out.now.items c.record_join.new.out.items c.in_ok-record_join.ensures
+returns c = step_stands c.args.self.now c.record_join.new.self _ c.args.out.now.items c.record_join.new.out.items c.in_ok-record_join.ensures
