@@ -1,15 +1,18 @@
 -- What is planned by a walk, by a jump, and whether there is work.
-use Rattle.std.proofs.Common.{◌≡◌, ℕ, ◌<◌, ◌≤◌, List, [], length, ap, sym, ◌∙◌, arith}
+use Rattle.std.proofs.Common.{◌≡◌, ℕ, ◌<◌, ◌≤◌, List, [], length, refl, ap, sym, ◌∙◌, arith}
 use Rattle.std.specs.Prelude.{Bool, true, false, ◌==◌, nat_lt, ◌&&◌, ◌||◌, not, if◌then◌else◌}
 use Rattle.std.proofs.lemmas.Bool.Decides.{nat_tests}
 use Rattle.px_core.specs.declared.surface.Size.{Size}
 use Rattle.px_core.specs.Rectangle.{whole}
 use Rattle.px_core.specs.Tiles.{Tiles, no_tiles, all_tiles, either_tiles, tiles_of, share_tile}
 use Rattle.caps_sets.specs.declared.confirmed.Confirmed.{Confirmed}
-use Rattle.frame_rules.specs.Frame.{Walk, Sent, walk_after, sent_from, jumped, most_orders, first_dirty}
+use Rattle.session_rules.specs.Journal.{state_after}
+use Rattle.frame_rules.specs.Frame.{Walk, Sent, walk_after, sent_from, jumped, most_orders, first_dirty, framed_by}
 use Rattle.session_core.specs.SessionModel.{SessionModel, asked_by, is_suppressed}
 use Rattle.frame_plan.specs.Takes.{DeskModel}
-use Rattle.frame_plan.specs.Plans.{is_work}
+use Rattle.frame_plan.specs.Plans.{is_work, frame_at}
+use Rattle.frame_plan.specs.Orders.{drawings_in, caches_in, caches_of, AreChosen}
+use Rattle.frame_plan.specs.declared.orders.Planned.{Planned}
 use Rattle.frame_plan.specs.Planning.{pending_at, begun_at, walk_if, sent_in, HasPlanned}
 use Rattle.frame_plan.specs.Walks.{walk_of, HasWalkedAll, HasJumped, IsBegun}
 use Rattle.frame_plan.specs.declared.walk.Walker.{Walker}
@@ -40,6 +43,16 @@ planned_walk s d begun w orders h less k =
       sent = k.sent ∙ (ap (λ (v : Walk). sent_from s.head.size d.confirmed v (pending_at s d)) h.walk
           ∙ ap (λ b. sent_in b s.head.size d.confirmed (begun_at s d) (pending_at s d)) (sym test));
     }
+
+-- the caches that were chosen are those of what the frame sends
+pub caches_are : (s : SessionModel) (d : DeskModel) (w : Walker) (orders : List Planned) → HasPlanned s d w (drawings_in orders) → AreChosen d.confirmed orders
+    → caches_in orders ≡ caches_of d.confirmed (frame_at s d).sent
+caches_are s d w orders h k = k ∙ ap (caches_of d.confirmed) (h.sent ∙ by (nat_lt most_orders (length (pending_at s d))))
+  where
+    by : (b : Bool) → sent_in b s.head.size d.confirmed (begun_at s d) (pending_at s d)
+        ≡ (framed_by b s.head.size d.confirmed (d.number == 0) (begun_at s d) (asked_by s d.v) (state_after s.head.size s.journal (length s.journal)).surface.picture (pending_at s d)).sent
+    by true = refl
+    by false = refl
 
 -- a viewer who has seen the whole journal has work where it asks for a tile
 pub work_asked : (s : SessionModel) (d : DeskModel) (b : Bool) → is_suppressed s d.v ≡ false → d.number ≡ length s.journal

@@ -1,5 +1,5 @@
 -- Loops of the walk: what was walked so far comes to what all comes to.
-use Rattle.std.proofs.Common.{◌≡◌, ℕ, zero, suc, ◌+◌, ◌≤◌, List, [], ◌∷◌, ◌++◌, length, take, refl, ap, sym, ◌∙◌, subst, arith, append_assoc, append-nil}
+use Rattle.std.proofs.Common.{◌≡◌, ℕ, zero, suc, ◌+◌, ◌≤◌, List, [], ◌∷◌, ◌++◌, length, map, take, refl, ap, sym, ◌∙◌, subst, arith, append_assoc, append-nil}
 use Rattle.std.specs.Prelude.{Bool, true, false, not, ◌||◌, Option, Some, None, slice_get}
 use Rattle.px_core.specs.declared.surface.Size.{Size}
 use Rattle.px_core.specs.Rectangle.{has_pixel}
@@ -7,8 +7,10 @@ use Rattle.caps_sets.specs.declared.confirmed.Confirmed.{Confirmed}
 use Rattle.session_rules.specs.Pending.{Pending}
 use Rattle.frame_rules.specs.Cautious.{area_of, is_cut, cut, cut_if, cut_by}
 use Rattle.frame_rules.specs.Frame.{Walk, Walked, Sent, walked, walked_as, walked_pending, walk_after, sent_from}
+use Rattle.frame_rules.specs.FrameOrders.{or_0}
 use Rattle.frame_plan.specs.declared.walk.Walker.{Walker}
-use Rattle.frame_plan.specs.Orders.{sent_to, orders_at}
+use Rattle.frame_plan.specs.Orders.{sent_as, drawings_in, cache_in, cache_for, cache_of, caches_of, AreChosen}
+use Rattle.frame_plan.specs.declared.orders.Planned.{Planned}
 use Rattle.frame_plan.specs.Walks.{walk_of, HasDecided, HasGone, HasGoneOver, HasWalkedAll}
 use Rattle.frame_plan.specs.Cuts.{AllCuttable, IsCuttable}
 
@@ -30,14 +32,24 @@ cuttable_at size [] i p h g = absurd (cc g)
 cuttable_at size (q ∷ ps) zero p h g = let same : q ≡ p = cc g in subst (IsCuttable size) same h.0
 cuttable_at size (q ∷ ps) (suc i) p h g = cuttable_at size ps i p h.1 g
 
--- a drawing and a position more
-pub orders_more : (ps : List Pending) (os : List (Option ℕ)) (p : Pending) (o : Option ℕ) → length os ≡ length ps
-    → orders_at (ps ++ p ∷ []) (os ++ o ∷ []) ≡ orders_at ps os ++ sent_to p o
-orders_more [] [] p o h = append-nil (sent_to p o)
-orders_more [] (x ∷ os) p o h = absurd (omega (arith, h))
-orders_more (q ∷ ps) [] p o h = absurd (omega (arith, h))
-orders_more (q ∷ ps) (x ∷ os) p o h =
-    ap (λ ss. sent_to q x ++ ss) (orders_more ps os p o (omega (arith, h))) ∙ sym (append_assoc (sent_to q x) (orders_at ps os) (sent_to p o))
+map_last : {A B : Type 0} (f : A → B) (xs : List A) (x : A) → map f (xs ++ x ∷ []) ≡ map f xs ++ f x ∷ []
+map_last f [] x = refl
+map_last f (y ∷ ys) x = ap (λ zs. f y ∷ zs) (map_last f ys x)
+
+-- no drawing, and a drawing more, with the cache that serves
+pub none_chosen : (c : Confirmed) (ps : List Planned) → ps ≡ [] → AreChosen c ps
+none_chosen c ps e = subst (AreChosen c) (sym e) refl
+
+pub chosen_more : (c : Confirmed) (ps qs : List Planned) (p : Pending) (q : Planned) (cache : Option ℕ) → cache ≡ cache_for c p p.drawing.shape → q.pending ≡ p → q.cache ≡ or_0 cache
+    → qs ≡ ps ++ q ∷ [] → AreChosen c ps → AreChosen c qs
+chosen_more c ps qs p q cache is same e more h =
+    let one : q.cache ≡ cache_of c (sent_as q) =
+    e ∙ (ap or_0 is ∙ ap (λ (x : Pending). or_0 (cache_for c x x.drawing.shape)) (sym same)) in
+    subst (AreChosen c) (sym more)
+    (map_last cache_in ps q
+    ∙ (ap (λ ns. ns ++ q.cache ∷ []) h
+    ∙ (ap (λ n. caches_of c (drawings_in ps) ++ n ∷ []) one
+    ∙ sym (ap (caches_of c) (map_last sent_as ps q) ∙ map_last (cache_of c) (drawings_in ps) (sent_as q)))))
 
 -- ---- one drawing
 
@@ -73,10 +85,14 @@ gone_as v w before after new e h = subst (λ (u : Walked). HasGone u before new 
 pub gone_nowhere : (w : Walked) (p : Pending) (before after : List Sent) (new : Walker) → HasDecided w p None new → after ≡ before → HasGone w before new after
 gone_nowhere w p before after new h e = record { walk = h.walk; sent = e ∙ (sym (append-nil before) ∙ ap (λ ss. before ++ ss) h.sent) }
 
-pub gone_there : (w : Walked) (p q : Pending) (position : ℕ) (before after : List Sent) (new : Walker) → HasDecided w p (Some position) new → q ≡ p
-    → after ≡ before ++ record { pending = q; position = position } ∷ [] → HasGone w before new after
-gone_there w p q position before after new h e put =
-    record { walk = h.walk; sent = put ∙ (ap (λ (x : Pending). before ++ record { pending = x; position = position } ∷ []) e ∙ ap (λ ss. before ++ ss) h.sent) }
+pub gone_there : (w : Walked) (p : Pending) (q : Planned) (before after : List Planned) (new : Walker) → HasDecided w p (Some q.position) new → q.pending ≡ p
+    → after ≡ before ++ q ∷ [] → HasGone w (drawings_in before) new (drawings_in after)
+gone_there w p q before after new h e put =
+    record {
+      walk = h.walk;
+      sent = ap drawings_in put ∙ (map_last sent_as before q
+          ∙ (ap (λ (x : Pending). drawings_in before ++ record { pending = x; position = q.position } ∷ []) e ∙ ap (λ ss. drawings_in before ++ ss) h.sent));
+    }
 
 -- ---- drawings one after the other
 

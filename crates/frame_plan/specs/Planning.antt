@@ -7,12 +7,13 @@ use Rattle.frame_rules.specs.Frame.{Walk, Sent, first_dirty, sent_from, walk_aft
 use Rattle.session_core.specs.SessionModel.{SessionModel}
 use Rattle.frame_plan.specs.Takes.{DeskModel, TakenFrame}
 use Rattle.frame_plan.specs.Walks.{walk_of}
-use Rattle.frame_plan.specs.declared.frame.Planned.{Planned}
+use Rattle.frame_plan.specs.Orders.{drawings_in}
+use Rattle.frame_plan.specs.declared.frame.PlannedFrame.{PlannedFrame}
 use Rattle.frame_plan.specs.declared.walk.Walker.{Walker}
 
 -- what was planned, as a frame
-abbrev pub planned_as : Planned → TakenFrame
-planned_as p = record { first = p.first; sent = p.sent; tiles = p.tiles.items; held = p.held }
+abbrev pub planned_as : PlannedFrame → TakenFrame
+planned_as p = record { first = p.first; sent = drawings_in p.sent; tiles = p.tiles.items; held = p.held }
 
 -- the drawings that are pending
 abbrev pub pending_at : SessionModel → DeskModel → List Pending

@@ -34,7 +34,8 @@ tile_taken size picture tile = (tile, cut_out size picture 0 (tile_on size tile)
 abbrev pub taken_as : Size → FrameOf → TakenFrame
 taken_as size f = record { first = f.first; sent = f.sent; tiles = map (tile_taken size f.picture) f.tiles; held = f.held }
 
--- a take: the session's size, how many frames the viewer was given before, the numbers before and after, the blocks held before, and the frame
+-- a take: the session's size, how many frames the viewer was given before, the numbers before and after, the blocks held before, the frame, and the caches
+-- that its orders name
 pub record TakeModel : Type 0 where
   pub size : Size
   pub serial : ℕ
@@ -42,3 +43,4 @@ pub record TakeModel : Type 0 where
   pub number : ℕ
   pub held_before : Held
   pub frame : TakenFrame
+  pub caches : List ℕ

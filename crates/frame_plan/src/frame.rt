@@ -7,6 +7,7 @@ ghost use Rattle.session_rules.specs.Pending.{pending_between};
 ghost use Rattle.session_core.specs.SessionModel.{is_here, asked_by};
 ghost use Rattle.frame_plan.specs.Takes.{taken_as};
 ghost use Rattle.frame_plan.specs.Plans.{is_work, frame_at, taken_if, desk_if, asked_if};
+ghost use Rattle.frame_plan.specs.Orders.{caches_in, caches_of, drawings_in, AreChosen};
 ghost use Rattle.frame_plan.specs.Walks.{HasGoneOver, HasWalkedAll};
 ghost use Rattle.frame_plan.specs.Planning.{planned_as, HasPlanned};
 ghost use Rattle.frame_plan.specs.declared.taken.Taken.TheVariants.{Nothing};
@@ -64,7 +65,7 @@ pub fn plan(alloc: Global, session: &mut Session, desk: &mut Desk) -> Result<Tak
 
 /// What a frame is planned as.
 #[derive(Drop)]
-struct Planned {
+struct PlannedFrame {
     first: bool,
     sent: Orders,
     tiles: Vec<TakenTile>,
@@ -91,10 +92,15 @@ fn is_asked(size: Size, asked: &TileSet) -> bool
 }
 
 /// The frame that is due, apart from its numbers. The session is as it was, also after an `Err`.
-fn plan_frame(alloc: Global, session: &mut Session, desk: &Desk) -> Result<Planned, OutOfMemory>
+fn plan_frame(
+    alloc: Global,
+    session: &mut Session,
+    desk: &Desk,
+) -> Result<PlannedFrame, OutOfMemory>
     requires present { IsTrue (is_here session.old desk.now.v) }
     requires seen { desk.now.number ≤ length session.old.journal }
     ensures planned { IfOk result (λ planned. planned_as planned ≡ taken_as session.old.head.size (frame_at session.old desk.now)) }
+    ensures caches { IfOk result (λ planned. caches_in planned.sent ≡ caches_of desk.now.confirmed (frame_at session.old desk.now).sent) }
     ensures unchanged { session.new ≡ session.old }
 {
     session.recall_legal();
@@ -102,7 +108,7 @@ fn plan_frame(alloc: Global, session: &mut Session, desk: &Desk) -> Result<Plann
     let asked = session.asked(desk.v);
     let due = tiles_due(alloc, session.size(), &walker.dirty, asked)?;
     let tiles = lend_tiles(alloc, session, due.as_slice())?;
-    Ok(Planned {
+    Ok(PlannedFrame {
         first: desk.number == 0,
         sent,
         tiles,
@@ -113,7 +119,8 @@ fn plan_frame(alloc: Global, session: &mut Session, desk: &Desk) -> Result<Plann
 /// The walk over what is pending, or the jump over it where it is too much; and what goes as orders.
 fn walked(alloc: Global, session: &Session, desk: &Desk) -> Result<(Walker, Orders), OutOfMemory>
     requires { desk.now.number ≤ length session.now.journal }
-    ensures { IfOk result (λ both. HasPlanned session.now desk.now both.0 both.1) }
+    ensures planned { IfOk result (λ both. HasPlanned session.now desk.now both.0 (drawings_in both.1)) }
+    ensures chosen { IfOk result (λ both. AreChosen desk.now.confirmed both.1) }
 {
     session.recall_legal();
     let size = session.size();
@@ -139,7 +146,8 @@ fn walk_over(
     walker: &mut Walker,
 ) -> Result<Orders, OutOfMemory>
     requires { desk.now.number ≤ length session.now.journal }
-    ensures { IfOk result (λ sent. HasWalkedAll session.now.head.size desk.now.confirmed walker.old (pending_between session.now.head.size session.now.journal desk.now.number (length session.now.journal)) sent walker.new) }
+    ensures walked { IfOk result (λ sent. HasWalkedAll session.now.head.size desk.now.confirmed walker.old (pending_between session.now.head.size session.now.journal desk.now.number (length session.now.journal)) (drawings_in sent) walker.new) }
+    ensures chosen { IfOk result (λ sent. AreChosen desk.now.confirmed sent) }
 {
     let mut orders = Orders::with_room(alloc, count)?;
     let mut entry = quiet_end(session, desk.number);
@@ -160,7 +168,8 @@ fn walk_entry(
     orders: &mut Orders,
 ) -> Result<(), OutOfMemory>
     requires { entry < length session.now.journal }
-    ensures { OnOk result (HasGoneOver session.now.head.size desk.now.confirmed walker.old orders.old (pending_between session.now.head.size session.now.journal entry (entry + 1)) walker.new orders.new) }
+    ensures gone { OnOk result (HasGoneOver session.now.head.size desk.now.confirmed walker.old (drawings_in orders.old) (pending_between session.now.head.size session.now.journal entry (entry + 1)) walker.new (drawings_in orders.new)) }
+    ensures chosen { OnOk result (AreChosen desk.now.confirmed orders.old → AreChosen desk.now.confirmed orders.new) }
 {
     session.recall_legal();
     let size = session.size();

@@ -17,9 +17,8 @@ mod walk;
 
 pub use desk::Desk;
 pub use frame::plan;
-pub use orders::Orders;
+pub use orders::{Orders, Planned};
 pub use session_core::Pending;
-pub use support::{image_cache, run_cache};
 pub use take::Take;
 pub use taken::Taken;
 pub use tile::TakenTile;

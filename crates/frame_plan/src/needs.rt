@@ -1,5 +1,5 @@
 //! Which cache serves: the lowest-numbered one that has what is needed (profile).
-ghost use Rattle.std.specs.Prelude.{◌≡◌};
+ghost use Rattle.std.specs.Prelude.{◌≡◌, ◌≤◌, length};
 ghost use Rattle.caps_sets.specs.Confirmed.{first_cache};
 ghost use Rattle.frame_plan.specs.Needs.{serves};
 
@@ -28,12 +28,13 @@ fn serves(needs: Needs, size: CacheSize) -> bool
 }
 
 /// The number of the first cache that has what is needed.
-pub(crate) fn first_cache(sizes: &[CacheSize], needs: Needs) -> Option<usize>
+pub(crate) fn first_cache(sizes: &[CacheSize], needs: Needs) -> Option<u8>
+    requires { length sizes.now ≤ 10 }
     ensures { result ≡ first_cache (serves needs) sizes.now }
 {
     for cache in 0..sizes.len() {
         if serves(needs, sizes[cache]) {
-            return Some(cache);
+            return Some(cache as u8);
         }
     }
     None

@@ -3,11 +3,11 @@ ghost use Rattle.std.specs.Prelude.{◌≡◌, ℕ, ◌*◌, ◌&&◌, not, is_s
 ghost use Rattle.cache_plan.specs.CacheUse.{is_used};
 ghost use Rattle.caps_sets.specs.Confirmed.{first_cache};
 ghost use Rattle.frame_rules.specs.Support.{serves_image, greatest_cell, distinct_loads, image_cache, run_cache, has_glyph_level};
+ghost use Rattle.frame_plan.specs.Orders.{cache_for};
 
-use crate::Pending;
 use crate::needs::{Needs, first_cache};
 use caps_sets::Confirmed;
-use draw_ops::Image;
+use draw_ops::{Image, Shape};
 use session_core::{LoadedGlyph, LoadedImage, SeenDrawing};
 
 /// The most entries of a bitmap cache that are used.
@@ -22,25 +22,29 @@ const WORD: usize = 4;
 /// The bytes of a pixel in a cell.
 const PIXEL: usize = 3;
 
-/// The number of the bitmap cache that a drawing's image goes to, where one serves.
-pub fn image_cache(confirmed: &Confirmed, pending: &Pending) -> Option<usize>
-    ensures { result ≡ image_cache confirmed.now pending.now.image }
+/// The number of the cache that a drawing's image or its glyphs go to, where it has some and a cache serves. It is chosen here alone.
+pub(crate) fn cache_for(confirmed: &Confirmed, pending: &SeenDrawing<'_>) -> Option<u8>
+    ensures { result ≡ cache_for confirmed.now pending.now pending.now.drawing.shape }
 {
-    cache_of_image(confirmed, pending.image())
+    match &pending.drawing().shape {
+        Shape::Blit { .. } | Shape::Blit3 { .. } => cache_of_image(confirmed, pending.image()),
+        Shape::Text { .. } => cache_of_run(confirmed, pending.glyphs()),
+        _ => None,
+    }
 }
 
 /// The number of the bitmap cache that an image goes to, where there is one and one serves.
-fn cache_of_image(confirmed: &Confirmed, image: Option<&LoadedImage>) -> Option<usize>
+fn cache_of_image(confirmed: &Confirmed, image: Option<&LoadedImage>) -> Option<u8>
     ensures { result ≡ image_cache confirmed.now (option_copied image.entry) }
 {
     match image {
-        Some(image) => cache_for(confirmed, image.content()),
+        Some(image) => bitmap_cache(confirmed, image.content()),
         None => None,
     }
 }
 
 /// The number of the bitmap cache that an image goes to, where one serves.
-fn cache_for(confirmed: &Confirmed, image: &Image) -> Option<usize>
+fn bitmap_cache(confirmed: &Confirmed, image: &Image) -> Option<u8>
     ensures { result ≡ first_cache (serves_image image.now) confirmed.now.bitmaps }
 {
     let columns = usize::from(image.w()).div_ceil(WORD);
@@ -52,15 +56,8 @@ fn cache_for(confirmed: &Confirmed, image: &Image) -> Option<usize>
     first_cache(confirmed.bitmaps.sizes(), needs)
 }
 
-/// The number of the glyph cache that a run's glyphs go to, where one serves.
-pub fn run_cache(confirmed: &Confirmed, pending: &Pending) -> Option<usize>
-    ensures { result ≡ run_cache confirmed.now pending.now.glyphs }
-{
-    cache_of_run(confirmed, pending.glyphs())
-}
-
 /// The number of the glyph cache that glyphs of a run go to, where one serves.
-fn cache_of_run(confirmed: &Confirmed, glyphs: &[LoadedGlyph]) -> Option<usize>
+fn cache_of_run(confirmed: &Confirmed, glyphs: &[LoadedGlyph]) -> Option<u8>
     ensures { result ≡ run_cache confirmed.now glyphs.now }
 {
     let needs = Needs {
@@ -114,19 +111,12 @@ fn has_glyph_level(level: u16) -> bool
     1 <= level && level <= 2
 }
 
-/// Whether the viewer has a cache that holds a drawing's image.
-pub(crate) fn supports_image(confirmed: &Confirmed, pending: &SeenDrawing<'_>) -> bool
-    ensures { result ≡ is_some (image_cache confirmed.now pending.now.image) }
-{
-    cache_of_image(confirmed, pending.image()).is_some()
-}
-
 /// Whether the viewer has the order of a run of glyphs, and a cache that holds them.
-pub(crate) fn supports_text(confirmed: &Confirmed, pending: &SeenDrawing<'_>) -> bool
-    ensures { result ≡ (not confirmed.now.cautious && ((confirmed.now.glyph && has_glyph_level confirmed.now.glyph_level) && is_some (run_cache confirmed.now pending.now.glyphs))) }
+pub(crate) fn supports_text(confirmed: &Confirmed, cache: Option<u8>) -> bool
+    ensures { result ≡ (not confirmed.now.cautious && ((confirmed.now.glyph && has_glyph_level confirmed.now.glyph_level) && is_some cache)) }
 {
     !confirmed.cautious
         && confirmed.glyph
         && has_glyph_level(confirmed.glyph_level)
-        && cache_of_run(confirmed, pending.glyphs()).is_some()
+        && cache.is_some()
 }

@@ -20,6 +20,7 @@ pub struct Take {
 
 impl Model for Take {
     ghost use Rattle.frame_plan.specs.Takes.{TakeModel};
+    ghost use Rattle.frame_plan.specs.Orders.{drawings_in, caches_in};
 
     ghost Value = { TakeModel };
 
@@ -29,12 +30,14 @@ impl Model for Take {
       before = s.before;
       number = s.number;
       held_before = s.held_before;
-      frame = record { first = s.first; sent = s.sent; tiles = s.tiles.items; held = s.held };
+      frame = record { first = s.first; sent = drawings_in s.sent; tiles = s.tiles.items; held = s.held };
+      caches = caches_in s.sent;
     } };
 }
 
 impl Take {
     ghost use Rattle.std.specs.Prelude.{◌≡◌};
+    ghost use Rattle.frame_plan.specs.Orders.{drawings_in, caches_in};
 
     /// The size of the session's picture.
     pub fn size(&self) -> Size
@@ -71,9 +74,10 @@ impl Take {
         self.number
     }
 
-    /// The drawings that go as orders, in order.
+    /// The drawings that go as orders, in order, each with the cache that its order names.
     pub fn sent(&self) -> &Orders
-        ensures { result.now ≡ self.now.frame.sent }
+        ensures orders { drawings_in result.now ≡ self.now.frame.sent }
+        ensures caches { caches_in result.now ≡ self.now.caches }
     {
         &self.sent
     }

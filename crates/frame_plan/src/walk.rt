@@ -7,11 +7,12 @@ ghost use Rattle.session_rules.specs.Pending.{pending_between};
 ghost use Rattle.frame_rules.specs.Cautious.{is_cut};
 ghost use Rattle.frame_rules.specs.Frame.{walked, walked_pending, sent_if, skipped, saved_if, given_up, restored_from, block_if, first_dirty, jumped};
 ghost use Rattle.frame_plan.specs.Cuts.{IsWalkable, IsCuttable, AllCuttable};
+ghost use Rattle.frame_plan.specs.Orders.{cache_for, drawings_in, AreChosen};
 ghost use Rattle.frame_plan.specs.Walks.{walk_of, HasDecided, HasGone, HasGoneOver, HasJumped, IsBegun};
 
 use crate::cut::{cut, is_cut};
-use crate::support::{supports_image, supports_text};
-use crate::{Orders, OutOfMemory};
+use crate::support::{cache_for, supports_text};
+use crate::{Orders, OutOfMemory, Planned};
 use caps_sets::Confirmed;
 use draw_ops::Shape;
 use px_core::{Rect, Size, TileSet, clipped, whole};
@@ -58,7 +59,8 @@ impl Walker {
     ) -> Result<(), OutOfMemory>
         requires size { IsTrue (is_session_size size.w size.h) }
         requires cuttable { AllCuttable size drawings.now }
-        ensures { OnOk result (HasGoneOver size confirmed.now self.old orders.old drawings.now self.new orders.new) }
+        ensures gone { OnOk result (HasGoneOver size confirmed.now self.old (drawings_in orders.old) drawings.now self.new (drawings_in orders.new)) }
+        ensures chosen { OnOk result (AreChosen confirmed.now orders.old → AreChosen confirmed.now orders.new) }
     {
         for i in 0..drawings.len() {
             self.walk_one(alloc, size, confirmed, &drawings.get(i), orders)?;
@@ -77,7 +79,8 @@ impl Walker {
     ) -> Result<(), OutOfMemory>
         requires size { IsTrue (is_session_size size.w size.h) }
         requires cuttable { IsCuttable size pending.now }
-        ensures { OnOk result (HasGone (walked_pending size confirmed.now (walk_of self.old) pending.now) orders.old self.new orders.new) }
+        ensures gone { OnOk result (HasGone (walked_pending size confirmed.now (walk_of self.old) pending.now) (drawings_in orders.old) self.new (drawings_in orders.new)) }
+        ensures chosen { OnOk result (AreChosen confirmed.now orders.old → AreChosen confirmed.now orders.new) }
     {
         if is_uncut(confirmed, &pending.drawing().shape) {
             return self.put(alloc, size, confirmed, pending, orders);
@@ -102,11 +105,19 @@ impl Walker {
     ) -> Result<(), OutOfMemory>
         requires size { IsTrue (is_session_size size.w size.h) }
         requires walkable { IsWalkable pending.now }
-        ensures { OnOk result (HasGone (walked size confirmed.now (walk_of self.old) pending.now pending.now.drawing.shape) orders.old self.new orders.new) }
+        ensures gone { OnOk result (HasGone (walked size confirmed.now (walk_of self.old) pending.now pending.now.drawing.shape) (drawings_in orders.old) self.new (drawings_in orders.new)) }
+        ensures chosen { OnOk result (AreChosen confirmed.now orders.old → AreChosen confirmed.now orders.new) }
     {
-        let position = self.walk(size, confirmed, pending)?;
+        let cache = cache_for(confirmed, pending);
+        let position = self.walk(size, confirmed, pending, cache)?;
         if let Some(position) = position {
-            orders.push(pending.share(alloc)?, position)?;
+            let pending = pending.share(alloc)?;
+            let cache = cache.unwrap_or(0);
+            orders.push(Planned {
+                pending,
+                position,
+                cache,
+            })?;
         }
         Ok(())
     }
@@ -136,16 +147,18 @@ impl Walker {
             .add(clipped(pending.rect(), pending.drawing().clip), size);
     }
 
-    /// A drawing in its turn: the position where it goes as an order, 0 where it needs none. Where it doesn't go, its tiles are dirty then,
-    /// but for a load.
+    /// A drawing in its turn, with the cache that serves it: the position where it goes as an order, 0 where it needs none. Where it doesn't
+    /// go, its tiles are dirty then, but for a load.
     fn walk(
         &mut self,
         size: Size,
         confirmed: &Confirmed,
         pending: &SeenDrawing<'_>,
+        cache: Option<u8>,
     ) -> Result<Option<u32>, OutOfMemory>
         requires size { IsTrue (is_session_size size.w size.h) }
         requires walkable { IsWalkable pending.now }
+        requires cache { cache ≡ cache_for confirmed.now pending.now pending.now.drawing.shape }
         ensures { IfOk result (λ position. HasDecided (walked size confirmed.now (walk_of self.old) pending.now pending.now.drawing.shape) pending.now position self.new) }
     {
         match &pending.drawing().shape {
@@ -159,16 +172,15 @@ impl Walker {
                 Ok(self.order_if(goes, size, pending))
             }
             Shape::Blit { .. } => {
-                let goes = confirmed.mem && supports_image(confirmed, pending);
+                let goes = confirmed.mem && cache.is_some();
                 Ok(self.order_if(goes, size, pending))
             }
             Shape::Blit3 { .. } => {
-                let goes = confirmed.mem3
-                    && (supports_image(confirmed, pending) && confirmed.brush);
+                let goes = confirmed.mem3 && (cache.is_some() && confirmed.brush);
                 Ok(self.order_if(goes, size, pending))
             }
             Shape::Text { .. } => {
-                Ok(self.order_if(supports_text(confirmed, pending), size, pending))
+                Ok(self.order_if(supports_text(confirmed, cache), size, pending))
             }
             Shape::Line { .. } => Ok(self.order_if(false, size, pending)),
             Shape::Save { slot, rect } => {

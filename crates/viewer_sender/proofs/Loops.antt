@@ -1,6 +1,6 @@
 -- One drawing, one glyph and one tile after the other.
 use Rattle.std.proofs.Common.{◌≡◌, ℕ, zero, suc, ◌+◌, ◌-◌, ◌<◌, ◌≤◌, ◌%◌, List, [], ◌∷◌, ◌++◌, length, take, drop, get_or, refl, ap, sym, ◌∙◌, subst, arith, append-nil, append_assoc, flat_map}
-use Rattle.std.specs.Prelude.{Bool, true, false, nat_lt, Option}
+use Rattle.std.specs.Prelude.{Bool, true, false, nat_lt}
 use Rattle.std.proofs.lemmas.Bool.Decides.{nat_tests}
 use Rattle.std.proofs.Math.Seq.{drop-cons}
 use Rattle.px_core.specs.declared.surface.Size.{Size}
@@ -19,15 +19,16 @@ use Rattle.draw_ops.specs.declared.shape.Drawing.{Drawing}
 use Rattle.draw_ops.specs.declared.shape.Shape.{Shape}
 use Rattle.session_rules.specs.Pending.{Pending}
 use Rattle.frame_rules.specs.Frame.{Sent}
-use Rattle.frame_rules.specs.FrameOrders.{SentOrder, Use, Uses, sending, use_by, sending_by, sending_of, orders_from, uses_after, glyph_use, run_use, run_pairs, entries_of}
+use Rattle.frame_rules.specs.FrameOrders.{or_0, SentOrder, Use, Uses, sending, use_by, sending_by, sending_of, orders_from, uses_after, glyph_use, run_use, run_pairs, entries_of}
 use Rattle.frame_rules.specs.FrameOrders.SentOrder.{CacheGlyph}
 use Rattle.viewer_sender.specs.declared.writer.FrameWriter.{FrameWriter}
 use Rattle.viewer_sender.specs.Stands.{CachesStand}
 use Rattle.viewer_sender.specs.Writes.{Writes, used}
 use Rattle.viewer_sender.proofs.CacheSteps.{use_of_none}
 use Rattle.viewer_sender.proofs.UseSteps.{use_missed, writes_then, writes_as}
-use Rattle.frame_plan.specs.Orders.{sent_to, orders_at}
-use Rattle.viewer_sender.specs.Goes.{AllGo}
+use Rattle.frame_plan.specs.Orders.{cache_for, cache_of, caches_of, sent_as, drawings_in, caches_in, AreChosen}
+use Rattle.frame_plan.specs.declared.orders.Planned.{Planned}
+use Rattle.viewer_sender.specs.Goes.{SentGoes, AllGo}
 use Rattle.viewer_sender.specs.Runs.{run_sending, drawings_sending}
 
 -- ---- lists
@@ -48,40 +49,30 @@ take_next {A} l i d h = let same : i + 1 ≡ suc i = omega arith in ap (λ n. ta
 pub writes_nothing : (w : FrameWriter) → Writes w w (λ uses. sending [] uses)
 writes_nothing w = (refl, λ uses stands. record { gathered = refl; registers = refl; caches = stands })
 
--- drawings of which those with a position go, one more of them
-orders_cut : (ds : List Pending) (os : List (Option ℕ)) (i : ℕ) (d : Pending) (o : Option ℕ) → i < length ds → length os ≡ length ds
-    → orders_at (drop i ds) (drop i os) ≡ sent_to (get_or ds i d) (get_or os i o) ++ orders_at (drop (i + 1) ds) (drop (i + 1) os)
-orders_cut ds os i d o h e =
-    ap (λ (ps : List Pending). orders_at ps (drop i os)) (drop_next ds i d h)
-    ∙ ap (λ (qs : List (Option ℕ)). orders_at (get_or ds i d ∷ drop (i + 1) ds) qs) (drop_next os i o (omega (arith, h, e)))
-
-pub orders_last : (ds : List Pending) (os : List (Option ℕ)) (i : ℕ) (d : Pending) (o : Option ℕ) → i < length ds → length os ≡ length ds
-    → orders_at (take (i + 1) ds) (take (i + 1) os) ≡ orders_at (take i ds) (take i os) ++ sent_to (get_or ds i d) (get_or os i o)
-orders_last ds os i d o h e =
-    let same : i + 1 ≡ suc i = omega arith in
-    ap (λ n. orders_at (take n ds) (take n os)) same ∙ by ds os i h e
+-- one drawing more, of those that were planned
+pub drawings_last : (ps : List Planned) (i : ℕ) (d : Planned) → i < length ps → drawings_in (take (i + 1) ps) ≡ drawings_in (take i ps) ++ sent_as (get_or ps i d) ∷ []
+drawings_last ps i d h = ap drawings_in (take_next ps i d h) ∙ by (take i ps)
   where
-    by : (ds : List Pending) (os : List (Option ℕ)) (i : ℕ) → i < length ds → length os ≡ length ds
-        → orders_at (take (suc i) ds) (take (suc i) os) ≡ orders_at (take i ds) (take i os) ++ sent_to (get_or ds i d) (get_or os i o)
-    by [] os i h e = absurd (omega (arith, h))
-    by (x ∷ ds) [] i h e = absurd (omega (arith, e))
-    by (x ∷ ds) (y ∷ os) zero h e = append-nil (sent_to x y)
-    by (x ∷ ds) (y ∷ os) (suc i) h e =
-        ap (λ ss. sent_to x y ++ ss) (by ds os i (omega (arith, h)) (omega (arith, e)))
-        ∙ sym (append_assoc (sent_to x y) (orders_at (take i ds) (take i os)) (sent_to (get_or ds i d) (get_or os i o)))
+    by : (qs : List Planned) → drawings_in (qs ++ get_or ps i d ∷ []) ≡ drawings_in qs ++ sent_as (get_or ps i d) ∷ []
+    by [] = refl
+    by (q ∷ qs) = ap (λ ss. sent_as q ∷ ss) (by qs)
 
--- the first of some drawings, and the others, can be written
-go_parts : (xs ys : List Sent) → AllGo (xs ++ ys) → AllGo xs × AllGo ys
-go_parts [] ys h = (tt, h)
-go_parts (x ∷ xs) ys h = let k = go_parts xs ys h.1 in ((h.0, k.0), k.1)
+-- the next drawing and those behind it can be written, and each names the cache that serves it
+pub next_goes : (ps : List Planned) (i : ℕ) (d : Planned) → i < length ps → AllGo (drawings_in (drop i ps)) → SentGoes (sent_as (get_or ps i d)) × AllGo (drawings_in (drop (i + 1) ps))
+next_goes ps i d h k = subst (λ (qs : List Planned). AllGo (drawings_in qs)) (drop_next ps i d h) k
 
-pub next_goes : (ds : List Pending) (os : List (Option ℕ)) (i : ℕ) (d : Pending) (o : Option ℕ) → i < length ds → length os ≡ length ds
-    → AllGo (orders_at (drop i ds) (drop i os)) → AllGo (sent_to (get_or ds i d) (get_or os i o)) × AllGo (orders_at (drop (i + 1) ds) (drop (i + 1) os))
-next_goes ds os i d o h e k =
-    go_parts (sent_to (get_or ds i d) (get_or os i o)) (orders_at (drop (i + 1) ds) (drop (i + 1) os))
-    (subst (λ (ss : List Sent). AllGo ss) (orders_cut ds os i d o h e) k)
+pub next_chosen : (c : Confirmed) (ps : List Planned) (i : ℕ) (d : Planned) → i < length ps → AreChosen c (drop i ps)
+    → ((get_or ps i d).cache ≡ cache_of c (sent_as (get_or ps i d))) × AreChosen c (drop (i + 1) ps)
+next_chosen c ps i d h k = by (subst (AreChosen c) (drop_next ps i d h) k)
+  where
+    by : {x y : ℕ} {xs ys : List ℕ} → x ∷ xs ≡ y ∷ ys → (x ≡ y) × (xs ≡ ys)
+    by e = (cc e, cc e)
 
--- a drawing that goes or doesn't
+-- the caches of what a take sends are those that serve
+pub chosen_all : (c : Confirmed) (ps qs : List Planned) (caches : List ℕ) (ss : List Sent) → ps ≡ qs → caches_in qs ≡ caches → drawings_in qs ≡ ss → caches ≡ caches_of c ss → AreChosen c ps
+chosen_all c ps qs caches ss same a b e = subst (AreChosen c) (sym same) (a ∙ (e ∙ ap (caches_of c) (sym b)))
+
+-- drawings, and more of them
 module _ (c : Confirmed) where
   pub orders_joined : (xs ys : List Sent) (uses : Uses) → orders_from c uses (xs ++ ys) ≡ orders_from c uses xs ++ orders_from c (uses_after c uses xs) ys
   orders_joined [] ys uses = refl
@@ -219,6 +210,11 @@ tiles_more a b u size ts t r pixels wrote is place cut =
     ∙ ap made bytes)
 
 -- ---- a drawing by its shape
+
+-- the cache that was chosen for a drawing is the one for its shape
+pub chosen_as : (c : Confirmed) (p : Pending) (d : Drawing) (shape : Shape) (n : ℕ) → n ≡ or_0 (cache_for c p p.drawing.shape) → d ≡ p.drawing → d.shape ≡ shape
+    → n ≡ or_0 (cache_for c p shape)
+chosen_as c p d shape n h e is = h ∙ (ap (λ (x : Drawing). or_0 (cache_for c p x.shape)) (sym e) ∙ ap (λ (s : Shape). or_0 (cache_for c p s)) is)
 
 -- what was written for a shape is what its drawing sends
 pub arm : (a b : FrameWriter) (sent : Sent) (p : Pending) (d : Drawing) (shape : Shape) → p ≡ sent.pending → d ≡ p.drawing → d.shape ≡ shape

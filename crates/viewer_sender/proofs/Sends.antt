@@ -53,6 +53,7 @@ own_taken true s d sized all legal seen apart = record {
   apart = apart;
   size_is = refl;
   frame_is = refl;
+  caches_are = refl;
 }
 own_taken false s d sized all legal seen apart = tt
 

@@ -12,7 +12,7 @@ ghost use Rattle.viewer_sender.specs.Goes.{FitsDrawn, ImageGoes, BrushGoes};
 use crate::OutOfMemory;
 use crate::plain::put_drawn;
 use crate::writer::FrameWriter;
-use frame_plan::{Pending, image_cache};
+use frame_plan::Pending;
 use order_prim::{mem_blt, mem3_blt, pat_blt};
 use px_core::Rect;
 use std::alloc::Global;
@@ -35,17 +35,20 @@ pub(crate) fn put_pat(
     put_drawn(writer, &pat_blt(r, rop, entry), r, clip)
 }
 
-/// Adds the orders of a raster operation with an image as its source.
+/// Adds the orders of a raster operation with an image as its source, which goes to a bitmap cache.
 pub(crate) fn put_blit(
     alloc: Global,
     writer: &mut FrameWriter,
     pending: &Pending,
+    cache: u8,
     r: Rect,
     rop: u8,
     sx: i32,
     sy: i32,
     clip: Option<Rect>,
 ) -> Result<(), OutOfMemory>
+    requires chosen { cache ≡ or_0 (image_cache writer.old.confirmed pending.now.image) }
+    requires few { cache < 3 }
     requires fits { (cache index : ℕ) → cache < 3 → index < 65536 → FitsDrawn r (Mem cache index r rop sx sy) clip }
     requires image { ImageGoes pending.now.image }
     ensures { OnOk result (Writes writer.old writer.new (λ uses.
@@ -53,22 +56,24 @@ pub(crate) fn put_blit(
         let i = image_use writer.old.confirmed uses cache pending.now.image in
         sending (i.orders ++ Drawn r (Mem cache i.index r rop sx sy) (bounds_of r clip) ∷ []) i.uses)) }
 {
-    let cache = cache_of(writer, pending);
     let index = use_image(alloc, writer, cache, pending)?;
     put_drawn(writer, &mem_blt(cache, index, r, rop, sx, sy), r, clip)
 }
 
-/// Adds the orders of a raster operation with an image as its source and a brush as its pattern: the image goes first.
+/// Adds the orders of a raster operation with an image as its source, which goes to a bitmap cache, and a brush as its pattern: the image goes first.
 pub(crate) fn put_blit3(
     alloc: Global,
     writer: &mut FrameWriter,
     pending: &Pending,
+    cache: u8,
     r: Rect,
     rop: u8,
     sx: i32,
     sy: i32,
     clip: Option<Rect>,
 ) -> Result<(), OutOfMemory>
+    requires chosen { cache ≡ or_0 (image_cache writer.old.confirmed pending.now.image) }
+    requires few { cache < 3 }
     requires fits { (cache index entry : ℕ) → cache < 3 → index < 65536 → entry < 256 → FitsDrawn r (Mem3 cache index r rop sx sy entry) clip }
     requires image { ImageGoes pending.now.image }
     requires brush { BrushGoes pending.now.brush }
@@ -78,7 +83,6 @@ pub(crate) fn put_blit3(
         let b = brush_use writer.old.confirmed i.uses pending.now.brush in
         sending (i.orders ++ (b.orders ++ Drawn r (Mem3 cache i.index r rop sx sy b.index) (bounds_of r clip) ∷ [])) b.uses)) }
 {
-    let cache = cache_of(writer, pending);
     let index = use_image(alloc, writer, cache, pending)?;
     let entry = use_brush(alloc, writer, pending)?;
     put_drawn(
@@ -87,18 +91,6 @@ pub(crate) fn put_blit3(
         r,
         clip,
     )
-}
-
-/// The number of the bitmap cache that a drawing's image goes to.
-fn cache_of(writer: &FrameWriter, pending: &Pending) -> u8
-    ensures number { result ≡ or_0 (image_cache writer.now.confirmed pending.now.image) }
-    ensures few { result < 3 }
-{
-    let _three = writer.confirmed.bitmaps.sizes();
-    match image_cache(&writer.confirmed, pending) {
-        Some(cache) => cache as u8,
-        None => 0,
-    }
 }
 
 /// Uses a drawing's image, if it has one; answers its entry.

@@ -1,7 +1,8 @@
 //! The orders of a drawing that goes as an order, by its shape ([MS-RDPEGDI] 2.2.2.2.1.1.2).
-ghost use Rattle.std.specs.Prelude.{◌≡◌, length, OnOk};
+ghost use Rattle.std.specs.Prelude.{◌≡◌, OnOk};
 ghost use Rattle.frame_rules.specs.FrameOrders.{sending_of};
-ghost use Rattle.frame_plan.specs.Orders.{sent_to, orders_at};
+ghost use Rattle.frame_rules.specs.Describes.{HasAllCaches};
+ghost use Rattle.frame_plan.specs.Orders.{cache_of, sent_as, drawings_in, AreChosen};
 ghost use Rattle.viewer_sender.specs.Writes.{Writes};
 ghost use Rattle.viewer_sender.specs.Goes.{SentGoes, AllGo};
 ghost use Rattle.viewer_sender.specs.Runs.{drawings_sending};
@@ -12,52 +13,40 @@ use crate::plain::{put_copy, put_dst, put_fill, put_restore, put_save};
 use crate::text::put_text;
 use crate::writer::FrameWriter;
 use draw_ops::Shape;
-use frame_plan::Pending;
+use frame_plan::Planned;
 use std::alloc::Global;
 
-/// Adds the orders of drawings, one after the other: of those with a position.
+/// Adds the orders of drawings, one after the other.
 pub(crate) fn put_drawings(
     alloc: Global,
     writer: &mut FrameWriter,
-    drawings: &[Pending],
-    positions: &[Option<u32>],
+    drawings: &[Planned],
 ) -> Result<(), OutOfMemory>
-    requires number { length positions.now ≡ length drawings.now }
-    requires go { AllGo (orders_at drawings.now positions.now) }
-    ensures { OnOk result (Writes writer.old writer.new (λ uses. drawings_sending writer.old.confirmed uses (orders_at drawings.now positions.now))) }
+    requires all { HasAllCaches writer.old.confirmed }
+    requires go { AllGo (drawings_in drawings.now) }
+    requires chosen { AreChosen writer.old.confirmed drawings.now }
+    ensures { OnOk result (Writes writer.old writer.new (λ uses. drawings_sending writer.old.confirmed uses (drawings_in drawings.now))) }
 {
     for i in 0..drawings.len() {
-        put_if(alloc, writer, &drawings[i], positions[i])?;
+        put_drawing(alloc, writer, &drawings[i])?;
     }
     Ok(())
-}
-
-/// Adds the orders of a drawing, if it has a position.
-fn put_if(
-    alloc: Global,
-    writer: &mut FrameWriter,
-    pending: &Pending,
-    position: Option<u32>,
-) -> Result<(), OutOfMemory>
-    requires { AllGo (sent_to pending.now position) }
-    ensures { OnOk result (Writes writer.old writer.new (λ uses. drawings_sending writer.old.confirmed uses (sent_to pending.now position))) }
-{
-    match position {
-        Some(position) => put_drawing(alloc, writer, pending, position),
-        None => Ok(()),
-    }
 }
 
 /// Adds the orders of a drawing: those of the cache entries that its client hasn't, and then its own. A line and a load have none.
 fn put_drawing(
     alloc: Global,
     writer: &mut FrameWriter,
-    pending: &Pending,
-    position: u32,
+    planned: &Planned,
 ) -> Result<(), OutOfMemory>
-    requires { SentGoes (record { pending = pending.now; position = position }) }
-    ensures { OnOk result (Writes writer.old writer.new (λ uses. sending_of writer.old.confirmed uses (record { pending = pending.now; position = position }))) }
+    requires all { HasAllCaches writer.old.confirmed }
+    requires goes { SentGoes (sent_as planned.now) }
+    requires chosen { planned.now.cache ≡ cache_of writer.old.confirmed (sent_as planned.now) }
+    ensures { OnOk result (Writes writer.old writer.new (λ uses. sending_of writer.old.confirmed uses (sent_as planned.now))) }
 {
+    let pending = &planned.pending;
+    let cache = planned.cache;
+    let position = planned.position;
     let drawing = pending.drawing();
     let clip = drawing.clip;
     match &drawing.shape {
@@ -71,21 +60,21 @@ fn put_drawing(
             sx,
             sy,
             ..
-        } => put_blit(alloc, writer, pending, *rect, *rop, *sx, *sy, clip),
+        } => put_blit(alloc, writer, pending, cache, *rect, *rop, *sx, *sy, clip),
         Shape::Blit3 {
             rect,
             rop,
             sx,
             sy,
             ..
-        } => put_blit3(alloc, writer, pending, *rect, *rop, *sx, *sy, clip),
+        } => put_blit3(alloc, writer, pending, cache, *rect, *rop, *sx, *sy, clip),
         Shape::Text {
             x,
             y,
             color,
             run,
             ..
-        } => put_text(alloc, writer, pending, *x, *y, *color, run, clip),
+        } => put_text(alloc, writer, pending, cache, *x, *y, *color, run, clip),
         Shape::Save { rect, .. } => put_save(writer, position, *rect),
         Shape::Restore { .. } => put_restore(writer, position, pending.rect()),
         Shape::Line { .. }

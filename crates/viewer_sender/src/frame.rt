@@ -8,7 +8,9 @@ ghost use Rattle.order_means.specs.UpdateBodies.{tile_packet};
 ghost use Rattle.frame_rules.specs.Frame.{FrameOf};
 ghost use Rattle.frame_rules.specs.FrameOrders.{Uses, sending, start_orders, black_orders, uses_after, orders_before_tiles};
 ghost use Rattle.frame_rules.specs.FrameBytes.{mark_bytes, frame_bytes, registers_after_orders};
+ghost use Rattle.frame_rules.specs.Describes.{HasAllCaches};
 ghost use Rattle.frame_plan.specs.Takes.{taken_as};
+ghost use Rattle.frame_plan.specs.Orders.{caches_of};
 ghost use Rattle.viewer_sender.specs.Gathering.{nothing_gathered, gathering, packets_of, closed, with_packet};
 ghost use Rattle.viewer_sender.specs.Stands.{CachesStand};
 ghost use Rattle.viewer_sender.specs.Writes.{Writes};
@@ -31,7 +33,9 @@ pub(crate) fn write_frame(
     take: &Take,
 ) -> Result<Vec<u8>, OutOfMemory>
     requires size { IsTrue (is_session_size take.now.size.w take.now.size.h) }
+    requires all { HasAllCaches writer.old.confirmed }
     requires drawings { AllGo take.now.frame.sent }
+    requires caches { take.now.caches ≡ caches_of writer.old.confirmed take.now.frame.sent }
     requires tiles { TilesGo take.now.size take.now.frame.tiles }
     requires empty { writer.old.updates ≡ nothing_gathered }
     ensures bytes { IfOk result (λ out. (uses : Uses) (f : FrameOf) → CachesStand writer.old.confirmed writer.old.caches uses → take.now.frame ≡ taken_as take.now.size f
@@ -53,13 +57,14 @@ pub(crate) fn write_frame(
 /// Adds the orders of a frame before its tiles.
 fn put_orders(alloc: Global, writer: &mut FrameWriter, take: &Take) -> Result<(), OutOfMemory>
     requires size { IsTrue (is_session_size take.now.size.w take.now.size.h) }
+    requires all { HasAllCaches writer.old.confirmed }
     requires drawings { AllGo take.now.frame.sent }
+    requires caches { take.now.caches ≡ caches_of writer.old.confirmed take.now.frame.sent }
     ensures { OnOk result (Writes writer.old writer.new (λ uses. frame_sending take.now.size writer.old.confirmed take.now.frame.first uses take.now.frame.sent)) }
 {
     put_start(writer)?;
     put_black(writer, take.size(), take.is_first())?;
-    let (drawings, positions) = take.sent().parts();
-    put_drawings(alloc, writer, drawings, positions)
+    put_drawings(alloc, writer, take.sent().planned())
 }
 
 /// Adds the marker of a frame's begin, where the viewer has markers.

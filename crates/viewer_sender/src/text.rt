@@ -17,7 +17,7 @@ use crate::OutOfMemory;
 use crate::plain::put_drawn;
 use crate::writer::FrameWriter;
 use draw_ops::Run;
-use frame_plan::{Pending, run_cache};
+use frame_plan::Pending;
 use order_fields::Fields;
 use order_prim::glyph_index_of;
 use px_core::Rect;
@@ -25,17 +25,20 @@ use session_core::LoadedGlyph;
 use std::alloc::Global;
 use std::mem;
 
-/// Adds the orders of a run of glyphs from a pen at (x, y).
+/// Adds the orders of a run of glyphs, which go to a glyph cache, from a pen at (x, y).
 pub(crate) fn put_text(
     alloc: Global,
     writer: &mut FrameWriter,
     pending: &Pending,
+    cache: u8,
     x: i32,
     y: i32,
     color: u32,
     run: &Run,
     clip: Option<Rect>,
 ) -> Result<(), OutOfMemory>
+    requires chosen { cache ≡ or_0 (run_cache writer.old.confirmed pending.now.glyphs) }
+    requires below { cache < 10 }
     requires fits { (cache : ℕ) (pairs : List ℕ) → cache < 10 → length pairs < 256 → FitsDrawn pending.now.rect (Glyphs cache x y color pairs) clip }
     requires number { length pending.now.glyphs ≡ length run.now }
     requires few { length run.now ≤ 64 }
@@ -45,7 +48,6 @@ pub(crate) fn put_text(
         let g = run_use writer.old.confirmed uses cache pending.now.glyphs in
         sending (g.orders ++ Drawn pending.now.rect (Glyphs cache x y color (run_pairs g.indices run.now)) (bounds_of pending.now.rect clip) ∷ []) g.uses)) }
 {
-    let cache = cache_of(writer, pending);
     let room = mem::replace(&mut writer.run, Vec::new(alloc));
     let pairs = use_run(alloc, writer, cache, pending.glyphs(), run.pairs(), room)?;
     let area = pending.rect();
@@ -72,18 +74,6 @@ fn put_run(
             Ok(())
         }
         None => Ok(()),
-    }
-}
-
-/// The number of the glyph cache that a run's glyphs go to.
-fn cache_of(writer: &FrameWriter, pending: &Pending) -> u8
-    ensures number { result ≡ or_0 (run_cache writer.now.confirmed pending.now.glyphs) }
-    ensures few { result < 10 }
-{
-    let _ten = writer.confirmed.glyphs.sizes();
-    match run_cache(&writer.confirmed, pending) {
-        Some(cache) => cache as u8,
-        None => 0,
     }
 }
 

@@ -1,5 +1,5 @@
 use Rattle.std.proofs.Common.{[], List, ℕ, refl, sym, ap, subst, Ok}
-use Rattle.std.specs.Prelude.{Option}
+use Rattle.std.specs.Prelude.{Option, Some}
 use Rattle.viewer_run.specs.declared.guest.Guest.{Guest}
 use Rattle.edge_io.specs.Outside.{Input, output_of, outside, outside_of}
 use Rattle.conn_rules.specs.Hearing.{Hearing, end_of}
@@ -39,7 +39,7 @@ returns-in-Ok-Some-clause-greets g c =
     c.in-Ok-Some.field-0-is c.in-Ok-Some.ensures.greets) in (
       c.greet_next.new.name,
       subst (λ (input : Input). Greets c.args.conn.now.hearing c.greet_next.new.conn.hearing [] c.greet_next.new.name (outside_of g.S.Source g.K.Sink c.args.input.now c.args.output.now)
-          (outside input (output_of g.K.Sink c.greet_next.new.output)) (Ok _))
+          (outside input (output_of g.K.Sink c.greet_next.new.output)) (Ok (Some c.in-Ok-Some.guest)))
           (λ i. record { left = sym c.lift_limit.ensures.left i; faults = sym c.lift_limit.ensures.faults i }) all,
     )
 

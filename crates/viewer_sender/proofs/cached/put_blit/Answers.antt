@@ -18,10 +18,10 @@ returns c =
     let a = c.args.writer.now in
     let d = c.put_drawn-2.new.writer in
     let r = c.args.r in
-    let k = c.cache_of-cache.result in
+    let k = c.args.cache in
     let image = c.args.pending.now.image in
     on_ok_as _ _ c.put_drawn-2.result c.put_drawn-2.ensures (λ writes.
     subst (λ k. Writes a d (λ uses. sending ((image_use a.confirmed uses k image).orders ++ Drawn r (Mem k (image_use a.confirmed uses k image).index r c.args.rop c.args.sx c.args.sy) (bounds_of r c.args.clip) ∷ []) (image_use a.confirmed uses k image).uses))
-    c.cache_of-cache.ensures.number
+    c.requires.chosen
     (drawn_after a c.use_image.new.writer d (λ uses. image_use a.confirmed uses k image) (λ index. Drawn r (Mem k index r c.args.rop c.args.sx c.args.sy) (bounds_of r c.args.clip)) c.in_ok-index.index
     c.in_ok-index.ensures.orders (writes (Mem k c.in_ok-index.index r c.args.rop c.args.sx c.args.sy) (mem_source c.mem_blt.result r _ _ c.args.sx c.args.sy (to_z-of_z w32 c.args.sx c.ranges.sx) (to_z-of_z w32 c.args.sy c.ranges.sy) k c.in_ok-index.index c.args.rop c.mem_blt.ensures)) c.in_ok-index.ensures.index))

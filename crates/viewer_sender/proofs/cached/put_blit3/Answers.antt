@@ -19,14 +19,14 @@ returns c =
     let b = c.use_image.new.writer in
     let d = c.put_drawn-2.new.writer in
     let r = c.args.r in
-    let k = c.cache_of-cache.result in
+    let k = c.args.cache in
     let image = c.args.pending.now.image in
     let brush = c.args.pending.now.brush in
     let index = c.in_ok-index.index in
     on_ok_as _ _ c.put_drawn-2.result c.put_drawn-2.ensures (λ writes.
     subst (λ k. Writes a d (λ uses. sending ((image_use a.confirmed uses k image).orders ++ ((brush_use a.confirmed (image_use a.confirmed uses k image).uses brush).orders
     ++ Drawn r (Mem3 k (image_use a.confirmed uses k image).index r c.args.rop c.args.sx c.args.sy (brush_use a.confirmed (image_use a.confirmed uses k image).uses brush).index) (bounds_of r c.args.clip) ∷ []))
-    (brush_use a.confirmed (image_use a.confirmed uses k image).uses brush).uses)) c.cache_of-cache.ensures.number
+    (brush_use a.confirmed (image_use a.confirmed uses k image).uses brush).uses)) c.requires.chosen
     (let f : Uses → Sending = λ uses. used (image_use a.confirmed uses k image) in
     let g : Uses → Sending = λ uses. sending ((brush_use b.confirmed uses brush).orders ++ Drawn r (Mem3 k index r c.args.rop c.args.sx c.args.sy (brush_use b.confirmed uses brush).index) (bounds_of r c.args.clip) ∷ []) (brush_use b.confirmed uses brush).uses in
     let second = drawn_after b c.use_brush.new.writer d (λ uses. brush_use b.confirmed uses brush) (λ entry. Drawn r (Mem3 k index r c.args.rop c.args.sx c.args.sy entry) (bounds_of r c.args.clip)) c.in_ok-entry.entry

@@ -5,17 +5,49 @@ use Rattle.rle_enc.proofs.Pending.{on_ok_as}
 use Rattle.draw_ops.specs.declared.shape.Shape.TheVariants.{Copy, Blit, Blit3, Text}
 use Rattle.frame_rules.specs.Frame.{Sent}
 use Rattle.frame_rules.specs.FrameOrders.{sending_by}
+use Rattle.frame_plan.specs.Orders.{sent_as}
 use Rattle.viewer_sender.specs.Writes.{Writes}
-use Rattle.viewer_sender.proofs.Loops.{arm}
+use Rattle.viewer_sender.proofs.CachesServe.{image_number_below, run_number_below}
+use Rattle.viewer_sender.proofs.Loops.{arm, chosen_as}
 use Rattle.viewer_sender.proofs.drawing.put_drawing.Goals as goal
+
+pub put_blit-requires-clause-chosen : goal.put_blit-requires-clause-chosen
+put_blit-requires-clause-chosen c =
+    chosen_as c.args.writer.now.confirmed c.args.planned.now.pending c.drawing-drawing.result.now _ c.args.planned.now.cache c.requires.chosen c.drawing-drawing.ensures c.in-Blit.is
+
+pub put_blit-requires-clause-few : goal.put_blit-requires-clause-few
+put_blit-requires-clause-few c =
+    let p = c.args.planned.now.pending in
+    let chosen = chosen_as c.args.writer.now.confirmed p c.drawing-drawing.result.now _ c.args.planned.now.cache c.requires.chosen c.drawing-drawing.ensures c.in-Blit.is in
+    image_number_below c.args.writer.now.confirmed p.image c.args.planned.now.cache c.requires.all.bitmaps chosen
+
+pub put_blit3-requires-clause-chosen : goal.put_blit3-requires-clause-chosen
+put_blit3-requires-clause-chosen c =
+    chosen_as c.args.writer.now.confirmed c.args.planned.now.pending c.drawing-drawing.result.now _ c.args.planned.now.cache c.requires.chosen c.drawing-drawing.ensures c.in-Blit3.is
+
+pub put_blit3-requires-clause-few : goal.put_blit3-requires-clause-few
+put_blit3-requires-clause-few c =
+    let p = c.args.planned.now.pending in
+    let chosen = chosen_as c.args.writer.now.confirmed p c.drawing-drawing.result.now _ c.args.planned.now.cache c.requires.chosen c.drawing-drawing.ensures c.in-Blit3.is in
+    image_number_below c.args.writer.now.confirmed p.image c.args.planned.now.cache c.requires.all.bitmaps chosen
+
+pub put_text-requires-clause-chosen : goal.put_text-requires-clause-chosen
+put_text-requires-clause-chosen c =
+    chosen_as c.args.writer.now.confirmed c.args.planned.now.pending c.drawing-drawing.result.now _ c.args.planned.now.cache c.requires.chosen c.drawing-drawing.ensures c.in-Text.is
+
+pub put_text-requires-clause-below : goal.put_text-requires-clause-below
+put_text-requires-clause-below c =
+    let p = c.args.planned.now.pending in
+    let chosen = chosen_as c.args.writer.now.confirmed p c.drawing-drawing.result.now _ c.args.planned.now.cache c.requires.chosen c.drawing-drawing.ensures c.in-Text.is in
+    run_number_below c.args.writer.now.confirmed p.glyphs c.args.planned.now.cache c.requires.all.glyphs chosen
 
 pub returns-in-Copy : goal.returns-in-Copy
 returns-in-Copy c =
     let a = c.args.writer.now in
     let b = c.put_copy.new.writer in
-    let p = c.args.pending.now in
+    let p = c.args.planned.now.pending in
     let d = c.drawing-drawing.result.now in
-    let s : Sent = record { pending = c.args.pending.now; position = c.args.position } in
+    let s : Sent = sent_as c.args.planned.now in
     let r = c.in-Copy.rect in
     let k = c.in-Copy.rop in
     let x : to_z w32 (of_z w32 c.in-Copy.sx) ≡ c.in-Copy.sx = grind (arith, to_z-of_z) in
@@ -29,9 +61,9 @@ pub returns-in-Blit : goal.returns-in-Blit
 returns-in-Blit c =
     let a = c.args.writer.now in
     let b = c.put_blit.new.writer in
-    let p = c.args.pending.now in
+    let p = c.args.planned.now.pending in
     let d = c.drawing-drawing.result.now in
-    let s : Sent = record { pending = c.args.pending.now; position = c.args.position } in
+    let s : Sent = sent_as c.args.planned.now in
     let r = c.in-Blit.rect in
     let k = c.in-Blit.rop in
     let x : to_z w32 (of_z w32 c.in-Blit.sx) ≡ c.in-Blit.sx = grind (arith, to_z-of_z) in
@@ -45,9 +77,9 @@ pub returns-in-Blit3 : goal.returns-in-Blit3
 returns-in-Blit3 c =
     let a = c.args.writer.now in
     let b = c.put_blit3.new.writer in
-    let p = c.args.pending.now in
+    let p = c.args.planned.now.pending in
     let d = c.drawing-drawing.result.now in
-    let s : Sent = record { pending = c.args.pending.now; position = c.args.position } in
+    let s : Sent = sent_as c.args.planned.now in
     let r = c.in-Blit3.rect in
     let k = c.in-Blit3.rop in
     let x : to_z w32 (of_z w32 c.in-Blit3.sx) ≡ c.in-Blit3.sx = grind (arith, to_z-of_z) in
@@ -61,9 +93,9 @@ pub returns-in-Text : goal.returns-in-Text
 returns-in-Text c =
     let a = c.args.writer.now in
     let b = c.put_text.new.writer in
-    let p = c.args.pending.now in
+    let p = c.args.planned.now.pending in
     let d = c.drawing-drawing.result.now in
-    let s : Sent = record { pending = c.args.pending.now; position = c.args.position } in
+    let s : Sent = sent_as c.args.planned.now in
     let t = c.in-Text.run' in
     let k = c.in-Text.color in
     let x : to_z w32 (of_z w32 c.in-Text.x) ≡ c.in-Text.x = grind (arith, to_z-of_z) in

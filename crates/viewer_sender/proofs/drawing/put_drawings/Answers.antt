@@ -1,48 +1,60 @@
-use Rattle.std.proofs.Common.{◌≡◌, ◌∙◌, ◌+◌, ◌≤◌, ◌++◌, List, ℕ, length, get_or, take, ap, sym, subst, arith}
-use Rattle.std.specs.Prelude.{Option, None}
+use Rattle.std.proofs.Common.{◌≡◌, ◌∙◌, ◌+◌, ◌∷◌, [], ◌++◌, List, take, refl, ap, sym, subst}
 use Rattle.std.proofs.lemmas.List.{take_all}
-use Rattle.session_rules.specs.Pending.{Pending}
+use Rattle.caps_sets.specs.declared.confirmed.Confirmed.{Confirmed}
 use Rattle.frame_rules.specs.Frame.{Sent}
-use Rattle.frame_plan.specs.Orders.{sent_to, orders_at}
+use Rattle.frame_rules.specs.Describes.{HasAllCaches}
+use Rattle.frame_plan.specs.Orders.{cache_of, sent_as, drawings_in}
+use Rattle.frame_plan.specs.declared.orders.Planned.{Planned}
 use Rattle.viewer_sender.specs.Writes.{Writes}
-use Rattle.viewer_sender.specs.Goes.{AllGo}
+use Rattle.viewer_sender.specs.Goes.{SentGoes}
 use Rattle.viewer_sender.specs.Runs.{drawings_sending}
-use Rattle.viewer_sender.proofs.Loops.{orders_last, next_goes, sent_all}
+use Rattle.viewer_sender.proofs.Loops.{drawings_last, next_goes, next_chosen, sent_all, sent_alone}
 use Rattle.viewer_sender.proofs.drawing.put_drawings.Goals as goal
 
-pub put_if-requires : goal.put_if-requires
-put_if-requires c =
-    let ds = c.args.drawings.now in
-    let os = c.args.positions.now in
-    let i = c.loop-i.i in
+pub loop-i-init : goal.loop-i-init
+loop-i-init c = record {
+  wrote = (refl, λ uses stands. record { gathered = refl; registers = refl; caches = stands });
+  fit = c.requires.go;
+  chosen = c.requires.chosen;
+}
+
+pub put_drawing-requires-clause-all : goal.put_drawing-requires-clause-all
+put_drawing-requires-clause-all c = subst HasAllCaches (sym c.loop-i.invariant.wrote.0) c.requires.all
+
+pub put_drawing-requires-clause-goes : goal.put_drawing-requires-clause-goes
+put_drawing-requires-clause-goes c =
+    let ps = c.args.drawings.now in
     let d = c.index-drawings-i.result in
-    subst (λ (x : Pending). AllGo (sent_to x (get_or os i None))) (sym c.index-drawings-i.is) (next_goes ds os i d None c.loop-i-test.true c.requires.number c.loop-i.invariant.fit).0
+    subst (λ (x : Planned). SentGoes (sent_as x)) (sym c.index-drawings-i.is) (next_goes ps c.loop-i.i d c.loop-i-test.true c.loop-i.invariant.fit).0
+
+pub put_drawing-requires-clause-chosen : goal.put_drawing-requires-clause-chosen
+put_drawing-requires-clause-chosen c =
+    let ps = c.args.drawings.now in
+    let d = c.index-drawings-i.result in
+    let conf = c.args.writer.now.confirmed in
+    subst (λ (k : Confirmed). d.cache ≡ cache_of k (sent_as d)) (sym c.loop-i.invariant.wrote.0)
+    (subst (λ (x : Planned). x.cache ≡ cache_of conf (sent_as x)) (sym c.index-drawings-i.is) (next_chosen conf ps c.loop-i.i d c.loop-i-test.true c.loop-i.invariant.chosen).0)
 
 pub loop-i-preserved : goal.loop-i-preserved
 loop-i-preserved c =
-    let ds = c.args.drawings.now in
-    let os = c.args.positions.now in
+    let ps = c.args.drawings.now in
     let i = c.loop-i.i in
     let d = c.index-drawings-i.result in
-    let o = get_or c.args.positions.now c.loop-i.i None in
     let a = c.args.writer.now in
-    let next : orders_at (take i ds) (take i os) ++ sent_to d o ≡ orders_at (take (i + 1) ds) (take (i + 1) os) =
-    ap (λ (x : Pending). orders_at (take i ds) (take i os) ++ sent_to x o) c.index-drawings-i.is ∙ sym (orders_last ds os i d None c.loop-i-test.true c.requires.number) in
+    let b = c.loop-i.writer in
+    let next : drawings_in (take i ps) ++ sent_as d ∷ [] ≡ drawings_in (take (i + 1) ps) =
+    ap (λ (x : Planned). drawings_in (take i ps) ++ sent_as x ∷ []) c.index-drawings-i.is ∙ sym (drawings_last ps i d c.loop-i-test.true) in
     record {
-      wrote = subst (λ (xs : List Sent). Writes a c.put_if.new.writer (λ uses. drawings_sending a.confirmed uses xs)) next
-          (sent_all a c.loop-i.writer c.put_if.new.writer (orders_at (take i ds) (take i os)) (sent_to d o) c.loop-i.invariant.wrote c.in_ok-put_if.ensures);
-      fit = (next_goes ds os i d None c.loop-i-test.true c.requires.number c.loop-i.invariant.fit).1;
+      wrote = subst (λ (xs : List Sent). Writes a c.put_drawing.new.writer (λ uses. drawings_sending a.confirmed uses xs)) next
+          (sent_all a b c.put_drawing.new.writer (drawings_in (take i ps)) (sent_as d ∷ []) c.loop-i.invariant.wrote (sent_alone b c.put_drawing.new.writer (sent_as d) c.in_ok-put_drawing.ensures));
+      fit = (next_goes ps i d c.loop-i-test.true c.loop-i.invariant.fit).1;
+      chosen = (next_chosen a.confirmed ps i d c.loop-i-test.true c.loop-i.invariant.chosen).1;
     }
 
 pub returns : goal.returns
 returns c =
-    let ds = c.args.drawings.now in
-    let os = c.args.positions.now in
+    let ps = c.args.drawings.now in
     let i = c.loop-i.i in
     let a = c.args.writer.now in
-    let test = c.loop-i-test.false in
-    let number = c.requires.number in
-    let far : length os ≤ i = omega (arith, test, number) in
-    subst (λ (xs : List Sent). Writes a c.loop-i.writer (λ uses. drawings_sending a.confirmed uses xs))
-    (ap (λ (ps : List Pending). orders_at ps (take i os)) (take_all i ds c.loop-i-test.false) ∙ ap (λ (qs : List (Option ℕ)). orders_at ds qs) (take_all i os far))
+    subst (λ (qs : List Planned). Writes a c.loop-i.writer (λ uses. drawings_sending a.confirmed uses (drawings_in qs))) (take_all i ps c.loop-i-test.false)
     c.loop-i.invariant.wrote

@@ -26,7 +26,7 @@ returns c =
     let a = c.args.writer.now in
     let b = c.use_run.new.writer in
     let d = c.put_run.new.writer in
-    let k = c.cache_of-cache.result in
+    let k = c.args.cache in
     let area = c.rect-area.result in
     let x : ℤ = to_z w32 (of_z w32 c.args.x) in
     let y : ℤ = to_z w32 (of_z w32 c.args.y) in
@@ -42,7 +42,7 @@ returns c =
     subst (λ (r : Rect). Writes a d (λ uses. sending ((run_use a.confirmed uses kc c.args.pending.now.glyphs).orders
     ++ Drawn r (Glyphs kc c.args.x c.args.y c.args.color (run_pairs (run_use a.confirmed uses kc c.args.pending.now.glyphs).indices c.args.run.now)) (bounds_of r c.args.clip) ∷ []) (run_use a.confirmed uses kc c.args.pending.now.glyphs).uses)) c.rect-area.ensures
     (subst (λ (cache : ℕ). Writes a d (λ uses. sending ((run_use a.confirmed uses cache c.args.pending.now.glyphs).orders
-    ++ Drawn area (Glyphs cache c.args.x c.args.y c.args.color (run_pairs (run_use a.confirmed uses cache c.args.pending.now.glyphs).indices c.args.run.now)) (bounds_of area c.args.clip) ∷ []) (run_use a.confirmed uses cache c.args.pending.now.glyphs).uses)) c.cache_of-cache.ensures.number
+    ++ Drawn area (Glyphs cache c.args.x c.args.y c.args.color (run_pairs (run_use a.confirmed uses cache c.args.pending.now.glyphs).indices c.args.run.now)) (bounds_of area c.args.clip) ∷ []) (run_use a.confirmed uses cache c.args.pending.now.glyphs).uses)) c.requires.chosen
     (subst (λ (xs : List (Loaded GlyphOf)). Writes a d (λ uses. sending ((run_use a.confirmed uses k xs).orders
     ++ Drawn area (Glyphs k c.args.x c.args.y c.args.color (run_pairs (run_use a.confirmed uses k xs).indices c.args.run.now)) (bounds_of area c.args.clip) ∷ []) (run_use a.confirmed uses k xs).uses)) c.glyphs.ensures
     (subst (λ (ps : List (ℕ × ℕ)). Writes a d (λ uses. sending ((run_use a.confirmed uses k gs).orders

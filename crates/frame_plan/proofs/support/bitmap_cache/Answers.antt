@@ -1,6 +1,6 @@
 use Rattle.std.proofs.Common.{◌≡◌, ◌+◌, ◌/◌, arith}
 use Rattle.frame_plan.proofs.Serving.{image_needs}
-use Rattle.frame_plan.proofs.support.cache_for.Goals as goal
+use Rattle.frame_plan.proofs.support.bitmap_cache.Goals as goal
 
 pub returns : goal.returns
 returns c =

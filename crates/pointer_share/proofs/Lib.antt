@@ -1,0 +1,5 @@
+pub mod Shown
+pub mod Eight
+pub mod Written
+pub mod Noted
+pub mod Rows

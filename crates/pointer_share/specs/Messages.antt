@@ -1,0 +1,89 @@
+-- The two messages of the Pointer PDU that are sent: 6 brings a shape to an entry of the viewer's cache and shows it ([MS-RDPBCGR]
+-- 2.2.9.1.1.4.4), 7 shows the shape of an entry (2.2.9.1.1.4.6). They are written, and read.
+use Rattle.std.specs.Prelude.{ℕ, ◌==◌, nat_lt, Bool, List, [], ◌∷◌, ◌++◌, length, is_some, Ok, Err, if◌then◌else◌}
+use Rattle.byteorder.specs.Endian.{little_bytes}
+use Rattle.wire_num.specs.Field.{Read, then_read, map_read, bytes_at, wanted, ended}
+use Rattle.wire_num.specs.Number.{little_at}
+use Rattle.wire_num.specs.Caused.{Caused, caused, then_caused, map_caused}
+use Rattle.draw_ops.specs.Slots.{Slots, lookup}
+use Rattle.share_pdu.specs.Packet.{share_packet}
+use Rattle.pointer_share.specs.Pointers.{Shape}
+
+-- pduType2 of a Pointer PDU, PDUTYPE2_POINTER
+abbrev pub pointer_kind : ℕ
+pointer_kind = 0x1B
+
+-- ---- written
+
+-- hot spot: xPos, yPos
+abbrev pub hot_spot : List ℕ
+hot_spot = 0 ∷ 0 ∷ 0 ∷ 0 ∷ []
+
+-- width, height
+abbrev pub sides : Bool → List ℕ
+sides wide = (if wide then 16 else 8) ∷ 0 ∷ 8 ∷ 0 ∷ []
+
+-- lengthAndMask, lengthXorMask
+abbrev pub mask_length : List ℕ
+mask_length = 16 ∷ 0 ∷ []
+
+abbrev pub xor_length : Bool → List ℕ
+xor_length wide = (if wide then 0x80 else 0xC0) ∷ (if wide then 1 else 0) ∷ []
+
+-- the bytes of the colours
+abbrev pub xor_size : Bool → ℕ
+xor_size wide = if wide then 384 else 192
+
+-- messageType 6, pad2Octets; cacheIndex; hot spot; sides; lengths
+abbrev pub message_head : Bool → ℕ → List ℕ
+message_head wide index = 6 ∷ 0 ∷ 0 ∷ 0 ∷ (little_bytes 2 index ++ (hot_spot ++ (sides wide ++ (mask_length ++ xor_length wide))))
+
+-- xorMaskData and andMaskData behind them
+abbrev pub message_6 : Bool → ℕ → Shape → List ℕ
+message_6 wide index s = message_head wide index ++ (s.xor ++ s.mask)
+
+-- messageType 7, pad2Octets; cacheIndex
+abbrev pub message_7 : ℕ → List ℕ
+message_7 index = 7 ∷ 0 ∷ 0 ∷ 0 ∷ little_bytes 2 index
+
+abbrev pub pointer_packet : List ℕ → List ℕ
+pointer_packet message = share_packet pointer_kind message
+
+-- ---- read
+
+-- why a field of a message is refused: it breaks its rule or doesn't fit; or it names an entry past the cells, or one that is empty
+pub data Cause : Type 0 where
+  Broken : Cause
+  Missing : (index : ℕ) → Cause
+
+-- a message: a shape for an entry, or an entry
+pub data Message : Type 0 where
+  Brings : (index : ℕ) → Shape → Message
+  Points : (index : ℕ) → Message
+
+-- behind the index of a message 6: each of hot spot and sides is one field, and so is each length
+abbrev pub brought_at : Bool → List ℕ → Read Shape
+brought_at wide bs =
+    then_read (wanted hot_spot bs) (λ spot a. then_read (wanted (sides wide) a) (λ sizes b. then_read (wanted mask_length b) (λ ands c. then_read (wanted (xor_length wide) c) (λ xors d.
+    then_read (bytes_at (xor_size wide) d) (λ xor e. map_read (λ mask. record { xor = xor; mask = mask }) (bytes_at 16 e))))))
+
+-- whether an entry can be filled, and whether it can be shown
+abbrev pub is_entry : Slots Shape → ℕ → Bool
+is_entry cells index = nat_lt index (length cells)
+
+abbrev pub is_filled : Slots Shape → ℕ → Bool
+is_filled cells index = is_some (lookup index cells)
+
+-- the index, of an entry that passes the test
+abbrev pub index_at : (ℕ → Bool) → List ℕ → Caused Cause ℕ
+index_at test bs = then_caused (caused Broken (little_at 2 bs)) (λ index rest. if test index then Ok (index, rest) else Err (Missing index, bs))
+
+abbrev pub message_by : Bool → Slots Shape → ℕ → List ℕ → List ℕ → Caused Cause Message
+message_by wide cells kind whole bs =
+    if kind == 6 then then_caused (index_at (is_entry cells) bs) (λ index rest. caused Broken (map_read (λ s. Brings index s) (brought_at wide rest)))
+    else (if kind == 7 then map_caused Points (index_at (is_filled cells) bs)
+    else Err (Broken, whole))
+
+-- the message, whose type is one field of four bytes; bytes left over are refused
+abbrev pub message_at : Bool → Slots Shape → List ℕ → Caused Cause Message
+message_at wide cells bs = then_caused (caused Broken (little_at 4 bs)) (λ kind a. then_caused (message_by wide cells kind bs a) (λ m b. caused Broken (ended m b)))
