@@ -7,7 +7,7 @@ use Rattle.session_rules.specs.declared.entry.Role.TheVariants.{Owner}
 use Rattle.session_rules.specs.declared.entry.Entry.{Entry}
 use Rattle.session_rules.specs.declared.entry.Entry.TheVariants.{Join, Leave, Input}
 use Rattle.edge_io.specs.Faults.{Rose, last_count}
-use Rattle.edge_io.specs.Outside.{Input as Moment}
+use Rattle.edge_io.specs.Outside as edge
 use Rattle.session_rules.specs.Journal.{Head}
 use Rattle.conn_rules.specs.Hearing.{Hearing, heard}
 use Rattle.conn_rules.specs.declared.conn_step.ConnStep.{ConnStep}
@@ -19,7 +19,6 @@ use Rattle.session_rules.specs.Entering.{IsOfEvent}
 use Rattle.serve_rules.specs.declared.ends.ConnEnd.TheVariants as end
 use Rattle.conn_rules.specs.declared.conn_step.ConnStep.TheVariants as step
 use Rattle.conn_rules.specs.declared.stage.Stage.TheVariants as stage
-use Rattle.std.specs.declared.option.Option.{Option}
 use Rattle.std.specs.declared.option.Option.TheVariants as left
 
 -- ann, who owns a session of 64 by 48
@@ -94,36 +93,39 @@ a_bye_is_no_shutdown = refl
 abbrev with_part : List ℕ → Hearing
 with_part part = record { size = ann.size; stage = stage.Request; place = 0; part = part }
 
--- an input that has this left, where it tells that, and has failed so often
-abbrev input : Option (List ℕ) → ℕ → Moment
-input rest count = record { left = rest; faults = count }
+-- an input that has these bytes left, and one that tells none and has failed so often
+abbrev holds : List ℕ → edge.Input
+holds bytes = record { left = left.Some bytes; faults = 0 }
 
-nobody_leaves_within_a_packet : ReadEnd false (3 ∷ []) (with_part (3 ∷ [])) nothing (input (left.Some (3 ∷ [])) 0) (input (left.Some (3 ∷ [])) 0) (Done end.Left) → ⊥
+abbrev failed : ℕ → edge.Input
+failed n = record { left = left.None; faults = n }
+
+nobody_leaves_within_a_packet : ReadEnd false (3 ∷ []) (with_part (3 ∷ [])) nothing (holds (3 ∷ [])) (holds []) (Done end.Left) → ⊥
 nobody_leaves_within_a_packet e = absurd (cc (e (λ over. cc over)).1)
 
-nobody_leaves_with_bytes_ahead : ReadEnd false [] (with_part []) nothing (input (left.Some (3 ∷ [])) 0) (input (left.Some (3 ∷ [])) 0) (Done end.Left) → ⊥
+nobody_leaves_with_bytes_ahead : ReadEnd false [] (with_part []) nothing (holds (3 ∷ [])) (holds (3 ∷ [])) (Done end.Left) → ⊥
 nobody_leaves_with_bytes_ahead e = absurd (cc (e (λ over. cc over)).0)
 
-a_bye_leaves_whatever_is_ahead : ReadEnd false [] (with_part []) (record nothing { bye = true }) (input (left.Some (3 ∷ [])) 0) (input (left.Some (3 ∷ [])) 0) (Done end.Left)
+a_bye_leaves_whatever_is_ahead : ReadEnd false [] (with_part []) (record nothing { bye = true }) (holds (3 ∷ [])) (holds (3 ∷ [])) (Done end.Left)
 a_bye_leaves_whatever_is_ahead unended = absurd (unended refl)
 
-nothing_is_truncated_between_packets : ReadEnd false [] (with_part []) nothing (input (left.Some []) 0) (input (left.Some []) 0) (Done end.Truncated) → ⊥
+nothing_is_truncated_between_packets : ReadEnd false [] (with_part []) nothing (holds []) (holds []) (Done end.Truncated) → ⊥
 nothing_is_truncated_between_packets e = e.2
 
-nothing_is_truncated_behind_a_shutdown : ReadEnd false [] (with_part (3 ∷ [])) (record nothing { shutdown = true }) (input (left.Some []) 0) (input (left.Some []) 0) (Done end.Truncated) → ⊥
+nothing_is_truncated_behind_a_shutdown : ReadEnd false [] (with_part (3 ∷ [])) (record nothing { shutdown = true }) (holds []) (holds []) (Done end.Truncated) → ⊥
 nothing_is_truncated_behind_a_shutdown e = e.0 refl
 
 -- a stream whose first byte is refused
 abbrev refused : Hearing
 refused = record (with_part []) { stage = stage.Refused 1 0 }
 
-who_is_refused_is_not_truncated : ReadEnd false [] refused nothing (input (left.Some []) 0) (input (left.Some []) 0) (Done end.Truncated) → ⊥
+who_is_refused_is_not_truncated : ReadEnd false [] refused nothing (holds []) (holds []) (Done end.Truncated) → ⊥
 who_is_refused_is_not_truncated e = e.2
 
-who_is_refused_has_not_left : ReadEnd false [] refused nothing (input (left.Some []) 0) (input (left.Some []) 0) (Done end.Left) → ⊥
+who_is_refused_has_not_left : ReadEnd false [] refused nothing (holds []) (holds []) (Done end.Left) → ⊥
 who_is_refused_has_not_left e = absurd (cc (e (λ over. cc over)).1)
 
-nothing_fails_while_the_count_stands : ReadEnd false [] (with_part []) nothing (input left.None 4) (input left.None 4) (Done end.ReadFault) → ⊥
+nothing_fails_while_the_count_stands : ReadEnd false [] (with_part []) nothing (failed 4) (failed 4) (Done end.ReadFault) → ⊥
 nothing_fails_while_the_count_stands e = omega (arith, e.1)
 
 -- whatever follows a Bye, there was one
