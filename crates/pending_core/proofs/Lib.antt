@@ -3,3 +3,6 @@ pub mod TextShown
 pub mod AllShown
 pub mod CellLemmas
 pub mod ShownLemmas
+pub mod Noting
+pub mod Adding
+pub mod Entries

@@ -3,3 +3,5 @@ pub mod Filled
 pub mod Cells
 pub mod Putting
 pub mod Seeing
+pub mod Touching
+pub mod Marking

@@ -1,10 +1,11 @@
-//! Pending drawings, for a take: what each of an entry's drawings shows, which is kept beside the entry, and the drawing with what its
-//! slots held at its place, which is made of it (profile).
+//! What a session keeps for takes: for each tile and each slot of saved blocks the last entry that touched it, and for each of an entry's
+//! drawings what it shows, of which a take makes the drawing with what its slots held at its place (profile).
 #![tactic(auto)]
 
 mod cells;
 mod filled;
 mod found;
+mod marks;
 mod pending;
 mod row;
 mod seen;
@@ -14,6 +15,7 @@ mod slots;
 
 pub use draw_ops::OutOfMemory;
 pub use found::Found;
+pub use marks::Marks;
 pub use pending::Pending;
 pub use row::ShownRow;
 pub use seen::{SeenDrawing, SeenDrawings};

@@ -12,10 +12,10 @@ use Rattle.draw_ops.specs.Fits.{FitsState, AllFitState, broken_rule}
 use Rattle.session_rules.specs.declared.entry.Entry.{Entry}
 use Rattle.session_rules.specs.Journal.{Head, drawings_of}
 use Rattle.session_rules.specs.Pending.{Pending, pending_drawings, pending_between}
-use Rattle.touch_marks.specs.Touching.{touched_by, saves_into, saved_by}
-use Rattle.touch_marks.specs.Marking.{Marked, unmarked, marks_in, noted, past, AreNoted, AreMarked}
-use Rattle.touch_marks.proofs.Adding.{touched_on}
-use Rattle.touch_marks.proofs.Entries.{touched_append, saved_append, drawings_behind, pending_end, marked_push, none_noted}
+use Rattle.pending_core.specs.Touching.{touched_by, saves_into, saved_by}
+use Rattle.pending_core.specs.Marking.{Marked, unmarked, marks_in, noted, past, AreNoted, AreMarked}
+use Rattle.pending_core.proofs.Adding.{touched_on}
+use Rattle.pending_core.proofs.Entries.{touched_append, saved_append, drawings_behind, pending_end, marked_push, none_noted}
 use Rattle.pending_core.specs.declared.shown.Shown.{Shown}
 use Rattle.pending_core.specs.Showing.{all_shown, rect_shown, shown_with}
 use Rattle.pending_core.proofs.TextShown.{keeps_rules}

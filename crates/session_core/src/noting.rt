@@ -4,12 +4,11 @@ ghost use Rattle.std.specs.Prelude.{◌≡◌, ◌≤◌, None, length, All, IsT
 ghost use Rattle.px_core.specs.Rectangle.{is_session_size};
 ghost use Rattle.draw_ops.specs.Fits.{broken_rule};
 ghost use Rattle.pending_core.specs.Showing.{all_shown, shown_list};
-ghost use Rattle.touch_marks.specs.Marking.{AreNoted};
+ghost use Rattle.pending_core.specs.Marking.{AreNoted};
 
 use draw_ops::Drawing;
-use pending_core::{Shown, ShownList};
+use pending_core::{Marks, Shown, ShownList};
 use px_core::Size;
-use touch_marks::Marks;
 
 /// Notes what drawings touch and save into, each over the rectangle that it shows.
 pub fn note_all(marks: &mut Marks, ds: &[Drawing], shown: &[Shown], size: Size, number: u64)

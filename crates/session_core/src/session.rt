@@ -12,7 +12,7 @@ ghost use Rattle.session_rules.specs.Steps.{replaced_for, receiver_of};
 ghost use Rattle.session_rules.specs.Steps.Step.{JoinStep, InputStep, DrawStep};
 ghost use Rattle.session_rules.specs.Entering.{entry_of_step, answer_at};
 ghost use Rattle.session_rules.specs.Pending.{pending_between};
-ghost use Rattle.touch_marks.specs.Touching.{touched_by, saved_by};
+ghost use Rattle.pending_core.specs.Touching.{touched_by, saved_by};
 ghost use Rattle.session_core.specs.Heads.{rows_of};
 ghost use Rattle.session_core.specs.Typing.{last_typed};
 ghost use Rattle.session_core.specs.SessionModel.{new_session, reached_by, is_here, asked_by, is_suppressed, AreInvited};
@@ -35,7 +35,7 @@ use draw_ops::Drawing;
 use grow_lock::Grows;
 use info_lic::Name;
 use input_pdu::Event;
-use pending_core::{SeenDrawings, ShownList, shown_one};
+use pending_core::{Marks, SeenDrawings, ShownList, shown_one};
 use px_core::{Rect, Size, TileSet};
 use session_rules::Entry;
 use std::alloc::Global;
@@ -43,7 +43,6 @@ use std::marker::Model;
 use std::slice;
 use std::sync::Arc;
 use tile_surface::{Tile, Tiles};
-use touch_marks::Marks;
 
 /// A session: its journal, which only grows, and what the journal has reached.
 #[derive(Drop)]

@@ -1,10 +1,12 @@
 -- Areas one by one.
-use Rattle.std.proofs.Common.{◌≡◌, ℕ, zero, suc, ◌+◌, ◌<◌, ◌-◌, List, [], ◌∷◌, ◌++◌, refl, ap, ◌∙◌, sym, subst, arith}
+use Rattle.std.proofs.Common.{◌≡◌, ℕ, zero, suc, ◌+◌, ◌<◌, ◌≤◌, ◌-◌, ◌*◌, ◌/◌, List, [], ◌∷◌, ◌++◌, length, drop, refl, ap, ◌∙◌, sym, subst, arith}
 use Rattle.std.specs.Prelude.{Option, Some, None, option_to_list, slice_get, slice_index, Ok, Err, IsOk}
 use Rattle.wire_num.specs.Field.{Read, then_read, map_read}
+use Rattle.wire_num.specs.FieldValue.{passing_at}
+use Rattle.wire_num.specs.Number.{little_value}
 use Rattle.wire_num.specs.Layout.{fields_at}
 use Rattle.px_core.specs.declared.rectangle.Rect.{Rect}
-use Rattle.share_pdu.specs.Bodies.{refresh_header, refresh_at, area_at, areas_at, areas_by, passed_areas_at}
+use Rattle.share_pdu.specs.Bodies.{refresh_header, inclusive_area, rect_of, refresh_at, area_at, areas_at, areas_by, passed_areas_at}
 
 abbrev with_area : Option Rect → Read (List Rect) → Read (List Rect)
 with_area area r = map_read (λ areas. option_to_list area ++ areas) r
@@ -28,13 +30,73 @@ dropped : (f : List Rect → List Rect) (r : Read (List Rect)) → map_read {B =
 dropped f (Ok v) = refl
 dropped f (Err left) = refl
 
-pub passed_area : (n k : ℕ) (bs more : List ℕ) (area : Option Rect) → k < n → area_at bs ≡ Ok (area, more)
-    → passed_areas_at (n - (k + 1)) more ≡ passed_areas_at (n - k) bs
-passed_area n k bs more area h e =
-    sym (ap (map_read (λ _. [])) (one_area n k bs more area h e) ∙ dropped (λ areas. option_to_list area ++ areas) (areas_at (n - (k + 1)) more))
+passed_area : (n : ℕ) (bs more : List ℕ) (area : Option Rect) → area_at bs ≡ Ok (area, more) → passed_areas_at (suc n) bs ≡ passed_areas_at n more
+passed_area n bs more area e =
+    ap (λ r. map_read {B = List ℕ} (λ _. []) (then_read r (λ area more. with_area area (areas_at n more)))) e
+    ∙ dropped (λ areas. option_to_list area ++ areas) (areas_at n more)
 
-pub refused_area : (n k : ℕ) (bs left : List ℕ) → k < n → area_at bs ≡ Err left → passed_areas_at (n - k) bs ≡ Err left
-refused_area n k bs left h e = ap (map_read (λ _. [])) (no_area n k bs left h e)
+abbrev got : List ℕ → Option Rect → Read (Option Rect)
+got more area = Ok (area, more)
+
+-- an area is eight bytes
+area_there : (a b c d e f g h : ℕ) (more : List ℕ) → (area : Option Rect) × (area_at (a ∷ b ∷ c ∷ d ∷ e ∷ f ∷ g ∷ h ∷ more) ≡ got more area)
+unfolding area_at inclusive_area passing_at
+area_there a b c d e f g h more =
+    (rect_of (little_value (a ∷ b ∷ []) ∷ little_value (c ∷ d ∷ []) ∷ little_value (e ∷ f ∷ []) ∷ little_value (g ∷ h ∷ []) ∷ []), refl)
+
+abbrev pub passed_to : List ℕ → Read (List ℕ)
+passed_to more = Ok ([], more)
+
+abbrev pub passed_not : List ℕ → Read (List ℕ)
+passed_not left = Err left
+
+-- so many areas are there
+pub areas_there : (n : ℕ) (bs : List ℕ) → n * 8 ≤ length bs → passed_areas_at n bs ≡ passed_to (drop (n * 8) bs)
+areas_there zero bs many = refl
+areas_there (suc n) [] many = absurd (omega (arith, many))
+areas_there (suc n) (a ∷ []) many = absurd (omega (arith, many))
+areas_there (suc n) (a ∷ b ∷ []) many = absurd (omega (arith, many))
+areas_there (suc n) (a ∷ b ∷ c ∷ []) many = absurd (omega (arith, many))
+areas_there (suc n) (a ∷ b ∷ c ∷ d ∷ []) many = absurd (omega (arith, many))
+areas_there (suc n) (a ∷ b ∷ c ∷ d ∷ e ∷ []) many = absurd (omega (arith, many))
+areas_there (suc n) (a ∷ b ∷ c ∷ d ∷ e ∷ f ∷ []) many = absurd (omega (arith, many))
+areas_there (suc n) (a ∷ b ∷ c ∷ d ∷ e ∷ f ∷ g ∷ []) many = absurd (omega (arith, many))
+areas_there (suc n) (a ∷ b ∷ c ∷ d ∷ e ∷ f ∷ g ∷ h ∷ more) many =
+    let one = area_there a b c d e f g h more in
+    let size : suc n * 8 ≡ suc (suc (suc (suc (suc (suc (suc (suc (n * 8)))))))) = omega arith in
+    rw size (passed_area n (a ∷ b ∷ c ∷ d ∷ e ∷ f ∷ g ∷ h ∷ more) more one.0 one.1 ∙ areas_there n more (omega (arith, many)))
+
+-- the bytes behind the last number of two bytes
+abbrev behind_numbers : List ℕ → List ℕ
+behind_numbers [] = []
+behind_numbers (a ∷ []) = a ∷ []
+behind_numbers (a ∷ b ∷ bs) = behind_numbers bs
+
+behind_is : (bs : List ℕ) → behind_numbers bs ≡ drop (length bs / 2 * 2) bs
+behind_is [] = refl
+behind_is (a ∷ []) = refl
+behind_is (a ∷ b ∷ bs) =
+    let size : length (a ∷ b ∷ bs) / 2 * 2 ≡ suc (suc (length bs / 2 * 2)) = omega arith in
+    rw size (behind_is bs)
+
+cut : (n : ℕ) (bs : List ℕ) → length bs < n * 8 → passed_areas_at n bs ≡ passed_not (behind_numbers bs)
+unfolding area_at inclusive_area passing_at
+cut zero bs few = absurd (omega (arith, few))
+cut (suc n) [] few = refl
+cut (suc n) (a ∷ []) few = refl
+cut (suc n) (a ∷ b ∷ []) few = refl
+cut (suc n) (a ∷ b ∷ c ∷ []) few = refl
+cut (suc n) (a ∷ b ∷ c ∷ d ∷ []) few = refl
+cut (suc n) (a ∷ b ∷ c ∷ d ∷ e ∷ []) few = refl
+cut (suc n) (a ∷ b ∷ c ∷ d ∷ e ∷ f ∷ []) few = refl
+cut (suc n) (a ∷ b ∷ c ∷ d ∷ e ∷ f ∷ g ∷ []) few = refl
+cut (suc n) (a ∷ b ∷ c ∷ d ∷ e ∷ f ∷ g ∷ h ∷ more) few =
+    let one = area_there a b c d e f g h more in
+    passed_area n (a ∷ b ∷ c ∷ d ∷ e ∷ f ∷ g ∷ h ∷ more) more one.0 one.1 ∙ cut n more (omega (arith, few))
+
+-- fewer are there: the first number that isn't there is refused
+pub areas_cut : (n : ℕ) (bs : List ℕ) → length bs < n * 8 → passed_areas_at n bs ≡ passed_not (drop (length bs / 2 * 2) bs)
+areas_cut n bs few = cut n bs few ∙ ap passed_not (behind_is bs)
 
 -- ---- a body
 
@@ -94,9 +156,6 @@ none_refused n k bs left h e ok = refused_ok left (areas_at (n - k) bs) (no_area
 get_behind : (a : Rect) (xs : List Rect) (k : ℕ) → 0 < k → slice_get (a ∷ xs) k ≡ slice_get xs (k - 1)
 get_behind a xs zero h = absurd (omega (arith, h))
 get_behind a xs (suc k) h = let e : suc k - 1 ≡ k = omega arith in rw e refl
-
-abbrev got : List ℕ → Option Rect → Read (Option Rect)
-got more area = Ok (area, more)
 
 -- what is looked for behind an area that isn't it, or behind one that is skipped
 pub found_behind : (n k left : ℕ) (bs more : List ℕ) (area : Option Rect) (a : Rect) → k < n → area_at bs ≡ Ok (area, more) → area ≡ Some a → IsOk (areas_at (n - k) bs)

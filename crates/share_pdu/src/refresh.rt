@@ -16,8 +16,12 @@ ghost use Rattle.share_pdu.specs.Bodies.{refresh_header, inclusive_area, rect_be
 use px_core::Rect;
 use wire_num::{Cursor, Short};
 
-/// The bytes of pad3Octets.
+/// The bytes of pad3Octets, of an area, and of each of its four numbers.
 const PAD_SIZE: usize = 3;
+
+const AREA_SIZE: usize = 8;
+
+const NUMBER_SIZE: usize = 2;
 
 /// The k-th area of a Refresh Rect, counted from 0 over the areas that aren't skipped; none exactly where it has no such area. Bytes
 /// that are no Refresh Rect have none.
@@ -62,12 +66,15 @@ fn read_count(cursor: &mut Cursor<'_>) -> Result<u8, Short>
     Ok(count)
 }
 
-/// Goes past so many areas.
+/// Goes past so many areas by their size: none is read. An `Err` leaves the cursor at the first number that isn't there.
 fn skip_areas(count: u8, cursor: &mut Cursor<'_>) -> Result<(), Short>
     ensures { ReadsFieldsAs (λ _. []) (passed_areas_at count) result cursor.old cursor.new }
 {
-    for _ in 0..count {
-        read_area(cursor)?;
+    let wanted = usize::from(count) * AREA_SIZE;
+    let there = wanted.min(cursor.left() / NUMBER_SIZE * NUMBER_SIZE);
+    cursor.bytes(there)?;
+    if there < wanted {
+        return Err(Short { at: cursor.at() });
     }
     Ok(())
 }

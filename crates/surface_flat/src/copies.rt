@@ -12,29 +12,28 @@ ghost use Rattle.surface_parts.specs.Textures.{copied_color, IsSourceInside};
 
 use lane_rop::rop_lanes;
 use px_core::{Rect, Size};
-use surface_parts::{Part, PictureCopy, ready_pattern, source_place, visible};
+use surface_parts::{Part, PictureCopy, Window, ready_pattern, source_place, visible};
 
 /// The raster operation of a code on a rectangle, with the picture itself, from (sx, sy) on, as its source.
 pub(crate) fn copy_rect(
     pixels: &mut [u32],
-    size: Size,
+    window: Window,
     rect: Rect,
-    clip: Option<Rect>,
     rop: u8,
     sx: i32,
     sy: i32,
     pattern: &mut [u32],
     source: &mut [u32],
 )
-    requires canvas { IsCanvas size pixels.old }
+    requires canvas { IsCanvas window.size pixels.old }
     requires rect { IsPlaced rect }
-    requires clip { clip_rule size clip ≡ None }
-    requires inside { IsTrue (is_inside size (boxed sx sy rect.w rect.h)) }
+    requires clip { clip_rule window.size window.clip ≡ None }
+    requires inside { IsTrue (is_inside window.size (boxed sx sy rect.w rect.h)) }
     requires pattern { 2048 ≤ length pattern.old }
     requires source { 2048 ≤ length source.old }
-    ensures { pixels.new ≡ picture_after size (in_clip clip) (mixing rect rop (absent session_colors) (shifted (rows_of size.w size.h pixels.old) 0 rect sx sy)) pixels.old }
+    ensures { pixels.new ≡ picture_after window.size (in_clip window.clip) (mixing rect rop (absent session_colors) (shifted (rows_of window.size.w window.size.h pixels.old) 0 rect sx sy)) pixels.old }
 {
-    match visible(size, rect, clip) {
+    match visible(window, rect) {
         None => {}
         Some(part) => {
             let copy = PictureCopy {
@@ -44,7 +43,7 @@ pub(crate) fn copy_rect(
             };
             copy_part(
                 pixels,
-                size,
+                window.size,
                 part,
                 copy,
                 &mut pattern[..part.w],

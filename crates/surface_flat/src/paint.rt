@@ -10,30 +10,28 @@ ghost use Rattle.surface_parts.specs.Surfaces.{AllInSlots};
 
 use crate::copies::copy_rect;
 use draw_ops::Shape;
-use px_core::{Rect, Size};
 use surface_parts::{
-    Blend, Ends, Script, Slots, draw_line, fill_rect, mix_rect, restore_block, write_run,
+    Blend, Ends, Script, Slots, Window, draw_line, fill_rect, mix_rect, restore_block, write_run,
 };
 
 /// Paints a shape within a clip. The two rows are for the operands of one row.
 pub(crate) fn paint(
     pixels: &mut [u32],
-    size: Size,
+    window: Window,
     slots: &Slots,
-    clip: Option<Rect>,
     shape: &Shape,
     pattern: &mut [u32],
     source: &mut [u32],
 )
-    requires canvas { IsCanvas size pixels.old }
-    requires paintable { IsPaintable size slots.now clip shape.now }
+    requires canvas { IsCanvas window.size pixels.old }
+    requires paintable { IsPaintable window.size slots.now window.clip shape.now }
     requires glyphs { AllInSlots (λ glyph. glyph_rule glyph.content ≡ None) slots.now.glyphs }
     requires pattern { 2048 ≤ length pattern.old }
     requires source { 2048 ≤ length source.old }
-    ensures { (count : ℕ) → pixels.new ≡ picture_after size (in_clip clip) (painting_of size (state_of pixels.old slots.now count) shape.now) pixels.old }
+    ensures { (count : ℕ) → pixels.new ≡ picture_after window.size (in_clip window.clip) (painting_of window.size (state_of pixels.old slots.now count) shape.now) pixels.old }
 {
     match shape {
-        Shape::Fill { rect, color } => fill_rect(pixels, size, *rect, clip, *color, source),
+        Shape::Fill { rect, color } => fill_rect(pixels, window, *rect, *color, source),
         Shape::Dst { rect, rop } => {
             let blend = Blend {
                 rop: *rop,
@@ -42,7 +40,7 @@ pub(crate) fn paint(
                 sx: 0,
                 sy: 0,
             };
-            mix_rect(pixels, size, *rect, clip, blend, pattern, source)
+            mix_rect(pixels, window, *rect, blend, pattern, source)
         }
         Shape::Pat { rect, rop, brush } => {
             let blend = Blend {
@@ -52,10 +50,10 @@ pub(crate) fn paint(
                 sx: 0,
                 sy: 0,
             };
-            mix_rect(pixels, size, *rect, clip, blend, pattern, source)
+            mix_rect(pixels, window, *rect, blend, pattern, source)
         }
         Shape::Copy { rect, rop, sx, sy } => copy_rect(
-            pixels, size, *rect, clip, *rop, *sx, *sy, pattern, source,
+            pixels, window, *rect, *rop, *sx, *sy, pattern, source,
         ),
         Shape::Blit {
             rect,
@@ -71,7 +69,7 @@ pub(crate) fn paint(
                 sx: *sx,
                 sy: *sy,
             };
-            mix_rect(pixels, size, *rect, clip, blend, pattern, source)
+            mix_rect(pixels, window, *rect, blend, pattern, source)
         }
         Shape::Blit3 {
             rect,
@@ -88,7 +86,7 @@ pub(crate) fn paint(
                 sx: *sx,
                 sy: *sy,
             };
-            mix_rect(pixels, size, *rect, clip, blend, pattern, source)
+            mix_rect(pixels, window, *rect, blend, pattern, source)
         }
         Shape::Text {
             x,
@@ -103,7 +101,7 @@ pub(crate) fn paint(
                 x: *x,
                 y: *y,
             };
-            write_run(pixels, size, clip, slots, script, run.pairs())
+            write_run(pixels, window, slots, script, run.pairs())
         }
         Shape::Line {
             x0,
@@ -118,10 +116,10 @@ pub(crate) fn paint(
                 x1: *x1,
                 y1: *y1,
             };
-            draw_line(pixels, size, clip, ends, *color)
+            draw_line(pixels, window, ends, *color)
         }
         Shape::Restore { slot, x, y } => {
-            restore_block(pixels, size, clip, slots.block(*slot), *x, *y)
+            restore_block(pixels, window, slots.block(*slot), *x, *y)
         }
         Shape::Save { .. } => {}
         Shape::LoadImage { .. } => {}

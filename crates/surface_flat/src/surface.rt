@@ -18,8 +18,8 @@ use std::alloc::Global;
 use std::collections::VecDeque;
 use std::marker::Model;
 use surface_parts::{
-    DrawFault, LoadedBrush, LoadedGlyph, LoadedImage, Room, Slots, black_pixels, cut_pixels,
-    take_rooms,
+    DrawFault, LoadedBrush, LoadedGlyph, LoadedImage, Room, Slots, Window, black_pixels,
+    cut_pixels, take_rooms,
 };
 use wire_num::OutOfMemory;
 
@@ -167,9 +167,11 @@ impl Surface {
             .fill(self.count, room, self.pixels.as_slice(), self.size);
         paint(
             self.pixels.as_mut_slice(),
-            self.size,
+            Window {
+                size: self.size,
+                clip: d.clip,
+            },
             &self.slots,
-            d.clip,
             &d.shape,
             self.pattern.as_mut_slice(),
             self.source.as_mut_slice(),

@@ -1,11 +1,12 @@
 -- What the rules say of what keeps them.
 use Rattle.std.proofs.Common.{◌≡◌, ℕ, ◌+◌, ◌*◌, ◌/◌, ◌≤◌, Bool, true, false, List, [], ◌∷◌, length, refl, ap, ◌∙◌, arith}
-use Rattle.std.specs.Prelude.{◌&&◌, not, nat_le, ◌==◌, ℤ, pos, negsuc, ◌≤ℤ◌, int_le, Option, Some, None}
+use Rattle.std.specs.Prelude.{◌&&◌, not, nat_le, ◌==◌, ℤ, pos, negsuc, ◌≤ℤ◌, ◌+ℤ◌, int_le, Option, Some, None}
 use Rattle.std.proofs.lemmas.Int.{ints}
 use Rattle.std.proofs.lemmas.Bool.{and_parts}
 use Rattle.std.proofs.lemmas.Bool.Decides.{nat_tests}
 use Rattle.px_core.specs.declared.rectangle.Rect.{Rect}
-use Rattle.px_core.specs.Rectangle.{boxed, IsPlaced}
+use Rattle.px_core.specs.declared.surface.Size.{Size}
+use Rattle.px_core.specs.Rectangle.{boxed, is_inside, IsPlaced}
 use Rattle.draw_ops.specs.Content.{ImageOf, GlyphOf}
 use Rattle.draw_ops.specs.Fits.{broken_if, first_some, is_side, is_corner, rect_rule, place_rule, image_rule, is_offset, glyph_rule}
 
@@ -35,6 +36,25 @@ pub record IsNearCorner (z : ℤ) : Type 0 where
 
 pub corner_is : (z : ℤ) → is_corner z ≡ true → IsNearCorner z
 corner_is z h = let p = and_parts (int_le (negsuc 4095) z) (int_le z (pos 4095)) h in record { low = int_is _ _ p.0; high = int_is _ _ p.1 }
+
+-- a rectangle inside a picture
+pub inside_placed : (size : Size) (r : Rect) → size.w ≤ 2048 → size.h ≤ 2048 → is_inside size r ≡ true → IsPlaced r
+inside_placed size r w t h =
+    let p = and_parts (int_le (pos 0) r.x && int_le (r.x +ℤ pos r.w) (pos size.w)) (int_le (pos 0) r.y && int_le (r.y +ℤ pos r.h) (pos size.h)) h in
+    let u = and_parts (int_le (pos 0) r.x) (int_le (r.x +ℤ pos r.w) (pos size.w)) p.0 in
+    let v = and_parts (int_le (pos 0) r.y) (int_le (r.y +ℤ pos r.h) (pos size.h)) p.1 in
+    let u0 = u.0 in
+    let u1 = u.1 in
+    let v0 = v.0 in
+    let v1 = v.1 in
+    record {
+      left = omega (arith, ints, u0);
+      right = omega (arith, ints, u1, w);
+      above = omega (arith, ints, v0);
+      below = omega (arith, ints, v1, t);
+      wide = omega (arith, ints, u0, u1, w);
+      high = omega (arith, ints, v0, v1, t);
+    }
 
 -- a rectangle that is drawn
 pub record IsDrawnRect (r : Rect) : Type 0 where

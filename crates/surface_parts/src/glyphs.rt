@@ -9,7 +9,9 @@ ghost use Rattle.surface_parts.specs.Parts.{in_part, IsCanvas, IsInside, IsRepai
 ghost use Rattle.surface_parts.specs.Bits.{is_row_bit, ink_color, HasBits, IsPenNear};
 
 use crate::part::{Part, visible};
+use crate::text::Script;
 use crate::texture::source_place;
+use crate::window::Window;
 use draw_ops::Glyph;
 use px_core::{Rect, Size};
 
@@ -98,24 +100,16 @@ pub fn cell_of(glyph: &Glyph, x: i32, y: i32) -> Rect
     }
 }
 
-/// Gives the pixels of a glyph's one bits one colour, with the pen at (x, y).
-pub fn draw_glyph(
-    pixels: &mut [u32],
-    size: Size,
-    clip: Option<Rect>,
-    glyph: &Glyph,
-    x: i32,
-    y: i32,
-    color: u32,
-)
-    requires canvas { IsCanvas size pixels.old }
-    requires clip { clip_rule size clip ≡ None }
+/// Gives the pixels of a glyph's one bits one colour, with the pen at its place.
+pub fn draw_glyph(pixels: &mut [u32], window: Window, glyph: &Glyph, pen: Script)
+    requires canvas { IsCanvas window.size pixels.old }
+    requires clip { clip_rule window.size window.clip ≡ None }
     requires rule { glyph_rule glyph.now ≡ None }
-    requires pen { IsPenNear x y }
-    ensures { pixels.new ≡ painted size (both (in_clip clip) (glyph_area (Some glyph.now) x y)) (solid session_colors color) pixels.old }
+    requires pen { IsPenNear pen.x pen.y }
+    ensures { pixels.new ≡ painted window.size (both (in_clip window.clip) (glyph_area (Some glyph.now) pen.x pen.y)) (solid session_colors pen.color) pixels.old }
 {
-    let cell = cell_of(glyph, x, y);
-    match visible(size, cell, clip) {
+    let cell = cell_of(glyph, pen.x, pen.y);
+    match visible(window, cell) {
         None => {}
         Some(part) => {
             let bits = Bits {
@@ -124,7 +118,7 @@ pub fn draw_glyph(
                 column: source_place(part.x, cell.x, 0),
                 row: source_place(part.y, cell.y, 0),
             };
-            draw_bits(pixels, size, part, bits, color)
+            draw_bits(pixels, window.size, part, bits, pen.color)
         }
     }
 }

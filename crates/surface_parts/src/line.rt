@@ -10,6 +10,7 @@ ghost use Rattle.surface_parts.specs.Parts.{in_part, IsCanvas, IsInside, IsRepai
 ghost use Rattle.surface_parts.specs.Courses.{apart, step, rise, is_course_pixel, is_dot, IsCourse};
 
 use crate::part::{Part, visible};
+use crate::window::Window;
 use px_core::{Rect, Size};
 
 /// How far coordinates are shifted.
@@ -34,6 +35,14 @@ pub struct Course {
     pub to_v: usize,
 }
 
+/// The pixel of one step, by its two coordinates as a course sees them.
+#[derive(Clone, Copy)]
+pub struct Dot {
+    pub is_steep: bool,
+    pub u: usize,
+    pub v: usize,
+}
+
 /// Gives the pixels of a line that lie in a part one colour.
 pub fn draw_course(pixels: &mut [u32], size: Size, part: Part, course: Course, color: u32)
     requires canvas { IsCanvas size pixels.old }
@@ -45,7 +54,12 @@ pub fn draw_course(pixels: &mut [u32], size: Size, part: Part, course: Course, c
     for i in 0..du + 1 {
         let u = towards(course.from_u, course.to_u, i);
         let v = towards(course.from_v, course.to_v, risen(course, i));
-        draw_dot(pixels, size, part, course.is_steep, u, v, color);
+        let dot = Dot {
+            is_steep: course.is_steep,
+            u,
+            v,
+        };
+        draw_dot(pixels, size, part, dot, color);
     }
 }
 
@@ -80,20 +94,16 @@ pub fn towards(from: usize, to: usize, n: usize) -> usize
 }
 
 /// Gives one pixel a colour where it lies in a part.
-fn draw_dot(
-    pixels: &mut [u32],
-    size: Size,
-    part: Part,
-    is_steep: bool,
-    u: usize,
-    v: usize,
-    color: u32,
-)
+fn draw_dot(pixels: &mut [u32], size: Size, part: Part, dot: Dot, color: u32)
     requires canvas { IsCanvas size pixels.old }
     requires inside { IsInside size part }
-    ensures { IsRepainted size (λ x y. in_part part x y && is_dot is_steep u v x y) (λ x y. color) pixels.old pixels.new }
+    ensures { IsRepainted size (λ x y. in_part part x y && is_dot dot.is_steep dot.u dot.v x y) (λ x y. color) pixels.old pixels.new }
 {
-    let (x, y) = if is_steep { (v, u) } else { (u, v) };
+    let (x, y) = if dot.is_steep {
+        (dot.v, dot.u)
+    } else {
+        (dot.u, dot.v)
+    };
     draw_pixel(pixels, size, part, x, y, color)
 }
 
@@ -112,21 +122,21 @@ fn draw_pixel(pixels: &mut [u32], size: Size, part: Part, x: usize, y: usize, co
 }
 
 /// Gives the pixels of a line one colour, within a clip.
-pub fn draw_line(pixels: &mut [u32], size: Size, clip: Option<Rect>, ends: Ends, color: u32)
-    requires canvas { IsCanvas size pixels.old }
-    requires clip { clip_rule size clip ≡ None }
+pub fn draw_line(pixels: &mut [u32], window: Window, ends: Ends, color: u32)
+    requires canvas { IsCanvas window.size pixels.old }
+    requires clip { clip_rule window.size window.clip ≡ None }
     requires ends { line_rule ends.x0 ends.y0 ends.x1 ends.y1 ≡ None }
-    ensures { pixels.new ≡ picture_after size (in_clip clip) (lined ends color) pixels.old }
+    ensures { pixels.new ≡ picture_after window.size (in_clip window.clip) (lined ends color) pixels.old }
 {
     let whole = Rect {
         x: 0,
         y: 0,
-        w: size.w,
-        h: size.h,
+        w: window.size.w,
+        h: window.size.h,
     };
-    match visible(size, whole, clip) {
+    match visible(window, whole) {
         None => {}
-        Some(part) => draw_course(pixels, size, part, course_of(ends), color),
+        Some(part) => draw_course(pixels, window.size, part, course_of(ends), color),
     }
 }
 

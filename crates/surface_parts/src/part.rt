@@ -4,6 +4,7 @@ ghost use Rattle.px_core.specs.Rectangle.{in_rect, in_clip, is_inside, IsPlaced}
 ghost use Rattle.draw_ops.specs.Fits.{clip_rule};
 ghost use Rattle.surface_parts.specs.Parts.{in_optional_part, IsInside, IsRectPart, IsSmall, IsWithinRect};
 
+use crate::window::Window;
 use px_core::{Rect, Size, meet};
 
 /// A rectangle of pixels that lies on the surface, by its upper left pixel and its sides, in pixels.
@@ -16,34 +17,34 @@ pub struct Part {
 }
 
 /// The part of a rectangle that lies on the surface and in a clip.
-pub fn visible(size: Size, rect: Rect, clip: Option<Rect>) -> Option<Part>
-    requires small { IsSmall size }
+pub fn visible(window: Window, rect: Rect) -> Option<Part>
+    requires small { IsSmall window.size }
     requires rect { IsPlaced rect }
-    requires clip { clip_rule size clip ≡ None }
-    ensures inside { IfSome result (λ part. IsInside size part) }
+    requires clip { clip_rule window.size window.clip ≡ None }
+    ensures inside { IfSome result (λ part. IsInside window.size part) }
     ensures within { IfSome result (λ part. IsWithinRect rect part) }
-    ensures pixels { (x y : ℕ) → x < size.w → y < size.h → in_optional_part result x y ≡ (in_clip clip (pos x) (pos y) && in_rect rect (pos x) (pos y)) }
+    ensures pixels { (x y : ℕ) → x < window.size.w → y < window.size.h → in_optional_part result x y ≡ (in_clip window.clip (pos x) (pos y) && in_rect rect (pos x) (pos y)) }
 {
-    match meet(frame(size, clip), rect) {
+    match meet(frame(window), rect) {
         None => None,
-        Some(common) => Some(part_of(size, common)),
+        Some(common) => Some(part_of(window.size, common)),
     }
 }
 
 /// The rectangle of a clip, or of the whole surface.
-fn frame(size: Size, clip: Option<Rect>) -> Rect
-    requires small { IsSmall size }
-    requires clip { clip_rule size clip ≡ None }
-    ensures inside { IsTrue (is_inside size result) }
+fn frame(window: Window) -> Rect
+    requires small { IsSmall window.size }
+    requires clip { clip_rule window.size window.clip ≡ None }
+    ensures inside { IsTrue (is_inside window.size result) }
     ensures placed { IsPlaced result }
-    ensures pixels { (x y : ℕ) → x < size.w → y < size.h → in_rect result (pos x) (pos y) ≡ in_clip clip (pos x) (pos y) }
+    ensures pixels { (x y : ℕ) → x < window.size.w → y < window.size.h → in_rect result (pos x) (pos y) ≡ in_clip window.clip (pos x) (pos y) }
 {
-    match clip {
+    match window.clip {
         None => Rect {
             x: 0,
             y: 0,
-            w: size.w,
-            h: size.h,
+            w: window.size.w,
+            h: window.size.h,
         },
         Some(clip) => clip,
     }

@@ -13,6 +13,7 @@ use crate::mix::{Mix, mix_part};
 use crate::part::{Part, visible};
 use crate::rows::{fill_part, paste_part};
 use crate::texture::{Texture, source_place, texture_of};
+use crate::window::Window;
 use draw_ops::{Brush, Image};
 use px_core::{Rect, Size};
 
@@ -28,45 +29,37 @@ pub struct Blend<'a> {
 }
 
 /// Gives a rectangle one colour. `row` is for one row of it.
-pub fn fill_rect(
-    pixels: &mut [u32],
-    size: Size,
-    rect: Rect,
-    clip: Option<Rect>,
-    color: u32,
-    row: &mut [u32],
-)
-    requires canvas { IsCanvas size pixels.old }
+pub fn fill_rect(pixels: &mut [u32], window: Window, rect: Rect, color: u32, row: &mut [u32])
+    requires canvas { IsCanvas window.size pixels.old }
     requires rect { IsPlaced rect }
-    requires clip { clip_rule size clip ≡ None }
+    requires clip { clip_rule window.size window.clip ≡ None }
     requires row { 2048 ≤ length row.old }
-    ensures { pixels.new ≡ picture_after size (in_clip clip) (over_rect rect (solid session_colors color)) pixels.old }
+    ensures { pixels.new ≡ picture_after window.size (in_clip window.clip) (over_rect rect (solid session_colors color)) pixels.old }
 {
-    match visible(size, rect, clip) {
+    match visible(window, rect) {
         None => {}
-        Some(part) => fill_part(pixels, size, part, color, &mut row[..part.w]),
+        Some(part) => fill_part(pixels, window.size, part, color, &mut row[..part.w]),
     }
 }
 
 /// The raster operation of a code on a rectangle. The two rows are for the operands of one row.
 pub fn mix_rect(
     pixels: &mut [u32],
-    size: Size,
+    window: Window,
     rect: Rect,
-    clip: Option<Rect>,
     blend: Blend,
     pattern: &mut [u32],
     source: &mut [u32],
 )
-    requires canvas { IsCanvas size pixels.old }
+    requires canvas { IsCanvas window.size pixels.old }
     requires rect { IsPlaced rect }
-    requires clip { clip_rule size clip ≡ None }
+    requires clip { clip_rule window.size window.clip ≡ None }
     requires image { IfSome (option_copied blend.image) (HasSource rect blend.sx blend.sy) }
     requires pattern { 2048 ≤ length pattern.old }
     requires source { 2048 ≤ length source.old }
-    ensures { pixels.new ≡ picture_after size (in_clip clip) (mixing rect blend.entry.rop (pattern_of (option_copied blend.entry.brush)) (source_of (option_copied blend.entry.image) rect blend.entry.sx blend.entry.sy)) pixels.old }
+    ensures { pixels.new ≡ picture_after window.size (in_clip window.clip) (mixing rect blend.entry.rop (pattern_of (option_copied blend.entry.brush)) (source_of (option_copied blend.entry.image) rect blend.entry.sx blend.entry.sy)) pixels.old }
 {
-    match visible(size, rect, clip) {
+    match visible(window, rect) {
         None => {}
         Some(part) => {
             let texture = source_texture(blend.image, rect, blend.sx, blend.sy, part);
@@ -77,7 +70,7 @@ pub fn mix_rect(
             };
             mix_part(
                 pixels,
-                size,
+                window.size,
                 part,
                 mix,
                 &mut pattern[..part.w],
@@ -114,38 +107,24 @@ pub fn source_texture(
 }
 
 /// Puts the pixels of a block that may be missing back, with the upper left one at (x, y).
-pub fn restore_block(
-    pixels: &mut [u32],
-    size: Size,
-    clip: Option<Rect>,
-    block: Option<&Block>,
-    x: i32,
-    y: i32,
-)
-    requires canvas { IsCanvas size pixels.old }
-    requires clip { clip_rule size clip ≡ None }
-    requires block { IfSome (option_copied block) (IsRestorable size x y) }
-    ensures { pixels.new ≡ picture_after size (in_clip clip) (restoring (option_copied block.entry) x y) pixels.old }
+pub fn restore_block(pixels: &mut [u32], window: Window, block: Option<&Block>, x: i32, y: i32)
+    requires canvas { IsCanvas window.size pixels.old }
+    requires clip { clip_rule window.size window.clip ≡ None }
+    requires block { IfSome (option_copied block) (IsRestorable window.size x y) }
+    ensures { pixels.new ≡ picture_after window.size (in_clip window.clip) (restoring (option_copied block.entry) x y) pixels.old }
 {
     match block {
         None => {}
-        Some(block) => paste_block(pixels, size, clip, block, x, y),
+        Some(block) => paste_block(pixels, window, block, x, y),
     }
 }
 
 /// Puts the pixels of a block back, with the upper left one at (x, y).
-pub fn paste_block(
-    pixels: &mut [u32],
-    size: Size,
-    clip: Option<Rect>,
-    block: &Block,
-    x: i32,
-    y: i32,
-)
-    requires canvas { IsCanvas size pixels.old }
-    requires clip { clip_rule size clip ≡ None }
-    requires block { IsRestorable size x y block.now }
-    ensures { pixels.new ≡ picture_after size (in_clip clip) (restoring (Some block.now) x y) pixels.old }
+pub fn paste_block(pixels: &mut [u32], window: Window, block: &Block, x: i32, y: i32)
+    requires canvas { IsCanvas window.size pixels.old }
+    requires clip { clip_rule window.size window.clip ≡ None }
+    requires block { IsRestorable window.size x y block.now }
+    ensures { pixels.new ≡ picture_after window.size (in_clip window.clip) (restoring (Some block.now) x y) pixels.old }
 {
     let sides = Size {
         w: block.w,
@@ -157,11 +136,11 @@ pub fn paste_block(
         w: block.w,
         h: block.h,
     };
-    match visible(size, rect, clip) {
+    match visible(window, rect) {
         None => {}
         Some(part) => {
             let texture = texture_of(block.pixels.as_slice(), sides, rect, 0, 0, part);
-            paste_part(pixels, size, part, texture)
+            paste_part(pixels, window.size, part, texture)
         }
     }
 }

@@ -14,7 +14,7 @@ ghost use Rattle.surface_parts.specs.Texts.{glyphs_held};
 
 use crate::glyphs::draw_glyph;
 use crate::slots::Slots;
-use px_core::{Rect, Size};
+use crate::window::Window;
 
 /// The font, the colour and the pen's first place of a text.
 #[derive(Clone, Copy)]
@@ -28,18 +28,17 @@ pub struct Script {
 /// Draws a run of glyphs; each one's delta moves the pen to the right before it.
 pub fn write_run(
     pixels: &mut [u32],
-    size: Size,
-    clip: Option<Rect>,
+    window: Window,
     slots: &Slots,
     script: Script,
     run: &[(u8, u8)],
 )
-    requires canvas { IsCanvas size pixels.old }
-    requires clip { clip_rule size clip ≡ None }
+    requires canvas { IsCanvas window.size pixels.old }
+    requires clip { clip_rule window.size window.clip ≡ None }
     requires glyphs { AllInSlots (λ glyph. glyph_rule glyph.content ≡ None) slots.now.glyphs }
     requires pen { IsPenAtStart script.x script.y }
     requires short { length run.now ≤ 64 }
-    ensures { pixels.new ≡ picture_after size (in_clip clip) (writing (glyphs_held slots.now script.font) script.x script.y script.color run.now) pixels.old }
+    ensures { pixels.new ≡ picture_after window.size (in_clip window.clip) (writing (glyphs_held slots.now script.font) script.x script.y script.color run.now) pixels.old }
 {
     let mut moved = 0;
     for pair in run {
@@ -48,27 +47,20 @@ pub fn write_run(
             x: script.x + moved as i32,
             ..script
         };
-        draw_code(pixels, size, clip, slots, pen, pair.0);
+        draw_code(pixels, window, slots, pen, pair.0);
     }
 }
 
 /// Draws the glyph of a code where the pen stands; there is nothing to draw where the font has none.
-fn draw_code(
-    pixels: &mut [u32],
-    size: Size,
-    clip: Option<Rect>,
-    slots: &Slots,
-    pen: Script,
-    code: u8,
-)
-    requires canvas { IsCanvas size pixels.old }
-    requires clip { clip_rule size clip ≡ None }
+fn draw_code(pixels: &mut [u32], window: Window, slots: &Slots, pen: Script, code: u8)
+    requires canvas { IsCanvas window.size pixels.old }
+    requires clip { clip_rule window.size window.clip ≡ None }
     requires glyphs { AllInSlots (λ glyph. glyph_rule glyph.content ≡ None) slots.now.glyphs }
     requires pen { IsPenNear pen.x pen.y }
-    ensures { pixels.new ≡ painted size (both (in_clip clip) (glyph_area (glyphs_held slots.now pen.font code) pen.x pen.y)) (solid session_colors pen.color) pixels.old }
+    ensures { pixels.new ≡ painted window.size (both (in_clip window.clip) (glyph_area (glyphs_held slots.now pen.font code) pen.x pen.y)) (solid session_colors pen.color) pixels.old }
 {
     match slots.glyph(pen.font, code) {
         None => {}
-        Some(glyph) => draw_glyph(pixels, size, clip, glyph.content(), pen.x, pen.y, pen.color),
+        Some(glyph) => draw_glyph(pixels, window, glyph.content(), pen),
     }
 }

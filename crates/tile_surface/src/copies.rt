@@ -17,33 +17,32 @@ ghost use Rattle.tile_surface.specs.Ownership.{KeepsRest, OwnsArea, OwnsPart};
 use crate::cell::Cell;
 use crate::rows::{mix_row, read_row};
 use px_core::{Rect, Size};
-use surface_parts::{Part, PictureCopy, ready_pattern, source_place, visible};
+use surface_parts::{Part, PictureCopy, Window, ready_pattern, source_place, visible};
 
 /// The raster operation of a code on a rectangle, with the picture itself, from (sx, sy) on, as its source. The two rows are for the
 /// operands of one row.
 pub(crate) fn copy_rect(
     cells: &mut [Cell],
-    size: Size,
+    window: Window,
     rect: Rect,
-    clip: Option<Rect>,
     rop: u8,
     sx: i32,
     sy: i32,
     pattern: &mut [u32],
     source: &mut [u32],
 )
-    requires tiled { IsTiled size cells.old }
-    requires colors { IsTrue (are_colors (picture_of size cells.old)) }
+    requires tiled { IsTiled window.size cells.old }
+    requires colors { IsTrue (are_colors (picture_of window.size cells.old)) }
     requires rect { IsPlaced rect }
-    requires clip { clip_rule size clip ≡ None }
-    requires inside { IsTrue (is_inside size (boxed sx sy rect.w rect.h)) }
-    requires own { OwnsArea size cells.old (both (in_clip clip) (in_rect rect)) }
+    requires clip { clip_rule window.size window.clip ≡ None }
+    requires inside { IsTrue (is_inside window.size (boxed sx sy rect.w rect.h)) }
+    requires own { OwnsArea window.size cells.old (both (in_clip window.clip) (in_rect rect)) }
     requires pattern { 2048 ≤ length pattern.old }
     requires source { 2048 ≤ length source.old }
-    ensures painted { picture_of size cells.new ≡ picture_after size (in_clip clip) (mixing rect rop (absent session_colors) (shifted (rows_of size.w size.h (picture_of size cells.old)) 0 rect sx sy)) (picture_of size cells.old) }
-    ensures kept { KeepsRest size cells.old cells.new }
+    ensures painted { picture_of window.size cells.new ≡ picture_after window.size (in_clip window.clip) (mixing rect rop (absent session_colors) (shifted (rows_of window.size.w window.size.h (picture_of window.size cells.old)) 0 rect sx sy)) (picture_of window.size cells.old) }
+    ensures kept { KeepsRest window.size cells.old cells.new }
 {
-    match visible(size, rect, clip) {
+    match visible(window, rect) {
         None => {}
         Some(part) => {
             let copy = PictureCopy {
@@ -53,7 +52,7 @@ pub(crate) fn copy_rect(
             };
             copy_part(
                 cells,
-                size,
+                window.size,
                 part,
                 copy,
                 &mut pattern[..part.w],

@@ -16,7 +16,7 @@ use crate::saves::fill_slot;
 use crate::tiles::Tiles;
 use draw_ops::Drawing;
 use px_core::Size;
-use surface_parts::{DrawFault, Room, Slots};
+use surface_parts::{DrawFault, Room, Slots, Window};
 use wire_num::OutOfMemory;
 
 impl Tiles {
@@ -75,9 +75,11 @@ impl Tiles {
         own_shape(
             self.cells.as_mut_slice(),
             self.alloc,
-            self.size,
+            Window {
+                size: self.size,
+                clip: d.clip,
+            },
             &self.slots,
-            d.clip,
             &d.shape,
         )?;
         draw_owned(
@@ -121,5 +123,12 @@ pub(crate) fn draw_owned(
     ensures kept { KeepsRest size cells.old cells.new }
 {
     fill_slot(slots, count, room, cells, size);
-    paint(cells, size, slots, d.clip, &d.shape, pattern, source);
+    paint(
+        cells,
+        Window { size, clip: d.clip },
+        slots,
+        &d.shape,
+        pattern,
+        source,
+    );
 }

@@ -16,9 +16,11 @@ ghost use Rattle.tile_surface.specs.Ownership.{KeepsRest, OwnsArea, StaysOwn};
 use crate::cell::Cell;
 use crate::own::own_at;
 use crate::rows::write_dot;
-use px_core::{Rect, Size, whole};
+use px_core::{Size, whole};
 use std::alloc::Global;
-use surface_parts::{Course, Ends, Part, course_of, distance, risen, towards, visible};
+use surface_parts::{
+    Course, Dot, Ends, Part, Window, course_of, distance, risen, towards, visible,
+};
 use wire_num::OutOfMemory;
 
 /// How far coordinates are shifted.
@@ -28,35 +30,34 @@ const SHIFT: usize = 4_096;
 pub(crate) fn own_line(
     cells: &mut [Cell],
     alloc: Global,
-    size: Size,
-    clip: Option<Rect>,
+    window: Window,
     ends: Ends,
 ) -> Result<(), OutOfMemory>
-    requires tiled { IsTiled size cells.old }
-    requires clip { clip_rule size clip ≡ None }
+    requires tiled { IsTiled window.size cells.old }
+    requires clip { clip_rule window.size window.clip ≡ None }
     requires ends { line_rule ends.x0 ends.y0 ends.x1 ends.y1 ≡ None }
     ensures same { map cell_pixels cells.new ≡ map cell_pixels cells.old }
     ensures stays { StaysOwn cells.old cells.new }
-    ensures own { OnOk result (OwnsArea size cells.new (both (in_clip clip) (line_area ends.x0 ends.y0 ends.x1 ends.y1))) }
+    ensures own { OnOk result (OwnsArea window.size cells.new (both (in_clip window.clip) (line_area ends.x0 ends.y0 ends.x1 ends.y1))) }
 {
-    match visible(size, whole(size), clip) {
+    match visible(window, whole(window.size)) {
         None => Ok(()),
         Some(part) => own_course(cells, alloc, part, course_of(ends)),
     }
 }
 
 /// Gives the pixels of a line one colour, within a clip.
-pub(crate) fn draw_line(cells: &mut [Cell], size: Size, clip: Option<Rect>, ends: Ends, color: u32)
-    requires tiled { IsTiled size cells.old }
-    requires clip { clip_rule size clip ≡ None }
+pub(crate) fn draw_line(cells: &mut [Cell], window: Window, ends: Ends, color: u32)
+    requires tiled { IsTiled window.size cells.old }
+    requires clip { clip_rule window.size window.clip ≡ None }
     requires ends { line_rule ends.x0 ends.y0 ends.x1 ends.y1 ≡ None }
-    requires own { OwnsArea size cells.old (both (in_clip clip) (line_area ends.x0 ends.y0 ends.x1 ends.y1)) }
-    ensures painted { picture_of size cells.new ≡ picture_after size (in_clip clip) (lined ends color) (picture_of size cells.old) }
-    ensures kept { KeepsRest size cells.old cells.new }
+    requires own { OwnsArea window.size cells.old (both (in_clip window.clip) (line_area ends.x0 ends.y0 ends.x1 ends.y1)) }
+    ensures painted { picture_of window.size cells.new ≡ picture_after window.size (in_clip window.clip) (lined ends color) (picture_of window.size cells.old) }
+    ensures kept { KeepsRest window.size cells.old cells.new }
 {
-    match visible(size, whole(size), clip) {
+    match visible(window, whole(window.size)) {
         None => {}
-        Some(part) => draw_course(cells, size, part, course_of(ends), color),
+        Some(part) => draw_course(cells, window.size, part, course_of(ends), color),
     }
 }
 
@@ -79,7 +80,12 @@ fn own_course(
     for i in 0..du + 1 {
         let u = towards(course.from_u, course.to_u, i);
         let v = towards(course.from_v, course.to_v, risen(course, i));
-        own_dot(cells, alloc, part, course.is_steep, u, v)?;
+        let dot = Dot {
+            is_steep: course.is_steep,
+            u,
+            v,
+        };
+        own_dot(cells, alloc, part, dot)?;
     }
     Ok(())
 }
@@ -97,65 +103,55 @@ fn draw_course(cells: &mut [Cell], size: Size, part: Part, course: Course, color
     for i in 0..du + 1 {
         let u = towards(course.from_u, course.to_u, i);
         let v = towards(course.from_v, course.to_v, risen(course, i));
-        draw_dot(cells, size, part, course.is_steep, u, v, color);
+        let dot = Dot {
+            is_steep: course.is_steep,
+            u,
+            v,
+        };
+        draw_dot(cells, size, part, dot, color);
     }
 }
 
 /// Makes the tile of one step's pixel, where it lies in a part, the surface's own.
-fn own_dot(
-    cells: &mut [Cell],
-    alloc: Global,
-    part: Part,
-    is_steep: bool,
-    u: usize,
-    v: usize,
-) -> Result<(), OutOfMemory>
+fn own_dot(cells: &mut [Cell], alloc: Global, part: Part, dot: Dot) -> Result<(), OutOfMemory>
     requires cells { length cells.old ≡ 1024 }
     requires columns { part.x + part.w ≤ 2048 }
     requires rows { part.y + part.h ≤ 2048 }
     ensures same { map cell_pixels cells.new ≡ map cell_pixels cells.old }
     ensures stays { StaysOwn cells.old cells.new }
-    ensures own { OnOk result (OwnsPixels cells.new (λ x y. in_part part x y && is_dot is_steep u v x y)) }
+    ensures own { OnOk result (OwnsPixels cells.new (λ x y. in_part part x y && is_dot dot.is_steep dot.u dot.v x y)) }
 {
-    match dot_in(part, is_steep, u, v) {
+    match dot_in(part, dot) {
         None => Ok(()),
         Some((x, y)) => own_at(cells, alloc, x, y),
     }
 }
 
 /// Gives one step's pixel a colour where it lies in a part.
-fn draw_dot(
-    cells: &mut [Cell],
-    size: Size,
-    part: Part,
-    is_steep: bool,
-    u: usize,
-    v: usize,
-    color: u32,
-)
+fn draw_dot(cells: &mut [Cell], size: Size, part: Part, dot: Dot, color: u32)
     requires tiled { IsTiled size cells.old }
     requires inside { IsInside size part }
-    requires own { OwnsPixels cells.old (λ x y. in_part part x y && is_dot is_steep u v x y) }
-    ensures painted { IsRepainted size (λ x y. in_part part x y && is_dot is_steep u v x y) (λ x y. color) (picture_of size cells.old) (picture_of size cells.new) }
+    requires own { OwnsPixels cells.old (λ x y. in_part part x y && is_dot dot.is_steep dot.u dot.v x y) }
+    ensures painted { IsRepainted size (λ x y. in_part part x y && is_dot dot.is_steep dot.u dot.v x y) (λ x y. color) (picture_of size cells.old) (picture_of size cells.new) }
     ensures kept { KeepsRest size cells.old cells.new }
 {
-    match dot_in(part, is_steep, u, v) {
+    match dot_in(part, dot) {
         None => {}
         Some((x, y)) => write_dot(cells, size, x, y, color),
     }
 }
 
 /// The pixel of a part that a step's coordinates name, where it has one.
-fn dot_in(part: Part, is_steep: bool, u: usize, v: usize) -> Option<(usize, usize)>
+fn dot_in(part: Part, dot: Dot) -> Option<(usize, usize)>
     requires columns { part.x + part.w ≤ 2048 }
     requires rows { part.y + part.h ≤ 2048 }
     ensures inside { IfSome result (λ place. IsTrue (in_part part place.0 place.1)) }
-    ensures pixel { (x y : ℕ) → (in_part part x y && is_dot is_steep u v x y) ≡ is_place result x y }
+    ensures pixel { (x y : ℕ) → (in_part part x y && is_dot dot.is_steep dot.u dot.v x y) ≡ is_place result x y }
 {
-    if is_steep {
-        pixel_in(part, v, u)
+    if dot.is_steep {
+        pixel_in(part, dot.v, dot.u)
     } else {
-        pixel_in(part, u, v)
+        pixel_in(part, dot.u, dot.v)
     }
 }
 

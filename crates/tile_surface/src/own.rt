@@ -9,28 +9,27 @@ ghost use Rattle.tile_surface.specs.Ownership.{IsOwn, IsOwnAt, OwnsArea, OwnsPar
 use crate::cell::Cell;
 use crate::rows::{TILES_IN_ROW, tile_number};
 use crate::tile::TILE_SIDE;
-use px_core::{Rect, Size};
+use px_core::Rect;
 use std::alloc::Global;
 use std::mem;
-use surface_parts::{Part, visible};
+use surface_parts::{Part, Window, visible};
 use wire_num::OutOfMemory;
 
 /// Makes each tile with a pixel of a rectangle, within a clip, the surface's own. The colours of all tiles stay, also after an `Err`.
 pub(crate) fn own_rect(
     cells: &mut [Cell],
     alloc: Global,
-    size: Size,
+    window: Window,
     rect: Rect,
-    clip: Option<Rect>,
 ) -> Result<(), OutOfMemory>
-    requires tiled { IsTiled size cells.old }
+    requires tiled { IsTiled window.size cells.old }
     requires rect { IsPlaced rect }
-    requires clip { clip_rule size clip ≡ None }
+    requires clip { clip_rule window.size window.clip ≡ None }
     ensures same { map cell_pixels cells.new ≡ map cell_pixels cells.old }
     ensures stays { StaysOwn cells.old cells.new }
-    ensures own { OnOk result (OwnsArea size cells.new (both (in_clip clip) (in_rect rect))) }
+    ensures own { OnOk result (OwnsArea window.size cells.new (both (in_clip window.clip) (in_rect rect))) }
 {
-    match visible(size, rect, clip) {
+    match visible(window, rect) {
         None => Ok(()),
         Some(part) => own_part(cells, alloc, part),
     }

@@ -16,7 +16,7 @@ use crate::paint::own_shape;
 use draw_ops::{Drawing, Shape};
 use px_core::{Rect, Size};
 use std::alloc::Global;
-use surface_parts::{Ends, Slots};
+use surface_parts::{Ends, Slots, Window};
 use wire_num::OutOfMemory;
 
 /// The most pixels that the cell of a glyph begins to the left of the pen or above it.
@@ -50,7 +50,16 @@ pub(crate) fn own_all(
     match ds.split_first() {
         None => Ok(()),
         Some((first, later)) => {
-            own_shape(cells, alloc, size, slots, first.clip, &first.shape)?;
+            own_shape(
+                cells,
+                alloc,
+                Window {
+                    size,
+                    clip: first.clip,
+                },
+                slots,
+                &first.shape,
+            )?;
             own_each(cells, alloc, size, later)
         }
     }
@@ -70,7 +79,7 @@ fn own_each(
     ensures own { OnOk result (OwnsEach size cells.new ds.now) }
 {
     for d in ds {
-        own_later(cells, alloc, size, d.clip, &d.shape)?;
+        own_later(cells, alloc, Window { size, clip: d.clip }, &d.shape)?;
     }
     Ok(())
 }
@@ -79,26 +88,25 @@ fn own_each(
 fn own_later(
     cells: &mut [Cell],
     alloc: Global,
-    size: Size,
-    clip: Option<Rect>,
+    window: Window,
     shape: &Shape,
 ) -> Result<(), OutOfMemory>
-    requires tiled { IsTiled size cells.old }
-    requires placed { IsPlacedShape size clip shape.now }
+    requires tiled { IsTiled window.size cells.old }
+    requires placed { IsPlacedShape window.size window.clip shape.now }
     ensures same { map cell_pixels cells.new ≡ map cell_pixels cells.old }
     ensures stays { StaysOwn cells.old cells.new }
-    ensures own { OnOk result (OwnsLater size cells.new clip shape.now) }
+    ensures own { OnOk result (OwnsLater window.size cells.new window.clip shape.now) }
 {
     match shape {
-        Shape::Fill { rect, .. } => own_rect(cells, alloc, size, *rect, clip),
-        Shape::Dst { rect, .. } => own_rect(cells, alloc, size, *rect, clip),
-        Shape::Pat { rect, .. } => own_rect(cells, alloc, size, *rect, clip),
-        Shape::Copy { rect, .. } => own_rect(cells, alloc, size, *rect, clip),
-        Shape::Blit { rect, .. } => own_rect(cells, alloc, size, *rect, clip),
-        Shape::Blit3 { rect, .. } => own_rect(cells, alloc, size, *rect, clip),
+        Shape::Fill { rect, .. } => own_rect(cells, alloc, window, *rect),
+        Shape::Dst { rect, .. } => own_rect(cells, alloc, window, *rect),
+        Shape::Pat { rect, .. } => own_rect(cells, alloc, window, *rect),
+        Shape::Copy { rect, .. } => own_rect(cells, alloc, window, *rect),
+        Shape::Blit { rect, .. } => own_rect(cells, alloc, window, *rect),
+        Shape::Blit3 { rect, .. } => own_rect(cells, alloc, window, *rect),
         Shape::Text { x, y, run, .. } => {
             let rect = run_rect(*x, *y, run.pairs());
-            own_rect(cells, alloc, size, rect, clip)
+            own_rect(cells, alloc, window, rect)
         }
         Shape::Line { x0, y0, x1, y1, .. } => {
             let ends = Ends {
@@ -107,9 +115,9 @@ fn own_later(
                 x1: *x1,
                 y1: *y1,
             };
-            own_line(cells, alloc, size, clip, ends)
+            own_line(cells, alloc, window, ends)
         }
-        Shape::Restore { x, y, .. } => own_rest(cells, alloc, size, clip, *x, *y),
+        Shape::Restore { x, y, .. } => own_rest(cells, alloc, window, *x, *y),
         Shape::Save { .. } => Ok(()),
         Shape::LoadImage { .. } => Ok(()),
         Shape::LoadBrush { .. } => Ok(()),
@@ -121,17 +129,16 @@ fn own_later(
 fn own_rest(
     cells: &mut [Cell],
     alloc: Global,
-    size: Size,
-    clip: Option<Rect>,
+    window: Window,
     x: i32,
     y: i32,
 ) -> Result<(), OutOfMemory>
-    requires tiled { IsTiled size cells.old }
-    requires clip { clip_rule size clip ≡ None }
+    requires tiled { IsTiled window.size cells.old }
+    requires clip { clip_rule window.size window.clip ≡ None }
     requires corner { IsPenAtStart x y }
     ensures same { map cell_pixels cells.new ≡ map cell_pixels cells.old }
     ensures stays { StaysOwn cells.old cells.new }
-    ensures own { OnOk result (OwnsArea size cells.new (both (in_clip clip) (from_corner x y))) }
+    ensures own { OnOk result (OwnsArea window.size cells.new (both (in_clip window.clip) (from_corner x y))) }
 {
     let rect = Rect {
         x,
@@ -139,7 +146,7 @@ fn own_rest(
         w: REST,
         h: REST,
     };
-    own_rect(cells, alloc, size, rect, clip)
+    own_rect(cells, alloc, window, rect)
 }
 
 /// The rectangle in which a run from a pen at (x, y) lies whatever its font holds.

@@ -19,34 +19,33 @@ use crate::own::own_rect;
 use crate::rects::{fill_rect, mix_rect, restore_block};
 use crate::texts::{own_run, write_run};
 use draw_ops::Shape;
-use px_core::{Rect, Size};
+use px_core::Rect;
 use std::alloc::Global;
-use surface_parts::{Blend, Block, Ends, Script, Slots};
+use surface_parts::{Blend, Block, Ends, Script, Slots, Window};
 use wire_num::OutOfMemory;
 
 /// Makes each tile that a shape paints on, within a clip, the surface's own. The colours of all tiles stay, also after an `Err`.
 pub(crate) fn own_shape(
     cells: &mut [Cell],
     alloc: Global,
-    size: Size,
+    window: Window,
     slots: &Slots,
-    clip: Option<Rect>,
     shape: &Shape,
 ) -> Result<(), OutOfMemory>
-    requires tiled { IsTiled size cells.old }
-    requires paintable { IsPaintable size slots.now clip shape.now }
+    requires tiled { IsTiled window.size cells.old }
+    requires paintable { IsPaintable window.size slots.now window.clip shape.now }
     requires glyphs { AllInSlots (λ glyph. glyph_rule glyph.content ≡ None) slots.now.glyphs }
     ensures same { map cell_pixels cells.new ≡ map cell_pixels cells.old }
     ensures stays { StaysOwn cells.old cells.new }
-    ensures own { OnOk result (OwnsShape size slots.now cells.new clip shape.now) }
+    ensures own { OnOk result (OwnsShape window.size slots.now cells.new window.clip shape.now) }
 {
     match shape {
-        Shape::Fill { rect, .. } => own_rect(cells, alloc, size, *rect, clip),
-        Shape::Dst { rect, .. } => own_rect(cells, alloc, size, *rect, clip),
-        Shape::Pat { rect, .. } => own_rect(cells, alloc, size, *rect, clip),
-        Shape::Copy { rect, .. } => own_rect(cells, alloc, size, *rect, clip),
-        Shape::Blit { rect, .. } => own_rect(cells, alloc, size, *rect, clip),
-        Shape::Blit3 { rect, .. } => own_rect(cells, alloc, size, *rect, clip),
+        Shape::Fill { rect, .. } => own_rect(cells, alloc, window, *rect),
+        Shape::Dst { rect, .. } => own_rect(cells, alloc, window, *rect),
+        Shape::Pat { rect, .. } => own_rect(cells, alloc, window, *rect),
+        Shape::Copy { rect, .. } => own_rect(cells, alloc, window, *rect),
+        Shape::Blit { rect, .. } => own_rect(cells, alloc, window, *rect),
+        Shape::Blit3 { rect, .. } => own_rect(cells, alloc, window, *rect),
         Shape::Text {
             x,
             y,
@@ -60,7 +59,7 @@ pub(crate) fn own_shape(
                 x: *x,
                 y: *y,
             };
-            own_run(cells, alloc, size, clip, slots, script, run.pairs())
+            own_run(cells, alloc, window, slots, script, run.pairs())
         }
         Shape::Line { x0, y0, x1, y1, .. } => {
             let ends = Ends {
@@ -69,10 +68,10 @@ pub(crate) fn own_shape(
                 x1: *x1,
                 y1: *y1,
             };
-            own_line(cells, alloc, size, clip, ends)
+            own_line(cells, alloc, window, ends)
         }
         Shape::Restore { slot, x, y } => {
-            own_block(cells, alloc, size, clip, slots.block(*slot), *x, *y)
+            own_block(cells, alloc, window, slots.block(*slot), *x, *y)
         }
         Shape::Save { .. } => Ok(()),
         Shape::LoadImage { .. } => Ok(()),
@@ -86,18 +85,17 @@ pub(crate) fn own_shape(
 fn own_block(
     cells: &mut [Cell],
     alloc: Global,
-    size: Size,
-    clip: Option<Rect>,
+    window: Window,
     block: Option<&Block>,
     x: i32,
     y: i32,
 ) -> Result<(), OutOfMemory>
-    requires tiled { IsTiled size cells.old }
-    requires clip { clip_rule size clip ≡ None }
-    requires block { IfSome (option_copied block) (IsRestorable size x y) }
+    requires tiled { IsTiled window.size cells.old }
+    requires clip { clip_rule window.size window.clip ≡ None }
+    requires block { IfSome (option_copied block) (IsRestorable window.size x y) }
     ensures same { map cell_pixels cells.new ≡ map cell_pixels cells.old }
     ensures stays { StaysOwn cells.old cells.new }
-    ensures own { OnOk result (IfSome (option_copied block.entry) (λ b. OwnsRect size cells.new clip (boxed x y b.w b.h))) }
+    ensures own { OnOk result (IfSome (option_copied block.entry) (λ b. OwnsRect window.size cells.new window.clip (boxed x y b.w b.h))) }
 {
     match block {
         None => Ok(()),
@@ -108,7 +106,7 @@ fn own_block(
                 w: block.w,
                 h: block.h,
             };
-            own_rect(cells, alloc, size, rect, clip)
+            own_rect(cells, alloc, window, rect)
         }
     }
 }
@@ -116,25 +114,24 @@ fn own_block(
 /// Paints a shape within a clip on tiles that are the surface's own. The two rows are for the operands of one row.
 pub(crate) fn paint(
     cells: &mut [Cell],
-    size: Size,
+    window: Window,
     slots: &Slots,
-    clip: Option<Rect>,
     shape: &Shape,
     pattern: &mut [u32],
     source: &mut [u32],
 )
-    requires tiled { IsTiled size cells.old }
-    requires paintable { IsPaintable size slots.now clip shape.now }
+    requires tiled { IsTiled window.size cells.old }
+    requires paintable { IsPaintable window.size slots.now window.clip shape.now }
     requires glyphs { AllInSlots (λ glyph. glyph_rule glyph.content ≡ None) slots.now.glyphs }
-    requires colors { StateHasColors (state_of (picture_of size cells.old) slots.now 0) }
-    requires own { OwnsShape size slots.now cells.old clip shape.now }
+    requires colors { StateHasColors (state_of (picture_of window.size cells.old) slots.now 0) }
+    requires own { OwnsShape window.size slots.now cells.old window.clip shape.now }
     requires pattern { 2048 ≤ length pattern.old }
     requires source { 2048 ≤ length source.old }
-    ensures painted { (count : ℕ) → picture_of size cells.new ≡ picture_after size (in_clip clip) (painting_of size (state_of (picture_of size cells.old) slots.now count) shape.now) (picture_of size cells.old) }
-    ensures kept { KeepsRest size cells.old cells.new }
+    ensures painted { (count : ℕ) → picture_of window.size cells.new ≡ picture_after window.size (in_clip window.clip) (painting_of window.size (state_of (picture_of window.size cells.old) slots.now count) shape.now) (picture_of window.size cells.old) }
+    ensures kept { KeepsRest window.size cells.old cells.new }
 {
     match shape {
-        Shape::Fill { rect, color } => fill_rect(cells, size, *rect, clip, *color),
+        Shape::Fill { rect, color } => fill_rect(cells, window, *rect, *color),
         Shape::Dst { rect, rop } => {
             let blend = Blend {
                 rop: *rop,
@@ -143,7 +140,7 @@ pub(crate) fn paint(
                 sx: 0,
                 sy: 0,
             };
-            mix_rect(cells, size, *rect, clip, blend, pattern, source)
+            mix_rect(cells, window, *rect, blend, pattern, source)
         }
         Shape::Pat { rect, rop, brush } => {
             let blend = Blend {
@@ -153,10 +150,10 @@ pub(crate) fn paint(
                 sx: 0,
                 sy: 0,
             };
-            mix_rect(cells, size, *rect, clip, blend, pattern, source)
+            mix_rect(cells, window, *rect, blend, pattern, source)
         }
         Shape::Copy { rect, rop, sx, sy } => copy_rect(
-            cells, size, *rect, clip, *rop, *sx, *sy, pattern, source,
+            cells, window, *rect, *rop, *sx, *sy, pattern, source,
         ),
         Shape::Blit {
             rect,
@@ -172,7 +169,7 @@ pub(crate) fn paint(
                 sx: *sx,
                 sy: *sy,
             };
-            mix_rect(cells, size, *rect, clip, blend, pattern, source)
+            mix_rect(cells, window, *rect, blend, pattern, source)
         }
         Shape::Blit3 {
             rect,
@@ -189,7 +186,7 @@ pub(crate) fn paint(
                 sx: *sx,
                 sy: *sy,
             };
-            mix_rect(cells, size, *rect, clip, blend, pattern, source)
+            mix_rect(cells, window, *rect, blend, pattern, source)
         }
         Shape::Text {
             x,
@@ -204,7 +201,7 @@ pub(crate) fn paint(
                 x: *x,
                 y: *y,
             };
-            write_run(cells, size, clip, slots, script, run.pairs())
+            write_run(cells, window, slots, script, run.pairs())
         }
         Shape::Line {
             x0,
@@ -219,10 +216,10 @@ pub(crate) fn paint(
                 x1: *x1,
                 y1: *y1,
             };
-            draw_line(cells, size, clip, ends, *color)
+            draw_line(cells, window, ends, *color)
         }
         Shape::Restore { slot, x, y } => {
-            restore_block(cells, size, clip, slots.block(*slot), *x, *y)
+            restore_block(cells, window, slots.block(*slot), *x, *y)
         }
         Shape::Save { .. } => {}
         Shape::LoadImage { .. } => {}

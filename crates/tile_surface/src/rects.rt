@@ -19,48 +19,47 @@ use crate::rows::{mix_row, write_row};
 use draw_ops::Image;
 use px_core::{Rect, Size};
 use surface_parts::{
-    Blend, Block, Mix, Part, Texture, ready_pattern, ready_source, set_pattern, source_texture,
-    texture_of, visible,
+    Blend, Block, Mix, Part, Texture, Window, ready_pattern, ready_source, set_pattern,
+    source_texture, texture_of, visible,
 };
 
 /// Gives a rectangle one colour.
-pub(crate) fn fill_rect(cells: &mut [Cell], size: Size, rect: Rect, clip: Option<Rect>, color: u32)
-    requires tiled { IsTiled size cells.old }
+pub(crate) fn fill_rect(cells: &mut [Cell], window: Window, rect: Rect, color: u32)
+    requires tiled { IsTiled window.size cells.old }
     requires rect { IsPlaced rect }
-    requires clip { clip_rule size clip ≡ None }
-    requires own { OwnsArea size cells.old (both (in_clip clip) (in_rect rect)) }
-    ensures painted { picture_of size cells.new ≡ picture_after size (in_clip clip) (over_rect rect (solid session_colors color)) (picture_of size cells.old) }
-    ensures kept { KeepsRest size cells.old cells.new }
+    requires clip { clip_rule window.size window.clip ≡ None }
+    requires own { OwnsArea window.size cells.old (both (in_clip window.clip) (in_rect rect)) }
+    ensures painted { picture_of window.size cells.new ≡ picture_after window.size (in_clip window.clip) (over_rect rect (solid session_colors color)) (picture_of window.size cells.old) }
+    ensures kept { KeepsRest window.size cells.old cells.new }
 {
-    match visible(size, rect, clip) {
+    match visible(window, rect) {
         None => {}
-        Some(part) => fill_part(cells, size, part, color),
+        Some(part) => fill_part(cells, window.size, part, color),
     }
 }
 
 /// The raster operation of a code on a rectangle. The two rows are for the operands of one row.
 pub(crate) fn mix_rect(
     cells: &mut [Cell],
-    size: Size,
+    window: Window,
     rect: Rect,
-    clip: Option<Rect>,
     blend: Blend,
     pattern: &mut [u32],
     source: &mut [u32],
 )
-    requires tiled { IsTiled size cells.old }
+    requires tiled { IsTiled window.size cells.old }
     requires rect { IsPlaced rect }
-    requires clip { clip_rule size clip ≡ None }
-    requires own { OwnsArea size cells.old (both (in_clip clip) (in_rect rect)) }
+    requires clip { clip_rule window.size window.clip ≡ None }
+    requires own { OwnsArea window.size cells.old (both (in_clip window.clip) (in_rect rect)) }
     requires image { IfSome (option_copied blend.image) (HasSource rect blend.sx blend.sy) }
     requires image_colors { IfSome (option_copied blend.image) (λ image. IsTrue (are_colors image.pixels)) }
     requires brush_colors { IfSome (option_copied blend.brush) (λ brush. IsTrue (are_colors brush)) }
     requires pattern { 2048 ≤ length pattern.old }
     requires source { 2048 ≤ length source.old }
-    ensures painted { picture_of size cells.new ≡ picture_after size (in_clip clip) (mixing rect blend.entry.rop (pattern_of (option_copied blend.entry.brush)) (source_of (option_copied blend.entry.image) rect blend.entry.sx blend.entry.sy)) (picture_of size cells.old) }
-    ensures kept { KeepsRest size cells.old cells.new }
+    ensures painted { picture_of window.size cells.new ≡ picture_after window.size (in_clip window.clip) (mixing rect blend.entry.rop (pattern_of (option_copied blend.entry.brush)) (source_of (option_copied blend.entry.image) rect blend.entry.sx blend.entry.sy)) (picture_of window.size cells.old) }
+    ensures kept { KeepsRest window.size cells.old cells.new }
 {
-    match visible(size, rect, clip) {
+    match visible(window, rect) {
         None => {}
         Some(part) => {
             let texture = source_texture(blend.image, rect, blend.sx, blend.sy, part);
@@ -71,7 +70,7 @@ pub(crate) fn mix_rect(
             };
             mix_part(
                 cells,
-                size,
+                window.size,
                 part,
                 mix,
                 &mut pattern[..part.w],
@@ -84,33 +83,32 @@ pub(crate) fn mix_rect(
 /// Puts the pixels of a block that may be missing back, with the upper left one at (x, y).
 pub(crate) fn restore_block(
     cells: &mut [Cell],
-    size: Size,
-    clip: Option<Rect>,
+    window: Window,
     block: Option<&Block>,
     x: i32,
     y: i32,
 )
-    requires tiled { IsTiled size cells.old }
-    requires clip { clip_rule size clip ≡ None }
-    requires block { IfSome (option_copied block) (IsRestorable size x y) }
-    requires own { IfSome (option_copied block) (λ b. OwnsArea size cells.old (both (in_clip clip) (in_rect (boxed x y b.w b.h)))) }
-    ensures painted { picture_of size cells.new ≡ picture_after size (in_clip clip) (restoring (option_copied block.entry) x y) (picture_of size cells.old) }
-    ensures kept { KeepsRest size cells.old cells.new }
+    requires tiled { IsTiled window.size cells.old }
+    requires clip { clip_rule window.size window.clip ≡ None }
+    requires block { IfSome (option_copied block) (IsRestorable window.size x y) }
+    requires own { IfSome (option_copied block) (λ b. OwnsArea window.size cells.old (both (in_clip window.clip) (in_rect (boxed x y b.w b.h)))) }
+    ensures painted { picture_of window.size cells.new ≡ picture_after window.size (in_clip window.clip) (restoring (option_copied block.entry) x y) (picture_of window.size cells.old) }
+    ensures kept { KeepsRest window.size cells.old cells.new }
 {
     match block {
         None => {}
-        Some(block) => paste_block(cells, size, clip, block, x, y),
+        Some(block) => paste_block(cells, window, block, x, y),
     }
 }
 
 /// Puts the pixels of a block back, with the upper left one at (x, y).
-fn paste_block(cells: &mut [Cell], size: Size, clip: Option<Rect>, block: &Block, x: i32, y: i32)
-    requires tiled { IsTiled size cells.old }
-    requires clip { clip_rule size clip ≡ None }
-    requires block { IsRestorable size x y block.now }
-    requires own { OwnsArea size cells.old (both (in_clip clip) (in_rect (boxed x y block.now.w block.now.h))) }
-    ensures painted { picture_of size cells.new ≡ picture_after size (in_clip clip) (restoring (Some block.now) x y) (picture_of size cells.old) }
-    ensures kept { KeepsRest size cells.old cells.new }
+fn paste_block(cells: &mut [Cell], window: Window, block: &Block, x: i32, y: i32)
+    requires tiled { IsTiled window.size cells.old }
+    requires clip { clip_rule window.size window.clip ≡ None }
+    requires block { IsRestorable window.size x y block.now }
+    requires own { OwnsArea window.size cells.old (both (in_clip window.clip) (in_rect (boxed x y block.now.w block.now.h))) }
+    ensures painted { picture_of window.size cells.new ≡ picture_after window.size (in_clip window.clip) (restoring (Some block.now) x y) (picture_of window.size cells.old) }
+    ensures kept { KeepsRest window.size cells.old cells.new }
 {
     let sides = Size {
         w: block.w,
@@ -122,11 +120,11 @@ fn paste_block(cells: &mut [Cell], size: Size, clip: Option<Rect>, block: &Block
         w: block.w,
         h: block.h,
     };
-    match visible(size, rect, clip) {
+    match visible(window, rect) {
         None => {}
         Some(part) => {
             let texture = texture_of(block.pixels.as_slice(), sides, rect, 0, 0, part);
-            paste_part(cells, size, part, texture)
+            paste_part(cells, window.size, part, texture)
         }
     }
 }

@@ -19,9 +19,9 @@ use crate::cell::Cell;
 use crate::own::own_rect;
 use crate::rows::ink_row;
 use draw_ops::Glyph;
-use px_core::{Rect, Size};
+use px_core::Size;
 use std::alloc::Global;
-use surface_parts::{Bits, Part, Script, Slots, cell_of, source_place, visible};
+use surface_parts::{Bits, Part, Script, Slots, Window, cell_of, source_place, visible};
 use wire_num::OutOfMemory;
 
 /// The bits of a byte.
@@ -34,20 +34,19 @@ const PADDING: usize = 7;
 pub(crate) fn own_run(
     cells: &mut [Cell],
     alloc: Global,
-    size: Size,
-    clip: Option<Rect>,
+    window: Window,
     slots: &Slots,
     script: Script,
     run: &[(u8, u8)],
 ) -> Result<(), OutOfMemory>
-    requires tiled { IsTiled size cells.old }
-    requires clip { clip_rule size clip ≡ None }
+    requires tiled { IsTiled window.size cells.old }
+    requires clip { clip_rule window.size window.clip ≡ None }
     requires glyphs { AllInSlots (λ glyph. glyph_rule glyph.content ≡ None) slots.now.glyphs }
     requires pen { IsPenAtStart script.x script.y }
     requires short { length run.now ≤ 64 }
     ensures same { map cell_pixels cells.new ≡ map cell_pixels cells.old }
     ensures stays { StaysOwn cells.old cells.new }
-    ensures own { OnOk result (OwnsRun size cells.new (in_clip clip) (glyphs_held slots.now script.font) script.x script.y run.now) }
+    ensures own { OnOk result (OwnsRun window.size cells.new (in_clip window.clip) (glyphs_held slots.now script.font) script.x script.y run.now) }
 {
     let mut moved = 0;
     for pair in run {
@@ -56,7 +55,7 @@ pub(crate) fn own_run(
             x: script.x + moved as i32,
             ..script
         };
-        own_code(cells, alloc, size, clip, slots, pen, pair.0)?;
+        own_code(cells, alloc, window, slots, pen, pair.0)?;
     }
     Ok(())
 }
@@ -64,20 +63,19 @@ pub(crate) fn own_run(
 /// Draws a run of glyphs; each one's delta moves the pen to the right before it.
 pub(crate) fn write_run(
     cells: &mut [Cell],
-    size: Size,
-    clip: Option<Rect>,
+    window: Window,
     slots: &Slots,
     script: Script,
     run: &[(u8, u8)],
 )
-    requires tiled { IsTiled size cells.old }
-    requires clip { clip_rule size clip ≡ None }
+    requires tiled { IsTiled window.size cells.old }
+    requires clip { clip_rule window.size window.clip ≡ None }
     requires glyphs { AllInSlots (λ glyph. glyph_rule glyph.content ≡ None) slots.now.glyphs }
     requires pen { IsPenAtStart script.x script.y }
     requires short { length run.now ≤ 64 }
-    requires own { OwnsRun size cells.old (in_clip clip) (glyphs_held slots.now script.font) script.x script.y run.now }
-    ensures painted { picture_of size cells.new ≡ picture_after size (in_clip clip) (writing (glyphs_held slots.now script.font) script.x script.y script.color run.now) (picture_of size cells.old) }
-    ensures kept { KeepsRest size cells.old cells.new }
+    requires own { OwnsRun window.size cells.old (in_clip window.clip) (glyphs_held slots.now script.font) script.x script.y run.now }
+    ensures painted { picture_of window.size cells.new ≡ picture_after window.size (in_clip window.clip) (writing (glyphs_held slots.now script.font) script.x script.y script.color run.now) (picture_of window.size cells.old) }
+    ensures kept { KeepsRest window.size cells.old cells.new }
 {
     let mut moved = 0;
     for pair in run {
@@ -86,7 +84,7 @@ pub(crate) fn write_run(
             x: script.x + moved as i32,
             ..script
         };
-        draw_code(cells, size, clip, slots, pen, pair.0);
+        draw_code(cells, window, slots, pen, pair.0);
     }
 }
 
@@ -94,90 +92,72 @@ pub(crate) fn write_run(
 fn own_code(
     cells: &mut [Cell],
     alloc: Global,
-    size: Size,
-    clip: Option<Rect>,
+    window: Window,
     slots: &Slots,
     pen: Script,
     code: u8,
 ) -> Result<(), OutOfMemory>
-    requires tiled { IsTiled size cells.old }
-    requires clip { clip_rule size clip ≡ None }
+    requires tiled { IsTiled window.size cells.old }
+    requires clip { clip_rule window.size window.clip ≡ None }
     requires glyphs { AllInSlots (λ glyph. glyph_rule glyph.content ≡ None) slots.now.glyphs }
     requires pen { IsPenNear pen.x pen.y }
     ensures same { map cell_pixels cells.new ≡ map cell_pixels cells.old }
     ensures stays { StaysOwn cells.old cells.new }
-    ensures own { OnOk result (OwnsGlyph size cells.new (in_clip clip) (glyphs_held slots.now pen.font code) pen.x pen.y) }
+    ensures own { OnOk result (OwnsGlyph window.size cells.new (in_clip window.clip) (glyphs_held slots.now pen.font code) pen.x pen.y) }
 {
     match slots.glyph(pen.font, code) {
         None => Ok(()),
-        Some(glyph) => own_glyph(cells, alloc, size, clip, glyph.content(), pen.x, pen.y),
+        Some(glyph) => own_glyph(cells, alloc, window, glyph.content(), pen),
     }
 }
 
 /// Draws the glyph of a code where the pen stands; there is nothing to draw where the font has none.
-fn draw_code(
-    cells: &mut [Cell],
-    size: Size,
-    clip: Option<Rect>,
-    slots: &Slots,
-    pen: Script,
-    code: u8,
-)
-    requires tiled { IsTiled size cells.old }
-    requires clip { clip_rule size clip ≡ None }
+fn draw_code(cells: &mut [Cell], window: Window, slots: &Slots, pen: Script, code: u8)
+    requires tiled { IsTiled window.size cells.old }
+    requires clip { clip_rule window.size window.clip ≡ None }
     requires glyphs { AllInSlots (λ glyph. glyph_rule glyph.content ≡ None) slots.now.glyphs }
     requires pen { IsPenNear pen.x pen.y }
-    requires own { OwnsGlyph size cells.old (in_clip clip) (glyphs_held slots.now pen.font code) pen.x pen.y }
-    ensures painted { picture_of size cells.new ≡ painted size (both (in_clip clip) (glyph_area (glyphs_held slots.now pen.font code) pen.x pen.y)) (solid session_colors pen.color) (picture_of size cells.old) }
-    ensures kept { KeepsRest size cells.old cells.new }
+    requires own { OwnsGlyph window.size cells.old (in_clip window.clip) (glyphs_held slots.now pen.font code) pen.x pen.y }
+    ensures painted { picture_of window.size cells.new ≡ painted window.size (both (in_clip window.clip) (glyph_area (glyphs_held slots.now pen.font code) pen.x pen.y)) (solid session_colors pen.color) (picture_of window.size cells.old) }
+    ensures kept { KeepsRest window.size cells.old cells.new }
 {
     match slots.glyph(pen.font, code) {
         None => {}
-        Some(glyph) => draw_glyph(cells, size, clip, glyph.content(), pen.x, pen.y, pen.color),
+        Some(glyph) => draw_glyph(cells, window, glyph.content(), pen),
     }
 }
 
-/// Makes the tiles of a glyph's cell, with the pen at (x, y), the surface's own. The colours of all tiles stay, also after an `Err`.
+/// Makes the tiles of a glyph's cell, with the pen at its place, the surface's own. The colours of all tiles stay, also after an `Err`.
 fn own_glyph(
     cells: &mut [Cell],
     alloc: Global,
-    size: Size,
-    clip: Option<Rect>,
+    window: Window,
     glyph: &Glyph,
-    x: i32,
-    y: i32,
+    pen: Script,
 ) -> Result<(), OutOfMemory>
-    requires tiled { IsTiled size cells.old }
-    requires clip { clip_rule size clip ≡ None }
+    requires tiled { IsTiled window.size cells.old }
+    requires clip { clip_rule window.size window.clip ≡ None }
     requires rule { glyph_rule glyph.now ≡ None }
-    requires pen { IsPenNear x y }
+    requires pen { IsPenNear pen.x pen.y }
     ensures same { map cell_pixels cells.new ≡ map cell_pixels cells.old }
     ensures stays { StaysOwn cells.old cells.new }
-    ensures own { OnOk result (OwnsGlyph size cells.new (in_clip clip) (Some glyph.now) x y) }
+    ensures own { OnOk result (OwnsGlyph window.size cells.new (in_clip window.clip) (Some glyph.now) pen.x pen.y) }
 {
-    own_rect(cells, alloc, size, cell_of(glyph, x, y), clip)
+    own_rect(cells, alloc, window, cell_of(glyph, pen.x, pen.y))
 }
 
-/// Gives the pixels of a glyph's one bits one colour, with the pen at (x, y).
-fn draw_glyph(
-    cells: &mut [Cell],
-    size: Size,
-    clip: Option<Rect>,
-    glyph: &Glyph,
-    x: i32,
-    y: i32,
-    color: u32,
-)
-    requires tiled { IsTiled size cells.old }
-    requires clip { clip_rule size clip ≡ None }
+/// Gives the pixels of a glyph's one bits one colour, with the pen at its place.
+fn draw_glyph(cells: &mut [Cell], window: Window, glyph: &Glyph, pen: Script)
+    requires tiled { IsTiled window.size cells.old }
+    requires clip { clip_rule window.size window.clip ≡ None }
     requires rule { glyph_rule glyph.now ≡ None }
-    requires pen { IsPenNear x y }
-    requires own { OwnsGlyph size cells.old (in_clip clip) (Some glyph.now) x y }
-    ensures painted { picture_of size cells.new ≡ painted size (both (in_clip clip) (glyph_area (Some glyph.now) x y)) (solid session_colors color) (picture_of size cells.old) }
-    ensures kept { KeepsRest size cells.old cells.new }
+    requires pen { IsPenNear pen.x pen.y }
+    requires own { OwnsGlyph window.size cells.old (in_clip window.clip) (Some glyph.now) pen.x pen.y }
+    ensures painted { picture_of window.size cells.new ≡ painted window.size (both (in_clip window.clip) (glyph_area (Some glyph.now) pen.x pen.y)) (solid session_colors pen.color) (picture_of window.size cells.old) }
+    ensures kept { KeepsRest window.size cells.old cells.new }
 {
-    let cell = cell_of(glyph, x, y);
-    match visible(size, cell, clip) {
+    let cell = cell_of(glyph, pen.x, pen.y);
+    match visible(window, cell) {
         None => {}
         Some(part) => {
             let bits = Bits {
@@ -186,7 +166,7 @@ fn draw_glyph(
                 column: source_place(part.x, cell.x, 0),
                 row: source_place(part.y, cell.y, 0),
             };
-            draw_bits(cells, size, part, bits, color)
+            draw_bits(cells, window.size, part, bits, pen.color)
         }
     }
 }

@@ -3,8 +3,8 @@ use Rattle.px_core.specs.declared.rectangle.Rect.{Rect}
 use Rattle.px_core.specs.Rectangle.{clipped}
 use Rattle.px_core.specs.Tiles.{tiles_of}
 use Rattle.draw_ops.specs.Fits.{broken_rule}
-use Rattle.touch_marks.specs.Marking.{marks_in, noted, AreNoted}
-use Rattle.touch_marks.proofs.Entries.{none_noted}
+use Rattle.pending_core.specs.Marking.{marks_in, noted, AreNoted}
+use Rattle.pending_core.proofs.Entries.{none_noted}
 use Rattle.session_core.proofs.MarkSteps.{noted_more, shown_end}
 use Rattle.session_core.proofs.noting.note_all.Goals as goal
 

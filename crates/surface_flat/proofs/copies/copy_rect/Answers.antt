@@ -16,19 +16,19 @@ use Rattle.surface_parts.proofs.Paintings.{over_rect_is, unseen}
 use Rattle.surface_flat.proofs.copies.copy_rect.Goals as goal
 
 pub copy_part-requires-clause-from : goal.copy_part-requires-clause-from
-copy_part-requires-clause-from c = let on = lies_on c.args.size (boxed c.args.sx c.args.sy c.args.rect.w c.args.rect.h) c.requires.inside in
+copy_part-requires-clause-from c = let on = lies_on c.args.window.size (boxed c.args.sx c.args.sy c.args.rect.w c.args.rect.h) c.requires.inside in
     record {
       columns = omega (arith, ints, on.right, c.source_place.ensures, c.in-Some.ensures.within.right);
       rows = omega (arith, ints, on.below, c.source_place-in-Some.ensures, c.in-Some.ensures.within.below);
     }
 
 pub returns-in-Some : goal.returns-in-Some
-returns-in-Some c = let size = c.args.size in let old = c.args.pixels.now in let rect = c.args.rect in let p = c.in-Some.part in let sx = c.args.sx in let sy = c.args.sy in
+returns-in-Some c = let size = c.args.window.size in let old = c.args.pixels.now in let rect = c.args.rect in let p = c.in-Some.part in let sx = c.args.sx in let sy = c.args.sy in
     let on = lies_on size (boxed sx sy rect.w rect.h) c.requires.inside in
     let w = c.in-Some.ensures.within in
     let tx = c.source_place.result in let ty = c.source_place-in-Some.result in
     let copy : PictureCopy = record { rop = c.args.rop; x = tx; y = ty } in
-    over_rect_is size (in_clip c.args.clip) rect (rastered session_colors c.args.rop (absent session_colors) (shifted (rows_of size.w size.h old) 0 rect sx sy)) old c.requires.canvas.sized
+    over_rect_is size (in_clip c.args.window.clip) rect (rastered session_colors c.args.rop (absent session_colors) (shifted (rows_of size.w size.h old) 0 rect sx sy)) old c.requires.canvas.sized
     (in_part p) (copied_color size old p copy) c.copy_part.new.pixels c.copy_part.ensures (λ x y left above. c.in-Some.ensures.pixels x y left above)
     (λ x y left above h.
     let l : p.x ≤ x = grind (arith, nat_tests, h) in
@@ -43,6 +43,6 @@ returns-in-Some c = let size = c.args.size in let old = c.args.pixels.now in let
     ∙ ap (λ z. pixel_in (rows_of size.w size.h old) 0 ((pos x -ℤ rect.x) +ℤ sx) z) (sym ev)))
 
 pub returns-in-None : goal.returns-in-None
-returns-in-None c = let size = c.args.size in
-    unseen size (in_clip c.args.clip) c.args.rect (rastered session_colors c.args.rop (absent session_colors) (shifted (rows_of size.w size.h c.args.pixels.now) 0 c.args.rect c.args.sx c.args.sy)) c.args.pixels.now c.requires.canvas.sized
+returns-in-None c = let size = c.args.window.size in
+    unseen size (in_clip c.args.window.clip) c.args.rect (rastered session_colors c.args.rop (absent session_colors) (shifted (rows_of size.w size.h c.args.pixels.now) 0 c.args.rect c.args.sx c.args.sy)) c.args.pixels.now c.requires.canvas.sized
     (λ x y left above. c.in-None.ensures.pixels x y left above)

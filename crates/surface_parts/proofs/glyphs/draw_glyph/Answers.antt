@@ -1,4 +1,4 @@
-use Rattle.std.proofs.Common.{◌≡◌, ℕ, ◌+◌, ◌/◌, ◌*◌, ◌≤◌, List, length, ◌∙◌, ap, subst, sym, arith, w32, to_z, of_z}
+use Rattle.std.proofs.Common.{◌≡◌, ℕ, ◌+◌, ◌/◌, ◌*◌, ◌≤◌, List, length, ◌∙◌, ap, subst, sym, arith, w32, to_z, of_z, rules}
 use Rattle.std.proofs.lemmas.Int.{ints, to_z-of_z}
 use Rattle.px_core.specs.declared.rectangle.Rect.{Rect}
 use Rattle.px_core.specs.Picture.{both, painted}
@@ -30,19 +30,19 @@ draw_bits-requires-clause-bits c = let g = c.args.glyph.now in let k = glyph_kee
 
 pub returns-in-None : goal.returns-in-None
 returns-in-None c = let g = c.args.glyph.now in
-    let ex : to_z w32 (of_z w32 c.args.x) ≡ c.args.x = to_z-of_z w32 c.args.x c.ranges.x in
-    let ey : to_z w32 (of_z w32 c.args.y) ≡ c.args.y = to_z-of_z w32 c.args.y c.ranges.y in
-    let cell : c.cell_of-cell.result ≡ glyph_cell g c.args.x c.args.y = simp (ex, ey) at c.cell_of-cell.ensures.cell in
-    subst (λ (r : Rect). c.args.pixels.now ≡ painted c.args.size (both (in_clip c.args.clip) (inked r g.bits)) (solid session_colors c.args.color) c.args.pixels.now) cell
-    (glyph_unseen c.args.size (in_clip c.args.clip) c.cell_of-cell.result g.bits c.args.color c.args.pixels.now c.requires.canvas.sized (λ x y left above. c.in-None.ensures.pixels x y left above))
+    let ex : to_z w32 (of_z w32 c.args.pen.x) ≡ c.args.pen.x = search (rules, to_z-of_z) in
+    let ey : to_z w32 (of_z w32 c.args.pen.y) ≡ c.args.pen.y = search (rules, to_z-of_z) in
+    let cell : c.cell_of-cell.result ≡ glyph_cell g c.args.pen.x c.args.pen.y = simp (ex, ey) at c.cell_of-cell.ensures.cell in
+    subst (λ (r : Rect). c.args.pixels.now ≡ painted c.args.window.size (both (in_clip c.args.window.clip) (inked r g.bits)) (solid session_colors c.args.pen.color) c.args.pixels.now) cell
+    (glyph_unseen c.args.window.size (in_clip c.args.window.clip) c.cell_of-cell.result g.bits c.args.pen.color c.args.pixels.now c.requires.canvas.sized (λ x y left above. c.in-None.ensures.pixels x y left above))
 
 pub returns-in-Some : goal.returns-in-Some
 returns-in-Some c = let g = c.args.glyph.now in
-    let ex : to_z w32 (of_z w32 c.args.x) ≡ c.args.x = to_z-of_z w32 c.args.x c.ranges.x in
-    let ey : to_z w32 (of_z w32 c.args.y) ≡ c.args.y = to_z-of_z w32 c.args.y c.ranges.y in
-    let cell : c.cell_of-cell.result ≡ glyph_cell g c.args.x c.args.y = simp (ex, ey) at c.cell_of-cell.ensures.cell in
+    let ex : to_z w32 (of_z w32 c.args.pen.x) ≡ c.args.pen.x = search (rules, to_z-of_z) in
+    let ey : to_z w32 (of_z w32 c.args.pen.y) ≡ c.args.pen.y = search (rules, to_z-of_z) in
+    let cell : c.cell_of-cell.result ≡ glyph_cell g c.args.pen.x c.args.pen.y = simp (ex, ey) at c.cell_of-cell.ensures.cell in
     let b : Bits = record { bytes = c.bits.result; row_bytes = (c.from.result + 7) / 8; column = c.source_place.result; row = c.source_place-in-Some.result } in
     let ew : c.from.result ≡ c.cell_of-cell.result.w = c.from.ensures ∙ c.cx.ensures ∙ sym (ap (λ (r : Rect). r.w) cell) in
-    subst (λ (r : Rect). c.draw_bits.new.pixels ≡ painted c.args.size (both (in_clip c.args.clip) (inked r g.bits)) (solid session_colors c.args.color) c.args.pixels.now) cell
-    (glyph_drawn c.args.size (in_clip c.args.clip) c.cell_of-cell.result g.bits c.args.color c.args.pixels.now c.requires.canvas.sized c.in-Some.part b c.draw_bits.new.pixels c.draw_bits.ensures
+    subst (λ (r : Rect). c.draw_bits.new.pixels ≡ painted c.args.window.size (both (in_clip c.args.window.clip) (inked r g.bits)) (solid session_colors c.args.pen.color) c.args.pixels.now) cell
+    (glyph_drawn c.args.window.size (in_clip c.args.window.clip) c.cell_of-cell.result g.bits c.args.pen.color c.args.pixels.now c.requires.canvas.sized c.in-Some.part b c.draw_bits.new.pixels c.draw_bits.ensures
     (λ x y left above. c.in-Some.ensures.pixels x y left above) c.bits.ensures (ap (λ n. (n + 7) / 8) ew) (omega (arith, ints, c.source_place.ensures)) (omega (arith, ints, c.source_place-in-Some.ensures)))

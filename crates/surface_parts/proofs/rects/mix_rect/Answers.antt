@@ -14,9 +14,9 @@ use Rattle.surface_parts.proofs.Paintings.{over_rect_is, unseen}
 use Rattle.surface_parts.proofs.rects.mix_rect.Goals as goal
 
 pub returns-in-Some : goal.returns-in-Some
-returns-in-Some c = let size = c.args.size in let b = c.args.blend in let old = c.args.pixels.now in let rect = c.args.rect in
+returns-in-Some c = let size = c.args.window.size in let b = c.args.blend in let old = c.args.pixels.now in let rect = c.args.rect in
     let mix : Mix = record { rop = b.rop; brush = b.brush; texture = c.source_texture-texture.result } in
-    over_rect_is size (in_clip c.args.clip) rect (rastered session_colors b.rop (pattern_of (option_copied b.brush)) (source_of (option_copied b.image) rect b.sx b.sy)) old c.requires.canvas.sized
+    over_rect_is size (in_clip c.args.window.clip) rect (rastered session_colors b.rop (pattern_of (option_copied b.brush)) (source_of (option_copied b.image) rect b.sx b.sy)) old c.requires.canvas.sized
     (in_part c.in-Some.part) (mixed_color size old c.in-Some.part mix) c.mix_part.new.pixels c.mix_part.ensures (λ x y left above. c.in-Some.ensures.pixels x y left above)
     (λ x y left above h.
     let ex : to_z w32 (of_z w32 b.sx) ≡ b.sx = search (rules, to_z-of_z) in
@@ -28,5 +28,5 @@ returns-in-Some c = let size = c.args.size in let b = c.args.blend in let old = 
 
 pub returns-in-None : goal.returns-in-None
 returns-in-None c = let b = c.args.blend in let rect = c.args.rect in
-    unseen c.args.size (in_clip c.args.clip) rect (rastered session_colors b.rop (pattern_of (option_copied b.brush)) (source_of (option_copied b.image) rect b.sx b.sy)) c.args.pixels.now c.requires.canvas.sized
+    unseen c.args.window.size (in_clip c.args.window.clip) rect (rastered session_colors b.rop (pattern_of (option_copied b.brush)) (source_of (option_copied b.image) rect b.sx b.sy)) c.args.pixels.now c.requires.canvas.sized
     (λ x y left above. c.in-None.ensures.pixels x y left above)

@@ -1,6 +1,5 @@
-use Rattle.std.proofs.Common.{◌≡◌, ap, sym, ◌∙◌, w32, to_z, of_z, rules}
-use Rattle.std.specs.Prelude.{Option, Some, ℤ}
-use Rattle.std.proofs.lemmas.Int.{to_z-of_z}
+use Rattle.std.proofs.Common.{ap, sym, ◌∙◌}
+use Rattle.std.specs.Prelude.{Option, Some}
 use Rattle.px_core.specs.Picture.{both, painted}
 use Rattle.px_core.specs.Rectangle.{in_clip}
 use Rattle.rop3_core.specs.Palette.{session_colors}
@@ -12,17 +11,12 @@ use Rattle.surface_parts.proofs.Runs.{painted_nowhere}
 use Rattle.surface_parts.proofs.text.draw_code.Goals as goal
 
 pub returns-in-None : goal.returns-in-None
-returns-in-None c = let p = c.args.pen in let size = c.args.size in
-    sym (painted_nowhere size.w 0 (in_clip c.args.clip) (solid session_colors p.color) c.args.pixels.now)
-    ∙ ap (λ (o : Option (Loaded GlyphOf)). painted size (both (in_clip c.args.clip) (glyph_area (content_of o) p.x p.y)) (solid session_colors p.color) c.args.pixels.now) c.in-None.ensures
+returns-in-None c = let p = c.args.pen in let size = c.args.window.size in
+    sym (painted_nowhere size.w 0 (in_clip c.args.window.clip) (solid session_colors p.color) c.args.pixels.now)
+    ∙ ap (λ (o : Option (Loaded GlyphOf)). painted size (both (in_clip c.args.window.clip) (glyph_area (content_of o) p.x p.y)) (solid session_colors p.color) c.args.pixels.now) c.in-None.ensures
 
 pub returns-in-Some : goal.returns-in-Some
-returns-in-Some c = let p = c.args.pen in let size = c.args.size in let g = c.in-Some.glyph.now in
-    let ex : to_z w32 (of_z w32 p.x) ≡ p.x = search (rules, to_z-of_z) in
-    let ey : to_z w32 (of_z w32 p.y) ≡ p.y = search (rules, to_z-of_z) in
-    let made : c.draw_glyph.new.pixels ≡ painted size (both (in_clip c.args.clip) (glyph_area (Some c.content.result.now) (to_z w32 (of_z w32 p.x)) (to_z w32 (of_z w32 p.y)))) (solid session_colors p.color) c.args.pixels.now = c.draw_glyph.ensures in
-    made
-    ∙ ap (λ (z : ℤ). painted size (both (in_clip c.args.clip) (glyph_area (Some c.content.result.now) z (to_z w32 (of_z w32 p.y)))) (solid session_colors p.color) c.args.pixels.now) ex
-    ∙ ap (λ (z : ℤ). painted size (both (in_clip c.args.clip) (glyph_area (Some c.content.result.now) p.x z)) (solid session_colors p.color) c.args.pixels.now) ey
-    ∙ ap (λ (content : GlyphOf). painted size (both (in_clip c.args.clip) (glyph_area (Some content) p.x p.y)) (solid session_colors p.color) c.args.pixels.now) c.content.ensures
-    ∙ ap (λ (o : Option (Loaded GlyphOf)). painted size (both (in_clip c.args.clip) (glyph_area (content_of o) p.x p.y)) (solid session_colors p.color) c.args.pixels.now) c.in-Some.ensures
+returns-in-Some c = let p = c.args.pen in let size = c.args.window.size in
+    c.draw_glyph.ensures
+    ∙ ap (λ (content : GlyphOf). painted size (both (in_clip c.args.window.clip) (glyph_area (Some content) p.x p.y)) (solid session_colors p.color) c.args.pixels.now) c.content.ensures
+    ∙ ap (λ (o : Option (Loaded GlyphOf)). painted size (both (in_clip c.args.window.clip) (glyph_area (content_of o) p.x p.y)) (solid session_colors p.color) c.args.pixels.now) c.in-Some.ensures

@@ -20,8 +20,8 @@ draw_code-requires-clause-pen c = record {
 
 pub loop-pair-preserved : goal.loop-pair-preserved
 loop-pair-preserved c =
-    let size = c.args.size in let s = c.args.script in let run = c.args.run.now in let i = c.loop-pair.pair-index in let cur = c.loop-pair.pixels in
-    let clip : Area = in_clip c.args.clip in
+    let size = c.args.window.size in let s = c.args.script in let run = c.args.run.now in let i = c.loop-pair.pair-index in let cur = c.loop-pair.pixels in
+    let clip : Area = in_clip c.args.window.clip in
     let G = glyphs_held c.args.slots.now s.font in
     let col = solid session_colors s.color in
     let p = get_or run i (0, 0) in
@@ -41,13 +41,13 @@ loop-pair-preserved c =
           (run_more size clip G at s.y s.color p rest cur)
           ∙ ap (λ (xs : List (ℕ × ℕ)). painted size (both clip (run_area G at s.y xs)) col cur) (sym (drop_more run i (0, 0) (omega arith)))
           ∙ c.loop-pair.invariant.left;
-      canvas = record { small = c.requires.canvas.small; sized = ap (λ (qs : List ℕ). length qs) c.draw_code.ensures ∙ length-painted_from c.args.size.w 0 _ _ c.loop-pair.pixels ∙ c.loop-pair.invariant.canvas.sized };
+      canvas = record { small = c.requires.canvas.small; sized = ap (λ (qs : List ℕ). length qs) c.draw_code.ensures ∙ length-painted_from c.args.window.size.w 0 _ _ c.loop-pair.pixels ∙ c.loop-pair.invariant.canvas.sized };
       far = omega (arith, c.loop-pair.invariant.far);
     }
 
 pub returns : goal.returns
-returns c = let size = c.args.size in let s = c.args.script in let run = c.args.run.now in let cur = c.loop-pair.pixels in
-    let clip : Area = in_clip c.args.clip in
+returns c = let size = c.args.window.size in let s = c.args.script in let run = c.args.run.now in let cur = c.loop-pair.pixels in
+    let clip : Area = in_clip c.args.window.clip in
     let G = glyphs_held c.args.slots.now s.font in
     let col = solid session_colors s.color in
     let at : ℤ = s.x +ℤ pos c.loop-pair.moved in

@@ -10,14 +10,14 @@ use Rattle.tile_surface.specs.Ownership.{OwnsArea}
 use Rattle.tile_surface.proofs.own_all.own_later.Goals as goal
 
 pub returns-in-Line-clause-own : goal.returns-in-Line-clause-own
-returns-in-Line-clause-own c = let l = c.in-Line in let size = c.args.size in let new = c.own_line.new.cells in
+returns-in-Line-clause-own c = let l = c.in-Line in let size = c.args.window.size in let new = c.own_line.new.cells in
     let e0 : to_z w32 (of_z w32 l.x0) ≡ l.x0 = search (rules, to_z-of_z) in
     let f0 : to_z w32 (of_z w32 l.y0) ≡ l.y0 = search (rules, to_z-of_z) in
     let e1 : to_z w32 (of_z w32 l.x1) ≡ l.x1 = search (rules, to_z-of_z) in
     let f1 : to_z w32 (of_z w32 l.y1) ≡ l.y1 = search (rules, to_z-of_z) in
-    let At : ℤ → ℤ → ℤ → ℤ → Type 0 = λ x0 y0 x1 y1. OwnsArea size new (both (in_clip c.args.clip) (line_area x0 y0 x1 y1)) in
+    let At : ℤ → ℤ → ℤ → ℤ → Type 0 = λ x0 y0 x1 y1. OwnsArea size new (both (in_clip c.args.window.clip) (line_area x0 y0 x1 y1)) in
     on_ok_weaker c.own_line.result (λ own.
-    subst (λ (shape : Shape). OwnsLater size new c.args.clip shape) (sym l.is)
+    subst (λ (shape : Shape). OwnsLater size new c.args.window.clip shape) (sym l.is)
     (subst (λ (z : ℤ). At l.x0 l.y0 l.x1 z) f1
     (subst (λ (z : ℤ). At l.x0 l.y0 z (to_z w32 (of_z w32 l.y1))) e1
     (subst (λ (z : ℤ). At l.x0 z (to_z w32 (of_z w32 l.x1)) (to_z w32 (of_z w32 l.y1))) f0
@@ -25,12 +25,12 @@ returns-in-Line-clause-own c = let l = c.in-Line in let size = c.args.size in le
     c.own_line.ensures.own
 
 pub returns-in-Restore-clause-own : goal.returns-in-Restore-clause-own
-returns-in-Restore-clause-own c = let r = c.in-Restore in let size = c.args.size in let new = c.own_rest.new.cells in
+returns-in-Restore-clause-own c = let r = c.in-Restore in let size = c.args.window.size in let new = c.own_rest.new.cells in
     let ex : to_z w32 (of_z w32 r.x) ≡ r.x = search (rules, to_z-of_z) in
     let ey : to_z w32 (of_z w32 r.y) ≡ r.y = search (rules, to_z-of_z) in
-    let At : ℤ → ℤ → Type 0 = λ x y. OwnsArea size new (both (in_clip c.args.clip) (from_corner x y)) in
+    let At : ℤ → ℤ → Type 0 = λ x y. OwnsArea size new (both (in_clip c.args.window.clip) (from_corner x y)) in
     on_ok_weaker c.own_rest.result (λ own.
-    subst (λ (shape : Shape). OwnsLater size new c.args.clip shape) (sym r.is)
+    subst (λ (shape : Shape). OwnsLater size new c.args.window.clip shape) (sym r.is)
     (subst (λ (z : ℤ). At r.x z) ey
     (subst (λ (z : ℤ). At z (to_z w32 (of_z w32 r.y))) ex own)))
     c.own_rest.ensures.own

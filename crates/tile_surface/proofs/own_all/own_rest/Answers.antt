@@ -9,7 +9,7 @@ use Rattle.tile_surface.proofs.Later.{owns_rest}
 use Rattle.tile_surface.proofs.own_all.own_rest.Goals as goal
 
 pub returns-clause-own : goal.returns-clause-own
-returns-clause-own c = let size = c.args.size in let new = c.own_rect.new.cells in let clip = in_clip c.args.clip in let x = c.args.x in let y = c.args.y in
+returns-clause-own c = let size = c.args.window.size in let new = c.own_rect.new.cells in let clip = in_clip c.args.window.clip in let x = c.args.x in let y = c.args.y in
     let ex : to_z w32 (of_z w32 x) ≡ x = to_z-of_z w32 x c.ranges.x in
     let ey : to_z w32 (of_z w32 y) ≡ y = to_z-of_z w32 y c.ranges.y in
     let small = c.requires.tiled.small in

@@ -8,7 +8,7 @@ use Rattle.tile_surface.specs.Touched.{OwnsRect}
 use Rattle.tile_surface.proofs.paint.own_block.Goals as goal
 
 pub returns-in-Some-clause-own : goal.returns-in-Some-clause-own
-returns-in-Some-clause-own c = let b = c.block.inside in let size = c.args.size in let new = c.own_rect.new.cells in let clip = c.args.clip in let x = c.args.x in let y = c.args.y in
+returns-in-Some-clause-own c = let b = c.block.inside in let size = c.args.window.size in let new = c.own_rect.new.cells in let clip = c.args.window.clip in let x = c.args.x in let y = c.args.y in
     let ex : to_z w32 (of_z w32 x) ≡ x = to_z-of_z w32 x c.ranges.x in
     let ey : to_z w32 (of_z w32 y) ≡ y = to_z-of_z w32 y c.ranges.y in
     on_ok_weaker c.own_rect.result (λ own.

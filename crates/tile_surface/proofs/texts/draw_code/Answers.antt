@@ -14,26 +14,17 @@ use Rattle.tile_surface.specs.Needed.{OwnsGlyph}
 use Rattle.tile_surface.proofs.texts.draw_code.Goals as goal
 
 pub draw_glyph-requires-clause-own : goal.draw_glyph-requires-clause-own
-draw_glyph-requires-clause-own c = let p = c.args.pen in let size = c.args.size in let clip = in_clip c.args.clip in let cells = c.args.cells.now in
-    let ex : to_z w32 (of_z w32 p.x) ≡ p.x = search (rules, to_z-of_z) in
-    let ey : to_z w32 (of_z w32 p.y) ≡ p.y = search (rules, to_z-of_z) in
-    subst (λ (z : ℤ). OwnsGlyph size cells clip (Some c.content.result.now) z (to_z w32 (of_z w32 p.y))) (sym ex)
-    (subst (λ (z : ℤ). OwnsGlyph size cells clip (Some c.content.result.now) p.x z) (sym ey)
-    (subst (λ (content : GlyphOf). OwnsGlyph size cells clip (Some content) p.x p.y) (sym c.content.ensures)
-    (subst (λ (o : Option (Loaded GlyphOf)). OwnsGlyph size cells clip (content_of o) p.x p.y) (sym c.in-Some.ensures) c.requires.own)))
+draw_glyph-requires-clause-own c = let p = c.args.pen in let size = c.args.window.size in let clip = in_clip c.args.window.clip in let cells = c.args.cells.now in
+    subst (λ (content : GlyphOf). OwnsGlyph size cells clip (Some content) p.x p.y) (sym c.content.ensures)
+    (subst (λ (o : Option (Loaded GlyphOf)). OwnsGlyph size cells clip (content_of o) p.x p.y) (sym c.in-Some.ensures) c.requires.own)
 
 pub returns-in-None-clause-painted : goal.returns-in-None-clause-painted
-returns-in-None-clause-painted c = let p = c.args.pen in let size = c.args.size in let old = picture_of size c.args.cells.now in
-    sym (painted_nowhere size.w 0 (in_clip c.args.clip) (solid session_colors p.color) old)
-    ∙ ap (λ (o : Option (Loaded GlyphOf)). painted size (both (in_clip c.args.clip) (glyph_area (content_of o) p.x p.y)) (solid session_colors p.color) old) c.in-None.ensures
+returns-in-None-clause-painted c = let p = c.args.pen in let size = c.args.window.size in let old = picture_of size c.args.cells.now in
+    sym (painted_nowhere size.w 0 (in_clip c.args.window.clip) (solid session_colors p.color) old)
+    ∙ ap (λ (o : Option (Loaded GlyphOf)). painted size (both (in_clip c.args.window.clip) (glyph_area (content_of o) p.x p.y)) (solid session_colors p.color) old) c.in-None.ensures
 
 pub returns-in-Some-clause-painted : goal.returns-in-Some-clause-painted
-returns-in-Some-clause-painted c = let p = c.args.pen in let size = c.args.size in let old = picture_of size c.args.cells.now in let new = picture_of size c.draw_glyph.new.cells in
-    let ex : to_z w32 (of_z w32 p.x) ≡ p.x = search (rules, to_z-of_z) in
-    let ey : to_z w32 (of_z w32 p.y) ≡ p.y = search (rules, to_z-of_z) in
-    let made : new ≡ painted size (both (in_clip c.args.clip) (glyph_area (Some c.content.result.now) (to_z w32 (of_z w32 p.x)) (to_z w32 (of_z w32 p.y)))) (solid session_colors p.color) old = c.draw_glyph.ensures.painted in
-    made
-    ∙ ap (λ (z : ℤ). painted size (both (in_clip c.args.clip) (glyph_area (Some c.content.result.now) z (to_z w32 (of_z w32 p.y)))) (solid session_colors p.color) old) ex
-    ∙ ap (λ (z : ℤ). painted size (both (in_clip c.args.clip) (glyph_area (Some c.content.result.now) p.x z)) (solid session_colors p.color) old) ey
-    ∙ ap (λ (content : GlyphOf). painted size (both (in_clip c.args.clip) (glyph_area (Some content) p.x p.y)) (solid session_colors p.color) old) c.content.ensures
-    ∙ ap (λ (o : Option (Loaded GlyphOf)). painted size (both (in_clip c.args.clip) (glyph_area (content_of o) p.x p.y)) (solid session_colors p.color) old) c.in-Some.ensures
+returns-in-Some-clause-painted c = let p = c.args.pen in let size = c.args.window.size in let old = picture_of size c.args.cells.now in
+    c.draw_glyph.ensures.painted
+    ∙ ap (λ (content : GlyphOf). painted size (both (in_clip c.args.window.clip) (glyph_area (Some content) p.x p.y)) (solid session_colors p.color) old) c.content.ensures
+    ∙ ap (λ (o : Option (Loaded GlyphOf)). painted size (both (in_clip c.args.window.clip) (glyph_area (content_of o) p.x p.y)) (solid session_colors p.color) old) c.in-Some.ensures

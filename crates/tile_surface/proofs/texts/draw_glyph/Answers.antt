@@ -1,4 +1,4 @@
-use Rattle.std.proofs.Common.{◌≡◌, ℕ, ◌+◌, ◌/◌, ◌*◌, ◌≤◌, List, length, ◌∙◌, ap, subst, sym, arith, w32, to_z, of_z, pos}
+use Rattle.std.proofs.Common.{◌≡◌, ℕ, ◌+◌, ◌/◌, ◌*◌, ◌≤◌, List, length, ◌∙◌, ap, subst, sym, arith, w32, to_z, of_z, pos, rules}
 use Rattle.std.specs.Prelude.{◌&&◌}
 use Rattle.std.proofs.lemmas.Int.{ints, to_z-of_z}
 use Rattle.px_core.specs.declared.rectangle.Rect.{Rect}
@@ -34,27 +34,27 @@ draw_bits-requires-clause-bits c = let g = c.args.glyph.now in let k = glyph_kee
 
 pub draw_bits-requires-clause-own : goal.draw_bits-requires-clause-own
 draw_bits-requires-clause-own c = let g = c.args.glyph.now in
-    let ex : to_z w32 (of_z w32 c.args.x) ≡ c.args.x = to_z-of_z w32 c.args.x c.ranges.x in
-    let ey : to_z w32 (of_z w32 c.args.y) ≡ c.args.y = to_z-of_z w32 c.args.y c.ranges.y in
-    let cell : c.cell_of-cell.result ≡ glyph_cell g c.args.x c.args.y = simp (ex, ey) at c.cell_of-cell.ensures.cell in
-    owns_part c.args.size c.args.cells.now (both (in_clip c.args.clip) (in_rect (glyph_cell g c.args.x c.args.y))) c.in-Some.part c.in-Some.ensures.inside c.requires.own
-    (λ x y left above. c.in-Some.ensures.pixels x y left above ∙ ap (λ (r : Rect). in_clip c.args.clip (pos x) (pos y) && in_rect r (pos x) (pos y)) cell)
+    let ex : to_z w32 (of_z w32 c.args.pen.x) ≡ c.args.pen.x = search (rules, to_z-of_z) in
+    let ey : to_z w32 (of_z w32 c.args.pen.y) ≡ c.args.pen.y = search (rules, to_z-of_z) in
+    let cell : c.cell_of-cell.result ≡ glyph_cell g c.args.pen.x c.args.pen.y = simp (ex, ey) at c.cell_of-cell.ensures.cell in
+    owns_part c.args.window.size c.args.cells.now (both (in_clip c.args.window.clip) (in_rect (glyph_cell g c.args.pen.x c.args.pen.y))) c.in-Some.part c.in-Some.ensures.inside c.requires.own
+    (λ x y left above. c.in-Some.ensures.pixels x y left above ∙ ap (λ (r : Rect). in_clip c.args.window.clip (pos x) (pos y) && in_rect r (pos x) (pos y)) cell)
 
 pub returns-in-None-clause-painted : goal.returns-in-None-clause-painted
-returns-in-None-clause-painted c = let g = c.args.glyph.now in let size = c.args.size in let old = picture_of size c.args.cells.now in
-    let ex : to_z w32 (of_z w32 c.args.x) ≡ c.args.x = to_z-of_z w32 c.args.x c.ranges.x in
-    let ey : to_z w32 (of_z w32 c.args.y) ≡ c.args.y = to_z-of_z w32 c.args.y c.ranges.y in
-    let cell : c.cell_of-cell.result ≡ glyph_cell g c.args.x c.args.y = simp (ex, ey) at c.cell_of-cell.ensures.cell in
-    subst (λ (r : Rect). old ≡ painted size (both (in_clip c.args.clip) (inked r g.bits)) (solid session_colors c.args.color) old) cell
-    (glyph_unseen size (in_clip c.args.clip) c.cell_of-cell.result g.bits c.args.color old (tiled_length size c.args.cells.now) (λ x y left above. c.in-None.ensures.pixels x y left above))
+returns-in-None-clause-painted c = let g = c.args.glyph.now in let size = c.args.window.size in let old = picture_of size c.args.cells.now in
+    let ex : to_z w32 (of_z w32 c.args.pen.x) ≡ c.args.pen.x = search (rules, to_z-of_z) in
+    let ey : to_z w32 (of_z w32 c.args.pen.y) ≡ c.args.pen.y = search (rules, to_z-of_z) in
+    let cell : c.cell_of-cell.result ≡ glyph_cell g c.args.pen.x c.args.pen.y = simp (ex, ey) at c.cell_of-cell.ensures.cell in
+    subst (λ (r : Rect). old ≡ painted size (both (in_clip c.args.window.clip) (inked r g.bits)) (solid session_colors c.args.pen.color) old) cell
+    (glyph_unseen size (in_clip c.args.window.clip) c.cell_of-cell.result g.bits c.args.pen.color old (tiled_length size c.args.cells.now) (λ x y left above. c.in-None.ensures.pixels x y left above))
 
 pub returns-in-Some-clause-painted : goal.returns-in-Some-clause-painted
-returns-in-Some-clause-painted c = let g = c.args.glyph.now in let size = c.args.size in let old = picture_of size c.args.cells.now in let new = picture_of size c.draw_bits.new.cells in
-    let ex : to_z w32 (of_z w32 c.args.x) ≡ c.args.x = to_z-of_z w32 c.args.x c.ranges.x in
-    let ey : to_z w32 (of_z w32 c.args.y) ≡ c.args.y = to_z-of_z w32 c.args.y c.ranges.y in
-    let cell : c.cell_of-cell.result ≡ glyph_cell g c.args.x c.args.y = simp (ex, ey) at c.cell_of-cell.ensures.cell in
+returns-in-Some-clause-painted c = let g = c.args.glyph.now in let size = c.args.window.size in let old = picture_of size c.args.cells.now in let new = picture_of size c.draw_bits.new.cells in
+    let ex : to_z w32 (of_z w32 c.args.pen.x) ≡ c.args.pen.x = search (rules, to_z-of_z) in
+    let ey : to_z w32 (of_z w32 c.args.pen.y) ≡ c.args.pen.y = search (rules, to_z-of_z) in
+    let cell : c.cell_of-cell.result ≡ glyph_cell g c.args.pen.x c.args.pen.y = simp (ex, ey) at c.cell_of-cell.ensures.cell in
     let b : Bits = record { bytes = c.bits.result; row_bytes = (c.from.result + 7) / 8; column = c.source_place.result; row = c.source_place-in-Some.result } in
     let ew : c.from.result ≡ c.cell_of-cell.result.w = c.from.ensures ∙ c.cx.ensures ∙ sym (ap (λ (r : Rect). r.w) cell) in
-    subst (λ (r : Rect). new ≡ painted size (both (in_clip c.args.clip) (inked r g.bits)) (solid session_colors c.args.color) old) cell
-    (glyph_drawn size (in_clip c.args.clip) c.cell_of-cell.result g.bits c.args.color old (tiled_length size c.args.cells.now) c.in-Some.part b new c.draw_bits.ensures.painted
+    subst (λ (r : Rect). new ≡ painted size (both (in_clip c.args.window.clip) (inked r g.bits)) (solid session_colors c.args.pen.color) old) cell
+    (glyph_drawn size (in_clip c.args.window.clip) c.cell_of-cell.result g.bits c.args.pen.color old (tiled_length size c.args.cells.now) c.in-Some.part b new c.draw_bits.ensures.painted
     (λ x y left above. c.in-Some.ensures.pixels x y left above) c.bits.ensures (ap (λ n. (n + 7) / 8) ew) (omega (arith, ints, c.source_place.ensures)) (omega (arith, ints, c.source_place-in-Some.ensures)))

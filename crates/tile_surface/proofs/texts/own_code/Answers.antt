@@ -10,13 +10,9 @@ use Rattle.tile_surface.proofs.texts.own_code.Goals as goal
 
 pub returns-in-None-clause-own : goal.returns-in-None-clause-own
 returns-in-None-clause-own c = let p = c.args.pen in
-    subst (λ (o : Option (Loaded GlyphOf)). OwnsGlyph c.args.size c.args.cells.now (in_clip c.args.clip) (content_of o) p.x p.y) c.in-None.ensures tt
+    subst (λ (o : Option (Loaded GlyphOf)). OwnsGlyph c.args.window.size c.args.cells.now (in_clip c.args.window.clip) (content_of o) p.x p.y) c.in-None.ensures tt
 
 pub returns-in-Some-clause-own : goal.returns-in-Some-clause-own
-returns-in-Some-clause-own c = let p = c.args.pen in let size = c.args.size in let clip = in_clip c.args.clip in let new = c.own_glyph.new.cells in
-    let ex : to_z w32 (of_z w32 p.x) ≡ p.x = search (rules, to_z-of_z) in
-    let ey : to_z w32 (of_z w32 p.y) ≡ p.y = search (rules, to_z-of_z) in
+returns-in-Some-clause-own c = let p = c.args.pen in let size = c.args.window.size in let clip = in_clip c.args.window.clip in let new = c.own_glyph.new.cells in
     subst (λ (o : Option (Loaded GlyphOf)). OnOk c.own_glyph.result (OwnsGlyph size new clip (content_of o) p.x p.y)) c.in-Some.ensures
-    (subst (λ (content : GlyphOf). OnOk c.own_glyph.result (OwnsGlyph size new clip (Some content) p.x p.y)) c.content.ensures
-    (subst (λ (z : ℤ). OnOk c.own_glyph.result (OwnsGlyph size new clip (Some c.content.result.now) p.x z)) ey
-    (subst (λ (z : ℤ). OnOk c.own_glyph.result (OwnsGlyph size new clip (Some c.content.result.now) z (to_z w32 (of_z w32 p.y)))) ex c.own_glyph.ensures.own)))
+    (subst (λ (content : GlyphOf). OnOk c.own_glyph.result (OwnsGlyph size new clip (Some content) p.x p.y)) c.content.ensures c.own_glyph.ensures.own)

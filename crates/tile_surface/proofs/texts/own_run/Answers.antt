@@ -19,9 +19,9 @@ own_code-requires-clause-pen c = record {
 
 pub loop-pair-preserved : goal.loop-pair-preserved
 loop-pair-preserved c =
-    let size = c.args.size in let s = c.args.script in let run = c.args.run.now in let i = c.loop-pair.pair-index in
+    let size = c.args.window.size in let s = c.args.script in let run = c.args.run.now in let i = c.loop-pair.pair-index in
     let old = c.args.cells.now in let cur = c.loop-pair.cells in let next = c.own_code.new.cells in
-    let clip : Area = in_clip c.args.clip in
+    let clip : Area = in_clip c.args.window.clip in
     let G = glyphs_held c.args.slots.now s.font in
     let p = get_or run i (0, 0) in
     let at : ℤ = s.x +ℤ pos c.loop-pair.moved in

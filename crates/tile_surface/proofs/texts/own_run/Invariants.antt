@@ -13,7 +13,7 @@ abbrev pub invariant-loop-pair : goal.invariant-loop-pair
 invariant-loop-pair l = record {
   same : map cell_pixels l.cells ≡ map cell_pixels l.initial.cells;
   stays : StaysOwn l.initial.cells l.cells;
-  own : (new : List Cell) → StaysOwn l.cells new → OwnsRun l.fn.size new (in_clip l.fn.clip) (glyphs_held l.slots l.script.font) (l.script.x +ℤ pos l.moved) l.script.y (drop l.pair-index l.run)
-      → OwnsRun l.fn.size new (in_clip l.fn.clip) (glyphs_held l.slots l.script.font) l.script.x l.script.y l.run;
+  own : (new : List Cell) → StaysOwn l.cells new → OwnsRun l.fn.window.size new (in_clip l.fn.window.clip) (glyphs_held l.slots l.script.font) (l.script.x +ℤ pos l.moved) l.script.y (drop l.pair-index l.run)
+      → OwnsRun l.fn.window.size new (in_clip l.fn.window.clip) (glyphs_held l.slots l.script.font) l.script.x l.script.y l.run;
   far : l.moved ≤ 255 * l.pair-index;
 }

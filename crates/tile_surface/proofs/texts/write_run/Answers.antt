@@ -23,8 +23,8 @@ draw_code-requires-clause-pen c = record {
 
 pub draw_code-requires-clause-own : goal.draw_code-requires-clause-own
 draw_code-requires-clause-own c =
-    let size = c.args.size in let s = c.args.script in let run = c.args.run.now in let i = c.loop-pair.pair-index in let old = c.args.cells.now in let cur = c.loop-pair.cells in
-    let clip : Area = in_clip c.args.clip in
+    let size = c.args.window.size in let s = c.args.script in let run = c.args.run.now in let i = c.loop-pair.pair-index in let old = c.args.cells.now in let cur = c.loop-pair.cells in
+    let clip : Area = in_clip c.args.window.clip in
     let G = glyphs_held c.args.slots.now s.font in
     let p = get_or run i (0, 0) in
     let at : ℤ = s.x +ℤ pos c.loop-pair.moved in
@@ -38,9 +38,9 @@ draw_code-requires-clause-own c =
 
 pub loop-pair-preserved : goal.loop-pair-preserved
 loop-pair-preserved c =
-    let size = c.args.size in let s = c.args.script in let run = c.args.run.now in let i = c.loop-pair.pair-index in
+    let size = c.args.window.size in let s = c.args.script in let run = c.args.run.now in let i = c.loop-pair.pair-index in
     let old = c.args.cells.now in let cur = picture_of size c.loop-pair.cells in let new = picture_of size c.draw_code.new.cells in
-    let clip : Area = in_clip c.args.clip in
+    let clip : Area = in_clip c.args.window.clip in
     let G = glyphs_held c.args.slots.now s.font in
     let col = solid session_colors s.color in
     let p = get_or run i (0, 0) in
@@ -67,8 +67,8 @@ loop-pair-preserved c =
     }
 
 pub returns-clause-painted : goal.returns-clause-painted
-returns-clause-painted c = let size = c.args.size in let s = c.args.script in let run = c.args.run.now in let cur = picture_of size c.loop-pair.cells in
-    let clip : Area = in_clip c.args.clip in
+returns-clause-painted c = let size = c.args.window.size in let s = c.args.script in let run = c.args.run.now in let cur = picture_of size c.loop-pair.cells in
+    let clip : Area = in_clip c.args.window.clip in
     let G = glyphs_held c.args.slots.now s.font in
     let col = solid session_colors s.color in
     let at : ℤ = s.x +ℤ pos c.loop-pair.moved in

@@ -13,9 +13,9 @@ use Rattle.tile_surface.proofs.texts.write_run.Given as goal
 -- the pen went no further than it may
 abbrev pub invariant-loop-pair : goal.invariant-loop-pair
 invariant-loop-pair l = record {
-  left : painted l.fn.size (both (in_clip l.fn.clip) (run_area (glyphs_held l.slots l.script.font) (l.script.x +ℤ pos l.moved) l.script.y (drop l.pair-index l.run))) (solid session_colors l.script.color) (picture_of l.fn.size l.cells)
-      ≡ painted l.fn.size (both (in_clip l.fn.clip) (run_area (glyphs_held l.slots l.script.font) l.script.x l.script.y l.run)) (solid session_colors l.script.color) (picture_of l.fn.size l.initial.cells);
-  own : OwnsRun l.fn.size l.initial.cells (in_clip l.fn.clip) (glyphs_held l.slots l.script.font) (l.script.x +ℤ pos l.moved) l.script.y (drop l.pair-index l.run);
-  kept : KeepsRest l.fn.size l.initial.cells l.cells;
+  left : painted l.fn.window.size (both (in_clip l.fn.window.clip) (run_area (glyphs_held l.slots l.script.font) (l.script.x +ℤ pos l.moved) l.script.y (drop l.pair-index l.run))) (solid session_colors l.script.color) (picture_of l.fn.window.size l.cells)
+      ≡ painted l.fn.window.size (both (in_clip l.fn.window.clip) (run_area (glyphs_held l.slots l.script.font) l.script.x l.script.y l.run)) (solid session_colors l.script.color) (picture_of l.fn.window.size l.initial.cells);
+  own : OwnsRun l.fn.window.size l.initial.cells (in_clip l.fn.window.clip) (glyphs_held l.slots l.script.font) (l.script.x +ℤ pos l.moved) l.script.y (drop l.pair-index l.run);
+  kept : KeepsRest l.fn.window.size l.initial.cells l.cells;
   far : l.moved ≤ 255 * l.pair-index;
 }

@@ -4,8 +4,8 @@ ghost use Rattle.px_core.specs.Rectangle.{clipped, is_session_size};
 ghost use Rattle.px_core.specs.Tiles.{either_tiles, tile_rect, tiles_of};
 ghost use Rattle.px_core.specs.TileFlags.{tiles, box_tiles, row_tiles};
 ghost use Rattle.draw_ops.specs.Fits.{broken_rule};
-ghost use Rattle.touch_marks.specs.Marking.{unmarked, marks_in, noted, past};
-ghost use Rattle.touch_marks.specs.Touching.{saves_into};
+ghost use Rattle.pending_core.specs.Marking.{unmarked, marks_in, noted, past};
+ghost use Rattle.pending_core.specs.Touching.{saves_into};
 
 use draw_ops::{Drawing, OutOfMemory, Shape};
 use px_core::{
@@ -30,7 +30,7 @@ pub struct Marks {
 impl Model for Marks {
     ghost use Rattle.std.specs.Prelude.{◌≡◌, length};
     ghost use Rattle.std.specs.Box.{box_value};
-    ghost use Rattle.touch_marks.specs.Marking.{Marked};
+    ghost use Rattle.pending_core.specs.Marking.{Marked};
 
     ghost Value = { Marked };
 

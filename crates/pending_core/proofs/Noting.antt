@@ -13,8 +13,8 @@ use Rattle.draw_ops.specs.declared.shape.Shape.{Shape}
 use Rattle.draw_ops.specs.declared.shape.Shape.TheVariants.{Fill, Dst, Pat, Copy, Blit, Blit3, Text, Line, Save, Restore, LoadImage, LoadBrush, LoadGlyph}
 use Rattle.draw_ops.specs.Fits.{first_some, rules_of, limit_rule}
 use Rattle.session_rules.proofs.OwnSteps.{first_some-each}
-use Rattle.touch_marks.specs.Touching.{saves_into}
-use Rattle.touch_marks.specs.Marking.{marks_in, noted}
+use Rattle.pending_core.specs.Touching.{saves_into}
+use Rattle.pending_core.specs.Marking.{marks_in, noted}
 
 -- ---- one mark
 

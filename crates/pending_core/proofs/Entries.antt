@@ -9,8 +9,8 @@ use Rattle.px_core.specs.Tiles.{tiles_of}
 use Rattle.session_rules.specs.declared.entry.Entry.{Entry}
 use Rattle.session_rules.specs.Journal.{State, Reached, drawings_of, state_after_entry, state_after, reached_at_first, reached_after, reached_after_entry}
 use Rattle.session_rules.specs.Pending.{Pending, pending_drawings, pending_from, pending_between}
-use Rattle.touch_marks.specs.Touching.{touched_by, saves_into, saved_by}
-use Rattle.touch_marks.specs.Marking.{Marked, marks_in, noted, past, AreNoted, AreMarked}
+use Rattle.pending_core.specs.Touching.{touched_by, saves_into, saved_by}
+use Rattle.pending_core.specs.Marking.{Marked, marks_in, noted, past, AreNoted, AreMarked}
 
 -- ---- drawings after drawings
 

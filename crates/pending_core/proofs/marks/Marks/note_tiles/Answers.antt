@@ -1,8 +1,8 @@
 use Rattle.std.proofs.Common.{◌≡◌, ℕ, List, subst, rules}
 use Rattle.px_core.specs.TileFlags.{box_tiles, touches}
 use Rattle.px_core.proofs.TileFlags.{AreTouched}
-use Rattle.touch_marks.proofs.Noting.{IsMarkedIn, box_marked}
-use Rattle.touch_marks.proofs.marks.Marks.note_tiles.Goals as goal
+use Rattle.pending_core.proofs.Noting.{IsMarkedIn, box_marked}
+use Rattle.pending_core.proofs.marks.Marks.note_tiles.Goals as goal
 
 pub returns-clause-tiles : goal.returns-clause-tiles
 returns-clause-tiles c =

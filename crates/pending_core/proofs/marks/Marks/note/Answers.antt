@@ -1,9 +1,9 @@
 use Rattle.std.proofs.Common.{◌∙◌, ap}
 use Rattle.px_core.specs.declared.rectangle.Rect.{Rect}
 use Rattle.px_core.specs.Tiles.{tiles_of}
-use Rattle.touch_marks.specs.Marking.{marks_in, noted}
-use Rattle.touch_marks.proofs.Noting.{unsaved_marked}
-use Rattle.touch_marks.proofs.marks.Marks.note.Goals as goal
+use Rattle.pending_core.specs.Marking.{marks_in, noted}
+use Rattle.pending_core.proofs.Noting.{unsaved_marked}
+use Rattle.pending_core.proofs.marks.Marks.note.Goals as goal
 
 pub returns-in_default : goal.returns-in_default
 returns-in_default c = record {

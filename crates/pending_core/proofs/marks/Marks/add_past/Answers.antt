@@ -3,10 +3,10 @@ use Rattle.px_core.specs.declared.rectangle.Rect.{Rect}
 use Rattle.px_core.specs.Tiles.{Tiles, either_tiles, tiles_of}
 use Rattle.px_core.specs.TileFlags.{tiles}
 use Rattle.std.specs.Prelude.{true}
-use Rattle.touch_marks.specs.Marking.{past}
-use Rattle.touch_marks.proofs.Adding.{IsAddedUpTo, one_added, none_more, all_added}
-use Rattle.touch_marks.proofs.marks.Marks.add_past.Goals as goal
-use Rattle.touch_marks.proofs.marks.Marks.add_past.Goals.{then-is_touched_past, else-is_touched_past}
+use Rattle.pending_core.specs.Marking.{past}
+use Rattle.pending_core.proofs.Adding.{IsAddedUpTo, one_added, none_more, all_added}
+use Rattle.pending_core.proofs.marks.Marks.add_past.Goals as goal
+use Rattle.pending_core.proofs.marks.Marks.add_past.Goals.{then-is_touched_past, else-is_touched_past}
 
 pub loop-tile-preserved : goal.loop-tile-preserved
 loop-tile-preserved c =

@@ -3,7 +3,7 @@ use Rattle.std.specs.Prelude.{◌≡◌, ℕ, ◌≤◌, nat_lt, Bool, List, len
 use Rattle.px_core.specs.declared.surface.Size.{Size}
 use Rattle.session_rules.specs.declared.entry.Entry.{Entry}
 use Rattle.session_rules.specs.Pending.{Pending, pending_between}
-use Rattle.touch_marks.specs.Touching.{touched_by, saved_by}
+use Rattle.pending_core.specs.Touching.{touched_by, saved_by}
 
 -- the mark of each tile and of each slot; 0 where no entry touched it, or saved into it
 pub record Marked : Type 0 where

@@ -9,8 +9,8 @@ use Rattle.px_core.specs.Tiles.{Tiles, either_tiles, tile_rect, tiles_of, HasPix
 use Rattle.px_core.proofs.Stretches.{same_test}
 use Rattle.px_core.proofs.TilePixels.{tile_has_pixel, pixel_has_tile, tile_of_pixel}
 use Rattle.session_rules.specs.Pending.{Pending}
-use Rattle.touch_marks.specs.Touching.{touched_by}
-use Rattle.touch_marks.specs.Marking.{marks_in, past}
+use Rattle.pending_core.specs.Touching.{touched_by}
+use Rattle.pending_core.specs.Marking.{marks_in, past}
 
 -- ---- where tiles stand
 

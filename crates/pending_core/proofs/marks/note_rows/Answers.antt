@@ -1,7 +1,7 @@
 use Rattle.std.proofs.Common.{◌≡◌, ℕ, ◌∙◌, arith, subst}
 use Rattle.px_core.specs.TileFlags.{box_tiles}
-use Rattle.touch_marks.proofs.Noting.{IsMarkedIn, row_marked}
-use Rattle.touch_marks.proofs.marks.note_rows.Goals as goal
+use Rattle.pending_core.proofs.Noting.{IsMarkedIn, row_marked}
+use Rattle.pending_core.proofs.marks.note_rows.Goals as goal
 
 pub loop-row-preserved : goal.loop-row-preserved
 loop-row-preserved c = record {
