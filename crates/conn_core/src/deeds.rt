@@ -63,7 +63,7 @@ fn done(channels: u8, phase: SharePhase, deed: Deed) -> Answer
 }
 
 /// The answer that tells something without a reply.
-fn tells(news: News, next: Stage) -> Answer
+pub fn tells(news: News, next: Stage) -> Answer
     ensures answer { tells news next ≡ Ok result }
     ensures writable { IsWritable result.reply }
 {

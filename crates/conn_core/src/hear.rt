@@ -2,8 +2,8 @@
 
 ghost use Rattle.std.specs.Prelude.{◌≡◌, ◌<◌, ◌≤◌, ℕ, ◌+◌, [], false, length, take, Ok, IfOk, OnOk, OnErr};
 ghost use Rattle.tpkt_x224.specs.declared.tpkt.Packet.TheVariants.{Whole, Part};
-ghost use Rattle.tpkt_x224.specs.Tpkt.{packet_at};
-ghost use Rattle.conn_rules.specs.Hearing.{is_over, judged_heard, heard};
+ghost use Rattle.fast_path.specs.Heads.{is_fast, stream_packet_at};
+ghost use Rattle.conn_rules.specs.Hearing.{is_over, takes_fast_input, head_of, length_place, judged_heard, heard};
 ghost use Rattle.conn_rules.specs.Packets.{packet_judged};
 ghost use Rattle.conn_rules.specs.Answers.{telling};
 ghost use Rattle.conn_core.specs.Feeds.{Appends, AppendsSome};
@@ -18,11 +18,14 @@ use crate::refusals::{BAD_LENGTH, NOT_TPKT};
 use crate::replies::write_reply;
 use crate::talk::Talk;
 use conn_rules::{Answer, ConnStep, Stage};
-use tpkt_x224::{Packet, lacking, next_packet};
+use fast_path::{is_fast, lacking_in_stream, next_in_stream};
+use tpkt_x224::Packet;
 use wire_num::OutOfMemory;
 
-/// The place of a packet's length in it.
+/// The place of a TPKT packet's length in it, and of a fast-path packet's.
 const LENGTH: u64 = 2;
+
+const FAST_LENGTH: u64 = 1;
 
 /// Vectors that are taken again and again: for what is found in a packet, and for the data of a packet that is written.
 #[derive(Drop)]
@@ -59,7 +62,7 @@ pub fn hear(
 }
 
 /// Hears the first bytes: as many as the part of a packet that is there lacks, or all of them. Gives how many they are.
-#[tactic(auto, using(tpkt_x224::proofs::Wanted::alone))]
+#[tactic(auto, using(fast_path::proofs::Lacking::alone, conn_rules::proofs::Pieces::part_head))]
 fn hear_some(
     talk: &mut Talk,
     part: &mut Vec<u8>,
@@ -78,7 +81,7 @@ fn hear_some(
     ensures few { IfOk result (λ n. n ≤ length bytes.now) }
     ensures size { talk.new.size ≡ talk.old.size }
 {
-    let n = lacking(part).min(bytes.len());
+    let n = lacking_in_stream(part).min(bytes.len());
     part.extend_from_slice(&bytes[..n])?;
     hear_part(talk, part, room, out, steps)?;
     Ok(n)
@@ -110,13 +113,13 @@ fn hear_part(
     requires wide { talk.old.size.w ≤ 65535 }
     requires high { talk.old.size.h ≤ 65535 }
     requires open { is_over talk.old.stage ≡ false }
-    requires alone { (n : ℕ) → packet_at part.old.items ≡ Whole n → n ≡ length part.old.items }
+    requires alone { (n : ℕ) → stream_packet_at part.old.items ≡ Whole n → n ≡ length part.old.items }
     ensures heard { OnOk result (hearing talk.new part.new.items ≡ (part_heard talk.old part.old.items).after) }
     ensures appended { OnOk result (Appends (part_heard talk.old part.old.items) out.old.items out.new.items steps.old.items steps.new.items) }
     ensures memory { OnErr result (AppendsSome (part_heard talk.old part.old.items) out.old.items out.new.items steps.old.items steps.new.items) }
     ensures size { talk.new.size ≡ talk.old.size }
 {
-    match next_packet(part) {
+    match head_of(talk.stage, part) {
         Packet::Whole(_) => {
             hear_packet(talk, part, room, out, steps)?;
             part.clear();
@@ -127,11 +130,44 @@ fn hear_part(
             part.clear();
         }
         Packet::BadLength => {
-            refuse(talk, BAD_LENGTH, LENGTH);
+            refuse(talk, BAD_LENGTH, length_place(part));
             part.clear();
         }
     }
     Ok(())
+}
+
+/// What stands at the head of what is left, as the stage sees it: before the place of the Confirm Active a fast-path packet's first
+/// byte is another version.
+fn head_of(stage: Stage, rest: &[u8]) -> Packet
+    ensures { result ≡ head_of stage rest.now }
+{
+    if is_fast(rest) && !takes_fast_input(stage) {
+        Packet::NotTpkt
+    } else {
+        next_in_stream(rest)
+    }
+}
+
+/// Whether fast-path packets may come.
+fn takes_fast_input(stage: Stage) -> bool
+    ensures { result ≡ takes_fast_input stage }
+{
+    match stage {
+        Stage::Request
+        | Stage::Initial { .. }
+        | Stage::Erect { .. }
+        | Stage::Attach { .. }
+        | Stage::Joins { .. } => false,
+        Stage::Shares { .. } | Stage::Over | Stage::Refused { .. } => true,
+    }
+}
+
+/// The place of a packet's length in it.
+fn length_place(rest: &[u8]) -> u64
+    ensures { result ≡ length_place (is_fast rest.now) }
+{
+    if is_fast(rest) { FAST_LENGTH } else { LENGTH }
 }
 
 /// Refuses the stream so many bytes behind the first one of the packet at hand.

@@ -1,4 +1,4 @@
-//! What comes of a whole packet, by what the client is to send next ([MS-RDPBCGR] 1.3.1.1).
+//! What comes of a whole packet, by what the client is to send next ([MS-RDPBCGR] 1.3.1.1): of a fast-path packet, or of a TPKT packet.
 //!
 //! | offset | size | field | value |
 //! |---|---|---|---|
@@ -11,23 +11,27 @@ ghost use Rattle.wire_num.specs.Layout.{fields_at};
 ghost use Rattle.wire_num.specs.Cursor.{ReadsFieldsAs, rest};
 ghost use Rattle.mcs_dom.specs.DomainPdu.{HasBodyAtEnd};
 ghost use Rattle.conn_rules.specs.Headers.{mcs_headers};
-ghost use Rattle.conn_rules.specs.Packets.{info_data, share_data, joins_judged, shares_judged, mcs_judged, behind_headers, packet_judged};
+ghost use Rattle.fast_path.specs.Events.{fast_events};
+ghost use Rattle.conn_rules.specs.Packets.{info_data, share_data, joins_judged, shares_judged, mcs_judged, behind_headers, tpkt_judged, input_wanted, input_judged, fast_judged, packet_judged};
+ghost use Rattle.conn_rules.specs.Deeds.{done};
 ghost use Rattle.conn_rules.specs.Info.{welcomed};
 ghost use Rattle.conn_rules.specs.Answers.{alone};
 ghost use Rattle.conn_core.specs.Judges.{IsJudgedBeside, found_steps, IsWritable, IsPart};
 
 use crate::connecting::{judge_initial, judge_request};
-use crate::deeds::judge_deed;
+use crate::deeds::{judge_deed, tells};
 use crate::domain::{
     FOREIGN, IO_CHANNEL, LEAVES, MCS_PLACE, UNEXPECTED, goes_to, judge_attach, judge_dropped,
     judge_early, judge_erect, judge_join, read_pdu, user_channel,
 };
 use crate::fault::Fault;
 use crate::found::{Found, forget};
-use crate::refusals::{BAD_INFO, BAD_TPDU};
+use crate::refusals::{BAD_INFO, BAD_INPUT, BAD_TPDU, NOT_TPKT};
 use crate::shares::read_deed;
 use conn_rules::{Answer, Client, ConnStep, News, Refusal, Reply, SharePhase, Stage};
+use fast_path::{is_fast, read_fast};
 use info_lic::{InfoFault, Name, read_info};
+use input_pdu::InputFault;
 use mcs_dom::DomainPdu;
 use wire_num::{Cursor, Range, Short};
 
@@ -42,6 +46,20 @@ pub fn judge_packet(stage: Stage, packet: &[u8], found: &mut Found) -> Result<An
     ensures writable { IfOk result (λ answer. IsWritable answer.reply) }
 {
     forget(found);
+    if is_fast(packet) {
+        judge_fast(stage, packet, found)
+    } else {
+        judge_tpkt(stage, packet, found)
+    }
+}
+
+/// What comes of a TPKT packet.
+fn judge_tpkt(stage: Stage, packet: &[u8], found: &mut Found) -> Result<Answer, Fault>
+    requires events { found.old.events.items ≡ [] }
+    requires areas { found.old.areas.items ≡ [] }
+    ensures exact { IsJudgedBeside (found_steps found.new.events.items found.new.areas.items) result (tpkt_judged stage packet.now) }
+    ensures writable { IfOk result (λ answer. IsWritable answer.reply) }
+{
     match stage {
         Stage::Request => alone(judge_request(packet), found),
         Stage::Initial { .. }
@@ -50,6 +68,56 @@ pub fn judge_packet(stage: Stage, packet: &[u8], found: &mut Found) -> Result<An
         | Stage::Joins { .. }
         | Stage::Shares { .. } => judge_data(stage, packet, found),
         Stage::Over | Stage::Refused { .. } => alone(Ok(goes_to(stage)), found),
+    }
+}
+
+/// What comes of a fast-path packet: before the place of the Confirm Active its first byte is refused.
+fn judge_fast(stage: Stage, packet: &[u8], found: &mut Found) -> Result<Answer, Fault>
+    requires events { found.old.events.items ≡ [] }
+    requires areas { found.old.areas.items ≡ [] }
+    ensures exact { IsJudgedBeside (found_steps found.new.events.items found.new.areas.items) result (fast_judged stage packet.now) }
+    ensures writable { IfOk result (λ answer. IsWritable answer.reply) }
+{
+    match stage {
+        Stage::Request
+        | Stage::Initial { .. }
+        | Stage::Erect { .. }
+        | Stage::Attach { .. }
+        | Stage::Joins { .. } => Err(Fault::Refused(Refusal { k: NOT_TPKT, at: 0 })),
+        Stage::Shares { channels, phase } => judge_input(channels, phase, packet, found),
+        Stage::Over | Stage::Refused { .. } => alone(Ok(goes_to(stage)), found),
+    }
+}
+
+/// What comes of the events of a fast-path packet.
+fn judge_input(
+    channels: u8,
+    phase: SharePhase,
+    packet: &[u8],
+    found: &mut Found,
+) -> Result<Answer, Fault>
+    requires events { found.old.events.items ≡ [] }
+    requires areas { found.old.areas.items ≡ [] }
+    ensures exact { IsJudgedBeside (found_steps found.new.events.items found.new.areas.items) result (input_judged channels phase (fast_events packet.now)) }
+    ensures writable { IfOk result (λ answer. IsWritable answer.reply) }
+{
+    match read_fast(packet, &mut found.events) {
+        Ok(()) => Ok(input_taken(channels, phase)),
+        Err(InputFault::BadInput { at }) => Err(Fault::Refused(Refusal { k: BAD_INPUT, at })),
+        Err(InputFault::OutOfMemory) => Err(Fault::OutOfMemory),
+    }
+}
+
+/// What comes of events that were read: once the client is ready they are told.
+fn input_taken(channels: u8, phase: SharePhase) -> Answer
+    ensures answer { done channels phase (input_wanted phase) ≡ Ok result }
+    ensures writable { IsWritable result.reply }
+{
+    match phase {
+        SharePhase::Confirm { .. } | SharePhase::Finish { .. } => {
+            goes_to(Stage::Shares { channels, phase })
+        }
+        SharePhase::Ready => tells(News::Pdu, Stage::Shares { channels, phase }),
     }
 }
 

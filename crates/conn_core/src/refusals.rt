@@ -1,8 +1,8 @@
 //! The numbers of refusals.
 
-/// A packet's first byte isn't 3.
+/// A packet's first byte is neither 3 nor, from the place of the Confirm Active on, that of the fast path.
 pub const NOT_TPKT: u8 = 1;
-/// A packet's length is below 7.
+/// A packet's length is below 7, or that of the fast path below the bytes of its header and length.
 pub const BAD_LENGTH: u8 = 2;
 /// The X.224 header breaks its rule.
 pub const BAD_TPDU: u8 = 3;
@@ -14,7 +14,7 @@ pub const BAD_DOMAIN: u8 = 5;
 pub const WRONG_CHANNEL: u8 = 6;
 /// The client data break their rule.
 pub const BAD_GCC: u8 = 7;
-/// 24 bits for each pixel aren't offered.
+/// Neither 24 nor 16 bits for each pixel are offered.
 pub const DEPTH_NOT_OFFERED: u8 = 8;
 /// There are more than 31 static virtual channels.
 pub const TOO_MANY_CHANNELS: u8 = 9;
@@ -26,5 +26,6 @@ pub const BAD_CAPS: u8 = 11;
 pub const BAD_SHARE: u8 = 12;
 /// A share PDU is compressed.
 pub const COMPRESSED: u8 = 13;
-/// The events don't fit in the Input PDU.
+/// The events don't fit in the Input PDU, or the fast-path packet; a flag bit of such a packet is set; one of its events has another
+/// code.
 pub const BAD_INPUT: u8 = 14;

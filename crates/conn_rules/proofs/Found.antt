@@ -37,8 +37,10 @@ use Rattle.conn_rules.specs.Domain.{erect_judged, attach_judged, own, dropped}
 use Rattle.conn_rules.specs.Headers.{mcs_headers}
 use Rattle.conn_rules.specs.Told.{event_steps, area_steps}
 use Rattle.conn_rules.specs.Shares.{sets_read, other_deed, confirm_deed, input_deed, deed_of, read_deed}
-use Rattle.conn_rules.specs.Deeds.{deed_judged, found_judged}
-use Rattle.conn_rules.specs.Packets.{mcs_place, body_in, share_data, joins_judged, shares_judged, pdu_in, mcs_judged, behind_headers, packet_judged}
+use Rattle.fast_path.specs.Heads.{is_fast}
+use Rattle.fast_path.specs.Events.{fast_events}
+use Rattle.conn_rules.specs.Deeds.{done, deed_judged, found_judged}
+use Rattle.conn_rules.specs.Packets.{mcs_place, body_in, share_data, joins_judged, shares_judged, pdu_in, mcs_judged, behind_headers, tpkt_judged, input_wanted, input_judged, fast_judged, packet_judged}
 
 -- P of the steps of each PDU, by what Q says of its bytes, which it says of parts of them too
 pub record Finds (P : List ConnStep → Type 0) (Q : List ℕ → Type 0) : Type 0 where
@@ -139,12 +141,35 @@ headers_find : {P : List ConnStep → Type 0} {Q : List ℕ → Type 0} → Find
 headers_find f s packet (Ok v) e q = mcs_finds f s v.1 (f.behind packet v.0 v.1 e q)
 headers_find f s packet (Err left) e q = tt
 
+tpkt_finds : {P : List ConnStep → Type 0} {Q : List ℕ → Type 0} → Finds P Q → (s : Stage) (packet : List ℕ) → Q packet → Tells P (tpkt_judged s packet)
+tpkt_finds f stage.Request packet q = alone_tells f (request_judged (request_of packet))
+tpkt_finds f (stage.Initial asked) packet q = headers_find f (stage.Initial asked) packet (fields_at mcs_headers packet) refl q
+tpkt_finds f (stage.Erect client) packet q = headers_find f (stage.Erect client) packet (fields_at mcs_headers packet) refl q
+tpkt_finds f (stage.Attach client) packet q = headers_find f (stage.Attach client) packet (fields_at mcs_headers packet) refl q
+tpkt_finds f (stage.Joins client user io) packet q = headers_find f (stage.Joins client user io) packet (fields_at mcs_headers packet) refl q
+tpkt_finds f (stage.Shares channels here) packet q = headers_find f (stage.Shares channels here) packet (fields_at mcs_headers packet) refl q
+tpkt_finds f stage.Over packet q = f.none
+tpkt_finds f (stage.Refused k at) packet q = f.none
+
+-- ---- fast-path packets
+
+input_tells : (P : List ConnStep → Type 0) (channels : ℕ) (here : SharePhase) (r : Result (List Event) ℕ) → ((events : List Event) → P (event_steps events))
+    → Tells P (input_judged channels here r)
+input_tells P channels here (Ok events) all = beside_tells P (event_steps events) (done channels here (input_wanted here)) (all events)
+input_tells P channels here (Err at) all = tt
+
+fast_finds : {P : List ConnStep → Type 0} {Q : List ℕ → Type 0} → Finds P Q → (s : Stage) (packet : List ℕ) → Tells P (fast_judged s packet)
+fast_finds f stage.Request packet = tt
+fast_finds f (stage.Initial asked) packet = tt
+fast_finds f (stage.Erect client) packet = tt
+fast_finds f (stage.Attach client) packet = tt
+fast_finds f (stage.Joins client user io) packet = tt
+fast_finds {P = P} f (stage.Shares channels here) packet = input_tells P channels here (fast_events packet) f.events
+fast_finds f stage.Over packet = f.none
+fast_finds f (stage.Refused k at) packet = f.none
+
+-- ---- packets of either kind
+
 pub packet_finds : {P : List ConnStep → Type 0} {Q : List ℕ → Type 0} → Finds P Q → (s : Stage) (packet : List ℕ) → Q packet → Tells P (packet_judged s packet)
-packet_finds f stage.Request packet q = alone_tells f (request_judged (request_of packet))
-packet_finds f (stage.Initial asked) packet q = headers_find f (stage.Initial asked) packet (fields_at mcs_headers packet) refl q
-packet_finds f (stage.Erect client) packet q = headers_find f (stage.Erect client) packet (fields_at mcs_headers packet) refl q
-packet_finds f (stage.Attach client) packet q = headers_find f (stage.Attach client) packet (fields_at mcs_headers packet) refl q
-packet_finds f (stage.Joins client user io) packet q = headers_find f (stage.Joins client user io) packet (fields_at mcs_headers packet) refl q
-packet_finds f (stage.Shares channels here) packet q = headers_find f (stage.Shares channels here) packet (fields_at mcs_headers packet) refl q
-packet_finds f stage.Over packet q = f.none
-packet_finds f (stage.Refused k at) packet q = f.none
+packet_finds {P = P} f s packet q =
+    either_tells P (is_fast packet) (fast_judged s packet) (tpkt_judged s packet) (fast_finds f s packet) (tpkt_finds f s packet q)

@@ -13,8 +13,8 @@ use Rattle.wire_num.proofs.ReadIsText.{read_is_text}
 use Rattle.wire_num.proofs.Place.{text_end}
 use Rattle.tpkt_x224.specs.declared.tpkt.Packet.{Packet}
 use Rattle.tpkt_x224.specs.declared.tpkt.Packet.TheVariants.{Whole, Part, NotTpkt, BadLength}
-use Rattle.tpkt_x224.specs.Tpkt.{packet_at}
-use Rattle.tpkt_x224.specs.Pieces.{Cut, cut_by, cut_from, packets_of}
+use Rattle.fast_path.specs.Heads.{stream_packet_at}
+use Rattle.tpkt_x224.specs.Pieces.{Cut, cut_by, cut_with, packets_with}
 use Rattle.input_pdu.specs.declared.event.Event.{Event}
 use Rattle.share_pdu.specs.Bodies.{rect_between, inclusive_area, area_at, areas_at, refresh_header, refresh_at, areas_by, areas_of}
 use Rattle.conn_rules.specs.declared.answer.Answer.{Answer}
@@ -28,7 +28,7 @@ use Rattle.conn_rules.specs.Answers.{Telling}
 use Rattle.conn_rules.specs.Headers.{mcs_headers}
 use Rattle.conn_rules.specs.Packets.{packet_judged}
 use Rattle.conn_rules.specs.Told.{event_steps, area_steps, news_steps, end_steps, is_ready, told_steps}
-use Rattle.conn_rules.specs.Hearing.{Hearing, Heard, silent, is_over, judged_heard, packet_heard, packets_heard, between, with_head, heard}
+use Rattle.conn_rules.specs.Hearing.{Hearing, Heard, silent, is_over, judged_heard, packet_heard, packets_heard, between, head_of, with_head, heard}
 use Rattle.conn_rules.specs.Progress.{Progress, progress_of}
 use Rattle.conn_rules.specs.Progress.Progress.{Connecting, Ready, Ended}
 use Rattle.conn_rules.specs.Placed.{AreBytes, IsStepPlaced, ArePlaced}
@@ -218,9 +218,9 @@ cut_by_bytes Part bytes on h q = (All-nil AreBytes, h)
 cut_by_bytes NotTpkt bytes on h q = (All-nil AreBytes, h)
 cut_by_bytes BadLength bytes on h q = (All-nil AreBytes, h)
 
-cut_from_bytes : (n : ℕ) (bytes : List ℕ) → AreBytes bytes → AreCutBytes (cut_from n bytes)
+cut_from_bytes : (n : ℕ) (bytes : List ℕ) → AreBytes bytes → AreCutBytes (cut_with stream_packet_at n bytes)
 cut_from_bytes zero bytes h = (All-nil AreBytes, h)
-cut_from_bytes (suc n) bytes h = cut_by_bytes (packet_at bytes) bytes (cut_from n) h (λ more m. cut_from_bytes n more m)
+cut_from_bytes (suc n) bytes h = cut_by_bytes (stream_packet_at bytes) bytes (cut_with stream_packet_at n) h (λ more m. cut_from_bytes n more m)
 
 head_bytes : (h : Hearing) (rest : List ℕ) (r : Packet) → AreBytes rest → AreBytes (with_head h rest r).part
 head_bytes h rest (Whole n) p = p
@@ -228,15 +228,15 @@ head_bytes h rest Part p = p
 head_bytes h rest NotTpkt p = no_bytes
 head_bytes h rest BadLength p = no_bytes
 
-rest_by : (b : Bool) (h : Hearing) (rest : List ℕ) → AreBytes h.part → AreBytes rest → AreBytes (cond b h (with_head h rest (packet_at rest))).part
+rest_by : (b : Bool) (h : Hearing) (rest : List ℕ) → AreBytes h.part → AreBytes rest → AreBytes (cond b h (with_head h rest (head_of h.stage rest))).part
 rest_by true h rest p q = p
-rest_by false h rest p q = head_bytes h rest (packet_at rest) q
+rest_by false h rest p q = head_bytes h rest (head_of h.stage rest) q
 
 pub heard_near : (h : Hearing) (bytes : List ℕ) → AreBytes h.part → AreBytes bytes → IsNear (heard h bytes)
 unfolding heard
 heard_near h bytes p q =
     let all = All-append IsByte h.part bytes p q in
-    let cut = packets_of (h.part ++ bytes) in
+    let cut = packets_with stream_packet_at (h.part ++ bytes) in
     let cuts = cut_from_bytes (length (h.part ++ bytes)) (h.part ++ bytes) all in
     let x = packets_near (between h) cut.packets no_bytes cuts.0 in
     (x.0, rest_by (is_over (packets_heard (between h) cut.packets).after.stage) (packets_heard (between h) cut.packets).after cut.rest x.1 cuts.1)

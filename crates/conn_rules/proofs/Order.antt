@@ -11,8 +11,7 @@ use Rattle.tpkt_x224.specs.declared.request.Request.{Request}
 use Rattle.tpkt_x224.specs.declared.bad_tpdu.BadTpdu.{BadTpdu}
 use Rattle.tpkt_x224.specs.declared.tpkt.Packet.{Packet}
 use Rattle.tpkt_x224.specs.declared.tpkt.Packet.TheVariants.{Whole, Part, NotTpkt, BadLength}
-use Rattle.tpkt_x224.specs.Tpkt.{packet_at}
-use Rattle.tpkt_x224.specs.Pieces.{packets_of}
+use Rattle.tpkt_x224.specs.Pieces.{packets_with}
 use Rattle.tpkt_x224.specs.Request.{request_of}
 use Rattle.mcs_ber.specs.declared.bad_ber.BadBer.{BadBer}
 use Rattle.mcs_ber.specs.ConnectInitial.{user_data_of}
@@ -59,12 +58,14 @@ use Rattle.conn_rules.specs.Connecting.{request_judged, client_judged, initial_j
 use Rattle.conn_rules.specs.Domain.{erect_judged, attach_judged, own, joined, dropped, by_channel}
 use Rattle.conn_rules.specs.Info.{info_judged}
 use Rattle.conn_rules.specs.Shares.{order_of, due, sets_read, other_deed, input_deed, deed_of, read_deed}
+use Rattle.fast_path.specs.Heads.{is_fast, stream_packet_at}
+use Rattle.fast_path.specs.Events.{fast_events}
 use Rattle.conn_rules.specs.Deeds.{answered, done, deed_judged, found_judged}
 use Rattle.conn_rules.specs.Numbers.{place_behind}
 use Rattle.conn_rules.specs.Headers.{mcs_headers}
-use Rattle.conn_rules.specs.Packets.{mcs_place, body_in, info_data, both, share_data, joins_judged, shares_judged, pdu_in, mcs_judged, behind_headers, packet_judged}
+use Rattle.conn_rules.specs.Packets.{mcs_place, body_in, info_data, both, share_data, joins_judged, shares_judged, pdu_in, mcs_judged, behind_headers, tpkt_judged, input_wanted, input_judged, fast_judged, packet_judged}
 use Rattle.conn_rules.specs.Told.{event_steps, area_steps, news_steps, told_steps}
-use Rattle.conn_rules.specs.Hearing.{Hearing, Heard, silent, is_over, judged_heard, packet_heard, packets_heard, between, with_head, with_rest, heard, host_handshake, first_hearing}
+use Rattle.conn_rules.specs.Hearing.{Hearing, Heard, silent, is_over, judged_heard, packet_heard, packets_heard, between, head_of, with_head, with_rest, heard, host_handshake, first_hearing}
 use Rattle.conn_rules.specs.Progress.{Progress, progress_of, StaysOrEnds, ComeInOrder}
 use Rattle.conn_rules.specs.Progress.Progress.{Connecting, Ready, Ended}
 use Rattle.conn_rules.proofs.Found.{Finds, Tells, packet_finds}
@@ -430,15 +431,42 @@ headers_suit : (s : Stage) (packet : List ℕ) (r : Read (List ℕ)) → is_over
 headers_suit s packet (Ok v) e = mcs_suits s v.1 e refl
 headers_suit s packet (Err left) e = tt
 
+tpkt_suits : (s : Stage) (packet : List ℕ) → is_over s ≡ false → TellingSuits (progress_of s) (tpkt_judged s packet)
+tpkt_suits stage.Request packet e = alone_suits Connecting (request_judged (request_of packet)) (request_suits (request_of packet))
+tpkt_suits (stage.Initial asked) packet e = headers_suit (stage.Initial asked) packet (fields_at mcs_headers packet) e
+tpkt_suits (stage.Erect client) packet e = headers_suit (stage.Erect client) packet (fields_at mcs_headers packet) e
+tpkt_suits (stage.Attach client) packet e = headers_suit (stage.Attach client) packet (fields_at mcs_headers packet) e
+tpkt_suits (stage.Joins client user io) packet e = headers_suit (stage.Joins client user io) packet (fields_at mcs_headers packet) e
+tpkt_suits (stage.Shares channels here) packet e = headers_suit (stage.Shares channels here) packet (fields_at mcs_headers packet) e
+tpkt_suits stage.Over packet e = absurd (let no : ⊥ = cc in no)
+tpkt_suits (stage.Refused k at) packet e = absurd (let no : ⊥ = cc in no)
+
+-- ---- fast-path packets
+
+wanted_suits : (channels : ℕ) (here : SharePhase) → Suits (so_far here) (done channels here (input_wanted here))
+wanted_suits channels (phase.Confirm depth) = done_suits channels (phase.Confirm depth) deed.Nothing tt
+wanted_suits channels (phase.Finish before next) = done_suits channels (phase.Finish before next) deed.Nothing tt
+wanted_suits channels phase.Ready = done_suits channels phase.Ready deed.Tell tt
+
+fast_input_suits : (channels : ℕ) (here : SharePhase) (r : Result (List Event) ℕ) → TellingSuits (so_far here) (input_judged channels here r)
+fast_input_suits channels here (Ok events) = beside_suits (so_far here) (event_steps events) (done channels here (input_wanted here)) (wanted_suits channels here)
+fast_input_suits channels here (Err at) = tt
+
+fast_suits : (s : Stage) (packet : List ℕ) → is_over s ≡ false → TellingSuits (progress_of s) (fast_judged s packet)
+fast_suits stage.Request packet e = tt
+fast_suits (stage.Initial asked) packet e = tt
+fast_suits (stage.Erect client) packet e = tt
+fast_suits (stage.Attach client) packet e = tt
+fast_suits (stage.Joins client user io) packet e = tt
+fast_suits (stage.Shares channels (phase.Confirm depth)) packet e = fast_input_suits channels (phase.Confirm depth) (fast_events packet)
+fast_suits (stage.Shares channels (phase.Finish before next)) packet e = fast_input_suits channels (phase.Finish before next) (fast_events packet)
+fast_suits (stage.Shares channels phase.Ready) packet e = fast_input_suits channels phase.Ready (fast_events packet)
+fast_suits stage.Over packet e = absurd (let no : ⊥ = cc in no)
+fast_suits (stage.Refused k at) packet e = absurd (let no : ⊥ = cc in no)
+
 pub packet_suits : (s : Stage) (packet : List ℕ) → is_over s ≡ false → TellingSuits (progress_of s) (packet_judged s packet)
-packet_suits stage.Request packet e = alone_suits Connecting (request_judged (request_of packet)) (request_suits (request_of packet))
-packet_suits (stage.Initial asked) packet e = headers_suit (stage.Initial asked) packet (fields_at mcs_headers packet) e
-packet_suits (stage.Erect client) packet e = headers_suit (stage.Erect client) packet (fields_at mcs_headers packet) e
-packet_suits (stage.Attach client) packet e = headers_suit (stage.Attach client) packet (fields_at mcs_headers packet) e
-packet_suits (stage.Joins client user io) packet e = headers_suit (stage.Joins client user io) packet (fields_at mcs_headers packet) e
-packet_suits (stage.Shares channels here) packet e = headers_suit (stage.Shares channels here) packet (fields_at mcs_headers packet) e
-packet_suits stage.Over packet e = absurd (let no : ⊥ = cc in no)
-packet_suits (stage.Refused k at) packet e = absurd (let no : ⊥ = cc in no)
+packet_suits s packet e =
+    either_telling (progress_of s) (is_fast packet) (fast_judged s packet) (tpkt_judged s packet) (fast_suits s packet e) (tpkt_suits s packet e)
 
 -- ---- what a packet tells
 
@@ -542,14 +570,14 @@ head_in_order h rest Part = none_in_order (progress_of h.stage)
 head_in_order h rest NotTpkt = refused_in_order (progress_of h.stage)
 head_in_order h rest BadLength = refused_in_order (progress_of h.stage)
 
-rest_by : (b : Bool) (h : Hearing) (rest : List ℕ) → ComeInOrder (progress_of h.stage) [] (progress_of (cond b h (with_head h rest (packet_at rest))).stage)
+rest_by : (b : Bool) (h : Hearing) (rest : List ℕ) → ComeInOrder (progress_of h.stage) [] (progress_of (cond b h (with_head h rest (head_of h.stage rest))).stage)
 rest_by true h rest = none_in_order (progress_of h.stage)
-rest_by false h rest = head_in_order h rest (packet_at rest)
+rest_by false h rest = head_in_order h rest (head_of h.stage rest)
 
 pub heard_in_order : (h : Hearing) (bytes : List ℕ) → IsInOrder h (heard h bytes)
 unfolding heard
 heard_in_order h bytes =
-    let cut = packets_of (h.part ++ bytes) in
+    let cut = packets_with stream_packet_at (h.part ++ bytes) in
     let x = packets_heard (between h) cut.packets in
     subst (λ steps. ComeInOrder (progress_of h.stage) steps (progress_of (with_rest x.after cut.rest).stage)) (append-nil x.steps)
     (in_order_then (progress_of h.stage) (progress_of x.after.stage) (progress_of (with_rest x.after cut.rest).stage) x.steps []

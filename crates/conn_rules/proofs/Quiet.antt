@@ -27,12 +27,14 @@ use Rattle.conn_rules.specs.Domain.{own, dropped}
 use Rattle.conn_rules.specs.Shares.{ready_deed, input_deed, deed_of, read_deed}
 use Rattle.conn_rules.specs.Deeds.{done, deed_judged, found_judged}
 use Rattle.conn_rules.specs.Headers.{mcs_headers}
-use Rattle.conn_rules.specs.Packets.{mcs_place, body_in, share_data, shares_judged, pdu_in, behind_headers, packet_judged}
+use Rattle.conn_rules.specs.Packets.{mcs_place, body_in, share_data, shares_judged, pdu_in, behind_headers, tpkt_judged, input_judged, fast_judged, packet_judged}
 use Rattle.conn_rules.specs.Replies.{reply_bytes}
-use Rattle.conn_rules.specs.Told.{is_ready}
+use Rattle.conn_rules.specs.Told.{event_steps, is_ready}
 use Rattle.conn_rules.specs.Hearing.{Hearing, Heard, silent, is_over, judged_heard, packet_heard, packets_heard, between, before_rest, heard}
 use Rattle.conn_rules.proofs.Pieces.{over_silent}
-use Rattle.tpkt_x224.specs.Pieces.{packets_of}
+use Rattle.tpkt_x224.specs.Pieces.{packets_with}
+use Rattle.fast_path.specs.Heads.{is_fast, stream_packet_at}
+use Rattle.fast_path.specs.Events.{fast_events}
 
 -- ready, or over
 abbrev IsQuiet : Stage → Type 0
@@ -156,6 +158,16 @@ headers_quiet : (channels : ℕ) (packet : List ℕ) (r : Read (List ℕ)) → Q
 headers_quiet channels packet (Ok v) = bind_quiet channels v.1 (pdu_in v.1)
 headers_quiet channels packet (Err left) = tt
 
+-- events are told without a reply
+input_quiet : (channels : ℕ) (r : Result (List Event) ℕ) → QuietTelling (input_judged channels phase.Ready r)
+input_quiet channels (Ok events) = beside_quiet (event_steps events) (done channels phase.Ready deed.Tell) (done_quiet channels deed.Tell tt)
+input_quiet channels (Err at) = tt
+
+ready_quiet : (channels : ℕ) (packet : List ℕ) → QuietTelling (packet_judged (stage.Shares channels phase.Ready) packet)
+ready_quiet channels packet =
+    either_telling (is_fast packet) (fast_judged (stage.Shares channels phase.Ready) packet) (tpkt_judged (stage.Shares channels phase.Ready) packet)
+    (input_quiet channels (fast_events packet)) (headers_quiet channels packet (fields_at mcs_headers packet))
+
 -- ---- streams
 
 abbrev IsQuietHeard : Heard → Type 0
@@ -175,7 +187,7 @@ packet_quiet (stage.Shares channels (phase.Confirm depth)) h packet q = absurd q
 packet_quiet (stage.Shares channels (phase.Finish confirmed next)) h packet q = absurd q
 packet_quiet (stage.Shares channels phase.Ready) h packet q =
     let k : Hearing = record { size = h.size; stage = stage.Shares channels phase.Ready; place = h.place; part = h.part } in
-    judged_heard_quiet k packet (packet_judged (stage.Shares channels phase.Ready) packet) (headers_quiet channels packet (fields_at mcs_headers packet))
+    judged_heard_quiet k packet (packet_judged (stage.Shares channels phase.Ready) packet) (ready_quiet channels packet)
 packet_quiet stage.Over h packet q = (refl, tt)
 packet_quiet (stage.Refused k at) h packet q = (refl, tt)
 
@@ -200,11 +212,11 @@ ready_is_quiet (stage.Refused k at) e = absurd (let no : ⊥ = cc in no)
 
 pub ready_silence : (h : Hearing) (bytes : List ℕ) → is_ready h.stage ≡ true → (heard h bytes).replies ≡ []
 unfolding heard
-ready_silence h bytes e = (packets_quiet (between h) (packets_of (h.part ++ bytes)).packets (ready_is_quiet h.stage e)).0
+ready_silence h bytes e = (packets_quiet (between h) (packets_with stream_packet_at (h.part ++ bytes)).packets (ready_is_quiet h.stage e)).0
 
 -- ---- the end
 
 pub end_silence : (h : Hearing) (bytes : List ℕ) → is_over h.stage ≡ true → heard h bytes ≡ silent (between h)
 unfolding heard
 end_silence h bytes e =
-    ap (λ x. before_rest x (packets_of (h.part ++ bytes)).rest) (over_silent (between h) (packets_of (h.part ++ bytes)).packets e) ∙ rw e refl
+    ap (λ x. before_rest x (packets_with stream_packet_at (h.part ++ bytes)).rest) (over_silent (between h) (packets_with stream_packet_at (h.part ++ bytes)).packets e) ∙ rw e refl

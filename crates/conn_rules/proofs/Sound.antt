@@ -52,10 +52,13 @@ use Rattle.conn_rules.specs.Connecting.{request_judged, client_judged, initial_j
 use Rattle.conn_rules.specs.Domain.{placed_pdu, erect_judged, attach_judged, own, joined, dropped, by_channel}
 use Rattle.conn_rules.specs.Info.{info_judged}
 use Rattle.conn_rules.specs.Shares.{order_of, due, early_deed, finish_deed, ready_deed, plain_deed, sets_read, other_deed, input_deed, deed_of, read_deed}
+use Rattle.fast_path.specs.Heads.{is_fast}
+use Rattle.fast_path.specs.Events.{fast_events}
 use Rattle.conn_rules.specs.Deeds.{answered, done, deed_judged, found_judged}
+use Rattle.conn_rules.specs.Told.{event_steps}
 use Rattle.conn_rules.specs.Numbers.{place_behind}
 use Rattle.conn_rules.specs.Headers.{mcs_headers}
-use Rattle.conn_rules.specs.Packets.{mcs_place, body_in, info_data, both, share_data, joins_judged, shares_judged, pdu_in, mcs_judged, behind_headers, packet_judged}
+use Rattle.conn_rules.specs.Packets.{mcs_place, body_in, info_data, both, share_data, joins_judged, shares_judged, pdu_in, mcs_judged, behind_headers, tpkt_judged, input_wanted, input_judged, fast_judged, packet_judged}
 use Rattle.conn_rules.specs.Sound.{IsRefusalNumber, HasItsCaches, IsSound, ConfirmsCaches}
 use Rattle.conn_rules.proofs.Caches.{GivesCaches, confirmed_caches}
 
@@ -343,12 +346,44 @@ headers_sound : (packet : List ℕ) (r : Read (List ℕ)) (s : Stage) → IsSoun
 headers_sound packet (Ok v) s h = mcs_sound s v.1 h
 headers_sound packet (Err left) s h = number 3 (omega arith) (omega arith)
 
+tpkt_sound : (s : Stage) (packet : List ℕ) → IsSound s → SoundTelling (tpkt_judged s packet)
+tpkt_sound stage.Request packet h = alone_sound (request_judged (request_of packet)) (request_sound (request_of packet))
+tpkt_sound (stage.Initial asked) packet h = headers_sound packet (fields_at mcs_headers packet) (stage.Initial asked) h
+tpkt_sound (stage.Erect client) packet h = headers_sound packet (fields_at mcs_headers packet) (stage.Erect client) h
+tpkt_sound (stage.Attach client) packet h = headers_sound packet (fields_at mcs_headers packet) (stage.Attach client) h
+tpkt_sound (stage.Joins client user io) packet h = headers_sound packet (fields_at mcs_headers packet) (stage.Joins client user io) h
+tpkt_sound (stage.Shares channels here) packet h = headers_sound packet (fields_at mcs_headers packet) (stage.Shares channels here) h
+tpkt_sound stage.Over packet h = (tt, tt)
+tpkt_sound (stage.Refused k at) packet h = (tt, h)
+
+-- ---- fast-path packets
+
+wanted_sound : (channels : ℕ) (here : SharePhase) → SoundPhase here → SoundAnswer (done channels here (input_wanted here))
+wanted_sound channels (phase.Confirm depth) h = done_sound channels (phase.Confirm depth) deed.Nothing h tt
+wanted_sound channels (phase.Finish confirmed next) h = done_sound channels (phase.Finish confirmed next) deed.Nothing h tt
+wanted_sound channels phase.Ready h = done_sound channels phase.Ready deed.Tell h tt
+
+fast_input_sound : (channels : ℕ) (here : SharePhase) (r : Result (List Event) ℕ) → SoundPhase here → SoundTelling (input_judged channels here r)
+fast_input_sound channels here (Ok events) h = beside_sound (event_steps events) (done channels here (input_wanted here)) (wanted_sound channels here h)
+fast_input_sound channels here (Err at) h = number 14 (omega arith) (omega arith)
+
+fast_sound : (s : Stage) (packet : List ℕ) → IsSound s → SoundTelling (fast_judged s packet)
+fast_sound stage.Request packet h = number 1 (omega arith) (omega arith)
+fast_sound (stage.Initial asked) packet h = number 1 (omega arith) (omega arith)
+fast_sound (stage.Erect client) packet h = number 1 (omega arith) (omega arith)
+fast_sound (stage.Attach client) packet h = number 1 (omega arith) (omega arith)
+fast_sound (stage.Joins client user io) packet h = number 1 (omega arith) (omega arith)
+fast_sound (stage.Shares channels (phase.Confirm depth)) packet h = fast_input_sound channels (phase.Confirm depth) (fast_events packet) tt
+fast_sound (stage.Shares channels (phase.Finish confirmed next)) packet h = fast_input_sound channels (phase.Finish confirmed next) (fast_events packet) h
+fast_sound (stage.Shares channels phase.Ready) packet h = fast_input_sound channels phase.Ready (fast_events packet) tt
+fast_sound stage.Over packet h = (tt, tt)
+fast_sound (stage.Refused k at) packet h = (tt, h)
+
+-- ---- packets of either kind
+
+either_packet : (b : Bool) (j k : Result (Telling Answer) Refusal) → SoundTelling j → SoundTelling k → SoundTelling (cond b j k)
+either_packet true j k p q = p
+either_packet false j k p q = q
+
 pub packet_sound : (s : Stage) (packet : List ℕ) → IsSound s → SoundTelling (packet_judged s packet)
-packet_sound stage.Request packet h = alone_sound (request_judged (request_of packet)) (request_sound (request_of packet))
-packet_sound (stage.Initial asked) packet h = headers_sound packet (fields_at mcs_headers packet) (stage.Initial asked) h
-packet_sound (stage.Erect client) packet h = headers_sound packet (fields_at mcs_headers packet) (stage.Erect client) h
-packet_sound (stage.Attach client) packet h = headers_sound packet (fields_at mcs_headers packet) (stage.Attach client) h
-packet_sound (stage.Joins client user io) packet h = headers_sound packet (fields_at mcs_headers packet) (stage.Joins client user io) h
-packet_sound (stage.Shares channels here) packet h = headers_sound packet (fields_at mcs_headers packet) (stage.Shares channels here) h
-packet_sound stage.Over packet h = (tt, tt)
-packet_sound (stage.Refused k at) packet h = (tt, h)
+packet_sound s packet h = either_packet (is_fast packet) (fast_judged s packet) (tpkt_judged s packet) (fast_sound s packet h) (tpkt_sound s packet h)

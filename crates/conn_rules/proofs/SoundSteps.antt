@@ -5,8 +5,8 @@ use Rattle.std.proofs.lemmas.List.Elements.{All-nil, All-cons, All-append}
 use Rattle.px_core.specs.declared.rectangle.Rect.{Rect}
 use Rattle.tpkt_x224.specs.declared.tpkt.Packet.{Packet}
 use Rattle.tpkt_x224.specs.declared.tpkt.Packet.TheVariants.{Whole, Part, NotTpkt, BadLength}
-use Rattle.tpkt_x224.specs.Tpkt.{packet_at}
-use Rattle.tpkt_x224.specs.Pieces.{packets_of}
+use Rattle.fast_path.specs.Heads.{stream_packet_at}
+use Rattle.tpkt_x224.specs.Pieces.{packets_with}
 use Rattle.input_pdu.specs.declared.event.Event.{Event}
 use Rattle.share_pdu.specs.Bodies.{areas_of}
 use Rattle.conn_rules.specs.declared.answer.Answer.{Answer}
@@ -18,7 +18,7 @@ use Rattle.conn_rules.specs.declared.refusal.Refusal.{Refusal}
 use Rattle.conn_rules.specs.Answers.{Telling}
 use Rattle.conn_rules.specs.Packets.{packet_judged}
 use Rattle.conn_rules.specs.Told.{is_ready, event_steps, area_steps, news_steps, end_steps}
-use Rattle.conn_rules.specs.Hearing.{Hearing, Heard, silent, is_over, judged_heard, packet_heard, packets_heard, between, with_head, heard}
+use Rattle.conn_rules.specs.Hearing.{Hearing, Heard, silent, is_over, judged_heard, packet_heard, packets_heard, between, head_of, with_head, heard}
 use Rattle.conn_rules.specs.Sound.{IsSound, ConfirmsCaches, AllConfirmCaches}
 use Rattle.conn_rules.proofs.Found.{Finds, Tells, packet_finds}
 use Rattle.conn_rules.proofs.Sound.{number, SoundNews, SoundTelling, packet_sound}
@@ -82,13 +82,13 @@ head_sound h rest Part p = p
 head_sound h rest NotTpkt p = number 1 (omega arith) (omega arith)
 head_sound h rest BadLength p = number 2 (omega arith) (omega arith)
 
-rest_by : (b : Bool) (h : Hearing) (rest : List ℕ) → IsSound h.stage → IsSound (cond b h (with_head h rest (packet_at rest))).stage
+rest_by : (b : Bool) (h : Hearing) (rest : List ℕ) → IsSound h.stage → IsSound (cond b h (with_head h rest (head_of h.stage rest))).stage
 rest_by true h rest p = p
-rest_by false h rest p = head_sound h rest (packet_at rest) p
+rest_by false h rest p = head_sound h rest (head_of h.stage rest) p
 
 pub heard_sound : (h : Hearing) (bytes : List ℕ) → IsSound h.stage → SoundHeard (heard h bytes)
 unfolding heard
 heard_sound h bytes p =
-    let cut = packets_of (h.part ++ bytes) in
+    let cut = packets_with stream_packet_at (h.part ++ bytes) in
     let x = packets_sound (between h) cut.packets p in
     (x.0, rest_by (is_over (packets_heard (between h) cut.packets).after.stage) (packets_heard (between h) cut.packets).after cut.rest x.1)

@@ -3,8 +3,8 @@ use Rattle.std.specs.Prelude.{ℕ, zero, suc, Bool, true, false, List, [], ◌�
 use Rattle.px_core.specs.declared.surface.Size.{Size}
 use Rattle.tpkt_x224.specs.declared.tpkt.Packet.{Packet}
 use Rattle.tpkt_x224.specs.declared.tpkt.Packet.TheVariants.{Whole, Part, NotTpkt, BadLength}
-use Rattle.tpkt_x224.specs.Tpkt.{packet_at}
-use Rattle.tpkt_x224.specs.Pieces.{Cut, packets_of}
+use Rattle.tpkt_x224.specs.Pieces.{Cut, packets_with}
+use Rattle.fast_path.specs.Heads.{is_fast, stream_packet_at}
 use Rattle.conn_rules.specs.declared.answer.Answer.{Answer}
 use Rattle.conn_rules.specs.declared.conn_step.ConnStep.{ConnStep}
 use Rattle.conn_rules.specs.declared.refusal.Refusal.{Refusal}
@@ -76,16 +76,36 @@ packets_heard h (packet ∷ packets) = then_heard (packet_heard h packet) (packe
 abbrev pub between : Hearing → Hearing
 between h = record { size = h.size; stage = h.stage; place = h.place; part = [] }
 
--- what is left behind the whole packets: another version (refusal 1) and a length below 7 (refusal 2) are seen as soon as they are
--- there
+-- whether fast-path packets may come: from the place of the Confirm Active on
+abbrev pub takes_fast_input : Stage → Bool
+takes_fast_input stage.Request = false
+takes_fast_input (stage.Initial asked) = false
+takes_fast_input (stage.Erect client) = false
+takes_fast_input (stage.Attach client) = false
+takes_fast_input (stage.Joins client user io) = false
+takes_fast_input (stage.Shares channels here) = true
+takes_fast_input stage.Over = true
+takes_fast_input (stage.Refused k at) = true
+
+-- what stands at the head of what is left: a fast-path packet's first byte is another version before they may come
+abbrev pub head_of : Stage → List ℕ → Packet
+head_of here rest = if is_fast rest then (if takes_fast_input here then stream_packet_at rest else NotTpkt) else stream_packet_at rest
+
+-- the place of a packet's length in it
+abbrev pub length_place : Bool → ℕ
+length_place true = 1
+length_place false = 2
+
+-- what is left behind the whole packets: another version (refusal 1) and a length that is no packet's (refusal 2) are seen as soon as
+-- they are there
 abbrev pub with_head : Hearing → List ℕ → Packet → Hearing
 with_head h rest (Whole n) = record { size = h.size; stage = h.stage; place = h.place; part = rest }
 with_head h rest Part = record { size = h.size; stage = h.stage; place = h.place; part = rest }
 with_head h rest NotTpkt = refused_here h 1 0
-with_head h rest BadLength = refused_here h 2 2
+with_head h rest BadLength = refused_here h 2 (length_place (is_fast rest))
 
 abbrev pub with_rest : Hearing → List ℕ → Hearing
-with_rest h rest = if is_over h.stage then h else with_head h rest (packet_at rest)
+with_rest h rest = if is_over h.stage then h else with_head h rest (head_of h.stage rest)
 
 abbrev pub before_rest : Heard → List ℕ → Heard
 before_rest x rest = record { replies = x.replies; steps = x.steps; after = with_rest x.after rest }
@@ -96,7 +116,7 @@ cut_heard h cut = before_rest (packets_heard h cut.packets) cut.rest
 
 -- bytes that come where a stream stands so
 unfoldable pub heard : Hearing → List ℕ → Heard
-heard h bytes = cut_heard (between h) (packets_of (h.part ++ bytes))
+heard h bytes = cut_heard (between h) (packets_with stream_packet_at (h.part ++ bytes))
 
 -- bytes that come in pieces
 abbrev pub pieces_heard : Hearing → List (List ℕ) → Heard

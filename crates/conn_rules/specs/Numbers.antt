@@ -10,6 +10,10 @@ place_behind from n = min (from + n) (2 ^ 64 - 1)
 abbrev pub refused : {A : Type 0} → ℕ → ℕ → Result A Refusal
 refused k at = Err (record { k = k; at = at })
 
+-- the packet's first byte is neither 3 nor, from the place of the Confirm Active on, that of the fast path
+abbrev pub not_tpkt : {A : Type 0} → ℕ → Result A Refusal
+not_tpkt at = refused 1 at
+
 -- the X.224 header breaks its rule
 abbrev pub bad_tpdu : {A : Type 0} → ℕ → Result A Refusal
 bad_tpdu at = refused 3 at
@@ -26,7 +30,7 @@ bad_domain at = refused 5 at
 abbrev pub wrong_channel : {A : Type 0} → ℕ → Result A Refusal
 wrong_channel at = refused 6 at
 
--- the client data break their rule; 24 bits for each pixel aren't offered; there are more than 31 channels
+-- the client data break their rule; neither 24 nor 16 bits for each pixel are offered; there are more than 31 channels
 abbrev pub bad_gcc : {A : Type 0} → ℕ → Result A Refusal
 bad_gcc at = refused 7 at
 
@@ -51,6 +55,6 @@ bad_share at = refused 12 at
 abbrev pub compressed : {A : Type 0} → ℕ → Result A Refusal
 compressed at = refused 13 at
 
--- the events don't fit in the PDU
+-- the events don't fit in the PDU, or in the fast-path packet; a flag bit of such a packet is set; one of its events has another code
 abbrev pub bad_input : {A : Type 0} → ℕ → Result A Refusal
 bad_input at = refused 14 at

@@ -13,12 +13,12 @@ use Rattle.fast_path.proofs.Heads.{action_begins, action_again, action_front, ac
 
 -- ---- by the first byte
 
-data Kind (v : ℕ) : Type 0 where
+pub data Kind (v : ℕ) : Type 0 where
   Tpkt : v ≡ 3 → Kind v
   Fast : v % 4 ≡ 0 → Kind v
   Other : v ≢ 3 → v % 4 ≢ 0 → Kind v
 
-kind : (v : ℕ) → Kind v
+pub kind : (v : ℕ) → Kind v
 kind v = by (v == 3) (v % 4 == 0) refl refl
   where
     by : (a b : Bool) → (v == 3) ≡ a → (v % 4 == 0) ≡ b → Kind v
@@ -26,16 +26,16 @@ kind v = by (v == 3) (v % 4 == 0) refl refl
     by false true e f = Fast (grind (arith, nat_tests, f))
     by false false e f = Other (grind (arith, nat_tests, e)) (grind (arith, nat_tests, f))
 
-at_tpkt : (v : ℕ) (bs : List ℕ) → v ≡ 3 → stream_packet_at (v ∷ bs) ≡ packet_at (v ∷ bs)
+pub at_tpkt : (v : ℕ) (bs : List ℕ) → v ≡ 3 → stream_packet_at (v ∷ bs) ≡ packet_at (v ∷ bs)
 at_tpkt v bs e = rw e refl
 
-at_fast : (v : ℕ) (bs : List ℕ) → v % 4 ≡ 0 → stream_packet_at (v ∷ bs) ≡ after_action bs
+pub at_fast : (v : ℕ) (bs : List ℕ) → v % 4 ≡ 0 → stream_packet_at (v ∷ bs) ≡ after_action bs
 at_fast v bs e =
     let a : (v == 3) ≡ false = grind (arith, nat_tests, e) in
     let b : (v % 4 == 0) ≡ true = grind (arith, nat_tests, e) in
     rw (a, b) refl
 
-at_other : (v : ℕ) (bs : List ℕ) → v ≢ 3 → v % 4 ≢ 0 → stream_packet_at (v ∷ bs) ≡ NotTpkt
+pub at_other : (v : ℕ) (bs : List ℕ) → v ≢ 3 → v % 4 ≢ 0 → stream_packet_at (v ∷ bs) ≡ NotTpkt
 at_other v bs e f =
     let a : (v == 3) ≡ false = grind (arith, nat_tests, e) in
     let b : (v % 4 == 0) ≡ false = grind (arith, nat_tests, f) in

@@ -1,8 +1,8 @@
 -- Fast-path packets, and what stands at the head of a stream in which they and TPKT packets come ([MS-RDPBCGR] 2.2.8.1.2 and 2.2.9.1.2).
-use Rattle.std.specs.Prelude.{◌≡◌, ◌≢◌, ◌<◌, ◌≤◌, ℕ, ◌+◌, ◌-◌, ◌*◌, ◌%◌, ◌==◌, ◌⊎◌, nat_lt, List, [], ◌∷◌, length, if◌then◌else◌}
+use Rattle.std.specs.Prelude.{◌≡◌, ◌≢◌, ◌<◌, ◌≤◌, Bool, false, ℕ, ◌+◌, ◌-◌, ◌*◌, ◌%◌, ◌==◌, ◌⊎◌, nat_lt, List, [], ◌∷◌, length, if◌then◌else◌}
 use Rattle.tpkt_x224.specs.declared.tpkt.Packet.{Packet}
 use Rattle.tpkt_x224.specs.declared.tpkt.Packet.TheVariants.{Whole, Part, NotTpkt, BadLength}
-use Rattle.tpkt_x224.specs.Tpkt.{IsPacket, HasBadLength, packet_at}
+use Rattle.tpkt_x224.specs.Tpkt.{IsPacket, HasBadLength, packet_at, wanted_length}
 
 -- ---- which bytes are a packet
 
@@ -73,6 +73,26 @@ fast_packet_at (v ∷ bs) = after_action bs
 abbrev pub stream_packet_at : List ℕ → Packet
 stream_packet_at [] = Part
 stream_packet_at (v ∷ bs) = if v == 3 then packet_at (v ∷ bs) else (if v % 4 == 0 then fast_packet_at (v ∷ bs) else NotTpkt)
+
+-- whether there is a first byte that has action 0
+abbrev pub is_fast : List ℕ → Bool
+is_fast [] = false
+is_fast (v ∷ bs) = v % 4 == 0
+
+-- how many bytes must be there before more can be said, behind the first of two length bytes
+abbrev pub wanted_long : ℕ → List ℕ → ℕ
+wanted_long high [] = 3
+wanted_long high (low ∷ bs) = 256 * (high - 128) + low
+
+-- behind a fast-path packet's first byte
+abbrev pub wanted_fast : List ℕ → ℕ
+wanted_fast [] = 2
+wanted_fast (l ∷ bs) = if nat_lt l 128 then l else wanted_long l bs
+
+-- how many bytes of a stream of both kinds must be there before more can be said of its head: two; then the header and the length, and behind them the packet
+abbrev pub wanted_in_stream : List ℕ → ℕ
+wanted_in_stream [] = 2
+wanted_in_stream (v ∷ bs) = if v % 4 == 0 then wanted_fast bs else wanted_length (v ∷ bs)
 
 -- the first byte has action 0, where there is one
 abbrev pub BeginsFast : List ℕ → Type 0

@@ -9,7 +9,7 @@ mod stream_laws;
 mod update;
 
 pub use events::read_fast;
-pub use head::next_fast;
+pub use head::{is_fast, lacking_in_stream, next_fast, next_in_stream};
 pub use stream_laws::{
     fast_packets_are_whole, heads_of_mixed_streams, mixed_streams_in_any_pieces,
 };
