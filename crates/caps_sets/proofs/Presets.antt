@@ -1,7 +1,8 @@
 -- Some sizes of the presets, the cache that serves, and what words confirm.
 use Rattle.std.proofs.Common.{◌≡◌, [], ◌∷◌, refl, Some, None, true, codes}
 use Rattle.std.specs.Prelude.{nat_le, ◌&&◌}
-use Rattle.caps_sets.specs.Confirmed.{full, bare, marked, sized, with_bitmap_cache, with_glyph_cache, cache_size, first_cache}
+use Rattle.px_core.specs.declared.depth.Depth.TheVariants.{Bits24, Bits16}
+use Rattle.caps_sets.specs.Confirmed.{plain, full, bare, marked, sized, with_bitmap_cache, with_glyph_cache, cache_size, first_cache, depth_of}
 use Rattle.caps_sets.specs.Presets.{presets, confirmed_by}
 use Rattle.line_text.specs.Words.{words_of}
 
@@ -33,6 +34,30 @@ later_overrides_count : confirmed_by presets (words_of (codes "full bc2=1,2 caut
       cautious = true;
     })
 later_overrides_count = refl
+
+-- 16 bits by a word, as often and wherever it stands among the overrides
+at_sixteen_bits : confirmed_by presets (words_of (codes "plain bpp=16")) ≡ Some (record plain { depth = Bits16 })
+at_sixteen_bits = refl
+
+sixteen_bits_anywhere : confirmed_by presets (words_of (codes "plain bpp=16 cautious bc0=1,2 bpp=16"))
+    ≡ Some (record plain { bitmaps = sized 1 2 ∷ sized 0 0 ∷ sized 0 0 ∷ []; cautious = true; depth = Bits16 })
+sixteen_bits_anywhere = refl
+
+at_twenty_four_bits : depth_of marked ≡ Bits24
+at_twenty_four_bits = refl
+
+-- no other number of bits is such a word, nor is one more letter
+twenty_four_bits_said : confirmed_by presets (words_of (codes "plain bpp=24")) ≡ None
+twenty_four_bits_said = refl
+
+fifteen_bits_said : confirmed_by presets (words_of (codes "plain bpp=15")) ≡ None
+fifteen_bits_said = refl
+
+a_longer_number : confirmed_by presets (words_of (codes "plain bpp=160")) ≡ None
+a_longer_number = refl
+
+bits_before_the_preset : confirmed_by presets (words_of (codes "bpp=16 plain")) ≡ None
+bits_before_the_preset = refl
 
 no_words : confirmed_by presets (words_of []) ≡ None
 no_words = refl

@@ -1,4 +1,4 @@
--- What the presets confirm, one cache of another size, and the cache that serves (all of it profile).
+-- What the presets confirm, all of them at 24 bits, one cache of another size, and the cache that serves (all of it profile).
 use Rattle.std.specs.Prelude.{ℕ, zero, suc, ◌+◌, Bool, true, false, List, [], ◌∷◌, replicate, slice_set, Option, Some, None, if◌then◌else◌}
 use Rattle.caps_sets.specs.declared.cache_size.CacheSize.{CacheSize}
 use Rattle.caps_sets.specs.declared.confirmed.Confirmed.{Confirmed}
@@ -68,9 +68,9 @@ marked = record full { marker = true }
 
 -- ---- what the host's bytes go by
 
--- the bits of a pixel that a viewer is shown: 24 of each viewer so far
-unfoldable pub depth_of : Confirmed → Depth
-depth_of c = Bits24
+-- the bits of a pixel that a viewer is shown
+abbrev pub depth_of : Confirmed → Depth
+depth_of c = c.depth
 
 -- whether a viewer's updates go in packets of the fast path: no viewer's so far
 unfoldable pub takes_fast : Confirmed → Bool

@@ -12,6 +12,7 @@
 //! | `bcK=E,C` | bitmap cache K, 0 to 2, has E entries of at most C bytes |
 //! | `gcK=E,C` | glyph cache K, 0 to 9, likewise |
 //! | `cautious` | drawings are cut before they are sent |
+//! | `bpp=16` | pixels are shown at 16 bits; a preset's own 24 have no word |
 
 ghost use Rattle.std.specs.Prelude.{◌≡◌};
 ghost use Rattle.line_text.specs.Words.{parts_at, words_of};
@@ -73,6 +74,11 @@ fn overridden_word(confirmed: Confirmed, word: &[u8]) -> Option<Confirmed>
     if is_same_word(word, b"cautious") {
         Some(Confirmed {
             cautious: true,
+            ..confirmed
+        })
+    } else if is_same_word(word, b"bpp=16") {
+        Some(Confirmed {
+            depth: Depth::Bits16,
             ..confirmed
         })
     } else {

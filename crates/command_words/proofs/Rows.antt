@@ -1,5 +1,5 @@
 -- Words of the network viewer's command line, worked out by hand.
-use Rattle.std.specs.Prelude.{◌≡◌, true, [], ◌∷◌, Some, None, codes}
+use Rattle.std.specs.Prelude.{◌≡◌, is_some, true, [], ◌∷◌, Some, None, codes}
 use Rattle.std.proofs.Common.{refl}
 use Rattle.caps_sets.specs.Confirmed.{plain, full, with_bitmap_cache, sized}
 use Rattle.command_words.specs.ViewWords.{viewing, viewing_of_words}
@@ -13,6 +13,13 @@ an_override = refl
 
 cautious : viewing_of_words (codes "1") (codes "a") (codes "1") (codes "full" ∷ codes "cautious" ∷ []) ≡ Some (viewing 1 (codes "a") 1 (record full { cautious = true }))
 cautious = refl
+
+-- 16 bits for each pixel have a word, and 24 have none
+sixteen_bits : is_some (viewing_of_words (codes "1") (codes "a") (codes "1") (codes "full" ∷ codes "bpp=16" ∷ [])) ≡ true
+sixteen_bits = refl
+
+twenty_four_bits : viewing_of_words (codes "1") (codes "a") (codes "1") (codes "full" ∷ codes "bpp=24" ∷ []) ≡ None
+twenty_four_bits = refl
 
 -- a port, or a number of marks, that isn't one
 port_0 : viewing_of_words (codes "0") (codes "bob") (codes "1") (codes "full" ∷ []) ≡ None

@@ -46,7 +46,7 @@ with_desktop found desktop = record { desktop = Some desktop; channels = found.c
 abbrev pub with_channels : ClientBlocks → ℕ → ClientBlocks
 with_channels found channels = record { desktop = found.desktop; channels = Some channels }
 
--- what is found with a block: a CS_CORE that doesn't offer 24 bits for each pixel is refused at its first byte
+-- what is found with a block: a CS_CORE that offers neither 24 nor 16 bits for each pixel is refused at its first byte
 abbrev pub with_core : ClientBlocks → List ℕ → List ℕ → Option Desktop → Checked ClientBlocks
 with_core found bs after (Some desktop) = Ok (with_desktop found desktop, after)
 with_core found bs after None = Err (NoDepth, bs)

@@ -54,7 +54,7 @@ pub record BeginsWith (MayStand : BlockKind → Type 0) (kind : BlockKind) (byte
   pub kind_is : kind_in block ≡ kind
   pub may : MayStand kind
 
--- the header of the first block is bad; or it is a CS_CORE that doesn't offer 24 bits; or a CS_NET with a fault in it
+-- the header of the first block is bad; or it is a CS_CORE that offers neither 24 nor 16 bits; or a CS_NET with a fault in it
 abbrev pub HasBlockFault : (BlockKind → Type 0) → Cause → List ℕ → List ℕ → Type 0
 HasBlockFault MayStand cause bytes left =
     ((cause ≡ Broken) × HasBadHeader MayStand bytes left)

@@ -56,7 +56,7 @@ HasChannels content channels =
     (count : List ℕ) × (definitions : List ℕ) × (left : List ℕ) × (length count ≡ 4) × (little_number 4 count ≡ channels)
     × (channels ≤ 31) × (content ≡ count ++ definitions) × IsText (channel_definitions channels) definitions [] left
 
--- one CS_CORE, which offers 24 bits for each pixel
+-- one CS_CORE, which offers 24 or 16 bits for each pixel
 abbrev pub IsCore : List Block → Desktop → Type 0
 IsCore [] desktop = ⊥
 IsCore (block ∷ []) desktop = desktop_of block.content ≡ Some desktop

@@ -21,7 +21,7 @@ pub record BlockStandsAt (bytes : List ℕ) (place : ℕ) (block : Block) : Type
   pub is : IsBlock block
   pub here : place + length (block_bytes block ++ after) ≡ length bytes
 
--- a CS_CORE, which doesn't offer 24 bits for each pixel
+-- a CS_CORE, which offers neither 24 nor 16 bits for each pixel
 abbrev pub CoreWithoutDepth : List ℕ → ℕ → Type 0
 CoreWithoutDepth bytes place =
     (block : Block) × BlockStandsAt bytes place block × (kind_in block ≡ ClientCore) × (desktop_of block.content ≡ None)

@@ -13,7 +13,7 @@ use wire_num::Short;
 pub enum GccFault {
     /// A field breaks its rule or doesn't fit, a block is repeated, or CS_CORE is missing.
     BadGcc { at: usize },
-    /// The CS_CORE that begins there doesn't offer 24 bits for each pixel.
+    /// The CS_CORE that begins there offers neither 24 nor 16 bits for each pixel.
     DepthNotOffered { at: usize },
     /// This channel count is above 31.
     TooManyChannels { at: usize },
@@ -24,7 +24,7 @@ pub enum GccFault {
 pub enum Cause {
     /// It breaks its rule or doesn't fit.
     Broken,
-    /// The block doesn't offer 24 bits for each pixel.
+    /// The block offers neither 24 nor 16 bits for each pixel.
     NoDepth,
     /// It counts more than 31 channels.
     Crowded,
