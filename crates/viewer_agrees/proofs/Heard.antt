@@ -3,7 +3,9 @@ use Rattle.std.proofs.Common.{◌≡◌, ℕ, ◌+◌, ◌-◌, ◌*◌, ◌/◌
 use Rattle.std.specs.Prelude.{Ok, Some, Result}
 use Rattle.std.specs.List.{AllByRecursion, slice_range}
 use Rattle.std.proofs.Math.Seq.{take-length, drop-append_seam}
-use Rattle.px_core.specs.declared.depth.Depth.TheVariants.{Bits24}
+use Rattle.px_core.specs.declared.depth.Depth.{Depth}
+use Rattle.px_core.specs.declared.depth.Depth.TheVariants.{Bits24, Bits16}
+use Rattle.px_core.specs.Depth.{bits_in}
 use Rattle.px_core.specs.declared.surface.Size.{Size}
 use Rattle.wire_num.specs.declared.range.Range.{Range}
 use Rattle.wire_num.specs.Field.{Read, bind, then_read, map_read}
@@ -35,6 +37,7 @@ use Rattle.info_lic.specs.Licence.{licence}
 use Rattle.info_lic.specs.ClientInfo.{name_of}
 use Rattle.caps_sets.specs.declared.cache_size.CacheSize.{CacheSize}
 use Rattle.caps_sets.specs.declared.confirmed.Confirmed.{Confirmed}
+use Rattle.caps_sets.specs.Confirmed.{depth_of}
 use Rattle.caps_sets.specs.ConfirmActive.{confirmed_of}
 use Rattle.caps_sets.specs.DemandActive.{demand_active}
 use Rattle.share_pdu.specs.declared.finals.Final.TheVariants as final
@@ -65,8 +68,8 @@ use Rattle.conn_rules.specs.Shares.{sets_read, other_deed}
 use Rattle.conn_rules.proofs.Pieces.{packets_then}
 use Rattle.viewer_rules.specs.ClientPackets.{connection_request, connect_initial as viewer_initial, erect_domain, attach_user, channel_join, request_data, send_data, wide, info_body, client_info, confirm_fields, confirm_body, confirm_active, synchronize, cooperate, request_control, font_list, last_five}
 use Rattle.viewer_rules.specs.Rounds.{IsConfirmable, the_user, greeting, joined}
-use Rattle.viewer_rules.proofs.Answered.{cut_again}
 use Rattle.viewer_rules.proofs.ConfirmedBack.{with_caches, cells, cells_are, confirmed_back}
+use Rattle.viewer_agrees.proofs.Cutting.{host_cuts}
 use Rattle.viewer_agrees.proofs.Info.{length_wide, info_back}
 
 -- ---- data of a viewer
@@ -105,12 +108,12 @@ body_is body = last_part (before_body body) body
 
 -- ---- the packets up to the joins
 
-abbrev pub client : Client
-client = record { channels = 3; width = 64; height = 48; build = 0; depth = Bits24 }
+abbrev pub client : Depth → Client
+client depth = record { channels = 3; width = 64; height = 48; build = 0; depth = depth }
 
-abbrev pub first_nine : List (List ℕ)
-first_nine =
-    connection_request ∷ viewer_initial 24 ∷ erect_domain ∷ attach_user
+abbrev pub first_nine : Depth → List (List ℕ)
+first_nine depth =
+    connection_request ∷ viewer_initial (bits_in depth) ∷ erect_domain ∷ attach_user
     ∷ channel_join the_user 1007 ∷ channel_join the_user 1003 ∷ channel_join the_user 1004 ∷ channel_join the_user 1005 ∷ channel_join the_user 1006 ∷ []
 
 abbrev pub first_answers : List ℕ
@@ -125,9 +128,10 @@ stands size here place = record { size = size; stage = here; place = place; part
 abbrev pub heard_as : List ℕ → List ConnStep → Hearing → Heard
 heard_as replies steps after = record { replies = replies; steps = steps; after = after }
 
-pub nine_heard : (size : Size) → packets_heard (first_hearing size) first_nine ≡ heard_as first_answers [] (stands size (stage.Joins client true true) 435)
+pub nine_heard : (size : Size) (depth : Depth) → packets_heard (first_hearing size) (first_nine depth) ≡ heard_as first_answers [] (stands size (stage.Joins (client depth) true true) 435)
 unfolding passing_at at_least rest_count_at exactly_at references request_header after_cookie asked_protocols user_data three_parameters upward_flag initial_fields connect_initial connect_response attach_user_request channel_join_request erect_domain_request kind_at length_at block_at blocks_at desktop_of create_request client_blocks_at user_data_at client_data_at channel_count_at channels_at create_response mcs_headers
-nine_heard size = refl
+nine_heard size Bits24 = refl
+nine_heard size Bits16 = refl
 
 -- ---- Client Info
 
@@ -138,38 +142,38 @@ info_small name h =
     let both = length-append (wide name) (0 ∷ 0 ∷ 0 ∷ 0 ∷ 0 ∷ 0 ∷ 0 ∷ 0 ∷ []) in
     omega (arith, short, units, both)
 
-abbrev pub welcome : List ℕ → Result (Telling Answer) Refusal
-welcome name = alone (Ok (record { reply = reply.Welcome client; news = news.Step (step.Named name); next = stage.Shares 3 (phase.Confirm Bits24) }))
+abbrev pub welcome : Depth → List ℕ → Result (Telling Answer) Refusal
+welcome depth name = alone (Ok (record { reply = reply.Welcome (client depth); news = news.Step (step.Named name); next = stage.Shares 3 (phase.Confirm depth) }))
 
-pub info_judged_so : (name : List ℕ) → IsName name → packet_judged (stage.Joins client true true) (client_info the_user name) ≡ welcome name
+pub info_judged_so : (depth : Depth) (name : List ℕ) → IsName name → packet_judged (stage.Joins (client depth) true true) (client_info the_user name) ≡ welcome depth name
 unfolding mcs_headers
-info_judged_so name h =
+info_judged_so depth name h =
     let body : List ℕ = info_body name in
     let mcs : List ℕ = request_data the_user body in
     let place : ℕ = place_behind 7 (length mcs - length body) in
-    ap (λ (r : Result DomainPdu BadDomain). alone (bind (placed_pdu 7 r) (λ p. joins_judged client true true mcs p))) (data_read body (info_small name h))
-    ∙ ap (λ (xs : List ℕ). alone (info_judged client 7 the_user place (name_of xs))) (body_is body)
-    ∙ ap (λ r. alone (info_judged client 7 the_user place r)) (info_back name h)
+    ap (λ (r : Result DomainPdu BadDomain). alone (bind (placed_pdu 7 r) (λ p. joins_judged (client depth) true true mcs p))) (data_read body (info_small name h))
+    ∙ ap (λ (xs : List ℕ). alone (info_judged (client depth) 7 the_user place (name_of xs))) (body_is body)
+    ∙ ap (λ r. alone (info_judged (client depth) 7 the_user place r)) (info_back name h)
 
 -- ---- Confirm Active and the finalisation
 
 confirm_seen : (c : Confirmed) (bs gs : List CacheSize)
-    → packet_judged (stage.Shares 3 (phase.Confirm Bits24)) (confirm_active the_user (with_caches c (cells 3 bs) (cells 10 gs)))
-    ≡ found_judged 3 7 the_user (phase.Confirm Bits24) 15 (bind (sets_read 21 (confirmed_of Bits24 (confirm_fields (with_caches c (cells 3 bs) (cells 10 gs))))) (λ k. other_deed (Some (deed.Confirm k))))
+    → packet_judged (stage.Shares 3 (phase.Confirm (depth_of c))) (confirm_active the_user (with_caches c (cells 3 bs) (cells 10 gs)))
+    ≡ found_judged 3 7 the_user (phase.Confirm (depth_of c)) 15 (bind (sets_read 21 (confirmed_of (depth_of c) (confirm_fields (with_caches c (cells 3 bs) (cells 10 gs))))) (λ k. other_deed (Some (deed.Confirm k))))
 unfolding mcs_headers passing_at exactly_at send_data_request total_length control_header client_pdu_at
 confirm_seen c bs gs = refl
 
 abbrev pub Seen : Confirmed → Type 0
-Seen c = packet_judged (stage.Shares 3 (phase.Confirm Bits24)) (confirm_active the_user c)
-    ≡ found_judged 3 7 the_user (phase.Confirm Bits24) 15 (bind (sets_read 21 (confirmed_of Bits24 (confirm_fields c))) (λ k. other_deed (Some (deed.Confirm k))))
+Seen c = packet_judged (stage.Shares 3 (phase.Confirm (depth_of c))) (confirm_active the_user c)
+    ≡ found_judged 3 7 the_user (phase.Confirm (depth_of c)) 15 (bind (sets_read 21 (confirmed_of (depth_of c) (confirm_fields c))) (λ k. other_deed (Some (deed.Confirm k))))
 
 pub confirm_judged : (c : Confirmed) → IsConfirmable c
-    → packet_judged (stage.Shares 3 (phase.Confirm Bits24)) (confirm_active the_user c) ≡ alone (goes_to (stage.Shares 3 (phase.Finish c final.Synchronize)))
+    → packet_judged (stage.Shares 3 (phase.Confirm (depth_of c))) (confirm_active the_user c) ≡ alone (goes_to (stage.Shares 3 (phase.Finish c final.Synchronize)))
 confirm_judged c h =
     let seen : Seen c =
     subst (λ (xs : List CacheSize). Seen (with_caches c xs c.glyphs)) (cells_are 3 c.bitmaps h.bitmaps)
     (subst (λ (ys : List CacheSize). Seen (with_caches c (cells 3 c.bitmaps) ys)) (cells_are 10 c.glyphs h.glyphs) (confirm_seen c c.bitmaps c.glyphs)) in
-    seen ∙ ap (λ r. found_judged 3 7 the_user (phase.Confirm Bits24) 15 (bind (sets_read 21 r) (λ k. other_deed (Some (deed.Confirm k))))) (confirmed_back c h)
+    seen ∙ ap (λ r. found_judged 3 7 the_user (phase.Confirm (depth_of c)) 15 (bind (sets_read 21 r) (λ k. other_deed (Some (deed.Confirm k))))) (confirmed_back c h)
 
 abbrev pub last_four : List (List ℕ)
 last_four = synchronize the_user ∷ cooperate the_user ∷ request_control the_user ∷ font_list the_user ∷ []
@@ -186,8 +190,8 @@ four_heard size place c = refl
 
 -- ---- all packets
 
-abbrev pub two_answers : Size → List ℕ
-two_answers size = send_data_indication licence ++ send_data_indication (demand_active size Bits24 false)
+abbrev pub two_answers : Size → Depth → List ℕ
+two_answers size depth = send_data_indication licence ++ send_data_indication (demand_active size depth false)
 
 abbrev pub last_place : List ℕ → Confirmed → ℕ
 last_place name c =
@@ -195,30 +199,30 @@ last_place name c =
 
 abbrev pub all_heard : Size → List ℕ → Confirmed → Heard
 all_heard size name c =
-    heard_as (first_answers ++ (two_answers size ++ ([] ++ four_answers))) (step.Named name ∷ step.Ready c ∷ []) (stands size (stage.Shares 3 phase.Ready) (last_place name c))
+    heard_as (first_answers ++ (two_answers size (depth_of c) ++ ([] ++ four_answers))) (step.Named name ∷ step.Ready c ∷ []) (stands size (stage.Shares 3 phase.Ready) (last_place name c))
 
 -- up to Client Info
-pub ten_heard : (size : Size) (name : List ℕ) → IsName name → packets_heard (first_hearing size) (first_nine ++ client_info the_user name ∷ [])
-    ≡ heard_as (first_answers ++ (two_answers size ++ [])) (step.Named name ∷ []) (stands size (stage.Shares 3 (phase.Confirm Bits24)) (place_behind 435 (length (client_info the_user name))))
-ten_heard size name n =
-    let at_info : Hearing = stands size (stage.Joins client true true) 435 in
-    packets_then (first_hearing size) first_nine (client_info the_user name ∷ [])
-    ∙ ap (λ (x : Heard). then_heard x (packets_heard x.after (client_info the_user name ∷ []))) (nine_heard size)
-    ∙ ap (λ (j : Result (Telling Answer) Refusal). then_heard (heard_as first_answers [] at_info) (then_heard (judged_heard at_info (client_info the_user name) j) (packets_heard (judged_heard at_info (client_info the_user name) j).after []))) (info_judged_so name n)
+pub ten_heard : (size : Size) (depth : Depth) (name : List ℕ) → IsName name → packets_heard (first_hearing size) (first_nine depth ++ client_info the_user name ∷ [])
+    ≡ heard_as (first_answers ++ (two_answers size depth ++ [])) (step.Named name ∷ []) (stands size (stage.Shares 3 (phase.Confirm depth)) (place_behind 435 (length (client_info the_user name))))
+ten_heard size depth name n =
+    let at_info : Hearing = stands size (stage.Joins (client depth) true true) 435 in
+    packets_then (first_hearing size) (first_nine depth) (client_info the_user name ∷ [])
+    ∙ ap (λ (x : Heard). then_heard x (packets_heard x.after (client_info the_user name ∷ []))) (nine_heard size depth)
+    ∙ ap (λ (j : Result (Telling Answer) Refusal). then_heard (heard_as first_answers [] at_info) (then_heard (judged_heard at_info (client_info the_user name) j) (packets_heard (judged_heard at_info (client_info the_user name) j).after []))) (info_judged_so depth name n)
 
 pub packets_are_heard : (size : Size) (name : List ℕ) (c : Confirmed) → IsName name → IsConfirmable c
     → packets_heard (first_hearing size) (greeting name c) ≡ all_heard size name c
 packets_are_heard size name c n h =
-    let at_info : Hearing = stands size (stage.Joins client true true) 435 in
+    let at_info : Hearing = stands size (stage.Joins (client (depth_of c)) true true) 435 in
     let confirm_place : ℕ = place_behind 435 (length (client_info the_user name)) in
-    let at_confirm : Hearing = stands size (stage.Shares 3 (phase.Confirm Bits24)) confirm_place in
+    let at_confirm : Hearing = stands size (stage.Shares 3 (phase.Confirm (depth_of c))) confirm_place in
     let at_finals : Hearing = stands size (stage.Shares 3 (phase.Finish c final.Synchronize)) (place_behind confirm_place (length (confirm_active the_user c))) in
     let nine : Heard = heard_as first_answers [] at_info in
-    let info : Heard = heard_as (two_answers size) (step.Named name ∷ []) at_confirm in
+    let info : Heard = heard_as (two_answers size (depth_of c)) (step.Named name ∷ []) at_confirm in
     let confirm : Heard = heard_as [] [] at_finals in
-    packets_then (first_hearing size) first_nine (client_info the_user name ∷ last_five the_user c)
-    ∙ ap (λ (x : Heard). then_heard x (packets_heard x.after (client_info the_user name ∷ last_five the_user c))) (nine_heard size)
-    ∙ ap (λ (j : Result (Telling Answer) Refusal). then_heard nine (then_heard (judged_heard at_info (client_info the_user name) j) (packets_heard (judged_heard at_info (client_info the_user name) j).after (last_five the_user c)))) (info_judged_so name n)
+    packets_then (first_hearing size) (first_nine (depth_of c)) (client_info the_user name ∷ last_five the_user c)
+    ∙ ap (λ (x : Heard). then_heard x (packets_heard x.after (client_info the_user name ∷ last_five the_user c))) (nine_heard size (depth_of c))
+    ∙ ap (λ (j : Result (Telling Answer) Refusal). then_heard nine (then_heard (judged_heard at_info (client_info the_user name) j) (packets_heard (judged_heard at_info (client_info the_user name) j).after (last_five the_user c)))) (info_judged_so (depth_of c) name n)
     ∙ ap (λ (j : Result (Telling Answer) Refusal). then_heard nine (then_heard info (then_heard (judged_heard at_confirm (confirm_active the_user c) j) (packets_heard (judged_heard at_confirm (confirm_active the_user c) j).after last_four)))) (confirm_judged c h)
     ∙ ap (λ (x : Heard). then_heard nine (then_heard info (then_heard confirm x))) (four_heard size (place_behind confirm_place (length (confirm_active the_user c))) c)
 
@@ -258,5 +262,5 @@ pub greeting_heard : (size : Size) (name : List ℕ) (c : Confirmed) → IsName 
     → host_handshake size (joined (greeting name c)) ≡ all_heard size name c
 unfolding heard
 greeting_heard size name c n h =
-    ap (λ (cut : Cut). cut_heard (first_hearing size) cut) (cut_again (greeting name c) (each name c n h))
+    ap (λ (cut : Cut). cut_heard (first_hearing size) cut) (host_cuts (greeting name c) (each name c n h))
     ∙ ap (λ (x : Heard). before_rest x []) (packets_are_heard size name c n h)

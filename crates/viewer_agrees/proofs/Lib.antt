@@ -1,3 +1,4 @@
 pub mod Info
+pub mod Cutting
 pub mod Heard
 pub mod Turns

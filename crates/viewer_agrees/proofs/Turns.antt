@@ -2,6 +2,9 @@
 use Rattle.std.proofs.Common.{◌≡◌, ℕ, zero, suc, List, [], ◌∷◌, ◌++◌, take, refl, ap, ◌∙◌}
 use Rattle.std.specs.Prelude.{IsTrue}
 use Rattle.std.specs.List.{AllByRecursion}
+use Rattle.px_core.specs.declared.depth.Depth.{Depth}
+use Rattle.px_core.specs.declared.depth.Depth.TheVariants.{Bits24, Bits16}
+use Rattle.px_core.specs.Depth.{bits_in}
 use Rattle.px_core.specs.declared.surface.Size.{Size}
 use Rattle.px_core.specs.Rectangle.{is_session_size}
 use Rattle.wire_num.specs.FieldValue.{passing_at, at_least, rest_count_at}
@@ -21,15 +24,17 @@ use Rattle.gcc_per.specs.ClientNetwork.{channel_count_at, channels_at}
 use Rattle.gcc_per.specs.ServerData.{create_response}
 use Rattle.info_lic.specs.Name.{IsName}
 use Rattle.caps_sets.specs.declared.confirmed.Confirmed.{Confirmed}
+use Rattle.caps_sets.specs.Confirmed.{depth_of}
 use Rattle.caps_sets.specs.DemandActive.{demand_active, before_bitmap, after_bitmap}
 use Rattle.conn_rules.specs.Headers.{mcs_headers}
 use Rattle.conn_rules.specs.Hearing.{Heard, packets_heard, cut_heard, heard, first_hearing, host_handshake}
-use Rattle.viewer_rules.specs.ClientPackets.{connection_request}
+use Rattle.viewer_rules.specs.ClientPackets.{connection_request, connect_initial as viewer_initial, erect_domain, attach_user, channel_join, client_info, last_five}
 use Rattle.viewer_rules.specs.HostAnswers.{connection_confirm, server_blocks_answer, conference_answer, user_data_answer, response_answer, connect_response_answer, attach_answer, join_answer}
 use Rattle.viewer_rules.specs.ViewerHandshake.{Told, packets_told, cut_watched, watched, first_watching, viewer_handshake}
-use Rattle.viewer_rules.specs.Rounds.{IsConfirmable, greeting, answers, joined}
+use Rattle.viewer_rules.specs.Rounds.{the_user, IsConfirmable, greeting, answers, joined}
 use Rattle.viewer_rules.proofs.Answered.{HasSides, sides, ten_told, cut_again, each as each_answer}
 use Rattle.viewer_agrees.specs.Turns.{Exchange, exchange, host_answers, after_turns}
+use Rattle.viewer_agrees.proofs.Cutting.{host_cuts}
 use Rattle.viewer_agrees.proofs.Heard.{ten_heard, greeting_heard, each as each_packet}
 
 all_take : (n : ℕ) (ps : List (List ℕ)) → AllByRecursion IsPacket ps → AllByRecursion IsPacket (take n ps)
@@ -47,22 +52,22 @@ unfolding watched
 viewer_text name c ps h = ap (λ (cut : Cut). connection_request ++ (cut_watched name c first_watching.at cut).text) (cut_again ps h)
 
 abbrev ViewerGoes : Size → List ℕ → Confirmed → ℕ → ℕ → Type 0
-ViewerGoes size name c k m = (viewer_handshake name c (joined (take k (answers size)))).text ≡ joined (take m (greeting name c))
+ViewerGoes size name c k m = (viewer_handshake name c (joined (take k (answers size (depth_of c))))).text ≡ joined (take m (greeting name c))
 
-goes : (size : Size) (name : List ℕ) (c : Confirmed) (k m : ℕ) → Text name c (take k (answers size)) ≡ joined (take m (greeting name c)) → ViewerGoes size name c k m
-goes size name c k m e = viewer_text name c (take k (answers size)) (all_take k (answers size) (each_answer size)) ∙ e
+goes : (size : Size) (name : List ℕ) (c : Confirmed) (k m : ℕ) → Text name c (take k (answers size (depth_of c))) ≡ joined (take m (greeting name c)) → ViewerGoes size name c k m
+goes size name c k m e = viewer_text name c (take k (answers size (depth_of c))) (all_take k (answers size (depth_of c)) (each_answer size (depth_of c))) ∙ e
 
 -- what is sent after as many answers, before Demand Active
 pub record ViewerBegins (size : Size) (name : List ℕ) (c : Confirmed) : Type 0 where
-  at_once : Text name c (take 0 (answers size)) ≡ joined (take 1 (greeting name c))
-  confirmed : Text name c (take 1 (answers size)) ≡ joined (take 2 (greeting name c))
-  responded : Text name c (take 2 (answers size)) ≡ joined (take 4 (greeting name c))
-  attached : Text name c (take 3 (answers size)) ≡ joined (take 5 (greeting name c))
-  user : Text name c (take 4 (answers size)) ≡ joined (take 6 (greeting name c))
-  io : Text name c (take 5 (answers size)) ≡ joined (take 7 (greeting name c))
-  first : Text name c (take 6 (answers size)) ≡ joined (take 8 (greeting name c))
-  second : Text name c (take 7 (answers size)) ≡ joined (take 9 (greeting name c))
-  third : Text name c (take 8 (answers size)) ≡ joined (take 10 (greeting name c))
+  at_once : Text name c (take 0 (answers size (depth_of c))) ≡ joined (take 1 (greeting name c))
+  confirmed : Text name c (take 1 (answers size (depth_of c))) ≡ joined (take 2 (greeting name c))
+  responded : Text name c (take 2 (answers size (depth_of c))) ≡ joined (take 4 (greeting name c))
+  attached : Text name c (take 3 (answers size (depth_of c))) ≡ joined (take 5 (greeting name c))
+  user : Text name c (take 4 (answers size (depth_of c))) ≡ joined (take 6 (greeting name c))
+  io : Text name c (take 5 (answers size (depth_of c))) ≡ joined (take 7 (greeting name c))
+  first : Text name c (take 6 (answers size (depth_of c))) ≡ joined (take 8 (greeting name c))
+  second : Text name c (take 7 (answers size (depth_of c))) ≡ joined (take 9 (greeting name c))
+  third : Text name c (take 8 (answers size (depth_of c))) ≡ joined (take 10 (greeting name c))
 
 viewer_begins : (size : Size) (name : List ℕ) (c : Confirmed) → ViewerBegins size name c
 unfolding passing_at exactly_at connection_confirm server_blocks_answer conference_answer user_data_answer response_answer connect_response_answer attach_answer join_answer connect_response create_response
@@ -78,7 +83,7 @@ viewer_begins size name c = record {
   third = refl;
 }
 
-demanded : (size : Size) (name : List ℕ) (c : Confirmed) → HasSides size → Text name c (take 10 (answers size)) ≡ joined (take 15 (greeting name c))
+demanded : (size : Size) (name : List ℕ) (c : Confirmed) → HasSides size → Text name c (take 10 (answers size (depth_of c))) ≡ joined (take 15 (greeting name c))
 demanded size name c s = ap (λ (t : Told). connection_request ++ t.text) (ten_told size name c s)
 
 -- ---- the host, after the first packets of the viewer
@@ -88,27 +93,44 @@ Replies size ps = (packets_heard (first_hearing size) ps).replies
 
 host_replies : (size : Size) (ps : List (List ℕ)) → AllByRecursion IsPacket ps → (host_handshake size (joined ps)).replies ≡ Replies size ps
 unfolding heard
-host_replies size ps h = ap (λ (cut : Cut). (cut_heard (first_hearing size) cut).replies) (cut_again ps h)
+host_replies size ps h = ap (λ (cut : Cut). (cut_heard (first_hearing size) cut).replies) (host_cuts ps h)
 
 abbrev HostGoes : Size → List ℕ → Confirmed → ℕ → ℕ → Type 0
-HostGoes size name c m k = (host_handshake size (joined (take m (greeting name c)))).replies ≡ joined (take k (answers size))
+HostGoes size name c m k = (host_handshake size (joined (take m (greeting name c)))).replies ≡ joined (take k (answers size (depth_of c)))
 
-replies : (size : Size) (name : List ℕ) (c : Confirmed) (m k : ℕ) → IsName name → IsConfirmable c → Replies size (take m (greeting name c)) ≡ joined (take k (answers size)) → HostGoes size name c m k
+replies : (size : Size) (name : List ℕ) (c : Confirmed) (m k : ℕ) → IsName name → IsConfirmable c → Replies size (take m (greeting name c)) ≡ joined (take k (answers size (depth_of c))) → HostGoes size name c m k
 replies size name c m k n h e = host_replies size (take m (greeting name c)) (all_take m (greeting name c) (each_packet name c n h)) ∙ e
 
-pub record HostBegins (size : Size) (name : List ℕ) (c : Confirmed) : Type 0 where
-  requested : Replies size (take 1 (greeting name c)) ≡ joined (take 1 (answers size))
-  initial : Replies size (take 2 (greeting name c)) ≡ joined (take 2 (answers size))
-  attached : Replies size (take 4 (greeting name c)) ≡ joined (take 3 (answers size))
-  user : Replies size (take 5 (greeting name c)) ≡ joined (take 4 (answers size))
-  io : Replies size (take 6 (greeting name c)) ≡ joined (take 5 (answers size))
-  first : Replies size (take 7 (greeting name c)) ≡ joined (take 6 (answers size))
-  second : Replies size (take 8 (greeting name c)) ≡ joined (take 7 (answers size))
-  third : Replies size (take 9 (greeting name c)) ≡ joined (take 8 (answers size))
+-- a viewer's packets, of which one asks for a depth
+abbrev asking : Depth → List ℕ → Confirmed → List (List ℕ)
+asking depth name c =
+    connection_request ∷ viewer_initial (bits_in depth) ∷ erect_domain ∷ attach_user
+    ∷ channel_join the_user 1007 ∷ channel_join the_user 1003 ∷ channel_join the_user 1004 ∷ channel_join the_user 1005 ∷ channel_join the_user 1006
+    ∷ client_info the_user name ∷ last_five the_user c
 
-host_begins : (size : Size) (name : List ℕ) (c : Confirmed) → HostBegins size name c
+pub record HostBegins (size : Size) (depth : Depth) (name : List ℕ) (c : Confirmed) : Type 0 where
+  requested : Replies size (take 1 (asking depth name c)) ≡ joined (take 1 (answers size depth))
+  initial : Replies size (take 2 (asking depth name c)) ≡ joined (take 2 (answers size depth))
+  attached : Replies size (take 4 (asking depth name c)) ≡ joined (take 3 (answers size depth))
+  user : Replies size (take 5 (asking depth name c)) ≡ joined (take 4 (answers size depth))
+  io : Replies size (take 6 (asking depth name c)) ≡ joined (take 5 (answers size depth))
+  first : Replies size (take 7 (asking depth name c)) ≡ joined (take 6 (answers size depth))
+  second : Replies size (take 8 (asking depth name c)) ≡ joined (take 7 (answers size depth))
+  third : Replies size (take 9 (asking depth name c)) ≡ joined (take 8 (answers size depth))
+
+host_begins : (size : Size) (depth : Depth) (name : List ℕ) (c : Confirmed) → HostBegins size depth name c
 unfolding passing_at at_least rest_count_at exactly_at references request_header after_cookie asked_protocols user_data three_parameters upward_flag initial_fields connect_initial connect_response attach_user_request channel_join_request erect_domain_request kind_at length_at block_at blocks_at desktop_of create_request client_blocks_at user_data_at client_data_at channel_count_at channels_at create_response mcs_headers
-host_begins size name c = record {
+host_begins size Bits24 name c = record {
+  requested = refl;
+  initial = refl;
+  attached = refl;
+  user = refl;
+  io = refl;
+  first = refl;
+  second = refl;
+  third = refl;
+}
+host_begins size Bits16 name c = record {
   requested = refl;
   initial = refl;
   attached = refl;
@@ -119,9 +141,9 @@ host_begins size name c = record {
   third = refl;
 }
 
-named : (size : Size) (name : List ℕ) (c : Confirmed) → IsName name → Replies size (take 10 (greeting name c)) ≡ joined (take 10 (answers size))
+named : (size : Size) (name : List ℕ) (c : Confirmed) → IsName name → Replies size (take 10 (greeting name c)) ≡ joined (take 10 (answers size (depth_of c)))
 unfolding connect_response create_response demand_active before_bitmap after_bitmap
-named size name c n = ap (λ (x : Heard). x.replies) (ten_heard size name n)
+named size name c n = ap (λ (x : Heard). x.replies) (ten_heard size (depth_of c) name n)
 
 all_heard : (size : Size) (name : List ℕ) (c : Confirmed) → IsName name → IsConfirmable c → HostGoes size name c 15 14
 unfolding connect_response create_response demand_active before_bitmap after_bitmap
@@ -129,8 +151,8 @@ all_heard size name c n h = ap (λ (x : Heard). x.replies) (greeting_heard size 
 
 -- ---- turns
 
-one_turn : (size : Size) (name : List ℕ) (c : Confirmed) (n k m j : ℕ) → (after_turns n size name c).host ≡ joined (take k (answers size)) → ViewerGoes size name c k m → HostGoes size name c m j
-    → after_turns (suc n) size name c ≡ exchange (joined (take m (greeting name c))) (joined (take j (answers size)))
+one_turn : (size : Size) (name : List ℕ) (c : Confirmed) (n k m j : ℕ) → (after_turns n size name c).host ≡ joined (take k (answers size (depth_of c))) → ViewerGoes size name c k m → HostGoes size name c m j
+    → after_turns (suc n) size name c ≡ exchange (joined (take m (greeting name c))) (joined (take j (answers size (depth_of c))))
 one_turn size name c n k m j e v h =
     ap (λ (host : List ℕ). host_answers size (viewer_handshake name c host).text) e
     ∙ ap (λ (viewer : List ℕ). host_answers size viewer) v
@@ -140,10 +162,10 @@ host_is : {x : Exchange} {viewer host : List ℕ} → x ≡ exchange viewer host
 host_is e = ap (λ (x : Exchange). x.host) e
 
 pub ten_turns : (size : Size) (name : List ℕ) (c : Confirmed) → IsTrue (is_session_size size.w size.h) → IsName name → IsConfirmable c
-    → after_turns 10 size name c ≡ exchange (joined (greeting name c)) (joined (answers size))
+    → after_turns 10 size name c ≡ exchange (joined (greeting name c)) (joined (answers size (depth_of c)))
 ten_turns size name c sided n h =
     let v = viewer_begins size name c in
-    let r = host_begins size name c in
+    let r = host_begins size (depth_of c) name c in
     let one = one_turn size name c 0 0 1 1 refl (goes size name c 0 1 v.at_once) (replies size name c 1 1 n h r.requested) in
     let two = one_turn size name c 1 1 2 2 (host_is one) (goes size name c 1 2 v.confirmed) (replies size name c 2 2 n h r.initial) in
     let three = one_turn size name c 2 2 4 3 (host_is two) (goes size name c 2 4 v.responded) (replies size name c 4 3 n h r.attached) in

@@ -4,6 +4,7 @@ ghost use Rattle.std.specs.Prelude.{◌≡◌, ◌∷◌, [], Ok, List, ℕ, IsT
 ghost use Rattle.px_core.specs.declared.surface.Size.{Size};
 ghost use Rattle.px_core.specs.Rectangle.{is_session_size};
 ghost use Rattle.caps_sets.specs.declared.confirmed.Confirmed.{Confirmed};
+ghost use Rattle.caps_sets.specs.Confirmed.{depth_of};
 ghost use Rattle.info_lic.specs.Name.{IsName};
 ghost use Rattle.info_lic.specs.ClientInfo.{name_of};
 ghost use Rattle.conn_rules.specs.declared.conn_step.ConnStep.TheVariants.{Named, Ready};
@@ -18,10 +19,10 @@ pub fn name_is_read()
     ensures { (name : List ℕ) → IsName name → name_of (info_body name) ≡ Ok name }
 {}
 
-/// The host hears a viewer's packets to the end: it answers them, tells the name and what is confirmed, and refuses nothing.
+/// The host hears a viewer's packets to the end: it answers them at the viewer's depth, tells the name and what is confirmed, and refuses nothing.
 pub fn greeting_is_heard()
     ensures replies { (size : Size) (name : List ℕ) (c : Confirmed) → IsName name → IsConfirmable c
-        → (host_handshake size (joined (greeting name c))).replies ≡ joined (answers size) }
+        → (host_handshake size (joined (greeting name c))).replies ≡ joined (answers size (depth_of c)) }
     ensures steps { (size : Size) (name : List ℕ) (c : Confirmed) → IsName name → IsConfirmable c
         → (host_handshake size (joined (greeting name c))).steps ≡ Named name ∷ Ready c ∷ [] }
     ensures end { (size : Size) (name : List ℕ) (c : Confirmed) → IsName name → IsConfirmable c
@@ -31,5 +32,5 @@ pub fn greeting_is_heard()
 /// Neither half waits for ever: by turns, each answering what the other has sent so far, both have sent all of it after ten turns.
 pub fn both_halves_take_turns()
     ensures { (size : Size) (name : List ℕ) (c : Confirmed) → IsTrue (is_session_size size.w size.h) → IsName name → IsConfirmable c
-        → after_turns 10 size name c ≡ exchange (joined (greeting name c)) (joined (answers size)) }
+        → after_turns 10 size name c ≡ exchange (joined (greeting name c)) (joined (answers size (depth_of c))) }
 {}

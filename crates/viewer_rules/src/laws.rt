@@ -1,10 +1,10 @@
 //! The laws.
 
 ghost use Rattle.std.specs.Prelude.{◌≡◌, ◌++◌, [], None, Some, IfSome, Ok, List, ℕ, IsTrue};
-ghost use Rattle.px_core.specs.declared.depth.Depth.TheVariants.{Bits24};
 ghost use Rattle.px_core.specs.declared.surface.Size.{Size};
 ghost use Rattle.px_core.specs.Rectangle.{is_session_size};
 ghost use Rattle.caps_sets.specs.declared.confirmed.Confirmed.{Confirmed};
+ghost use Rattle.caps_sets.specs.Confirmed.{depth_of};
 ghost use Rattle.caps_sets.specs.ConfirmActive.{confirmed_of};
 ghost use Rattle.caps_sets.specs.Presets.{presets, confirmed_by};
 ghost use Rattle.order_means.specs.FrameMarks.{ClientReading, read_stream};
@@ -22,9 +22,9 @@ pub fn hosts_bytes_are_heard_in_any_pieces()
         → (watched name c w (xs ++ ys)).after ≡ (watched name c (watched name c w xs).after ys).after }
 {}
 
-/// The host reads in a viewer's Confirm Active just what the viewer was given to confirm.
+/// The host of a viewer's depth reads in its Confirm Active just what the viewer was given to confirm.
 pub fn what_is_confirmed_is_read()
-    ensures { (c : Confirmed) → IsConfirmable c → confirmed_of Bits24 (confirm_fields c) ≡ Ok c }
+    ensures { (c : Confirmed) → IsConfirmable c → confirmed_of (depth_of c) (confirm_fields c) ≡ Ok c }
 {}
 
 /// Whatever preset words confirm has as many caches as a viewer confirms, and numbers of two bytes.
@@ -32,16 +32,16 @@ pub fn preset_words_are_confirmable()
     ensures { (words : List (List ℕ)) → IfSome (confirmed_by presets words) IsConfirmable }
 {}
 
-/// The host's answers aren't refused, whatever the session's size is; the viewer says all of its packets, knows the size, and is shown what comes then.
+/// The host's answers aren't refused, whatever the session's size and the viewer's depth are; the viewer says all of its packets, knows the size, and is shown what comes then.
 pub fn client_is_answered()
     ensures text { (size : Size) (name : List ℕ) (c : Confirmed) → IsTrue (is_session_size size.w size.h)
-        → (viewer_handshake name c (joined (answers size))).text ≡ joined (greeting name c) }
+        → (viewer_handshake name c (joined (answers size (depth_of c)))).text ≡ joined (greeting name c) }
     ensures stage { (size : Size) (name : List ℕ) (c : Confirmed) → IsTrue (is_session_size size.w size.h)
-        → (viewer_handshake name c (joined (answers size))).after.at.stage ≡ Shown }
+        → (viewer_handshake name c (joined (answers size (depth_of c)))).after.at.stage ≡ Shown }
     ensures size { (size : Size) (name : List ℕ) (c : Confirmed) → IsTrue (is_session_size size.w size.h)
-        → (viewer_handshake name c (joined (answers size))).after.at.size ≡ Some size }
+        → (viewer_handshake name c (joined (answers size (depth_of c)))).after.at.size ≡ Some size }
     ensures unrefused { (size : Size) (name : List ℕ) (c : Confirmed) → IsTrue (is_session_size size.w size.h)
-        → refusal_in (viewer_handshake name c (joined (answers size))).after ≡ None }
+        → refusal_in (viewer_handshake name c (joined (answers size (depth_of c)))).after ≡ None }
 {}
 
 /// Bytes behind the Font Map that a client reads are neither refused nor an end, and the packets in them come to the client's view.

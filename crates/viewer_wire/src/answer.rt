@@ -1,6 +1,7 @@
 //! What a packet of the host is answered with.
 
 ghost use Rattle.std.specs.Prelude.{◌≡◌, ◌++◌, ℕ, List, [], None, Ok};
+ghost use Rattle.px_core.specs.Depth.{bits_in};
 ghost use Rattle.caps_sets.specs.declared.confirmed.Confirmed.{Confirmed};
 ghost use Rattle.viewer_rules.specs.declared.stage.Stage.TheVariants as stage;
 ghost use Rattle.viewer_rules.specs.ClientPackets.{connect_initial, erect_domain, attach_user, client_info};
@@ -17,7 +18,7 @@ use crate::finals::put_five;
 use crate::share::{read_final, read_licence};
 use caps_sets::Confirmed;
 use info_lic::Name;
-use px_core::Size;
+use px_core::{Depth, Size};
 use share_pdu::Final;
 use viewer_rules::{Channel, Stage};
 
@@ -53,7 +54,7 @@ pub fn answer_packet(
 {
     text.clear();
     match stage {
-        Stage::Confirm => answer_confirm(packet, text),
+        Stage::Confirm => answer_confirm(packet, confirmed, text),
         Stage::Response => answer_response(packet, text),
         Stage::Attach => answer_attach(packet, text),
         Stage::Joins { user, next } => answer_join(packet, user, next, name, body, text),
@@ -71,21 +72,25 @@ fn awaiting(next: Stage) -> Answer
     Answer { next, size: None }
 }
 
-fn answer_confirm(packet: &[u8], text: &mut Vec<u8>) -> Result<Answer, AnswerFault>
+fn answer_confirm(
+    packet: &[u8],
+    confirmed: &Confirmed,
+    text: &mut Vec<u8>,
+) -> Result<Answer, AnswerFault>
     requires { text.old.items ≡ [] }
-    ensures { (name : List ℕ) (c : Confirmed) → Answers result text.new.items (packet_answered name c stage.Confirm packet.now) }
+    ensures { (name : List ℕ) → Answers result text.new.items (packet_answered name confirmed.now stage.Confirm packet.now) }
 {
     match read_confirm(packet) {
-        Ok(()) => send_initial(text),
+        Ok(()) => send_initial(confirmed.depth, text),
         Err(short) => Err(AnswerFault::Refused(short.at)),
     }
 }
 
-fn send_initial(text: &mut Vec<u8>) -> Result<Answer, AnswerFault>
+fn send_initial(depth: Depth, text: &mut Vec<u8>) -> Result<Answer, AnswerFault>
     requires { text.old.items ≡ [] }
-    ensures { Answers result text.new.items (Ok (answering (connect_initial 24) stage.Response)) }
+    ensures { Answers result text.new.items (Ok (answering (connect_initial (bits_in depth)) stage.Response)) }
 {
-    match put_initial(text) {
+    match put_initial(text, depth) {
         Ok(()) => Ok(awaiting(Stage::Response)),
         Err(_) => Err(AnswerFault::OutOfMemory),
     }
@@ -216,7 +221,7 @@ fn answer_demand(
     requires { text.old.items ≡ [] }
     ensures { (name : List ℕ) → Answers result text.new.items (packet_answered name confirmed.now (stage.Demand user) packet.now) }
 {
-    match read_demand(packet) {
+    match read_demand(packet, confirmed.depth) {
         Ok(size) => send_five(user, size, confirmed, body, text),
         Err(short) => Err(AnswerFault::Refused(short.at)),
     }

@@ -2,7 +2,7 @@
 //!
 //! | size | field | value |
 //! |---|---|---|
-//! | 62 | up to desktopWidth: the share control header, the General set, and of the Bitmap set 24 bits for each pixel | each as it is |
+//! | 62 | up to desktopWidth: the share control header, the General set, and of the Bitmap set the viewer's depth | each as it is |
 //! | 2 | desktopWidth | 4 to 2,048, a multiple of four |
 //! | 2 | desktopHeight | 1 to 2,048 |
 //! | 2 | pad2octets | `00 00` |
@@ -10,6 +10,7 @@
 //! | 208 | the rest of the Bitmap set, the sets behind it, and sessionId | each as it is |
 
 ghost use Rattle.std.specs.Prelude.{◌≡◌, [], ◌∷◌};
+ghost use Rattle.px_core.specs.Depth.{bits_in};
 ghost use Rattle.wire_num.specs.Cursor.{ReadsField, ReadsRows, ReadsFieldsAs};
 ghost use Rattle.wire_num.specs.Number.{little_at};
 ghost use Rattle.wire_num.specs.FieldValue.{passing_at};
@@ -19,24 +20,12 @@ ghost use Rattle.viewer_wire.specs.Reads.{ReadsPacket, sides};
 
 use crate::headers::read_indication;
 use crate::rows::expect_each;
-use px_core::Size;
+use px_core::{Depth, Size, bits_in};
 use wire_num::{Cursor, Short};
 
-/// totalLength; pduType; pduSource; shareId; lengthSourceDescriptor; lengthCombinedCapabilities; sourceDescriptor; numberCapabilities and pad2Octets; the General
-/// set; the Bitmap set up to desktopWidth.
-const DEMAND: [&[u8]; 10] = [
-    &[32, 1],
-    &[17, 0],
-    &[0xEA, 3],
-    &[0xEA, 3, 1, 0],
-    &[4, 0],
-    &[10, 1],
-    &[0x52, 0x44, 0x50, 0],
-    &[8, 0, 0, 0],
-    &[
-        1, 0, 24, 0, 1, 0, 3, 0, 0, 2, 0, 0, 0, 0, 0, 4, 0, 0, 0, 0, 0, 0, 1, 1,
-    ],
-    &[2, 0, 28, 0, 24, 0, 1, 0, 1, 0, 1, 0],
+/// The General set.
+const GENERAL: [u8; 24] = [
+    1, 0, 24, 0, 1, 0, 3, 0, 0, 2, 0, 0, 0, 0, 0, 4, 0, 0, 0, 0, 0, 0, 1, 1,
 ];
 
 /// The Bitmap set from bitmapCompressionFlag on; the Order set; Pointer; Input; Virtual Channel; Share; Font; sessionId.
@@ -66,39 +55,54 @@ const MOST: u16 = 2_048;
 /// The least width, and what each is a multiple of.
 const WIDTH_STEP: u16 = 4;
 
-/// Reads a Demand Active of 24 bits for each pixel, and gives the session's size.
-pub(crate) fn read_demand(packet: &[u8]) -> Result<Size, Short>
-    ensures { ReadsPacket sides (fields_at (indication (demand_answer 24))) result packet.now }
+/// Reads a Demand Active of this depth, and gives the session's size.
+pub(crate) fn read_demand(packet: &[u8], depth: Depth) -> Result<Size, Short>
+    ensures { ReadsPacket sides (fields_at (indication (demand_answer (bits_in depth)))) result packet.now }
 {
     let mut cursor = Cursor::new(packet);
-    match read_demand_packet(&mut cursor) {
+    match read_demand_packet(&mut cursor, depth) {
         Ok(read) => Ok(read),
         Err(_) => Err(Short { at: cursor.at() }),
     }
 }
 
-fn read_demand_packet(cursor: &mut Cursor<'_>) -> Result<Size, Short>
-    ensures { ReadsFieldsAs sides (fields_at (indication (demand_answer 24))) result cursor.old cursor.new }
+fn read_demand_packet(cursor: &mut Cursor<'_>, depth: Depth) -> Result<Size, Short>
+    ensures { ReadsFieldsAs sides (fields_at (indication (demand_answer (bits_in depth)))) result cursor.old cursor.new }
 {
     match read_indication(cursor) {
-        Ok(()) => read_demand_answer(cursor),
+        Ok(()) => read_demand_answer(cursor, depth),
         Err(short) => Err(short),
     }
 }
 
-fn read_demand_answer(cursor: &mut Cursor<'_>) -> Result<Size, Short>
-    ensures { ReadsFieldsAs sides (fields_at (demand_answer 24)) result cursor.old cursor.new }
+fn read_demand_answer(cursor: &mut Cursor<'_>, depth: Depth) -> Result<Size, Short>
+    ensures { ReadsFieldsAs sides (fields_at (demand_answer (bits_in depth))) result cursor.old cursor.new }
 {
-    match read_demand_rows(cursor) {
+    match read_demand_rows(cursor, depth) {
         Ok(()) => read_sides(cursor),
         Err(short) => Err(short),
     }
 }
 
-fn read_demand_rows(cursor: &mut Cursor<'_>) -> Result<(), Short>
-    ensures { ReadsRows (demand_rows 24) result cursor.old cursor.new }
+/// totalLength; pduType; pduSource; shareId; lengthSourceDescriptor; lengthCombinedCapabilities; sourceDescriptor; numberCapabilities and pad2Octets; the General
+/// set; the Bitmap set up to desktopWidth.
+fn read_demand_rows(cursor: &mut Cursor<'_>, depth: Depth) -> Result<(), Short>
+    ensures { ReadsRows (demand_rows (bits_in depth)) result cursor.old cursor.new }
 {
-    expect_each(cursor, &DEMAND)
+    let bitmap: [u8; 12] = [2, 0, 28, 0, bits_in(depth) as u8, 0, 1, 0, 1, 0, 1, 0];
+    let rows: [&[u8]; 10] = [
+        &[32, 1],
+        &[17, 0],
+        &[0xEA, 3],
+        &[0xEA, 3, 1, 0],
+        &[4, 0],
+        &[10, 1],
+        &[0x52, 0x44, 0x50, 0],
+        &[8, 0, 0, 0],
+        &GENERAL,
+        &bitmap,
+    ];
+    expect_each(cursor, &rows)
 }
 
 /// desktopWidth, desktopHeight, and what follows them.

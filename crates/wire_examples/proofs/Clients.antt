@@ -27,6 +27,7 @@ use Rattle.input_pdu.specs.Events.{event_at, event_count_at}
 use Rattle.conn_rules.specs.Headers.{mcs_headers}
 use Rattle.conn_rules.specs.Hearing.{heard, host_handshake, end_of}
 use Rattle.conn_rules.specs.Hearing.StreamEnd.{Between, RefusedAt}
+use Rattle.px_core.specs.declared.depth.Depth.TheVariants.{Bits16}
 use Rattle.caps_sets.specs.Confirmed.{plain}
 use Rattle.conn_rules.specs.declared.conn_step.ConnStep.TheVariants.{Named, Ready, Bye, Packet}
 use Rattle.wire_examples.proofs.Sample.{stream, answers, connection_request, initial}
@@ -72,6 +73,26 @@ a_build_and_the_sessions_size = refl
 no_build_and_another_width : (host_handshake size (slice_set stream 163 65)).replies ≡ answers
 unfolding passing_at at_least rest_count_at exactly_at references request_header after_cookie asked_protocols user_data three_parameters upward_flag initial_fields connect_initial connect_response attach_user_request channel_join_request erect_domain_request send_data_request ultimatum kind_at length_at block_at blocks_at desktop_of create_request client_blocks_at user_data_at client_data_at channel_count_at channels_at create_response info_start other_texts info_texts info_at says_bitmaps says_glyphs confirm_lengths confirm_counts set_header with_content_of set_at confirm_at before_bitmap after_bitmap demand_active synchronize_body control_body total_length control_header data_header compressed_type_at data_body_at data_pdu_at client_pdu_at event_at event_count_at mcs_headers heard
 no_build_and_another_width = refl
+
+-- ---- highColorDepth 16 in CS_CORE: Demand Active says so by its 51st byte, the 313th of what is answered, and pixels are shown at 16 bits
+
+sixteen_bits_are_answered : (host_handshake size (slice_set stream 295 16)).replies ≡ slice_set answers 312 16
+unfolding passing_at at_least rest_count_at exactly_at references request_header after_cookie asked_protocols user_data three_parameters upward_flag initial_fields connect_initial connect_response attach_user_request channel_join_request erect_domain_request send_data_request ultimatum kind_at length_at block_at blocks_at desktop_of create_request client_blocks_at user_data_at client_data_at channel_count_at channels_at create_response info_start other_texts info_texts info_at says_bitmaps says_glyphs confirm_lengths confirm_counts set_header with_content_of set_at confirm_at before_bitmap after_bitmap demand_active synchronize_body control_body total_length control_header data_header compressed_type_at data_body_at data_pdu_at client_pdu_at event_at event_count_at mcs_headers heard
+sixteen_bits_are_answered = refl
+
+sixteen_bits_are_shown : (host_handshake size (slice_set stream 295 16)).steps ≡ Named ann ∷ Ready (record plain { depth = Bits16 }) ∷ []
+unfolding passing_at at_least rest_count_at exactly_at references request_header after_cookie asked_protocols user_data three_parameters upward_flag initial_fields connect_initial connect_response attach_user_request channel_join_request erect_domain_request send_data_request ultimatum kind_at length_at block_at blocks_at desktop_of create_request client_blocks_at user_data_at client_data_at channel_count_at channels_at create_response info_start other_texts info_texts info_at says_bitmaps says_glyphs confirm_lengths confirm_counts set_header with_content_of set_at confirm_at before_bitmap after_bitmap demand_active synchronize_body control_body total_length control_header data_header compressed_type_at data_body_at data_pdu_at client_pdu_at event_at event_count_at mcs_headers heard
+sixteen_bits_are_shown = refl
+
+-- a Bitmap set that confirms 24 bits, in place of the empty caches' set, changes nothing: CS_CORE counts
+another_depth_is_confirmed : (host_handshake size (slice_set (slice_set (slice_set stream 295 16) 638 2) 642 24)).steps ≡ Named ann ∷ Ready (record plain { depth = Bits16 }) ∷ []
+unfolding passing_at at_least rest_count_at exactly_at references request_header after_cookie asked_protocols user_data three_parameters upward_flag initial_fields connect_initial connect_response attach_user_request channel_join_request erect_domain_request send_data_request ultimatum kind_at length_at block_at blocks_at desktop_of create_request client_blocks_at user_data_at client_data_at channel_count_at channels_at create_response info_start other_texts info_texts info_at says_bitmaps says_glyphs confirm_lengths confirm_counts set_header with_content_of set_at confirm_at before_bitmap after_bitmap demand_active synchronize_body control_body total_length control_header data_header compressed_type_at data_body_at data_pdu_at client_pdu_at event_at event_count_at mcs_headers heard
+another_depth_is_confirmed = refl
+
+-- supportedColorDepths 2: 16 bits alone
+sixteen_bits_alone : (host_handshake size (slice_set stream 297 2)).steps ≡ Named ann ∷ Ready (record plain { depth = Bits16 }) ∷ []
+unfolding passing_at at_least rest_count_at exactly_at references request_header after_cookie asked_protocols user_data three_parameters upward_flag initial_fields connect_initial connect_response attach_user_request channel_join_request erect_domain_request send_data_request ultimatum kind_at length_at block_at blocks_at desktop_of create_request client_blocks_at user_data_at client_data_at channel_count_at channels_at create_response info_start other_texts info_texts info_at says_bitmaps says_glyphs confirm_lengths confirm_counts set_header with_content_of set_at confirm_at before_bitmap after_bitmap demand_active synchronize_body control_body total_length control_header data_header compressed_type_at data_body_at data_pdu_at client_pdu_at event_at event_count_at mcs_headers heard
+sixteen_bits_alone = refl
 
 -- ---- an ultimatum by the basic encoding rules
 

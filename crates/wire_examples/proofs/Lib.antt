@@ -19,6 +19,7 @@ pub mod SidesBelowOne
 pub mod Cells
 pub mod BoundsOfOrders
 pub mod EdgesOfUpdates
+pub mod DepthsOnTheWire
 mod Sample
 mod Handshake
 mod Clients

@@ -1,13 +1,11 @@
 -- Where a host's stream is refused, on the sample host's 706 bytes; and what isn't refused.
-use Rattle.std.proofs.Common.{◌≡◌, ℕ, List, [], ◌∷◌, ◌++◌, take, drop, refl}
+use Rattle.std.proofs.Common.{◌≡◌, ℕ, List, [], ◌∷◌, ◌++◌, take, refl}
 use Rattle.std.specs.Prelude.{Option, Some, None, slice_set}
 use Rattle.wire_num.specs.FieldValue.{passing_at}
 use Rattle.wire_num.specs.Layout.{exactly_at}
 use Rattle.caps_sets.specs.Confirmed.{plain}
 use Rattle.viewer_rules.specs.declared.stage.Channel.TheVariants as channel
-use Rattle.viewer_rules.specs.declared.stage.Stage.{Stage}
 use Rattle.viewer_rules.specs.declared.stage.Stage.TheVariants.{Joins, Shown, Over}
-use Rattle.viewer_rules.specs.ClientPackets.{channel_join}
 use Rattle.viewer_rules.specs.HostAnswers.{connection_confirm, server_blocks_answer, conference_answer, user_data_answer, response_answer, connect_response_answer, attach_answer, join_answer, indication, licence_answer, behind_height, later_answer, height_and_later, width_and_later, demand_answer, share_data_answer, final_answer, farewell}
 use Rattle.viewer_rules.specs.ViewerHandshake.{Watched, watched, viewer_handshake, refusal_in}
 use Rattle.viewer_rules.specs.Shown.{look_refusal}

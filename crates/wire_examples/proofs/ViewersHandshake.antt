@@ -1,6 +1,7 @@
 -- The definitions on the sample client, which is the viewer `ann` that confirms what `plain` does; and what other viewers send, by their names and capabilities.
 use Rattle.std.proofs.Common.{◌≡◌, ℕ, true, List, [], ◌∷◌, ◌++◌, take, drop, replicate, refl}
-use Rattle.std.specs.Prelude.{Some}
+use Rattle.std.specs.Prelude.{Some, slice_set}
+use Rattle.px_core.specs.declared.depth.Depth.TheVariants.{Bits24, Bits16}
 use Rattle.px_core.specs.declared.surface.Size.{Size}
 use Rattle.wire_num.specs.FieldValue.{passing_at}
 use Rattle.wire_num.specs.Layout.{exactly_at}
@@ -29,6 +30,10 @@ the_request = refl
 the_initial : connect_initial 24 ≡ initial
 the_initial = refl
 
+-- of a viewer at 16 bits
+the_initial_at_sixteen_bits : connect_initial 16 ≡ slice_set initial 276 16
+the_initial_at_sixteen_bits = refl
+
 -- Confirm Active begins so
 the_confirm : take 38 (confirm_active 1007 plain)
     ≡ 3 ∷ 0 ∷ 1 ∷ 5 ∷ 2 ∷ 0xF0 ∷ 0x80 ∷ 0x64 ∷ 0 ∷ 6 ∷ 3 ∷ 0xEB ∷ 0x70 ∷ 0x80 ∷ 0xF6 ∷ 0xF6 ∷ 0 ∷ 0x13 ∷ 0 ∷ 0xEF ∷ 3 ∷ 0xEA ∷ 3 ∷ 1 ∷ 0 ∷ 0xEA ∷ 3 ∷ 4 ∷ 0 ∷ 0xE2 ∷ 0 ∷ 0x52 ∷ 0x44 ∷ 0x50 ∷ 0 ∷ 6 ∷ 0 ∷ 0 ∷ []
@@ -37,9 +42,16 @@ the_confirm = refl
 the_greeting : joined (greeting ann plain) ≡ stream
 the_greeting = refl
 
-the_answers : joined (all_answers size) ≡ answers
+its_greeting_at_sixteen_bits : joined (greeting ann (record plain { depth = Bits16 })) ≡ slice_set stream 295 16
+its_greeting_at_sixteen_bits = refl
+
+the_answers : joined (all_answers size Bits24) ≡ answers
 unfolding connect_response create_response before_bitmap after_bitmap demand_active
 the_answers = refl
+
+the_answers_at_sixteen_bits : joined (all_answers size Bits16) ≡ slice_set answers 312 16
+unfolding connect_response create_response before_bitmap after_bitmap demand_active
+the_answers_at_sixteen_bits = refl
 
 -- ---- what it makes of the host's answers
 

@@ -7,7 +7,7 @@ use Rattle.viewer_wire.proofs.answer.answer_packet.Goals as goal
 
 pub returns-in-Confirm : goal.returns-in-Confirm
 returns-in-Confirm c =
-    subst (λ (here : Stage). Answers c.answer_confirm.result c.answer_confirm.new.text.items (packet_answered c.args.name c.args.confirmed.now here c.args.packet.now)) (sym c.in-Confirm.is) (c.answer_confirm.ensures c.args.name c.args.confirmed.now)
+    subst (λ (here : Stage). Answers c.answer_confirm.result c.answer_confirm.new.text.items (packet_answered c.args.name c.args.confirmed.now here c.args.packet.now)) (sym c.in-Confirm.is) (c.answer_confirm.ensures c.args.name)
 
 pub returns-in-Response : goal.returns-in-Response
 returns-in-Response c =
