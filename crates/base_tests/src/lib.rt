@@ -10,6 +10,8 @@ mod cached_entries;
 #[cfg(test)]
 mod checks;
 #[cfg(test)]
+mod depths;
+#[cfg(test)]
 mod fast_packets;
 #[cfg(test)]
 mod lanes;
@@ -19,6 +21,8 @@ mod last_values;
 mod packing;
 #[cfg(test)]
 mod saved_places;
+#[cfg(test)]
+mod sixteen;
 #[cfg(test)]
 mod turns;
 #[cfg(test)]

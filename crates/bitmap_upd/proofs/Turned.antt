@@ -2,12 +2,13 @@
 use Rattle.std.proofs.Common.{◌≡◌, ℕ, suc, zero, ◌+◌, ◌-◌, ◌*◌, ◌≤◌, ◌<◌, List, [], ◌∷◌, ◌++◌, length, length-append, refl, ap, sym, ◌∙◌, arith, append_assoc, append-nil}
 use Rattle.std.specs.Prelude.{true, map, replicate, take, drop}
 use Rattle.std.specs.List.{concat}
-use Rattle.std.proofs.lemmas.List.{take-append-drop, length-replicate}
+use Rattle.std.proofs.lemmas.List.{take-append-drop, length-replicate, map-append}
 use Rattle.std.proofs.lemmas.Bool.{and_parts, and_from}
 use Rattle.px_core.specs.Colors.{is_color, are_colors}
 use Rattle.px_core.proofs.Colors.{are_colors-append, replicated_are_colors, is_color-item}
 use Rattle.px_core.proofs.Pictures.{rows_joined}
 use Rattle.px_core.specs.Picture.{item, front, skipped, rows_of}
+use Rattle.draw_ops.proofs.Shapes.{rows_of-map}
 use Rattle.order_means.specs.WirePixels.{turned, joined, turned_over, padded, padded_row}
 
 front-all : {A : Type 0} (n : ℕ) (xs : List A) → length xs ≡ n → front n xs ≡ xs
@@ -185,3 +186,17 @@ padded_colors w (suc n) pixels colors =
     are_colors-append (padded_row w (front w pixels)) (padded_rows w n (skipped w pixels))
     (are_colors-append (front w pixels) (replicate (padded w - w) (item (front w pixels) (w - 1) 0)) row (replicated_are_colors (padded w - w) (item (front w pixels) (w - 1) 0) (is_color-item (front w pixels) (w - 1) 0 row refl)))
     (padded_colors w n (skipped w pixels) (skipped_colors w pixels colors))
+
+-- ---- a map over their pixels
+
+turned-map : {A B : Type 0} (f : A → B) (xs ys : List A) → turned (map f xs) (map f ys) ≡ map f (turned xs ys)
+turned-map f [] ys = refl
+turned-map f (x ∷ xs) ys = turned-map f xs (x ∷ ys)
+
+joined-map : {A B : Type 0} (f : A → B) (rows : List (List A)) → joined (map (map f) rows) ≡ map f (joined rows)
+joined-map f [] = refl
+joined-map f (row ∷ rows) = ap (λ xs. map f row ++ xs) (joined-map f rows) ∙ sym (map-append f row (joined rows))
+
+pub turned_over-map : {A B : Type 0} (f : A → B) (w h : ℕ) (pixels : List A) → turned_over w h (map f pixels) ≡ map f (turned_over w h pixels)
+turned_over-map f w h pixels =
+    ap (λ rows. joined (turned rows [])) (rows_of-map f w h pixels) ∙ ap joined (turned-map (map f) (rows_of w h pixels) []) ∙ joined-map f (turned (rows_of w h pixels) [])

@@ -5,10 +5,12 @@ mod data;
 mod front;
 mod head;
 mod rows;
+mod shown;
 mod tile;
 
 pub use data::{PixelBytes, packed_pixels, pixel_data, put_turned, raw_bytes};
 pub use front::put_both;
 pub use rows::{pad_rows, padded_width, turn_over};
-pub use tile::{TileBody, write_tile};
+pub use shown::{cut, show_all};
+pub use tile::{TileBody, write_tile, write_tile_at};
 pub use wire_num::OutOfMemory;

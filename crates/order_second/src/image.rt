@@ -10,20 +10,21 @@
 //! | 7 | 1 | pad1Octet | 0 |
 //! | 8 | 1 | bitmapWidth | the columns, padded to a multiple of four |
 //! | 9 | 1 | bitmapHeight | the rows |
-//! | 10 | 1 | bitmapBitsPerPel | 24 |
+//! | 10 | 1 | bitmapBitsPerPel | 24 or 16, the viewer's depth |
 //! | 11 | 2 | bitmapLength | how many bytes stand behind cacheIndex |
 //! | 13 | 2 | cacheIndex | the entry |
-//! | 15 | | bitmapDataStream | the pixels from the bottom row up, packed or as blue, green, red |
+//! | 15 | | bitmapDataStream | the pixels from the bottom row up, packed or as they are |
 
 ghost use Rattle.std.specs.Prelude.{◌≡◌, ◌≤◌, ◌++◌, length, List, ℕ, OnOk, OnErr, IsTrue, None};
 ghost use Rattle.wire_num.specs.Written.{AppendsFront};
+ghost use Rattle.px_core.specs.declared.depth.Depth.TheVariants.{Bits24};
 ghost use Rattle.px_core.specs.Colors.{are_colors};
 ghost use Rattle.draw_ops.specs.Fits.{image_rule};
 ghost use Rattle.order_means.specs.WirePixels.{pixel_data};
 ghost use Rattle.order_means.specs.CacheOrders.{secondary_bytes, cache_bitmap_body, cache_bitmap_data, cache_bitmap_bytes};
 
 use crate::OutOfMemory;
-use bitmap_upd::{pad_rows, padded_width, pixel_data, put_both, turn_over};
+use bitmap_upd::{pad_rows, padded_width, pixel_data, put_both, show_all, turn_over};
 use draw_ops::Image;
 use px_core::{Depth, bits_in};
 use std::alloc::Global;
@@ -41,9 +42,18 @@ const NO_HEADER: u16 = 0x0400;
 const BESIDES: u16 = 2;
 
 /// What stands before so many bytes of pixels.
-fn order_head(flags: u16, kind: u8, cache: u8, index: u16, w: u8, h: u8, size: u16) -> [u8; 15]
+fn order_head(
+    flags: u16,
+    kind: u8,
+    cache: u8,
+    index: u16,
+    w: u8,
+    h: u8,
+    size: u16,
+    depth: Depth,
+) -> [u8; 15]
     requires { size ≤ 12288 }
-    ensures { (bytes : List ℕ) → length bytes ≡ size → result ++ bytes ≡ secondary_bytes flags kind (cache_bitmap_body cache index w h bytes) }
+    ensures { (bytes : List ℕ) → length bytes ≡ size → result ++ bytes ≡ secondary_bytes flags kind (cache_bitmap_body depth cache index w h bytes) }
 {
     let [total, total_high] = (size + BESIDES).to_le_bytes();
     let [extra, extra_high] = flags.to_le_bytes();
@@ -60,7 +70,7 @@ fn order_head(flags: u16, kind: u8, cache: u8, index: u16, w: u8, h: u8, size: u
         0,
         w,
         h,
-        bits_in(Depth::Bits24) as u8,
+        bits_in(depth) as u8,
         low,
         high,
         entry,
@@ -69,19 +79,27 @@ fn order_head(flags: u16, kind: u8, cache: u8, index: u16, w: u8, h: u8, size: u
 }
 
 /// What stands before so many bytes of pixels, which are packed or aren't.
-fn bitmap_head(is_packed: bool, cache: u8, index: u16, w: u8, h: u8, size: u16) -> [u8; 15]
+fn bitmap_head(
+    is_packed: bool,
+    cache: u8,
+    index: u16,
+    w: u8,
+    h: u8,
+    size: u16,
+    depth: Depth,
+) -> [u8; 15]
     requires { size ≤ 12288 }
-    ensures { (bytes : List ℕ) → length bytes ≡ size → result ++ bytes ≡ cache_bitmap_data cache index w h (pixel_data is_packed bytes) }
+    ensures { (bytes : List ℕ) → length bytes ≡ size → result ++ bytes ≡ cache_bitmap_data depth cache index w h (pixel_data is_packed bytes) }
 {
     if is_packed {
-        order_head(NO_HEADER, PACKED, cache, index, w, h, size)
+        order_head(NO_HEADER, PACKED, cache, index, w, h, size, depth)
     } else {
-        order_head(0, RAW, cache, index, w, h, size)
+        order_head(0, RAW, cache, index, w, h, size, depth)
     }
 }
 
-/// Writes the order that puts an image into an entry of a bitmap cache at the end; `no_header` says whether the viewer takes packed
-/// pixels without a header.
+/// Writes the order that puts an image into an entry of a bitmap cache of a viewer of 24 bits at the end; `no_header` says whether the
+/// viewer takes packed pixels without a header.
 ///
 /// An `Err` is want of memory and leaves a front of the order there.
 pub fn cache_bitmap(
@@ -94,14 +112,35 @@ pub fn cache_bitmap(
 ) -> Result<(), OutOfMemory>
     requires image { image_rule image.now ≡ None }
     requires colors { IsTrue (are_colors image.now.pixels) }
-    ensures ok { OnOk result (out.new.items ≡ out.old.items ++ cache_bitmap_bytes no_header cache index image.now) }
-    ensures memory { OnErr result (AppendsFront out.old.items (cache_bitmap_bytes no_header cache index image.now) out.new.items) }
+    ensures ok { OnOk result (out.new.items ≡ out.old.items ++ cache_bitmap_bytes Bits24 no_header cache index image.now) }
+    ensures memory { OnErr result (AppendsFront out.old.items (cache_bitmap_bytes Bits24 no_header cache index image.now) out.new.items) }
+{
+    cache_bitmap_at(alloc, out, cache, index, image, no_header, Depth::Bits24)
+}
+
+/// Writes the order that puts an image, as it is shown at a depth, into an entry of a bitmap cache at the end; `no_header` says whether
+/// the viewer takes packed pixels without a header.
+///
+/// An `Err` is want of memory and leaves a front of the order there.
+pub fn cache_bitmap_at(
+    alloc: Global,
+    out: &mut Vec<u8>,
+    cache: u8,
+    index: u16,
+    image: &Image,
+    no_header: bool,
+    depth: Depth,
+) -> Result<(), OutOfMemory>
+    requires image { image_rule image.now ≡ None }
+    requires colors { IsTrue (are_colors image.now.pixels) }
+    ensures ok { OnOk result (out.new.items ≡ out.old.items ++ cache_bitmap_bytes depth no_header cache index image.now) }
+    ensures memory { OnErr result (AppendsFront out.old.items (cache_bitmap_bytes depth no_header cache index image.now) out.new.items) }
 {
     let (w, h) = (image.w() as usize, image.h() as usize);
     let rows = pad_rows(alloc, image.pixels(), w, h)?;
     let padded = padded_width(w);
-    let wire = turn_over(alloc, &rows, padded, h)?;
-    let data = pixel_data(alloc, &wire, padded, no_header)?;
+    let wire = show_all(turn_over(alloc, &rows, padded, h)?, depth);
+    let data = pixel_data(alloc, &wire, padded, no_header, depth)?;
     let head = bitmap_head(
         data.is_packed(),
         cache,
@@ -109,6 +148,7 @@ pub fn cache_bitmap(
         padded as u8,
         h as u8,
         data.bytes().len() as u16,
+        depth,
     );
     put_both(out, &head, data.bytes())
 }

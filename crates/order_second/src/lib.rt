@@ -6,8 +6,8 @@ mod glyph;
 mod image;
 mod marker;
 
-pub use brush::cache_brush;
+pub use brush::{cache_brush, cache_brush_at};
 pub use glyph::cache_glyph;
-pub use image::cache_bitmap;
+pub use image::{cache_bitmap, cache_bitmap_at};
 pub use marker::frame_marker;
 pub use wire_num::OutOfMemory;

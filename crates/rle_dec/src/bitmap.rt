@@ -31,8 +31,9 @@ pub fn unpack(alloc: Global, bytes: &[u8], w: usize, h: usize) -> Result<Vec<u32
     unpack_at(alloc, bytes, w, h, Depth::Bits24)
 }
 
-/// The pixels of a depth of a stream in rows of `w`, the bottom row first. Takes memory once, for its result, before it reads the first order.
-fn unpack_at(
+/// The pixels of a depth of a stream in rows of `w`, the bottom row first, each in as many bits as the depth has. Takes memory once, for its
+/// result, before it reads the first order.
+pub fn unpack_at(
     alloc: Global,
     bytes: &[u8],
     w: usize,

@@ -10,5 +10,5 @@ mod orders;
 mod reads;
 mod short;
 
-pub use bitmap::unpack;
+pub use bitmap::{unpack, unpack_at};
 pub use fault::RleFault;

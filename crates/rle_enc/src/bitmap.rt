@@ -33,8 +33,8 @@ pub fn pack(alloc: Global, pixels: &[u32], w: usize) -> Result<Packed, OutOfMemo
     pack_at(alloc, pixels, w, Depth::Bits24)
 }
 
-/// Packs pixels of a depth in rows of `w`, the bottom row first (profile).
-fn pack_at(alloc: Global, pixels: &[u32], w: usize, depth: Depth) -> Result<Packed, OutOfMemory>
+/// Packs pixels of a depth in rows of `w`, the bottom row first, each below 2 to the number of its bits (profile).
+pub fn pack_at(alloc: Global, pixels: &[u32], w: usize, depth: Depth) -> Result<Packed, OutOfMemory>
     requires wide { 1 ≤ w }
     requires rows { length pixels.now % w ≡ 0 }
     requires some { 1 ≤ length pixels.now }

@@ -6,5 +6,5 @@ mod counts;
 mod orders;
 mod stretch;
 
-pub use bitmap::{Packed, pack};
+pub use bitmap::{Packed, pack, pack_at};
 pub use wire_num::OutOfMemory;

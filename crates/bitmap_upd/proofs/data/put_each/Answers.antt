@@ -1,8 +1,6 @@
 use Rattle.std.proofs.Common.{drop, suc}
-use Rattle.std.specs.Prelude.{flat_map}
 use Rattle.std.proofs.lemmas.Result.{err_from_is_err_and}
-use Rattle.px_core.specs.declared.depth.Depth.TheVariants.{Bits24}
-use Rattle.px_core.specs.Pixels.{pixel_bytes}
+use Rattle.px_core.specs.Pixels.{pixels_bytes}
 use Rattle.wire_num.proofs.Sent.{sent_part}
 use Rattle.bitmap_upd.proofs.Bytes.{pixel_first}
 use Rattle.bitmap_upd.proofs.data.put_each.Goals as goal
@@ -10,5 +8,5 @@ use Rattle.bitmap_upd.proofs.data.put_each.Goals as goal
 pub returns-in_err-put_pixel-clause-memory : goal.returns-in_err-put_pixel-clause-memory
 returns-in_err-put_pixel-clause-memory c =
     let p = err_from_is_err_and c.from_residual.result c.from_residual.ensures.1 in
-    rw p.1 (sent_part _ _ _ _ _ (flat_map (pixel_bytes Bits24) (drop (suc c.loop-pixel.pixel-index) c.args.pixels.now)) _ c.loop-pixel.invariant c.in_err-put_pixel.ensures.memory
-    (pixel_first c.loop-pixel.pixel-index c.args.pixels.now c.loop-pixel-test.true))
+    rw p.1 (sent_part _ _ _ _ _ (pixels_bytes c.args.depth (drop (suc c.loop-pixel.pixel-index) c.args.pixels.now)) _ c.loop-pixel.invariant c.in_err-put_pixel.ensures.memory
+    (pixel_first c.args.depth c.loop-pixel.pixel-index c.args.pixels.now c.loop-pixel-test.true))

@@ -1,8 +1,7 @@
 use Rattle.std.proofs.Common.{◌≡◌, rules}
-use Rattle.px_core.specs.declared.depth.Depth.TheVariants.{Bits24}
 use Rattle.px_core.specs.Picture.{nat_of}
-use Rattle.px_core.specs.Pixels.{pixels_bytes}
 use Rattle.order_means.specs.WirePixels.{turned_over}
+use Rattle.bitmap_upd.proofs.Bytes.{shown_bytes}
 use Rattle.bitmap_upd.proofs.Body.{raw_length, body_is}
 use Rattle.bitmap_upd.proofs.tile.TileBody.new.Goals as goal
 
@@ -11,6 +10,6 @@ returns c =
     let r = c.args.r in
     let left : c.place.result ≡ nat_of c.args.r.x = search rules in
     let top : c.place-2.result ≡ nat_of c.args.r.y = search rules in
-    body_is c.args.no_header r c.args.pixels.now c.in_ok-packed.packed c.place.result c.place-2.result c.bytes_of-size.result c.is_some.result c.tile_head-head.result left top c.is_some.ensures
-    c.tile_head-head.ensures (c.bytes_of-size.ensures.value (pixels_bytes Bits24 (turned_over r.w r.h c.args.pixels.now)) (raw_length r.w r.h c.args.pixels.now c.requires.number))
+    body_is c.args.depth c.args.no_header r c.args.pixels.now c.in_ok-packed.packed c.place.result c.place-2.result c.bytes_of-size.result c.is_some.result c.tile_head-head.result left top c.is_some.ensures
+    c.tile_head-head.ensures (c.bytes_of-size.ensures.value (shown_bytes c.args.depth (turned_over r.w r.h c.args.pixels.now)) (raw_length c.args.depth r.w r.h c.args.pixels.now c.requires.number))
     c.in_ok-packed.ensures.value

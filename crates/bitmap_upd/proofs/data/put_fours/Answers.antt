@@ -4,7 +4,7 @@ use Rattle.px_core.specs.declared.depth.Depth.TheVariants.{Bits24}
 use Rattle.px_core.specs.Pixels.{pixel_bytes}
 use Rattle.wire_num.proofs.Sent.{sent_piece, sent_part, sent_whole, sent_cut}
 use Rattle.rle_enc.proofs.Counting.{flat_map_four}
-use Rattle.bitmap_upd.proofs.data.put_pixels.Goals as goal
+use Rattle.bitmap_upd.proofs.data.put_fours.Goals as goal
 
 pub loop-rest-preserved : goal.loop-rest-preserved
 loop-rest-preserved c =

@@ -3,7 +3,7 @@ use Rattle.std.specs.Prelude.{flat_map}
 use Rattle.px_core.specs.declared.depth.Depth.TheVariants.{Bits24}
 use Rattle.px_core.specs.Pixels.{pixel_bytes}
 use Rattle.wire_num.proofs.Sent.{HasSent}
-use Rattle.bitmap_upd.proofs.data.put_pixels.Given as goal
+use Rattle.bitmap_upd.proofs.data.put_fours.Given as goal
 
 -- what is written is a front of all the pixels, and the others are left
 abbrev pub invariant-loop-rest : goal.invariant-loop-rest

@@ -3,7 +3,7 @@ use Rattle.std.specs.Prelude.{OnErr}
 use Rattle.std.proofs.lemmas.Result.{err_from_is_err_and}
 use Rattle.wire_num.specs.Written.{AppendsFront}
 use Rattle.bitmap_upd.proofs.Bytes.{nothing_put}
-use Rattle.bitmap_upd.proofs.tile.write_tile.Goals as goal
+use Rattle.bitmap_upd.proofs.tile.write_tile_at.Goals as goal
 
 pub returns-in_err-body-clause-memory : goal.returns-in_err-body-clause-memory
 returns-in_err-body-clause-memory c =
