@@ -4,22 +4,26 @@ use Rattle.std.specs.Prelude.{Bool, true, false, ◌&&◌, nat_lt, Option, ℤ, 
 use Rattle.std.proofs.lemmas.Int.{ints}
 use Rattle.std.proofs.lemmas.Bool.{and_from, and_parts}
 use Rattle.std.proofs.lemmas.Bool.Decides.{nat_tests}
+use Rattle.px_core.specs.declared.depth.Depth.{Depth}
 use Rattle.px_core.specs.declared.surface.Size.{Size}
 use Rattle.px_core.specs.declared.rectangle.Rect.{Rect}
+use Rattle.px_core.specs.Depth.{shown, seen}
 use Rattle.px_core.specs.Picture.{nat_of}
 use Rattle.px_core.specs.Rectangle.{within, in_rect, in_clip, has_pixel, is_inside}
-use Rattle.rop3_core.specs.Palette.{client_colors, maybe_raster}
+use Rattle.rop3_core.specs.Palette.{session_colors, client_colors}
 use Rattle.draw_ops.specs.declared.shape.Shape.TheVariants.{Blit}
 use Rattle.draw_ops.specs.Content.{ImageOf}
 use Rattle.draw_ops.specs.Slots.{SurfaceState, Loaded, lookup}
 use Rattle.draw_ops.specs.Formulas.{Painting, imaged, image_rows}
 use Rattle.draw_ops.specs.Drawing.{painting_of, state_after_drawing}
+use Rattle.draw_ops.proofs.Shapes.{shifted_shown}
+use Rattle.draw_ops.proofs.ShownRaster.{operation}
 use Rattle.caps_sets.specs.declared.confirmed.Confirmed.{Confirmed}
 use Rattle.caps_sets.specs.Confirmed.{cache_size}
 use Rattle.session_rules.specs.declared.entry.Entry.{Entry}
 use Rattle.wire_num.specs.Field.{bind}
 use Rattle.order_fields.specs.OrderDelta.{edges_of_optional}
-use Rattle.order_means.specs.WirePixels.{padded, padded_image}
+use Rattle.order_means.specs.WirePixels.{padded, padded_image, kept_image}
 use Rattle.order_fields.specs.NamedDrawing.NamedDrawing.{Mem}
 use Rattle.order_means.specs.ClientState.{ClientState, Fault, found, needs, used, cached, image_used, source_rect, after_painting, mixing, no_operand, client_after_order}
 use Rattle.order_means.specs.ClientState.Fault.{Broken, Oversized, Empty}
@@ -29,7 +33,7 @@ use Rattle.frame_rules.specs.FrameOrders.SentOrder.{Drawn}
 use Rattle.frame_rules.specs.FrameRead.{as_read}
 use Rattle.frame_rules.specs.Describes.{CachesAgree, IsSized}
 use Rattle.frame_laws.specs.Agreement.{Agrees, drawn}
-use Rattle.frame_laws.proofs.Sent.{DoesTheSame, painting_agrees, obeyed_as, shifted_within}
+use Rattle.frame_laws.proofs.Sent.{black, DoesTheSame, painting_agrees, obeyed_as, shifted_within}
 use Rattle.frame_laws.specs.Sound.{IsSoundImage}
 use Rattle.frame_laws.specs.Uses.{client_after_sent, IsServed, ObeyedThrough}
 use Rattle.frame_laws.proofs.TurnedOver.{padded_least, padded_pixel}
@@ -66,30 +70,38 @@ inside_padded image r h =
         by true e = refl
         by false e = absurd (omega (arith, ints, up, h, e))
 
+-- a pixel of an image that a client keeps is what is shown of the session's
+pub image_pixel : (depth : Depth) (r : Rect) (clip : Option Rect) (image : ImageOf) (sx sy : ℤ) (x y : ℕ) → IsSoundImage image
+    → is_inside (record { w = image.w; h = image.h }) (source_rect r sx sy) ≡ true → (in_clip clip (pos x) (pos y) && (in_rect r (pos x) (pos y) && true)) ≡ true
+    → imaged client_colors (image_rows (kept_image depth image)) r sx sy (pos x) (pos y)
+    ≡ seen depth (imaged session_colors (image_rows image) r sx sy (pos x) (pos y))
+image_pixel depth r clip image sx sy x y sound fits here =
+    let parts = and_parts (in_clip clip (pos x) (pos y)) (in_rect r (pos x) (pos y) && true) here in
+    let k = and_parts (in_rect r (pos x) (pos y)) true parts.1 in
+    let sides = and_parts (within r.x r.w (pos x)) (within r.y r.h (pos y)) k.0 in
+    let f = and_parts (int_le (pos 0) sx && int_le (sx +ℤ pos r.w) (pos image.w)) (int_le (pos 0) sy && int_le (sy +ℤ pos r.h) (pos image.h)) fits in
+    let fx = and_parts (int_le (pos 0) sx) (int_le (sx +ℤ pos r.w) (pos image.w)) f.0 in
+    let fy = and_parts (int_le (pos 0) sy) (int_le (sy +ℤ pos r.h) (pos image.h)) f.1 in
+    let X = shifted_within r.x r.w sx image.w x sides.0 fx.0 fx.1 in
+    let Y = shifted_within r.y r.h sy image.h y sides.1 fy.0 fy.1 in
+    let p = padded_image image in
+    ap Some (shifted_shown depth p.w p.h p.pixels r sx sy (pos x) (pos y)
+    ∙ ap (shown depth) (padded_pixel image (nat_of ((pos x -ℤ r.x) +ℤ sx)) (nat_of ((pos y -ℤ r.y) +ℤ sy)) sound X.0 Y.0))
+
 module _ (size : Size) (c : Confirmed) (j : List Entry) (st : SurfaceState) (w : Walk) (client : ClientState) (uses : Uses) (cache : ℕ) (image : Loaded ImageOf)
     (slot : ℕ) (r : Rect) (code : ℕ) (sx sy : ℤ) (clip : Option Rect) where
-  abbrev source : List (List ℕ) → Painting (Option ℕ)
-  source rows = mixing r code no_operand (imaged client_colors rows r sx sy)
+  abbrev source : Depth → List (List ℕ) → Painting (Option ℕ)
+  source depth rows = mixing depth r code no_operand (imaged client_colors rows r sx sy)
 
-  -- the pixels of the image are those of the padded one
-  pub blit_paints_the_same : IsSoundImage image.content → lookup slot st.images ≡ Some image
+  -- the pixels of the image are shown by those of the one that is kept
+  pub blit_paints_the_same : (depth : Depth) → IsSoundImage image.content → lookup slot st.images ≡ Some image
       → is_inside (record { w = image.content.w; h = image.content.h }) (source_rect r sx sy) ≡ true
-      → DoesTheSame size st w.dirty clip (painting_of size st (Blit r code slot sx sy)) (source (image_rows (padded_image image.content)))
-  blit_paints_the_same sound held fits = rw held (record {
+      → DoesTheSame depth size st w.dirty clip (painting_of size st (Blit r code slot sx sy)) (source depth (image_rows (kept_image depth image.content)))
+  blit_paints_the_same depth sound held fits = rw held (record {
     rects = refl;
     areas = λ x y. refl;
-    formulas = λ i d below clean here.
-        let parts = and_parts (in_clip clip (pos (i % size.w)) (pos (i / size.w))) (in_rect r (pos (i % size.w)) (pos (i / size.w)) && true) here in
-        let k = and_parts (in_rect r (pos (i % size.w)) (pos (i / size.w))) true parts.1 in
-        let sides = and_parts (within r.x r.w (pos (i % size.w))) (within r.y r.h (pos (i / size.w))) k.0 in
-        let f = and_parts (int_le (pos 0) sx && int_le (sx +ℤ pos r.w) (pos image.content.w))
-        (int_le (pos 0) sy && int_le (sy +ℤ pos r.h) (pos image.content.h)) fits in
-        let fx = and_parts (int_le (pos 0) sx) (int_le (sx +ℤ pos r.w) (pos image.content.w)) f.0 in
-        let fy = and_parts (int_le (pos 0) sy) (int_le (sy +ℤ pos r.h) (pos image.content.h)) f.1 in
-        let X = shifted_within r.x r.w sx image.content.w (i % size.w) sides.0 fx.0 fx.1 in
-        let Y = shifted_within r.y r.h sy image.content.h (i / size.w) sides.1 fy.0 fy.1 in
-        ap (λ p. maybe_raster code (Some 0) (Some p) (Some d))
-        (padded_pixel image.content (nat_of ((pos (i % size.w) -ℤ r.x) +ℤ sx)) (nat_of ((pos (i / size.w) -ℤ r.y) +ℤ sy)) sound X.0 Y.0);
+    formulas = λ i d below clean here. operation depth code 0 _ d (black depth)
+        (image_pixel depth r clip image.content sx sy (i % size.w) (i / size.w) sound fits here);
   })
 
   abbrev entry_used : ℕ
@@ -106,8 +118,8 @@ module _ (size : Size) (c : Confirmed) (j : List Entry) (st : SurfaceState) (w :
   blit_agrees s three held some fits a caches sized =
       let u = images.image_used size c j client uses cache image s sized caches three in
       let d = u.after in
-      let kept = padded_image image.content in
-      let after = after_painting size (edges_of_optional (bounds_of r clip)) (source (image_rows kept)) d in
+      let kept = kept_image d.depth image.content in
+      let after = after_painting size (edges_of_optional (bounds_of r clip)) (source d.depth (image_rows kept)) d in
       let few = s.bitmap in
       let below = u.below in
       let bitmap : nat_lt cache 3 ≡ true = grind (arith, nat_tests, few) in
@@ -120,15 +132,16 @@ module _ (size : Size) (c : Confirmed) (j : List Entry) (st : SurfaceState) (w :
       ∙ ap (λ o. bind (found o (Empty cache entry_used)) (λ x. needs (is_inside (record { w = x.w; h = x.h }) (source_rect r sx sy)) Broken (Ok x))) u.there
       ∙ ap (λ t. needs t Broken (Ok kept)) (inside_padded image.content (source_rect r sx sy) fits) in
       let draws : client_after_order c size d (as_read c (Drawn r (Mem cache entry_used r code sx sy) (bounds_of r clip))) ≡ Ok after =
-      obeyed_as c size d r (Mem cache entry_used r code sx sy) (bounds_of r clip) (Ok after) some
-      (ap (λ o. bind o (λ x. Ok (after_painting size (edges_of_optional (bounds_of r clip)) (source (image_rows x)) d))) found_) in
+      obeyed_as c size d r (Mem cache entry_used r code sx sy) (bounds_of r clip) (Ok after) u.sized.depth some tt
+      (ap (λ o. bind o (λ x. Ok (after_painting size (edges_of_optional (bounds_of r clip)) (source d.depth (image_rows x)) d))) found_) in
       record {
         after = after;
         obeys = orders_then c size client d after (image_use c uses cache (Some image)).orders
             (Drawn r (Mem cache entry_used r code sx sy) (bounds_of r clip) ∷ []) u.obeys
             (ap (λ o. bind o (λ e. client_after_sent c size e [])) draws);
-        agrees = painting_agrees size st w d (Blit r code slot sx sy) clip (source (image_rows kept)) refl (blit_paints_the_same s.sound held fits)
+        agrees = painting_agrees size st w d (Blit r code slot sx sy) clip (source d.depth (image_rows kept)) refl
+            (blit_paints_the_same d.depth s.sound held fits)
             (u.agrees st w a);
         caches = record { images = u.caches.images; glyphs = u.caches.glyphs; brushes = u.caches.brushes };
-        sized = record { images = u.sized.images; glyphs = u.sized.glyphs; brushes = u.sized.brushes };
+        sized = record { depth = u.sized.depth; images = u.sized.images; glyphs = u.sized.glyphs; brushes = u.sized.brushes };
       }

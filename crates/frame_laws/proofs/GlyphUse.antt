@@ -12,7 +12,8 @@ use Rattle.caps_sets.specs.declared.confirmed.Confirmed.{Confirmed}
 use Rattle.caps_sets.specs.Confirmed.{cache_size}
 use Rattle.session_rules.specs.declared.entry.Entry.{Entry}
 use Rattle.wire_num.specs.Field.{bind}
-use Rattle.order_means.specs.WirePixels.{padded, padded_glyph, glyph_cell_bytes}
+use Rattle.px_core.specs.Depth.{shown_colors}
+use Rattle.order_means.specs.WirePixels.{padded, kept_image, padded_glyph, glyph_cell_bytes}
 use Rattle.order_means.specs.ClientState.{ClientState, needs, holds, cached, with_cached, client_after_order}
 use Rattle.order_means.specs.ClientState.Fault.{Broken, Oversized}
 use Rattle.cache_plan.specs.CacheUse.{is_used, distinct_keys, misses, last_index, cache_index, uses_of}
@@ -79,15 +80,15 @@ module _ (size : Size) (c : Confirmed) (j : List Entry) (client : ClientState) (
       → (x : GlyphOf) × (glyph_loaded size j key ≡ Some x) ×
       (cached k (last_index (entries_of c (first_glyph_cache + k)) (uses_of (first_glyph_cache + k) later) key) d.glyphs ≡ Some (padded_glyph x))
 
-  agree_after : (d : ClientState) → d.images ≡ client.images → d.brushes ≡ client.brushes → ((k : ℕ) → k < 10 → HoldsGlyphs d k) → CachesAgree size c j later d
-  agree_after d is bs held = record {
+  agree_after : (d : ClientState) → d.depth ≡ client.depth → d.images ≡ client.images → d.brushes ≡ client.brushes → ((k : ℕ) → k < 10 → HoldsGlyphs d k) → CachesAgree size c j later d
+  agree_after d same is bs held = record {
     images = λ k key below h.
         let e = other_history k (λ b. absurd (omega (arith, below, b))) in
         let old = caches.images k key below (rw e at h) in (
           old.0,
           old.1,
           ap (λ p. cached k (last_index (entries_of c k) p key) d.images) e
-              ∙ (ap (cached k (last_index (entries_of c k) (uses_of k uses) key)) is ∙ old.2),
+              ∙ (ap (cached k (last_index (entries_of c k) (uses_of k uses) key)) is ∙ old.2) ∙ ap (λ e. Some (kept_image e old.0)) (sym same),
         );
     glyphs = λ k key below h. held k below key h;
     brushes = λ key h.
@@ -96,7 +97,7 @@ module _ (size : Size) (c : Confirmed) (j : List Entry) (client : ClientState) (
           old.0,
           old.1,
           ap (λ p. lookup (last_index (entries_of c brush_cache) p key) d.brushes) e
-              ∙ (ap (lookup (last_index (entries_of c brush_cache) (uses_of brush_cache uses) key)) bs ∙ old.2),
+              ∙ (ap (lookup (last_index (entries_of c brush_cache) (uses_of brush_cache uses) key)) bs ∙ old.2) ∙ ap (λ e. Some (shown_colors e old.0)) (sym same),
         );
   }
 
@@ -128,7 +129,7 @@ module _ (size : Size) (c : Confirmed) (j : List Entry) (client : ClientState) (
           (new.0, new.1, ap (λ p. cached cache (last_index entries p key) client.glyphs) is ∙ new.2))
 
   glyph_hit : misses entries past glyph.number ≡ false → GlyphsUsed size c j client later []
-  glyph_hit hit = record { after = client; obeys = refl; caches = agree_after client refl refl (hit_holds hit); sized = sized; agrees = λ st w a. a }
+  glyph_hit hit = record { after = client; obeys = refl; caches = agree_after client refl refl refl (hit_holds hit); sized = sized; agrees = λ st w a. a }
 
   abbrev kept : GlyphOf
   kept = padded_glyph glyph.content
@@ -176,8 +177,8 @@ module _ (size : Size) (c : Confirmed) (j : List Entry) (client : ClientState) (
   glyph_miss = record {
     after = filled;
     obeys = ap (λ r. bind r (λ d. client_after_sent c size d [])) glyph_obeyed;
-    caches = agree_after filled refl refl miss_holds;
-    sized = record { images = sized.images; glyphs = lengths_kept client.glyphs cache index kept ∙ sized.glyphs; brushes = sized.brushes };
+    caches = agree_after filled refl refl refl miss_holds;
+    sized = record { depth = sized.depth; images = sized.images; glyphs = lengths_kept client.glyphs cache index kept ∙ sized.glyphs; brushes = sized.brushes };
     agrees = λ st w a. record { shown = a.shown; blocks = a.blocks; filled = a.filled };
   }
 

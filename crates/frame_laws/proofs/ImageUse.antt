@@ -3,8 +3,11 @@ use Rattle.std.proofs.Common.{◌≡◌, ◌≢◌, ℕ, zero, suc, ◌+◌, ◌
 use Rattle.std.specs.Prelude.{Bool, true, false, ◌&&◌, ◌==◌, nat_lt, nat_le, min, slice_set, Ok}
 use Rattle.std.proofs.lemmas.Bool.{and_from, and_parts}
 use Rattle.std.proofs.lemmas.Bool.Decides.{nat_tests}
+use Rattle.px_core.specs.declared.depth.Depth.{Depth}
 use Rattle.px_core.specs.declared.surface.Size.{Size}
+use Rattle.px_core.specs.Depth.{bits_in, bytes_in, shown, shown_colors}
 use Rattle.px_core.specs.Picture.{item}
+use Rattle.px_core.specs.Pixels.{are_pixels}
 use Rattle.draw_ops.specs.Content.{ImageOf}
 use Rattle.draw_ops.specs.Slots.{Slots, Loaded, lookup, filled_slot}
 use Rattle.caps_sets.specs.declared.cache_size.CacheSize.{CacheSize}
@@ -12,18 +15,22 @@ use Rattle.caps_sets.specs.declared.confirmed.Confirmed.{Confirmed}
 use Rattle.caps_sets.specs.Confirmed.{cache_size}
 use Rattle.session_rules.specs.declared.entry.Entry.{Entry}
 use Rattle.wire_num.specs.Field.{bind}
-use Rattle.order_means.specs.WirePixels.{turned_over, padded_image, image_cell}
+use Rattle.order_fields.specs.OrderStream.{Order}
+use Rattle.order_fields.specs.OrderStream.Order.{Other}
+use Rattle.order_means.specs.WirePixels.{turned_over, padded_image, kept_image, image_cell, PixelData, data_of}
 use Rattle.order_means.specs.ClientState.{ClientState, needs, is_bitmap, holds, bitmap_flags, wire_pixels, cached, with_cached, client_after_order}
 use Rattle.order_means.specs.ClientState.Fault.{Broken, Oversized}
 use Rattle.cache_plan.specs.CacheUse.{with_item, misses, last_index, cache_index, uses_of}
 use Rattle.cache_plan.proofs.Indices.{cache_index_below, index_of_use, held_after_use}
 use Rattle.frame_rules.specs.FrameOrders.{Uses, Use, use_by, entries_of, image_use, first_glyph_cache, brush_cache}
 use Rattle.frame_rules.specs.FrameOrders.SentOrder.{CacheImage}
-use Rattle.frame_rules.specs.FrameRead.{image_data, as_read}
+use Rattle.frame_rules.specs.FrameRead.{cached_bitmap, as_read}
 use Rattle.frame_rules.specs.Describes.{image_loaded, CachesAgree, IsSized}
+use Rattle.frame_rules.proofs.TurnedMap.{turned_over-map}
 use Rattle.frame_laws.specs.Uses.{IsServed, ImageUsed, client_after_sent}
 use Rattle.frame_laws.proofs.TurnedOver.{turned_over_twice, length-turned_over, colors_turned_over, padded_facts}
-use Rattle.frame_laws.proofs.WireBack.{pixels_back}
+use Rattle.frame_laws.specs.Sound.{AreColors}
+use Rattle.frame_laws.proofs.WireBack.{pixels_back, shown_pixels, length-shown, cell_fits}
 use Rattle.frame_laws.proofs.CacheHeld.{holds_hit, holds_miss}
 
 -- ---- lists of caches
@@ -130,14 +137,14 @@ module _ (size : Size) (c : Confirmed) (j : List Entry) (client : ClientState) (
   -- whatever is held in another cache
   abbrev HasImage : ClientState → ℕ → ℕ → Type 0
   HasImage d k key = (x : ImageOf) × (image_loaded size j key ≡ Some x) ×
-      (cached k (last_index (entries_of c k) (uses_of k later) key) d.images ≡ Some (padded_image x))
+      (cached k (last_index (entries_of c k) (uses_of k later) key) d.images ≡ Some (kept_image client.depth x))
 
   abbrev HoldsImages : ClientState → ℕ → Type 0
   HoldsImages d k = (key : ℕ) → misses (entries_of c k) (uses_of k later) key ≡ false → HasImage d k key
 
-  agree_after : (d : ClientState) → d.glyphs ≡ client.glyphs → d.brushes ≡ client.brushes → ((k : ℕ) → k < 3 → HoldsImages d k) → CachesAgree size c j later d
-  agree_after d gs bs held = record {
-    images = λ k key few h. held k few key h;
+  agree_after : (d : ClientState) → d.depth ≡ client.depth → d.glyphs ≡ client.glyphs → d.brushes ≡ client.brushes → ((k : ℕ) → k < 3 → HoldsImages d k) → CachesAgree size c j later d
+  agree_after d same gs bs held = record {
+    images = λ k key few h. let new = held k few key h in (new.0, new.1, new.2 ∙ ap (λ e. Some (kept_image e new.0)) (sym same));
     glyphs = λ k key few h.
         let e = other_history (first_glyph_cache + k) (not_glyph k) in
         let old = caches.glyphs k key few (rw e at h) in (
@@ -152,7 +159,8 @@ module _ (size : Size) (c : Confirmed) (j : List Entry) (client : ClientState) (
           old.0,
           old.1,
           ap (λ p. lookup (last_index (entries_of c brush_cache) p key) d.brushes) e
-              ∙ ap (lookup (last_index (entries_of c brush_cache) (uses_of brush_cache uses) key)) bs ∙ old.2,
+              ∙ ap (lookup (last_index (entries_of c brush_cache) (uses_of brush_cache uses) key)) bs ∙ old.2
+              ∙ ap (λ k. Some (shown_colors k old.0)) (sym same),
         );
   }
 
@@ -172,7 +180,7 @@ module _ (size : Size) (c : Confirmed) (j : List Entry) (client : ClientState) (
       )
 
   old_holds : (key : ℕ) → misses entries past key ≡ false → (x : ImageOf) × (image_loaded size j key ≡ Some x)
-      × (lookup (last_index entries past key) (item client.images cache []) ≡ Some (padded_image x))
+      × (lookup (last_index entries past key) (item client.images cache []) ≡ Some (kept_image client.depth x))
   old_holds key h = caches.images cache key s.bitmap h
 
   -- ---- a hit
@@ -183,7 +191,7 @@ module _ (size : Size) (c : Confirmed) (j : List Entry) (client : ClientState) (
       own : k ≡ cache → HoldsImages client k
       own e = subst (λ n. HoldsImages client n) (sym e) (λ key h.
           let is = own_history cache refl in
-          let new = holds_hit padded_image (image_loaded size j) entries past (item client.images cache []) image.number hit old_holds key (rw is at h) in
+          let new = holds_hit (kept_image client.depth) (image_loaded size j) entries past (item client.images cache []) image.number hit old_holds key (rw is at h) in
           (new.0, new.1, ap (λ p. cached cache (last_index entries p key) client.images) is ∙ new.2))
 
   image_hit : misses entries past image.number ≡ false → ImageUsed size c j client later [] cache index image.content
@@ -193,11 +201,11 @@ module _ (size : Size) (c : Confirmed) (j : List Entry) (client : ClientState) (
       record {
         after = client;
         obeys = refl;
-        caches = agree_after client refl refl (hit_holds hit);
+        caches = agree_after client refl refl refl (hit_holds hit);
         sized = sized;
         there = ap (λ i. cached cache i client.images)
             (index_of_use entries past image.number ∙ sym (ap (λ p. last_index entries p image.number) (own_history cache refl)))
-            ∙ (held.2 ∙ ap (λ x. Some (padded_image x)) same);
+            ∙ (held.2 ∙ ap (λ x. Some (kept_image client.depth x)) same);
         below = index_below;
         agrees = λ st w a. a;
       }
@@ -205,7 +213,7 @@ module _ (size : Size) (c : Confirmed) (j : List Entry) (client : ClientState) (
   -- ---- a miss
 
   abbrev kept : ImageOf
-  kept = padded_image image.content
+  kept = kept_image client.depth image.content
 
   abbrev filled_with : ImageOf → ClientState
   filled_with x = record client { images = with_cached cache index x client.images }
@@ -226,7 +234,7 @@ module _ (size : Size) (c : Confirmed) (j : List Entry) (client : ClientState) (
       own : k ≡ cache → HoldsImages (filled_with kept) k
       own e = subst (λ n. HoldsImages (filled_with kept) n) (sym e) (λ key h.
           let is = own_history cache refl in
-          let new = holds_miss padded_image (image_loaded size j) entries past
+          let new = holds_miss (kept_image client.depth) (image_loaded size j) entries past
           (item client.images cache []) image.number image.content s.loaded some_entries inside old_holds key (rw is at h) in (
             new.0,
             new.1,
@@ -234,7 +242,7 @@ module _ (size : Size) (c : Confirmed) (j : List Entry) (client : ClientState) (
                 ∙ (ap (lookup (last_index entries (image.number ∷ past) key)) filled_own ∙ new.2),
           ))
 
-  bitmap_test : (b : Bool) → (is_bitmap kept.w kept.h 24 && (nat_lt cache 3 && (bitmap_flags b == bitmap_flags b))) ≡ true
+  bitmap_test : (b : Bool) → (is_bitmap client.depth kept.w kept.h (bits_in client.depth) && (nat_lt cache 3 && (bitmap_flags b == bitmap_flags b))) ≡ true
   bitmap_test b =
       let few = s.bitmap in
       let some_w = s.sound.some_columns in
@@ -247,19 +255,19 @@ module _ (size : Size) (c : Confirmed) (j : List Entry) (client : ClientState) (
       let low : nat_le kept.h 64 ≡ true = grind (arith, nat_tests, few_h) in
       let four : (kept.w % 4 == 0) ≡ true = let rest : kept.w % 4 ≡ 0 = omega arith in same_test (kept.w % 4) 0 rest in
       let bitmap : nat_lt cache 3 ≡ true = grind (arith, nat_tests, few) in
-      and_from _ _ (and_from _ _ (and_from _ _ (and_from _ _ wide narrow) (and_from _ _ high low)) (and_from _ _ four refl))
+      and_from _ _ (and_from _ _ (and_from _ _ (and_from _ _ wide narrow) (and_from _ _ high low)) (and_from _ _ four (same_test (bits_in client.depth) (bits_in client.depth) refl)))
       (and_from _ _ bitmap (same_test (bitmap_flags b) (bitmap_flags b) refl))
 
-  holds_test : holds (cache_size c.bitmaps cache) index (3 * (kept.w * kept.h)) ≡ true
+  holds_test : holds (cache_size c.bitmaps cache) index (bytes_in client.depth * (kept.w * kept.h)) ≡ true
   holds_test =
       let below = index_below in
       let parts = and_parts (nat_le 1 (cache_size c.bitmaps cache).entries) (nat_le (image_cell image.content) (cache_size c.bitmaps cache).cell) s.serves in
-      and_from _ _ (grind (arith, nat_tests, below)) parts.1
+      and_from _ _ (grind (arith, nat_tests, below)) (cell_fits client.depth (kept.w * kept.h) (cache_size c.bitmaps cache).cell parts.1)
 
   few_pixels : length kept.pixels < 65536
   few_pixels =
       let facts = padded_facts image.content s.sound in
-      let whole = facts.whole in
+      let whole = length-shown client.depth (padded_image image.content).pixels ∙ facts.whole in
       let few_w = s.sound.few_columns in
       let few_h = s.sound.few_rows in
       let narrow : kept.w ≤ 64 = omega (arith, few_w) in
@@ -269,34 +277,48 @@ module _ (size : Size) (c : Confirmed) (j : List Entry) (client : ClientState) (
   abbrev wire : List ℕ
   wire = turned_over kept.w kept.h kept.pixels
 
+  -- the rows of what is shown are shown
+  wire_shown : AreColors (padded_image image.content).pixels → are_pixels client.depth wire ≡ true
+  wire_shown colors = let p = padded_image image.content in
+      ap (are_pixels client.depth) (turned_over-map (shown client.depth) p.w p.h p.pixels)
+      ∙ shown_pixels client.depth (turned_over p.w p.h p.pixels) (colors_turned_over p.w p.h p.pixels colors)
+
   abbrev from_wire : List ℕ → ClientState
   from_wire pixels = filled_with (record { w = kept.w; h = kept.h; pixels = pixels })
+
+  -- the bytes of the pixels, and the order, as they are read at a depth
+  abbrev data_at : Depth → PixelData
+  data_at d = let k = kept_image d image.content in data_of d c.no_header k.w (turned_over k.w k.h k.pixels)
+
+  abbrev read_at : Depth → Order
+  read_at d = Other (cached_bitmap d cache index image.content (data_at d))
 
   bitmap_obeyed : client_after_order c size client (as_read c (CacheImage cache index image.content)) ≡ Ok (filled_with kept)
   bitmap_obeyed =
       let facts = padded_facts image.content s.sound in
-      let d = image_data c image.content in
+      let d = data_at client.depth in
       let some_w = s.sound.some_columns in
       let some : 0 < kept.w = omega (arith, some_w) in
-      let n = length-turned_over kept.w kept.h kept.pixels facts.whole in
-      let whole = facts.whole in
+      let whole : length kept.pixels ≡ kept.w * kept.h = length-shown client.depth (padded_image image.content).pixels ∙ facts.whole in
+      let n = length-turned_over kept.w kept.h kept.pixels whole in
       let few = few_pixels in
-      ap (λ t. needs t Broken (bind (wire_pixels d.is_packed kept.w kept.h d.bytes)
-      (λ pixels. needs (holds (cache_size c.bitmaps cache) index (3 * (kept.w * kept.h))) (Oversized cache index)
+      ap (λ k. client_after_order c size client (read_at k)) (sym sized.depth)
+      ∙ ap (λ t. needs t Broken (bind (wire_pixels client.depth d.is_packed kept.w kept.h d.bytes)
+      (λ pixels. needs (holds (cache_size c.bitmaps cache) index (bytes_in client.depth * (kept.w * kept.h))) (Oversized cache index)
       (Ok (from_wire (turned_over kept.w kept.h pixels)))))) (bitmap_test d.is_packed)
-      ∙ ap (λ o. bind o (λ pixels. needs (holds (cache_size c.bitmaps cache) index (3 * (kept.w * kept.h))) (Oversized cache index)
+      ∙ ap (λ o. bind o (λ pixels. needs (holds (cache_size c.bitmaps cache) index (bytes_in client.depth * (kept.w * kept.h))) (Oversized cache index)
       (Ok (from_wire (turned_over kept.w kept.h pixels)))))
-      (pixels_back c.no_header kept.w kept.h wire some s.sound.some_rows n (omega (arith, n, whole, few))
-      (colors_turned_over kept.w kept.h kept.pixels facts.colors))
+      (pixels_back client.depth c.no_header kept.w kept.h wire some s.sound.some_rows n (omega (arith, n, whole, few))
+      (wire_shown facts.colors))
       ∙ ap (λ t. needs t (Oversized cache index) (Ok (from_wire (turned_over kept.w kept.h wire)))) holds_test
-      ∙ ap (λ ps. Ok (from_wire ps)) (turned_over_twice kept.w kept.h kept.pixels facts.whole)
+      ∙ ap (λ ps. Ok (from_wire ps)) (turned_over_twice kept.w kept.h kept.pixels whole)
 
   image_miss : ImageUsed size c j client later (CacheImage cache index image.content ∷ []) cache index image.content
   image_miss = record {
     after = filled_with kept;
     obeys = ap (λ r. bind r (λ d. client_after_sent c size d [])) bitmap_obeyed;
-    caches = agree_after (filled_with kept) refl refl miss_holds;
-    sized = record { images = lengths_kept client.images cache index kept ∙ sized.images; glyphs = sized.glyphs; brushes = sized.brushes };
+    caches = agree_after (filled_with kept) refl refl refl miss_holds;
+    sized = record { depth = sized.depth; images = lengths_kept client.images cache index kept ∙ sized.images; glyphs = sized.glyphs; brushes = sized.brushes };
     there = ap (lookup index) filled_own ∙ filled_at index (item client.images cache []) inside;
     below = index_below;
     agrees = λ st w a. record { shown = a.shown; blocks = a.blocks; filled = a.filled };

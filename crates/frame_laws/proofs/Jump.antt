@@ -21,8 +21,8 @@ use Rattle.frame_laws.proofs.Unsent.{save_skipped}
 
 module _ (size : Size) (narrow : size.w ≤ 2048) (client : ClientState) where
   unpainted_more : (st : SurfaceState) (w : Walk) (s : Shape) (clip : Option Rect) → Agrees size st w client
-      → ShowsOutside size (either_tiles w.dirty (touched_tiles size (pending_of size st (drawn s clip)))) client.picture (picture_after size (in_clip clip) no_painting st.picture)
-  unpainted_more st w s clip a = ShowsOutside-more size w.dirty (touched_tiles size (pending_of size st (drawn s clip))) client.picture _ (ShowsOutside-unpainted size clip w.dirty client.picture st.picture a.shown)
+      → ShowsOutside client.depth size (either_tiles w.dirty (touched_tiles size (pending_of size st (drawn s clip)))) client.picture (picture_after size (in_clip clip) no_painting st.picture)
+  unpainted_more st w s clip a = ShowsOutside-more client.depth size w.dirty (touched_tiles size (pending_of size st (drawn s clip))) client.picture _ (ShowsOutside-unpainted client.depth size clip w.dirty client.picture st.picture a.shown)
 
   one_jumped : (st : SurfaceState) (w : Walk) (s : Shape) (clip : Option Rect) → Agrees size st w client
       → Agrees size (state_after_drawing size st (drawn s clip)) (jumped_one size w (pending_of size st (drawn s clip))) client

@@ -2,8 +2,10 @@
 use Rattle.std.proofs.lemmas.Bool.Decides.{nat_tests}
 use Rattle.std.proofs.Common.{◌≡◌, ℕ, zero, suc, ◌+◌, ◌/◌, ◌%◌, ◌≤◌, List, [], ◌∷◌, refl, ap, sym, ◌∙◌, arith, Some}
 use Rattle.std.specs.Prelude.{Bool, true, false, ◌==◌, slice_get, slice_set, ◌&&◌, Option, pos}
+use Rattle.px_core.specs.declared.depth.Depth.{Depth}
 use Rattle.px_core.specs.declared.surface.Size.{Size}
 use Rattle.px_core.specs.declared.rectangle.Rect.{Rect}
+use Rattle.px_core.specs.Depth.{seen}
 use Rattle.px_core.specs.Picture.{item, where_chosen}
 use Rattle.px_core.specs.Rectangle.{in_rect, in_clip}
 use Rattle.px_core.specs.Tiles.{Tiles, either_tiles}
@@ -30,14 +32,14 @@ and_false true true = refl
 and_false true false = refl
 and_false false b = refl
 
-pub ShowsOutside-unpainted : (size : Size) (clip : Option Rect) (dirty : Tiles) (canvas : List (Option ℕ)) (old : List ℕ)
-    → ShowsOutside size dirty canvas old → ShowsOutside size dirty canvas (picture_after size (in_clip clip) no_painting old)
-ShowsOutside-unpainted size clip dirty canvas old s = record {
+pub ShowsOutside-unpainted : (depth : Depth) (size : Size) (clip : Option Rect) (dirty : Tiles) (canvas : List (Option ℕ)) (old : List ℕ)
+    → ShowsOutside depth size dirty canvas old → ShowsOutside depth size dirty canvas (picture_after size (in_clip clip) no_painting old)
+ShowsOutside-unpainted depth size clip dirty canvas old s = record {
   canvas_length = s.canvas_length;
   picture_length = length-painted_from size.w 0 (painted_area (in_clip clip) p) p.formula old ∙ s.picture_length;
   pixels = λ i below clean.
       let zero_plus : 0 + i ≡ i = omega arith in
-      s.pixels i below clean ∙ ap Some (sym (item-painted_from size.w 0 (painted_area (in_clip clip) p) p.formula old i 0 (rw s.picture_length below)
+      s.pixels i below clean ∙ ap (seen depth) (sym (item-painted_from size.w 0 (painted_area (in_clip clip) p) p.formula old i 0 (rw s.picture_length below)
       ∙ ap (λ j. painted_at size.w (painted_area (in_clip clip) p) p.formula j (item old i 0)) zero_plus
       ∙ ap (λ b. where_chosen b p.formula (pos (i % size.w)) (pos (i / size.w)) (item old i 0)) (and_false (in_clip clip (pos (i % size.w)) (pos (i / size.w))) (in_rect p.rect (pos (i % size.w)) (pos (i / size.w))))));
 }
@@ -45,8 +47,9 @@ ShowsOutside-unpainted size clip dirty canvas old s = record {
     p : Painting ℕ
     p = no_painting
 
-pub ShowsOutside-more : (size : Size) (dirty more : Tiles) (canvas : List (Option ℕ)) (picture : List ℕ) → ShowsOutside size dirty canvas picture → ShowsOutside size (either_tiles dirty more) canvas picture
-ShowsOutside-more size dirty more canvas picture s = record {
+pub ShowsOutside-more : (depth : Depth) (size : Size) (dirty more : Tiles) (canvas : List (Option ℕ)) (picture : List ℕ) → ShowsOutside depth size dirty canvas picture
+    → ShowsOutside depth size (either_tiles dirty more) canvas picture
+ShowsOutside-more depth size dirty more canvas picture s = record {
   canvas_length = s.canvas_length;
   picture_length = s.picture_length;
   pixels = λ i below clean. s.pixels i below (or_false (dirty (tile_of_place size i)) (more (tile_of_place size i)) clean).0;
@@ -62,7 +65,7 @@ pub record PaintsItsRect (size : Size) (st : SurfaceState) (s : Shape) : Type 0 
 pub skipped_agrees : (size : Size) (st : SurfaceState) (w : Walk) (client : ClientState) (d : Drawing) → size.w ≤ 2048 → PaintsItsRect size st d.shape
     → Agrees size st w client → Agrees size (state_after_drawing size st d) (skipped size w (pending_of size st d)).walk client
 skipped_agrees size st w client d narrow is a = record {
-  shown = rw is.touched (ShowsOutside-skipped size (painting_of size st d.shape) d.clip w.dirty client.picture st.picture narrow a.shown);
+  shown = rw is.touched (ShowsOutside-skipped client.depth size (painting_of size st d.shape) d.clip w.dirty client.picture st.picture narrow a.shown);
   blocks = λ slot place h. rw is.blocks (a.blocks slot place h);
   filled = a.filled;
 }

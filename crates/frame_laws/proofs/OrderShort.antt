@@ -3,7 +3,7 @@ use Rattle.std.proofs.Common.{ℕ, suc, ◌+◌, ◌≤◌, List, [], ◌∷◌,
 use Rattle.std.specs.Prelude.{ℤ, Option}
 use Rattle.std.proofs.lemmas.Bool.Decides.{nat_tests}
 use Rattle.px_core.specs.declared.rectangle.Rect.{Rect}
-use Rattle.px_core.specs.declared.depth.Depth.TheVariants.{Bits24}
+use Rattle.px_core.specs.declared.depth.Depth.{Depth}
 use Rattle.order_fields.specs.declared.kind.FieldKind.{FieldKind}
 use Rattle.order_fields.specs.declared.kind.FieldKind.TheVariants.{Coordinate, Number, Signed, Color}
 use Rattle.byteorder.specs.Endian.{little_bytes}
@@ -102,34 +102,34 @@ row_short r regs z vs bounds =
     )
 
 -- by the drawing: its bytes, beside those of a run, are at most so many
-pub drawing_short : (regs : Registers) (z : Bool) (area : Rect) (d : NamedDrawing) (bounds : Option Edges)
-    → length (order_bytes regs z (named.drawing_fields Bits24 area d) bounds) ≤ 90 + length (named.drawing_fields Bits24 area d).values.bytes
-drawing_short regs z area (Dst r code) bounds = let s = row_short dst_blt regs z (named.drawing_fields Bits24 area (Dst r code)).values bounds in omega (arith, s)
-drawing_short regs z area (Pat r code entry) bounds =
-    let s = row_short pat_blt regs z (named.drawing_fields Bits24 area (Pat r code entry)).values bounds in omega (arith, s)
-drawing_short regs z area (Scr r code sx sy) bounds =
-    let s = row_short scr_blt regs z (named.drawing_fields Bits24 area (Scr r code sx sy)).values bounds in omega (arith, s)
-drawing_short regs z area (Opaque r color) bounds = let s = row_short opaque_rect regs z (named.drawing_fields Bits24 area (Opaque r color)).values bounds in omega
+pub drawing_short : (depth : Depth) (regs : Registers) (z : Bool) (area : Rect) (d : NamedDrawing) (bounds : Option Edges)
+    → length (order_bytes regs z (named.drawing_fields depth area d) bounds) ≤ 90 + length (named.drawing_fields depth area d).values.bytes
+drawing_short depth regs z area (Dst r code) bounds = let s = row_short dst_blt regs z (named.drawing_fields depth area (Dst r code)).values bounds in omega (arith, s)
+drawing_short depth regs z area (Pat r code entry) bounds =
+    let s = row_short pat_blt regs z (named.drawing_fields depth area (Pat r code entry)).values bounds in omega (arith, s)
+drawing_short depth regs z area (Scr r code sx sy) bounds =
+    let s = row_short scr_blt regs z (named.drawing_fields depth area (Scr r code sx sy)).values bounds in omega (arith, s)
+drawing_short depth regs z area (Opaque r color) bounds = let s = row_short opaque_rect regs z (named.drawing_fields depth area (Opaque r color)).values bounds in omega
     (arith, s)
-drawing_short regs z area (SaveBlock position r) bounds =
-    let s = row_short save_bitmap regs z (named.drawing_fields Bits24 area (SaveBlock position r)).values bounds in omega (arith, s)
-drawing_short regs z area (RestoreBlock position r) bounds =
-    let s = row_short save_bitmap regs z (named.drawing_fields Bits24 area (RestoreBlock position r)).values bounds in omega (arith, s)
-drawing_short regs z area (Mem cache index r code sx sy) bounds =
-    let s = row_short mem_blt regs z (named.drawing_fields Bits24 area (Mem cache index r code sx sy)).values bounds in omega (arith, s)
-drawing_short regs z area (Mem3 cache index r code sx sy entry) bounds =
-    let s = row_short mem3_blt regs z (named.drawing_fields Bits24 area (Mem3 cache index r code sx sy entry)).values bounds in omega (arith, s)
-drawing_short regs z area (Glyphs cache x y color run) bounds =
-    let s = row_short glyph_index regs z (named.drawing_fields Bits24 area (Glyphs cache x y color run)).values bounds in omega (arith, s)
+drawing_short depth regs z area (SaveBlock position r) bounds =
+    let s = row_short save_bitmap regs z (named.drawing_fields depth area (SaveBlock position r)).values bounds in omega (arith, s)
+drawing_short depth regs z area (RestoreBlock position r) bounds =
+    let s = row_short save_bitmap regs z (named.drawing_fields depth area (RestoreBlock position r)).values bounds in omega (arith, s)
+drawing_short depth regs z area (Mem cache index r code sx sy) bounds =
+    let s = row_short mem_blt regs z (named.drawing_fields depth area (Mem cache index r code sx sy)).values bounds in omega (arith, s)
+drawing_short depth regs z area (Mem3 cache index r code sx sy entry) bounds =
+    let s = row_short mem3_blt regs z (named.drawing_fields depth area (Mem3 cache index r code sx sy entry)).values bounds in omega (arith, s)
+drawing_short depth regs z area (Glyphs cache x y color run) bounds =
+    let s = row_short glyph_index regs z (named.drawing_fields depth area (Glyphs cache x y color run)).values bounds in omega (arith, s)
 
-pub drawing_some : (regs : Registers) (z : Bool) (area : Rect) (d : NamedDrawing) (bounds : Option Edges)
-    → 1 ≤ length (order_bytes regs z (named.drawing_fields Bits24 area d) bounds)
-drawing_some regs z area (Dst r code) bounds = omega arith
-drawing_some regs z area (Pat r code entry) bounds = omega arith
-drawing_some regs z area (Scr r code sx sy) bounds = omega arith
-drawing_some regs z area (Opaque r color) bounds = omega arith
-drawing_some regs z area (SaveBlock position r) bounds = omega arith
-drawing_some regs z area (RestoreBlock position r) bounds = omega arith
-drawing_some regs z area (Mem cache index r code sx sy) bounds = omega arith
-drawing_some regs z area (Mem3 cache index r code sx sy entry) bounds = omega arith
-drawing_some regs z area (Glyphs cache x y color run) bounds = omega arith
+pub drawing_some : (depth : Depth) (regs : Registers) (z : Bool) (area : Rect) (d : NamedDrawing) (bounds : Option Edges)
+    → 1 ≤ length (order_bytes regs z (named.drawing_fields depth area d) bounds)
+drawing_some depth regs z area (Dst r code) bounds = omega arith
+drawing_some depth regs z area (Pat r code entry) bounds = omega arith
+drawing_some depth regs z area (Scr r code sx sy) bounds = omega arith
+drawing_some depth regs z area (Opaque r color) bounds = omega arith
+drawing_some depth regs z area (SaveBlock position r) bounds = omega arith
+drawing_some depth regs z area (RestoreBlock position r) bounds = omega arith
+drawing_some depth regs z area (Mem cache index r code sx sy) bounds = omega arith
+drawing_some depth regs z area (Mem3 cache index r code sx sy entry) bounds = omega arith
+drawing_some depth regs z area (Glyphs cache x y color run) bounds = omega arith

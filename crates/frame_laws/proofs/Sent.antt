@@ -1,28 +1,35 @@
--- Drawings that are sent as orders without a cache keep the agreement: what the client makes of the order is what the session drew.
+-- Drawings that are sent as orders without a cache keep the agreement: what the client makes of the order is what the session drew, as it is shown at the
+-- client's depth.
 use Rattle.std.proofs.Common.{◌≡◌, ℕ, ◌+◌, ◌*◌, ◌/◌, ◌%◌, ◌≤◌, ◌<◌, List, [], ◌∷◌, refl, ap, sym, ◌∙◌, arith, Some, None, subst}
-use Rattle.std.specs.Prelude.{Bool, true, false, ◌&&◌, ◌||◌, ◌==◌, Option, ℤ, pos, ◌+ℤ◌, ◌-ℤ◌, int_le, Result, Ok}
+use Rattle.std.specs.Prelude.{◌^◌, Bool, true, false, ◌&&◌, ◌||◌, ◌==◌, Option, ℤ, pos, ◌+ℤ◌, ◌-ℤ◌, int_le, Result, Ok}
 use Rattle.std.proofs.lemmas.Int.{ints}
 use Rattle.std.proofs.lemmas.Bool.{and_from, and_parts}
 use Rattle.std.proofs.lemmas.Bool.Decides.{nat_tests}
+use Rattle.px_core.specs.declared.depth.Depth.{Depth}
 use Rattle.px_core.specs.declared.surface.Size.{Size}
 use Rattle.px_core.specs.declared.rectangle.Rect.{Rect}
+use Rattle.px_core.specs.Depth.{shown, seen}
 use Rattle.px_core.specs.Picture.{pixel_count, nat_of, item, rows_of}
 use Rattle.px_core.specs.Rectangle.{boxed, within, in_rect, in_clip, has_pixel, is_inside}
 use Rattle.px_core.specs.Tiles.{Tiles, tile_number, tiles_of, share_tile, any_shared, picture_tiles}
-use Rattle.rop3_core.specs.Palette.{client_colors, maybe_raster}
+use Rattle.px_core.proofs.Cut.{shown_black}
+use Rattle.rop3_core.specs.Palette.{client_colors}
 use Rattle.draw_ops.specs.declared.shape.Shape.{Shape}
 use Rattle.draw_ops.specs.declared.shape.Shape.TheVariants.{Fill, Dst, Copy}
+use Rattle.draw_ops.specs.Depths.{maybe_raster_at}
 use Rattle.draw_ops.specs.Formulas.{Painting, painted_area, over_rect, solid, shifted}
 use Rattle.draw_ops.specs.Slots.{SurfaceState}
 use Rattle.draw_ops.specs.Drawing.{painting_of, slots_after, state_after_drawing}
+use Rattle.draw_ops.proofs.ShownRaster.{operation}
 use Rattle.caps_sets.specs.declared.confirmed.Confirmed.{Confirmed}
+use Rattle.caps_sets.specs.Confirmed.{depth_of}
 use Rattle.wire_num.specs.Field.{bind}
 use Rattle.order_fields.specs.OrderDelta.{edges_of_optional}
-use Rattle.order_fields.specs.NamedDrawing.{NamedDrawing, HasPixel}
+use Rattle.order_fields.specs.NamedDrawing.{NamedDrawing, HasPixel, HasColor, drawing_of, drawing_fields, shown_named}
 use Rattle.order_fields.specs.NamedDrawing.NamedDrawing.{Opaque, Dst as DstBlt, Scr}
 use Rattle.order_means.specs.ClientState.{ClientState, Fault, found, needs, in_bounds, after_painting, no_operand, mixing, client_after_drawing, client_after_order}
 use Rattle.order_means.specs.ClientState.Fault.{Broken}
-use Rattle.order_fields.proofs.Named.{named_again}
+use Rattle.order_fields.proofs.Named.{shown_again}
 use Rattle.frame_rules.specs.FrameOrders.{bounds_of}
 use Rattle.frame_rules.specs.FrameOrders.SentOrder.{Drawn}
 use Rattle.frame_rules.specs.FrameRead.{as_read}
@@ -34,20 +41,24 @@ use Rattle.frame_rules.proofs.TilePhase.{is_among, tile_is_there}
 use Rattle.frame_laws.specs.Agreement.{Agrees, ObeyedAndAgrees, drawn}
 use Rattle.frame_laws.proofs.Bounds.{painted_area-bounds}
 
+-- black, as it is shown
+pub black : (depth : Depth) → Some 0 ≡ seen depth 0
+black depth = ap Some (sym (shown_black depth))
+
 -- ---- any painting
 
 -- the client's painting does what the session's does, at each pixel whose tile isn't dirty
-pub record DoesTheSame (size : Size) (st : SurfaceState) (dirty : Tiles) (clip : Option Rect) (p : Painting ℕ) (q : Painting (Option ℕ)) : Type 0 where
+pub record DoesTheSame (depth : Depth) (size : Size) (st : SurfaceState) (dirty : Tiles) (clip : Option Rect) (p : Painting ℕ) (q : Painting (Option ℕ)) : Type 0 where
   pub rects : p.rect ≡ q.rect
   pub areas : (x y : ℤ) → p.area x y ≡ q.area x y
   pub formulas : (i d : ℕ) → i < pixel_count size → dirty (tile_of_place size i) ≡ false → painted_area (in_clip clip) p (pos (i % size.w)) (pos (i / size.w)) ≡ true
-      → q.formula (pos (i % size.w)) (pos (i / size.w)) (Some d) ≡ Some (p.formula (pos (i % size.w)) (pos (i / size.w)) d)
+      → q.formula (pos (i % size.w)) (pos (i / size.w)) (seen depth d) ≡ seen depth (p.formula (pos (i % size.w)) (pos (i / size.w)) d)
 
 pub painting_agrees : (size : Size) (st : SurfaceState) (w : Walk) (client : ClientState) (s : Shape) (clip : Option Rect) (q : Painting (Option ℕ))
-    → (slots_after size st s).blocks ≡ st.blocks → DoesTheSame size st w.dirty clip (painting_of size st s) q → Agrees size st w client
+    → (slots_after size st s).blocks ≡ st.blocks → DoesTheSame client.depth size st w.dirty clip (painting_of size st s) q → Agrees size st w client
     → Agrees size (state_after_drawing size st (drawn s clip)) w (after_painting size (edges_of_optional (bounds_of (painting_of size st s).rect clip)) q client)
 painting_agrees size st w client s clip q kept same a = let p = painting_of size st s in record {
-  shown = ShowsOutside-sent size (painted_area (in_bounds (edges_of_optional (bounds_of p.rect clip))) q) p (in_clip clip) q.formula w.dirty client.picture st.picture
+  shown = ShowsOutside-sent client.depth size (painted_area (in_bounds (edges_of_optional (bounds_of p.rect clip))) q) p (in_clip clip) q.formula w.dirty client.picture st.picture
       (λ i. painted_area-bounds p q clip (pos (i % size.w)) (pos (i / size.w)) same.rects (same.areas (pos (i % size.w)) (pos (i / size.w)))) same.formulas a.shown;
   blocks = λ slot place h. rw kept (a.blocks slot place h);
   filled = a.filled;
@@ -55,24 +66,34 @@ painting_agrees size st w client s clip q kept same a = let p = painting_of size
 
 -- ---- an order that is obeyed, and the agreement after it
 
-pub obeyed_as : (c : Confirmed) (size : Size) (client : ClientState) (r : Rect) (d : NamedDrawing) (bounds : Option Rect) (made : Result ClientState Fault) → HasPixel d
-    → client_after_drawing c size (edges_of_optional bounds) client d ≡ made → client_after_order c size client (as_read c (Drawn r d bounds)) ≡ made
-obeyed_as c size client r d bounds made some h = ap (λ o. bind (found o Broken) (client_after_drawing c size (edges_of_optional bounds) client)) (named_again r d some) ∙ h
+-- a client of the confirmed depth obeys the drawing as it is shown
+pub obeyed_as : (c : Confirmed) (size : Size) (client : ClientState) (r : Rect) (d : NamedDrawing) (bounds : Option Rect) (made : Result ClientState Fault)
+    → client.depth ≡ depth_of c → HasPixel d → HasColor d → client_after_drawing c size (edges_of_optional bounds) client (shown_named client.depth d) ≡ made
+    → client_after_order c size client (as_read c (Drawn r d bounds)) ≡ made
+obeyed_as c size client r d bounds made same some color h =
+    ap (λ k. bind (found (drawing_of client.depth (drawing_fields k r d)) Broken) (client_after_drawing c size (edges_of_optional bounds) client)) (sym same)
+    ∙ ap (λ o. bind (found o Broken) (client_after_drawing c size (edges_of_optional bounds) client)) (shown_again client.depth r d some color) ∙ h
 
-pub fill_agrees : (c : Confirmed) (size : Size) (st : SurfaceState) (w : Walk) (client : ClientState) (r : Rect) (color : ℕ) (clip : Option Rect) → has_pixel r ≡ true → Agrees size st w client
+pub fill_agrees : (c : Confirmed) (size : Size) (st : SurfaceState) (w : Walk) (client : ClientState) (r : Rect) (color : ℕ) (clip : Option Rect) → client.depth ≡ depth_of c
+    → color < 2 ^ 24 → has_pixel r ≡ true → Agrees size st w client
     → ObeyedAndAgrees c size (state_after_drawing size st (drawn (Fill r color) clip)) w client (Drawn r (Opaque r color) (bounds_of r clip))
-fill_agrees c size st w client r color clip some a = record {
-  after = after_painting size (edges_of_optional (bounds_of r clip)) (over_rect r (solid client_colors color)) client;
-  obeys = obeyed_as c size client r (Opaque r color) (bounds_of r clip) _ some refl;
-  agrees = painting_agrees size st w client (Fill r color) clip (over_rect r (solid client_colors color)) refl (record { rects = refl; areas = λ x y. refl; formulas = λ i d below clean in_. refl }) a;
+fill_agrees c size st w client r color clip same low some a = record {
+  after = after_painting size (edges_of_optional (bounds_of r clip)) (over_rect r (solid client_colors (shown client.depth color))) client;
+  obeys = obeyed_as c size client r (Opaque r color) (bounds_of r clip) _ same some low refl;
+  agrees = painting_agrees size st w client (Fill r color) clip (over_rect r (solid client_colors (shown client.depth color))) refl (record { rects = refl; areas = λ x y. refl; formulas = λ i d below clean in_. refl }) a;
 }
 
-pub dst_agrees : (c : Confirmed) (size : Size) (st : SurfaceState) (w : Walk) (client : ClientState) (r : Rect) (code : ℕ) (clip : Option Rect) → has_pixel r ≡ true → Agrees size st w client
+pub dst_agrees : (c : Confirmed) (size : Size) (st : SurfaceState) (w : Walk) (client : ClientState) (r : Rect) (code : ℕ) (clip : Option Rect) → client.depth ≡ depth_of c → has_pixel r ≡ true → Agrees size st w client
     → ObeyedAndAgrees c size (state_after_drawing size st (drawn (Dst r code) clip)) w client (Drawn r (DstBlt r code) (bounds_of r clip))
-dst_agrees c size st w client r code clip some a = record {
-  after = after_painting size (edges_of_optional (bounds_of r clip)) (mixing r code no_operand no_operand) client;
-  obeys = obeyed_as c size client r (DstBlt r code) (bounds_of r clip) _ some refl;
-  agrees = painting_agrees size st w client (Dst r code) clip (mixing r code no_operand no_operand) refl (record { rects = refl; areas = λ x y. refl; formulas = λ i d below clean in_. refl }) a;
+dst_agrees c size st w client r code clip same some a = record {
+  after = after_painting size (edges_of_optional (bounds_of r clip)) (mixing client.depth r code no_operand no_operand) client;
+  obeys = obeyed_as c size client r (DstBlt r code) (bounds_of r clip) _ same some tt refl;
+  agrees = painting_agrees size st w client (Dst r code) clip (mixing client.depth r code no_operand no_operand) refl
+      (record {
+        rects = refl;
+        areas = λ x y. refl;
+        formulas = λ i d below clean in_. operation client.depth code 0 0 d (black client.depth) (black client.depth);
+      }) a;
 }
 
 -- ---- a copy whose source has no dirty tile
@@ -98,13 +119,13 @@ not_shared (x ∷ xs) a b t h k q = by (t == x) refl (λ m. not_shared xs a b t 
         ap a same ∙ left_false (a x) (b x) (or_parts (a x && b x) (any_shared xs a b) h).0 (ap b (sym same) ∙ q)
     by false e rest = rest (ap (λ u. u || is_among xs t) (sym e) ∙ k)
 
-pub copy_source : (size : Size) (dirty : Tiles) (canvas : List (Option ℕ)) (picture : List ℕ) (X Y : ℕ) → X < size.w → Y < size.h → ShowsOutside size dirty canvas picture → dirty (tile_number X Y) ≡ false
-    → item (item (rows_of size.w size.h canvas) Y []) X None ≡ Some (item (item (rows_of size.w size.h picture) Y []) X 0)
-copy_source size dirty canvas picture X Y hx hy s clean =
+pub copy_source : (depth : Depth) (size : Size) (dirty : Tiles) (canvas : List (Option ℕ)) (picture : List ℕ) (X Y : ℕ) → X < size.w → Y < size.h → ShowsOutside depth size dirty canvas picture → dirty (tile_number X Y) ≡ false
+    → item (item (rows_of size.w size.h canvas) Y []) X None ≡ seen depth (item (item (rows_of size.w size.h picture) Y []) X 0)
+copy_source depth size dirty canvas picture X Y hx hy s clean =
     let column : (size.w * Y + X) % size.w ≡ X = column_of size.w X Y hx in
     let row : (size.w * Y + X) / size.w ≡ Y = row_of size.w X Y hx in
     let free : dirty (tile_of_place size (size.w * Y + X)) ≡ false = rw (column, row) clean in
-    item_rows size.w size.h canvas X Y None hx hy ∙ s.pixels (size.w * Y + X) (place_below size.w size.h X Y hx hy) free ∙ ap Some (sym (item_rows size.w size.h picture X Y 0 hx hy))
+    item_rows size.w size.h canvas X Y None hx hy ∙ s.pixels (size.w * Y + X) (place_below size.w size.h X Y hx hy) free ∙ ap (seen depth) (sym (item_rows size.w size.h picture X Y 0 hx hy))
 
 -- where a pixel of the copy has its source
 record Source (size : Size) (r : Rect) (sx sy : ℤ) (x y : ℕ) : Type 0 where
@@ -142,24 +163,26 @@ source_clean size dirty r sx sy X Y narrow apart hx hy inside =
 
 -- what the client paints
 abbrev copied : Size → ClientState → Rect → ℕ → ℤ → ℤ → Painting (Option ℕ)
-copied size client r code sx sy = mixing r code no_operand (shifted (rows_of size.w size.h client.picture) None r sx sy)
+copied size client r code sx sy = mixing client.depth r code no_operand (shifted (rows_of size.w size.h client.picture) None r sx sy)
 
 pub copy_agrees : (c : Confirmed) (size : Size) (st : SurfaceState) (w : Walk) (client : ClientState) (r : Rect) (code : ℕ) (sx sy : ℤ) (clip : Option Rect) → size.w ≤ 2048
-    → has_pixel r ≡ true → is_inside size (boxed sx sy r.w r.h) ≡ true → share_tile size w.dirty (tiles_of size (boxed sx sy r.w r.h)) ≡ false → Agrees size st w client
+    → client.depth ≡ depth_of c → has_pixel r ≡ true → is_inside size (boxed sx sy r.w r.h) ≡ true → share_tile size w.dirty (tiles_of size (boxed sx sy r.w r.h)) ≡ false → Agrees size st w client
     → ObeyedAndAgrees c size (state_after_drawing size st (drawn (Copy r code sx sy) clip)) w client (Drawn r (Scr r code sx sy) (bounds_of r clip))
-copy_agrees c size st w client r code sx sy clip narrow some whole apart a = record {
+copy_agrees c size st w client r code sx sy clip narrow same some whole apart a = record {
   after = after_painting size (edges_of_optional (bounds_of r clip)) (copied size client r code sx sy) client;
-  obeys = obeyed_as c size client r (Scr r code sx sy) (bounds_of r clip) (Ok (after_painting size (edges_of_optional (bounds_of r clip)) (copied size client r code sx sy) client)) some (ap (λ b. needs b Broken (Ok (after_painting size (edges_of_optional (bounds_of r clip)) (copied size client r code sx sy) client))) whole);
+  obeys = obeyed_as c size client r (Scr r code sx sy) (bounds_of r clip) (Ok (after_painting size (edges_of_optional (bounds_of r clip)) (copied size client r code sx sy) client)) same some tt (ap (λ b. needs b Broken (Ok (after_painting size (edges_of_optional (bounds_of r clip)) (copied size client r code sx sy) client))) whole);
   agrees = painting_agrees size st w client (Copy r code sx sy) clip (copied size client r code sx sy) refl (record { rects = refl; areas = λ x y. refl; formulas = value }) a;
 }
   where
     value : (i d : ℕ) → i < pixel_count size → w.dirty (tile_of_place size i) ≡ false → painted_area (in_clip clip) (painting_of size st (Copy r code sx sy)) (pos (i % size.w)) (pos (i / size.w)) ≡ true
-        → (copied size client r code sx sy).formula (pos (i % size.w)) (pos (i / size.w)) (Some d) ≡ Some ((painting_of size st (Copy r code sx sy)).formula (pos (i % size.w)) (pos (i / size.w)) d)
+        → (copied size client r code sx sy).formula (pos (i % size.w)) (pos (i / size.w)) (seen client.depth d)
+        ≡ seen client.depth ((painting_of size st (Copy r code sx sy)).formula (pos (i % size.w)) (pos (i / size.w)) d)
     value i d below clean painted_ =
         let parts = and_parts (in_clip clip (pos (i % size.w)) (pos (i / size.w))) (in_rect r (pos (i % size.w)) (pos (i / size.w)) && true) painted_ in
         let here = and_parts (in_rect r (pos (i % size.w)) (pos (i / size.w))) true parts.1 in
         let s = source_of size r sx sy (i % size.w) (i / size.w) whole here.0 in
         let X = nat_of ((pos (i % size.w) -ℤ r.x) +ℤ sx) in
         let Y = nat_of ((pos (i / size.w) -ℤ r.y) +ℤ sy) in
-        ap (λ source. maybe_raster code (Some 0) source (Some d))
-        (copy_source size w.dirty client.picture st.picture X Y s.column s.row a.shown (source_clean size w.dirty r sx sy X Y narrow apart s.column s.row s.inside))
+        ap (λ source. maybe_raster_at client.depth code (Some 0) source (seen client.depth d))
+        (copy_source client.depth size w.dirty client.picture st.picture X Y s.column s.row a.shown (source_clean size w.dirty r sx sy X Y narrow apart s.column s.row s.inside))
+        ∙ operation client.depth code 0 (item (item (rows_of size.w size.h st.picture) Y []) X 0) d (black client.depth) refl

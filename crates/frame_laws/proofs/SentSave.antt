@@ -5,8 +5,10 @@ use Rattle.std.proofs.lemmas.Int.{ints}
 use Rattle.std.proofs.lemmas.Nat.{div_below}
 use Rattle.std.proofs.lemmas.Bool.{and_from, and_parts}
 use Rattle.std.proofs.lemmas.Bool.Decides.{nat_tests}
+use Rattle.px_core.specs.declared.depth.Depth.{Depth}
 use Rattle.px_core.specs.declared.surface.Size.{Size}
 use Rattle.px_core.specs.declared.rectangle.Rect.{Rect}
+use Rattle.px_core.specs.Depth.{seen}
 use Rattle.px_core.specs.Picture.{listed, nat_of, rows_of}
 use Rattle.px_core.specs.Rectangle.{within, in_rect, has_pixel, is_inside, pixel_of, cut_out}
 use Rattle.px_core.specs.Tiles.{tiles_of, share_tile, Tiles}
@@ -15,6 +17,7 @@ use Rattle.draw_ops.specs.Content.{ImageOf}
 use Rattle.draw_ops.specs.Slots.{SurfaceState, lookup, flattened}
 use Rattle.draw_ops.specs.Drawing.{state_after_drawing, block_of as session_block}
 use Rattle.caps_sets.specs.declared.confirmed.Confirmed.{Confirmed}
+use Rattle.caps_sets.specs.Confirmed.{depth_of}
 use Rattle.order_fields.specs.NamedDrawing.NamedDrawing.{SaveBlock}
 use Rattle.order_means.specs.ClientState.{ClientState, Block, needs, with_block as client_with_block, block_of, block_at, chosen_block, are_apart, apart_from, positions}
 use Rattle.order_means.specs.ClientState.Fault.{Broken}
@@ -31,9 +34,9 @@ use Rattle.frame_laws.proofs.SavedBlocks.{least_free-room, room_fits, free_apart
 
 -- ---- the pixels
 
-map-listed : (n i : ℕ) (f : ℕ → ℕ) → map Some (listed n i f) ≡ listed n i (λ k. Some (f k))
-map-listed zero i f = refl
-map-listed (suc n) i f = ap (λ xs. Some (f i) ∷ xs) (map-listed n (i + 1) f)
+map-listed : (depth : Depth) (n i : ℕ) (f : ℕ → ℕ) → map (seen depth) (listed n i f) ≡ listed n i (λ k. seen depth (f k))
+map-listed depth zero i f = refl
+map-listed depth (suc n) i f = ap (λ xs. seen depth (f i) ∷ xs) (map-listed depth n (i + 1) f)
 
 listed-same : {A : Type 0} (n i : ℕ) (f g : ℕ → A) → ((k : ℕ) → i ≤ k → k < i + n → f k ≡ g k) → listed n i f ≡ listed n i g
 listed-same zero i f g h = refl
@@ -66,17 +69,17 @@ row_in : (w h k : ℕ) → k < w * h → k / w < h
 row_in zero h k below = absurd (omega (arith, below))
 row_in (suc w) h k below = div_below k (suc w) h (omega arith) (rw (mul_comm h (suc w)) below)
 
-cut_agrees : (size : Size) (dirty : Tiles) (canvas : List (Option ℕ)) (picture : List ℕ) (r : Rect) → size.w ≤ 2048 → is_inside size r ≡ true → share_tile size dirty (tiles_of size r) ≡ false
-    → ShowsOutside size dirty canvas picture → cut_out size canvas None r ≡ map Some (cut_out size picture 0 r)
-cut_agrees size dirty canvas picture r narrow whole apart s =
-    listed-same (r.w * r.h) 0 (pixel_of (rows_of size.w size.h canvas) None r) (λ k. Some (pixel_of (rows_of size.w size.h picture) 0 r k)) pixel
-    ∙ sym (map-listed (r.w * r.h) 0 (pixel_of (rows_of size.w size.h picture) 0 r))
+cut_agrees : (depth : Depth) (size : Size) (dirty : Tiles) (canvas : List (Option ℕ)) (picture : List ℕ) (r : Rect) → size.w ≤ 2048 → is_inside size r ≡ true → share_tile size dirty (tiles_of size r) ≡ false
+    → ShowsOutside depth size dirty canvas picture → cut_out size canvas None r ≡ map (seen depth) (cut_out size picture 0 r)
+cut_agrees depth size dirty canvas picture r narrow whole apart s =
+    listed-same (r.w * r.h) 0 (pixel_of (rows_of size.w size.h canvas) None r) (λ k. seen depth (pixel_of (rows_of size.w size.h picture) 0 r k)) pixel
+    ∙ sym (map-listed depth (r.w * r.h) 0 (pixel_of (rows_of size.w size.h picture) 0 r))
   where
-    pixel : (k : ℕ) → 0 ≤ k → k < 0 + r.w * r.h → pixel_of (rows_of size.w size.h canvas) None r k ≡ Some (pixel_of (rows_of size.w size.h picture) 0 r k)
+    pixel : (k : ℕ) → 0 ≤ k → k < 0 + r.w * r.h → pixel_of (rows_of size.w size.h canvas) None r k ≡ seen depth (pixel_of (rows_of size.w size.h picture) 0 r k)
     pixel k low high =
         let below : k < r.w * r.h = omega arith in
         let i = in_rect_of size r (k % r.w) (k / r.w) whole (column_in r.w r.h k below) (row_in r.w r.h k below) in
-        copy_source size dirty canvas picture (nat_of (r.x +ℤ pos (k % r.w))) (nat_of (r.y +ℤ pos (k / r.w))) i.column i.row s
+        copy_source depth size dirty canvas picture (nat_of (r.x +ℤ pos (k % r.w))) (nat_of (r.y +ℤ pos (k / r.w))) i.column i.row s
         (source_clean size dirty r r.x r.y (nat_of (r.x +ℤ pos (k % r.w))) (nat_of (r.y +ℤ pos (k / r.w))) narrow apart i.column i.row i.inside)
 
 -- ---- the blocks
@@ -124,12 +127,12 @@ module _ (size : Size) (st : SurfaceState) (w : Walk) (client : ClientState) (sl
   -- what is said of each held block
   abbrev IsKept : ℕ → Place → Type 0
   IsKept k place = (block : ImageOf) × (lookup k later.blocks ≡ Some block) × (block.w ≡ place.w) × (block.h ≡ place.h)
-      × (block_at place.position place.w place.h (client_with_block new client).blocks ≡ Some (block_shown place block))
+      × (block_at place.position place.w place.h (client_with_block new client).blocks ≡ Some (block_shown client.depth place block))
 
   new_is_kept : size.w ≤ 2048 → is_inside size r ≡ true → share_tile size w.dirty (tiles_of size r) ≡ false → slot < length st.blocks → Agrees size st w client → IsKept slot (placed position r.w r.h)
   new_is_kept narrow whole apart there a =
       let at : ((position == position) && ((r.w == r.w) && (r.h == r.h))) ≡ true = and_from _ _ (equal_test position position refl) (and_from _ _ (equal_test r.w r.w refl) (equal_test r.h r.h refl)) in
-      let pixels = cut_agrees size w.dirty client.picture st.picture r narrow whole apart a.shown in (
+      let pixels = cut_agrees client.depth size w.dirty client.picture st.picture r narrow whole apart a.shown in (
         session_block size st r,
         ap flattened (get-set_same st.blocks slot (Some (session_block size st r)) there),
         refl,
@@ -145,11 +148,11 @@ module _ (size : Size) (st : SurfaceState) (w : Walk) (client : ClientState) (sl
       let sides = and_parts (nat_le 1 r.w) (nat_le 1 r.h) some in
       let wide : 0 < r.w = let s = sides.0 in grind (arith, nat_tests, s) in
       let high : 0 < r.h = let s = sides.1 in grind (arith, nat_tests, s) in
-      let apart : are_apart new (block_shown place b.0) ≡ true = free_apart (positions_of r.w r.h) (without_slot slot w.held) position k place (some_positions r.w r.h wide high) (a.filled k place (place-without slot k w.held place h).stays) free h in
+      let apart : are_apart new (block_shown client.depth place b.0) ≡ true = free_apart (positions_of r.w r.h) (without_slot slot w.held) position k place (some_positions r.w r.h wide high) (a.filled k place (place-without slot k w.held place h).stays) free h in
       let elsewhere : ((position == place.position) && ((r.w == place.w) && (r.h == place.h))) ≡ false =
       false_where _ (λ e. not_same_place position (positions r.w r.h) place.position place.w place.h (some_positions r.w r.h wide high) apart ((r.w == place.w) && (r.h == place.h)) e
       (λ s. let p = and_parts (r.w == place.w) (r.h == place.h) s in ap (λ v. positions v r.h) (same_number r.w place.w p.0) ∙ ap (positions place.w) (same_number r.h place.h p.1))) in
-      (b.0, b.1, b.2, b.3, ap (λ s. chosen_block s new (block_at place.position place.w place.h (apart_from new client.blocks))) elsewhere ∙ blocks_kept new (block_shown place b.0) client.blocks b.4 apart)
+      (b.0, b.1, b.2, b.3, ap (λ s. chosen_block s new (block_at place.position place.w place.h (apart_from new client.blocks))) elsewhere ∙ blocks_kept new (block_shown client.depth place b.0) client.blocks b.4 apart)
 
   -- by whether the slot is the save's own
   kept_by : (k : ℕ) (place : Place) (s : Bool) → (slot == k) ≡ s → IsKept slot (placed position r.w r.h) → (place_of k (without_slot slot w.held) ≡ Some place → IsKept k place)
@@ -170,18 +173,18 @@ module _ (size : Size) (st : SurfaceState) (w : Walk) (client : ClientState) (sl
   filled_by some a k place false e h = a.filled k place (place-without slot k w.held place (rw e at h)).stays
 
   -- the order of a save to the least free position, of tiles that aren't dirty
-  pub save_agrees : (c : Confirmed) → size.w ≤ 2048 → has_pixel r ≡ true → is_inside size r ≡ true → slot < length st.blocks
+  pub save_agrees : (c : Confirmed) → size.w ≤ 2048 → client.depth ≡ depth_of c → has_pixel r ≡ true → is_inside size r ≡ true → slot < length st.blocks
       → share_tile size w.dirty (tiles_of size r) ≡ false → least_free (positions_of r.w r.h) (without_slot slot w.held) ≡ Some position → Agrees size st w client
       → ObeyedAndAgrees c size later (with_block slot (placed position r.w r.h) (given_up slot w)) client (Drawn r (SaveBlock position r) None)
-  save_agrees c narrow some whole there apart least a =
+  save_agrees c narrow same some whole there apart least a =
       let free = least_free-room (positions_of r.w r.h) (without_slot slot w.held) position least in
       let fits = room_fits (positions_of r.w r.h) (without_slot slot w.held) position free in
       record {
         after = client_with_block new client;
-        obeys = obeyed_as c size client r (SaveBlock position r) None (Ok (client_with_block new client)) some
+        obeys = obeyed_as c size client r (SaveBlock position r) None (Ok (client_with_block new client)) same some tt
             (ap (λ s. needs s Broken (Ok (client_with_block new client))) (and_from _ _ whole fits));
         agrees = record {
-          shown = ShowsOutside-unpainted size clip w.dirty client.picture st.picture a.shown;
+          shown = ShowsOutside-unpainted client.depth size clip w.dirty client.picture st.picture a.shown;
           blocks = λ k place h. kept_by k place (slot == k) refl (new_is_kept narrow whole apart there a) (other_is_kept some free a k place) h;
           filled = λ k place h. filled_by some a k place (slot == k) refl h;
         };

@@ -5,6 +5,7 @@ use Rattle.std.proofs.lemmas.Bool.{and_from}
 use Rattle.std.proofs.lemmas.Bool.Decides.{nat_tests}
 use Rattle.px_core.specs.declared.surface.Size.{Size}
 use Rattle.px_core.specs.declared.rectangle.Rect.{Rect}
+use Rattle.px_core.specs.Depth.{shown}
 use Rattle.px_core.specs.Picture.{nat_of, item}
 use Rattle.px_core.specs.Rectangle.{in_rect}
 use Rattle.draw_ops.specs.declared.shape.Shape.TheVariants.{Text}
@@ -142,30 +143,30 @@ module _ (size : Size) (c : Confirmed) (j : List Entry) (cache : ℕ) (few : cac
     abbrev order : SentOrder
     order = Drawn area (Glyphs cache x y color (run_pairs indices run)) (bounds_of area clip)
 
-    pub text_agrees : AreServed size c j cache gs → AreGlyphs st font run gs → AreDeltas run
+    pub text_agrees : color < 2 ^ 24 → AreServed size c j cache gs → AreGlyphs st font run gs → AreDeltas run
         → length (distinct_keys (keys_of gs)) ≤ entries_of c (first_glyph_cache + cache)
         → Agrees size st w client → CachesAgree size c j uses client → IsSized c client
         → ObeyedThrough size c j (state_after_drawing size st (drawn (Text x y color font run) clip)) w (run_use c uses cache gs).uses client
         ((run_use c uses cache gs).orders ++ order ∷ [])
-    text_agrees served are deltas small a caches sized =
+    text_agrees low served are deltas small a caches sized =
         let u = glyphs.run_is_used size c j cache few some ten gs client uses served sized caches in
         let d = u.after in
         let n = first_glyph_cache + cache in
         let all = glyphs.run_found size c j cache few some ten gs uses [] (uses_of n uses) (run_use c uses cache gs).uses d served refl
         (glyphs.run_history size c j cache few some ten gs uses) small u.caches in
         let pairs = paired indices run in
-        let q : Painting (Option ℕ) = writing (theirs d) x y color pairs in
+        let q : Painting (Option ℕ) = writing (theirs d) x y (shown d.depth color) pairs in
         let after = after_painting size (edges_of_optional (bounds_of area clip)) q d in
         let ten_caches : nat_lt cache 10 ≡ true = grind (arith, nat_tests, few) in
         let draws : client_after_order c size d (as_read c order) ≡ Ok after =
-        obeyed_as c size d area (Glyphs cache x y color (run_pairs indices run)) (bounds_of area clip) (Ok after) tt
+        obeyed_as c size d area (Glyphs cache x y color (run_pairs indices run)) (bounds_of area clip) (Ok after) u.sized.depth tt low
         (ap (λ t. needs t Broken (bind (found (pairs_of (run_pairs indices run)) Broken)
         (λ ps. with_glyphs (glyph_used c d cache) ps (Ok (after_painting size (edges_of_optional (bounds_of area clip))
-        (writing (theirs d) x y color ps) d))))) ten_caches
+        (writing (theirs d) x y (shown d.depth color) ps) d))))) ten_caches
         ∙ (ap (λ o. bind (found o Broken) (λ ps. with_glyphs (glyph_used c d cache) ps
-        (Ok (after_painting size (edges_of_optional (bounds_of area clip)) (writing (theirs d) x y color ps) d)))) (pairs_back d indices run gs all deltas)
+        (Ok (after_painting size (edges_of_optional (bounds_of area clip)) (writing (theirs d) x y (shown d.depth color) ps) d)))) (pairs_back d indices run gs all deltas)
         ∙ all_used d indices run gs (Ok after) all)) in
-        let same : DoesTheSame size st w.dirty clip (painting_of size st (Text x y color font run)) q = record {
+        let same : DoesTheSame d.depth size st w.dirty clip (painting_of size st (Text x y color font run)) q = record {
           rects = ap joint_of (same_cells st font d indices run gs x y all are);
           areas = λ s t. same_areas st font d indices run gs x y s t all are;
           formulas = λ i old below clean here. refl;
@@ -176,5 +177,5 @@ module _ (size : Size) (c : Confirmed) (j : List Entry) (cache : ℕ) (few : cac
               (ap (λ o. bind o (λ e. client_after_sent c size e [])) draws);
           agrees = painting_agrees size st w d (Text x y color font run) clip q refl same (u.agrees st w a);
           caches = record { images = u.caches.images; glyphs = u.caches.glyphs; brushes = u.caches.brushes };
-          sized = record { images = u.sized.images; glyphs = u.sized.glyphs; brushes = u.sized.brushes };
+          sized = record { depth = u.sized.depth; images = u.sized.images; glyphs = u.sized.glyphs; brushes = u.sized.brushes };
         }

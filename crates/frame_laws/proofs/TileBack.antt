@@ -1,10 +1,14 @@
--- The packet of a tile is read: its rectangle shows the pixels that were sent.
+-- The packet of a tile is read: its rectangle shows the pixels that were sent, as they are shown at its depth.
 use Rattle.std.proofs.Common.{◌≡◌, ℕ, ◌+◌, ◌*◌, ◌-◌, ◌%◌, ◌<◌, ◌≤◌, List, [], ◌∷◌, length, refl, ap, ◌∙◌, arith, Some}
 use Rattle.std.specs.Prelude.{◌^◌, Bool, true, false, ◌&&◌, ◌==◌, nat_lt, nat_le, pos, Ok}
 use Rattle.std.proofs.lemmas.Bool.{and_from}
 use Rattle.std.proofs.lemmas.Bool.Decides.{nat_tests}
+use Rattle.px_core.specs.declared.depth.Depth.{Depth}
+use Rattle.px_core.specs.declared.depth.Depth.TheVariants.{Bits24, Bits16}
 use Rattle.px_core.specs.declared.surface.Size.{Size}
 use Rattle.px_core.specs.declared.rectangle.Rect.{Rect}
+use Rattle.px_core.specs.Depth.{bits_in, shown, shown_colors}
+use Rattle.px_core.specs.Pixels.{are_pixels}
 use Rattle.px_core.specs.Picture.{nat_of, rows_of, Area, painted}
 use Rattle.px_core.specs.Rectangle.{boxed, in_rect, is_inside}
 use Rattle.rop3_core.specs.Palette.{client_colors}
@@ -20,23 +24,24 @@ use Rattle.order_means.specs.FrameMarks.{View, Tile, tile_at, update_at, tile_re
 use Rattle.order_means.specs.FrameMarks.Update.{Tiles}
 use Rattle.frame_rules.specs.FrameRead.{Reads}
 use Rattle.frame_rules.proofs.TileLaws.{pos-nat_of}
+use Rattle.frame_rules.proofs.TurnedMap.{turned_over-map}
 use Rattle.wire_num.proofs.Bytes.{taken_all}
 use Rattle.frame_rules.proofs.UpdatesBack.{packet_obeyed}
 use Rattle.frame_laws.specs.Sound.{AreColors}
 use Rattle.frame_laws.specs.Tile.{IsTileRect, view_after_cut}
 use Rattle.frame_laws.proofs.TurnedOver.{turned_over_twice, length-turned_over, colors_turned_over}
-use Rattle.frame_laws.proofs.WireBack.{pixels_back, data_short}
+use Rattle.frame_laws.proofs.WireBack.{pixels_back, shown_pixels, length-shown, data_short}
 
 -- a tile as it is read
-abbrev pub read_tile : ℕ → ℕ → ℕ → ℕ → PixelData → Tile
-read_tile x y w h d = record {
+abbrev pub read_tile : Depth → ℕ → ℕ → ℕ → ℕ → PixelData → Tile
+read_tile depth x y w h d = record {
   left = x;
   top = y;
   right = x + w - 1;
   bottom = y + h - 1;
   w = w;
   h = h;
-  depth = 24;
+  depth = bits_in depth;
   flags = tile_flags d.is_packed;
   bytes = d.bytes;
 }
@@ -45,11 +50,15 @@ flags_fit : (b : Bool) → tile_flags b < 256 ^ 2
 flags_fit true = omega arith
 flags_fit false = omega arith
 
+bits_fit : (depth : Depth) → bits_in depth < 256 ^ 2
+bits_fit Bits24 = omega arith
+bits_fit Bits16 = omega arith
+
 -- ---- the body is read
 
-tile_data_back : (x y w h : ℕ) (d : PixelData) → x + w < 65536 → y + h < 65536 → length d.bytes < 65536
-    → tile_at (tile_data_bytes x y w h d) ≡ Ok (read_tile x y w h d, [])
-tile_data_back x y w h d hx hy few =
+tile_data_back : (depth : Depth) (x y w h : ℕ) (d : PixelData) → x + w < 65536 → y + h < 65536 → length d.bytes < 65536
+    → tile_at (tile_data_bytes depth x y w h d) ≡ Ok (read_tile depth x y w h d, [])
+tile_data_back depth x y w h d hx hy few =
     let a : x < 256 ^ 2 = omega arith in
     let b : y < 256 ^ 2 = omega arith in
     let e : x + w - 1 < 256 ^ 2 = omega arith in
@@ -64,24 +73,31 @@ tile_data_back x y w h d hx hy few =
       little_back 2 (y + h - 1) f,
       little_back 2 w g,
       little_back 2 h i,
+      little_back 2 (bits_in depth) (bits_fit depth),
       little_back 2 (tile_flags d.is_packed)
           (flags_fit d.is_packed),
       little_back 2 (length d.bytes) n,
       taken_all d.bytes d.bytes,
     ) refl
 
+same_bits : (n : ℕ) → (n == n) ≡ true
+same_bits n = grind (arith, nat_tests)
+
 less_one : (n : ℕ) → n < 65536 → n < 256 ^ 2
 less_one n h = omega (arith, h)
 
-module _ (size : Size) (no_header : Bool) (r : Rect) (pixels : List ℕ) (is : IsTileRect size r) (whole : length pixels ≡ r.w * r.h) (c : AreColors pixels) where
+module _ (size : Size) (depth : Depth) (no_header : Bool) (r : Rect) (pixels : List ℕ) (is : IsTileRect size r) (whole : length pixels ≡ r.w * r.h) (c : AreColors pixels) where
   abbrev wire : List ℕ
-  wire = turned_over r.w r.h pixels
+  wire = turned_over r.w r.h (shown_colors depth pixels)
 
   abbrev sent : PixelData
-  sent = data_of no_header r.w wire
+  sent = data_of depth no_header r.w wire
 
   abbrev tile : Tile
-  tile = read_tile (nat_of r.x) (nat_of r.y) r.w r.h sent
+  tile = read_tile depth (nat_of r.x) (nat_of r.y) r.w r.h sent
+
+  whole_shown : length (shown_colors depth pixels) ≡ r.w * r.h
+  whole_shown = length-shown depth pixels ∙ whole
 
   few_pixels : r.w * r.h ≤ 4096
   few_pixels =
@@ -92,8 +108,8 @@ module _ (size : Size) (no_header : Bool) (r : Rect) (pixels : List ℕ) (is : I
 
   few_bytes : length sent.bytes ≤ 12288
   few_bytes =
-      let n = length-turned_over r.w r.h pixels whole in
-      let most = data_short no_header r.w wire in
+      let n = length-turned_over r.w r.h (shown_colors depth pixels) whole_shown in
+      let most = data_short depth no_header r.w wire in
       let few = few_pixels in
       omega (arith, n, most, few)
 
@@ -108,7 +124,7 @@ module _ (size : Size) (no_header : Bool) (r : Rect) (pixels : List ℕ) (is : I
       ∙ ap (λ n. boxed r.x r.y n ((nat_of r.y + r.h - 1 + 1) - nat_of r.y)) w
       ∙ ap (λ n. boxed r.x r.y r.w n) h
 
-  bitmap_test : is_bitmap r.w r.h 24 ≡ true
+  bitmap_test : is_bitmap depth r.w r.h (bits_in depth) ≡ true
   bitmap_test =
       let a = is.wide in
       let b = is.narrow in
@@ -120,27 +136,31 @@ module _ (size : Size) (no_header : Bool) (r : Rect) (pixels : List ℕ) (is : I
       let high : nat_lt 0 r.h ≡ true = grind (arith, nat_tests, d) in
       let low : nat_le r.h 64 ≡ true = grind (arith, nat_tests, e) in
       let four : (r.w % 4 == 0) ≡ true = grind (arith, nat_tests, f) in
-      and_from _ _ (and_from _ _ (and_from _ _ wide narrow) (and_from _ _ high low)) (and_from _ _ four refl)
+      and_from _ _ (and_from _ _ (and_from _ _ wide narrow) (and_from _ _ high low)) (and_from _ _ four (same_bits (bits_in depth)))
 
-  is_tile_test : is_tile size tile ≡ true
+  is_tile_test : is_tile depth size tile ≡ true
   is_tile_test =
       let a = is.wide in
       let some : nat_le 1 r.w ≡ true = grind (arith, nat_tests, a) in
       let same : nat_le r.w r.w ≡ true = grind (arith, nat_tests) in
       let high : (r.h == r.h) ≡ true = grind (arith, nat_tests) in
-      ap (λ q. is_bitmap r.w r.h 24 && (is_inside size q && ((nat_le 1 q.w && nat_le q.w r.w) && (q.h == r.h)))) rect_back
+      ap (λ q. is_bitmap depth r.w r.h (bits_in depth) && (is_inside size q && ((nat_le 1 q.w && nat_le q.w r.w) && (q.h == r.h)))) rect_back
       ∙ and_from _ _ bitmap_test (and_from _ _ is.inside (and_from _ _ (and_from _ _ some same) high))
 
   flags_back : (b : Bool) → is_packed_tile (tile_flags b) ≡ Some b
   flags_back true = refl
   flags_back false = refl
 
-  pixels_read : tile_pixels (is_packed_tile tile.flags) tile ≡ Ok wire
+  wire_shown : are_pixels depth wire ≡ true
+  wire_shown = ap (are_pixels depth) (turned_over-map (shown depth) r.w r.h pixels)
+      ∙ shown_pixels depth (turned_over r.w r.h pixels) (colors_turned_over r.w r.h pixels c)
+
+  pixels_read : tile_pixels depth (is_packed_tile tile.flags) tile ≡ Ok wire
   pixels_read =
-      let n = length-turned_over r.w r.h pixels whole in
+      let n = length-turned_over r.w r.h (shown_colors depth pixels) whole_shown in
       let few = few_pixels in
-      ap (λ o. tile_pixels o tile) (flags_back sent.is_packed)
-      ∙ pixels_back no_header r.w r.h wire is.wide is.high n (omega (arith, n, few)) (colors_turned_over r.w r.h pixels c)
+      ap (λ o. tile_pixels depth o tile) (flags_back sent.is_packed)
+      ∙ pixels_back depth no_header r.w r.h wire is.wide is.high n (omega (arith, n, few)) wire_shown
 
   -- the view after some pixels in a rectangle
   abbrev painted_in : View → Area → Rect → List ℕ → View
@@ -153,29 +173,34 @@ module _ (size : Size) (no_header : Bool) (r : Rect) (pixels : List ℕ) (is : I
   and_true true = refl
   and_true false = refl
 
-  tile_shown : (v : View) → view_after_tile size v tile ≡ Ok (view_after_cut size v r pixels)
-  tile_shown v =
-      ap (λ b. needs b Broken (bind (tile_pixels (is_packed_tile tile.flags) tile)
+  -- a view of the tile's depth
+  tile_shown : (v : View) → v.client.depth ≡ depth → view_after_tile size v tile ≡ Ok (view_after_cut size v r (shown_colors depth pixels))
+  tile_shown v same =
+      ap (λ k. needs (is_tile k size tile) Broken (bind (tile_pixels k (is_packed_tile tile.flags) tile)
+      (λ ps. Ok (painted_in v (λ x y. true && (in_rect (tile_rect tile) x y && true)) (tile_rect tile) (turned_over r.w r.h ps))))) same
+      ∙ ap (λ b. needs b Broken (bind (tile_pixels depth (is_packed_tile tile.flags) tile)
       (λ ps. Ok (painted_in v (λ x y. true && (in_rect (tile_rect tile) x y && true)) (tile_rect tile) (turned_over r.w r.h ps))))) is_tile_test
       ∙ ap (λ o. bind o (λ ps. Ok (painted_in v (λ x y. true && (in_rect (tile_rect tile) x y && true)) (tile_rect tile) (turned_over r.w r.h ps)))) pixels_read
-      ∙ ap (λ ps. Ok (painted_in v (λ x y. true && (in_rect (tile_rect tile) x y && true)) (tile_rect tile) ps)) (turned_over_twice r.w r.h pixels whole)
-      ∙ ap (λ q. Ok (painted_in v (λ x y. true && (in_rect q x y && true)) q pixels)) rect_back
-      ∙ (λ k. Ok (painted_in v (λ x y. and_true (in_rect r x y) k) r pixels))
+      ∙ ap (λ ps. Ok (painted_in v (λ x y. true && (in_rect (tile_rect tile) x y && true)) (tile_rect tile) ps)) (turned_over_twice r.w r.h (shown_colors depth pixels) whole_shown)
+      ∙ ap (λ q. Ok (painted_in v (λ x y. true && (in_rect q x y && true)) q (shown_colors depth pixels))) rect_back
+      ∙ (λ k. Ok (painted_in v (λ x y. and_true (in_rect r x y) k) r (shown_colors depth pixels)))
 
   -- the body is read as one rectangle, and is short
-  pub body_back : update_at (tile_body no_header r pixels) ≡ Ok (Tiles (tile ∷ []), [])
+  pub body_back : update_at (tile_body depth no_header r pixels) ≡ Ok (Tiles (tile ∷ []), [])
   body_back =
       let few = few_bytes in
-      rw (tile_data_back (nat_of r.x) (nat_of r.y) r.w r.h sent is.x_fits is.y_fits (omega (arith, few))) refl
+      rw (tile_data_back depth (nat_of r.x) (nat_of r.y) r.w r.h sent is.x_fits is.y_fits (omega (arith, few))) refl
 
-  pub body_short : 18 + length (tile_body no_header r pixels) < 16384
+  pub body_short : 18 + length (tile_body depth no_header r pixels) < 16384
   body_short = let few = few_bytes in omega (arith, few)
 
-  body_obeyed : (conf : Confirmed) (v : View) (place : ℕ) → view_after_body conf size v (record { place = place; bytes = tile_body no_header r pixels })
-      ≡ Ok (view_after_cut size v r pixels)
-  body_obeyed conf v place =
-      ap (view_after_read conf size (record { place = place; bytes = tile_body no_header r pixels }) v) body_back
-      ∙ ap (λ o. meant place (bind o (λ w. view_after_tiles size w []))) (tile_shown v)
+  body_obeyed : (conf : Confirmed) (v : View) (place : ℕ) → v.client.depth ≡ depth
+      → view_after_body conf size v (record { place = place; bytes = tile_body depth no_header r pixels }) ≡ Ok (view_after_cut size v r (shown_colors depth pixels))
+  body_obeyed conf v place same =
+      ap (view_after_read conf size (record { place = place; bytes = tile_body depth no_header r pixels }) v) body_back
+      ∙ ap (λ o. meant place (bind o (λ w. view_after_tiles size w []))) (tile_shown v same)
 
-  pub tile_obeyed : (conf : Confirmed) (v : View) (place : ℕ) → Reads conf size v place (tile_packet no_header r pixels) (view_after_cut size v r pixels)
-  tile_obeyed conf v place = packet_obeyed conf size v (view_after_cut size v r pixels) place (tile_body no_header r pixels) body_short (body_obeyed conf v)
+  pub tile_obeyed : (conf : Confirmed) (v : View) (place : ℕ) → v.client.depth ≡ depth
+      → Reads conf size v place (tile_packet depth no_header r pixels) (view_after_cut size v r (shown_colors depth pixels))
+  tile_obeyed conf v place same = packet_obeyed conf size v (view_after_cut size v r (shown_colors depth pixels)) place (tile_body depth no_header r pixels)
+      body_short (λ p. body_obeyed conf v p same)

@@ -31,7 +31,7 @@ module _ (size : Size) (narrow : size.w ≤ 2048) (st : SurfaceState) (clip : Op
   pub save_skipped : (slot : ℕ) (r : Rect) (w : Walk) → Agrees size st w client
       → Agrees size (state_after_drawing size st (drawn (Save slot r) clip)) (skipped size (given_up slot w) (pending_of size st (drawn (Save slot r) clip))).walk client
   save_skipped slot r w a = record {
-    shown = ShowsOutside-more size w.dirty (touched_tiles size (pending_of size st (drawn (Save slot r) clip))) client.picture _ (ShowsOutside-unpainted size clip w.dirty client.picture st.picture a.shown);
+    shown = ShowsOutside-more client.depth size w.dirty (touched_tiles size (pending_of size st (drawn (Save slot r) clip))) client.picture _ (ShowsOutside-unpainted client.depth size clip w.dirty client.picture st.picture a.shown);
     blocks = blocks_of_others st w.held client slot (block_of size st r) (state_after_drawing size st (drawn (Save slot r) clip)) refl a.blocks;
     filled = λ k place h. a.filled k place (place-without slot k w.held place h).stays;
   }
@@ -65,6 +65,6 @@ module _ (size : Size) (narrow : size.w ≤ 2048) (st : SurfaceState) (clip : Op
       saved_agrees slot r w (supports c p (Save slot r) && reads_clean_tiles size w (Save slot r)) (least_free (positions_of r.w r.h) (without_slot slot w.held)) refl unsent a
   unsent_agrees c (Restore slot x y) w unsent a = let p = pending_of size st (drawn (Restore slot x y) clip) in
       restored_agrees slot x y w (block_if (supports c p (Restore slot x y)) slot w) unsent a
-  unsent_agrees c (LoadImage slot image) w unsent a = record { shown = ShowsOutside-unpainted size clip w.dirty client.picture st.picture a.shown; blocks = a.blocks; filled = a.filled }
-  unsent_agrees c (LoadBrush slot brush) w unsent a = record { shown = ShowsOutside-unpainted size clip w.dirty client.picture st.picture a.shown; blocks = a.blocks; filled = a.filled }
-  unsent_agrees c (LoadGlyph font code glyph) w unsent a = record { shown = ShowsOutside-unpainted size clip w.dirty client.picture st.picture a.shown; blocks = a.blocks; filled = a.filled }
+  unsent_agrees c (LoadImage slot image) w unsent a = record { shown = ShowsOutside-unpainted client.depth size clip w.dirty client.picture st.picture a.shown; blocks = a.blocks; filled = a.filled }
+  unsent_agrees c (LoadBrush slot brush) w unsent a = record { shown = ShowsOutside-unpainted client.depth size clip w.dirty client.picture st.picture a.shown; blocks = a.blocks; filled = a.filled }
+  unsent_agrees c (LoadGlyph font code glyph) w unsent a = record { shown = ShowsOutside-unpainted client.depth size clip w.dirty client.picture st.picture a.shown; blocks = a.blocks; filled = a.filled }

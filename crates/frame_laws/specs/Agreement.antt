@@ -18,9 +18,10 @@ use Rattle.frame_rules.specs.Describes.{BlocksAgree}
 abbrev pub AreFilled : Held → Type 0
 AreFilled held = (slot : ℕ) (place : Place) → place_of slot held ≡ Some place → 0 < positions_of place.w place.h
 
--- outside the dirty tiles the client's picture is the session's, each held block has the pixels of its slot, and none is empty
+-- outside the dirty tiles the client's picture is the session's as it is shown at the client's depth, each held block has the pixels of its slot, and none is
+-- empty
 pub record Agrees (size : Size) (st : SurfaceState) (w : Walk) (client : ClientState) : Type 0 where
-  pub shown : ShowsOutside size w.dirty client.picture st.picture
+  pub shown : ShowsOutside client.depth size w.dirty client.picture st.picture
   pub blocks : BlocksAgree st w.held client
   pub filled : AreFilled w.held
 

@@ -21,7 +21,7 @@ pub record IsTileRect (size : Size) (r : Rect) : Type 0 where
   pub four : r.w % 4 ≡ 0
   pub inside : is_inside size r ≡ true
 
--- the view after a rectangle of the picture was sent
+-- the view after a rectangle was sent, with pixels as they are shown at the view's depth
 abbrev pub view_after_cut : Size → View → Rect → List ℕ → View
 view_after_cut size v r pixels = record v {
   client = record v.client { picture = painted size (in_rect r) (replaced (imaged client_colors (rows_of r.w r.h pixels) r (pos 0) (pos 0))) v.client.picture };

@@ -6,7 +6,8 @@ use Rattle.draw_ops.specs.Slots.{SurfaceState, Loaded, lookup}
 use Rattle.caps_sets.specs.declared.confirmed.Confirmed.{Confirmed}
 use Rattle.caps_sets.specs.Confirmed.{cache_size}
 use Rattle.session_rules.specs.declared.entry.Entry.{Entry}
-use Rattle.order_means.specs.WirePixels.{padded_image, glyph_cell_bytes}
+use Rattle.px_core.specs.Depth.{shown_colors}
+use Rattle.order_means.specs.WirePixels.{kept_image, glyph_cell_bytes}
 use Rattle.order_means.specs.ClientState.{ClientState, Fault, cached, client_after_orders}
 use Rattle.frame_rules.specs.Support.{serves_image}
 use Rattle.frame_rules.specs.Frame.{Walk}
@@ -34,7 +35,7 @@ pub record ImageUsed (size : Size) (c : Confirmed) (j : List Entry) (client : Cl
   pub obeys : client_after_sent c size client orders ≡ Ok after
   pub caches : CachesAgree size c j uses after
   pub sized : IsSized c after
-  pub there : cached cache index after.images ≡ Some (padded_image image)
+  pub there : cached cache index after.images ≡ Some (kept_image after.depth image)
   pub below : index < (cache_size c.bitmaps cache).entries
   pub agrees : (st : SurfaceState) (w : Walk) → Agrees size st w client → Agrees size st w after
 
@@ -60,7 +61,7 @@ pub record BrushUsed (size : Size) (c : Confirmed) (j : List Entry) (client : Cl
   pub obeys : client_after_sent c size client orders ≡ Ok after
   pub caches : CachesAgree size c j uses after
   pub sized : IsSized c after
-  pub there : lookup entry after.brushes ≡ Some brush
+  pub there : lookup entry after.brushes ≡ Some (shown_colors after.depth brush)
   pub below : entry < 64
   pub images : after.images ≡ client.images
   pub agrees : (st : SurfaceState) (w : Walk) → Agrees size st w client → Agrees size st w after

@@ -1,6 +1,6 @@
 //! Laws of the definitions, each as the contract of a function that does nothing.
 
-ghost use Rattle.std.specs.Prelude.{◌≡◌, ℕ, ℤ, ◌+◌, ◌*◌, ◌<◌, ◌≤◌, ◌++◌, List, [], ◌∷◌, Bool, true, Option, Some, Ok, length};
+ghost use Rattle.std.specs.Prelude.{◌≡◌, ℕ, ℤ, ◌+◌, ◌*◌, ◌^◌, ◌<◌, ◌≤◌, ◌++◌, List, [], ◌∷◌, Bool, true, Option, Some, Ok, length};
 ghost use Rattle.px_core.specs.declared.surface.Size.{Size};
 ghost use Rattle.px_core.specs.declared.rectangle.Rect.{Rect};
 ghost use Rattle.px_core.specs.Rectangle.{has_pixel, is_inside};
@@ -10,7 +10,9 @@ ghost use Rattle.draw_ops.specs.Slots.{SurfaceState, Loaded, lookup};
 ghost use Rattle.draw_ops.specs.Drawing.{painting_of, state_after_drawing};
 ghost use Rattle.caps_sets.specs.declared.confirmed.Confirmed.{Confirmed};
 ghost use Rattle.session_rules.specs.declared.entry.Entry.{Entry};
-ghost use Rattle.px_core.specs.declared.depth.Depth.TheVariants.{Bits24};
+ghost use Rattle.px_core.specs.declared.depth.Depth.{Depth};
+ghost use Rattle.px_core.specs.Depth.{shown_colors};
+ghost use Rattle.px_core.specs.Pixels.{are_pixels};
 ghost use Rattle.order_fields.specs.OrderTable.{Registers, Edges};
 ghost use Rattle.order_fields.specs.OrderDelta.{order_bytes};
 ghost use Rattle.order_means.specs.WirePixels.{data_of};
@@ -98,7 +100,7 @@ pub fn text_keeps_the_agreement()
     ensures { (size : Size) (c : Confirmed) (j : List Entry) (cache : ℕ) → cache < 10 → 0 < entries_of c (first_glyph_cache + cache) → length c.glyphs ≡ 10
         → (st : SurfaceState) (w : Walk) (client : ClientState) (uses : Uses) (gs : List (Loaded GlyphOf)) (x y : ℤ) (color font : ℕ) (run : List (ℕ × ℕ))
         (clip : Option Rect)
-        → AreServed size c j cache gs → AreGlyphs st font run gs → AreDeltas run
+        → color < 2 ^ 24 → AreServed size c j cache gs → AreGlyphs st font run gs → AreDeltas run
         → length (distinct_keys (keys_of gs)) ≤ entries_of c (first_glyph_cache + cache)
         → Agrees size st w client → CachesAgree size c j uses client → IsSized c client
         → ObeyedThrough size c j (state_after_drawing size st (drawn (Text x y color font run) clip)) w (run_use c uses cache gs).uses client
@@ -107,20 +109,22 @@ pub fn text_keeps_the_agreement()
         (bounds_of (painting_of size st (Text x y color font run)).rect clip) ∷ []) }
 {}
 
-/// The packet of a tile is read: the client's picture has the tile's pixels, packed or raw.
+/// The packet of a tile is read by a client of its depth: the client's picture has the tile's pixels as they are shown, packed or raw.
 pub fn tile_is_read()
-    ensures { (size : Size) (no_header : Bool) (r : Rect) (pixels : List ℕ) → IsTileRect size r → length pixels ≡ r.w * r.h → AreColors pixels
-        → (c : Confirmed) (v : View) (place : ℕ) → Reads c size v place (tile_packet no_header r pixels) (view_after_cut size v r pixels) }
+    ensures { (size : Size) (depth : Depth) (no_header : Bool) (r : Rect) (pixels : List ℕ) → IsTileRect size r → length pixels ≡ r.w * r.h → AreColors pixels
+        → (c : Confirmed) (v : View) (place : ℕ) → v.client.depth ≡ depth
+        → Reads c size v place (tile_packet depth no_header r pixels) (view_after_cut size v r (shown_colors depth pixels)) }
 {}
 
-/// Pixels that go over the wire, packed or raw, are read as they were.
+/// Pixels of a depth that go over the wire, packed or raw, are read as they were.
 pub fn pixels_are_read_back()
-    ensures { (no_header : Bool) (w h : ℕ) (pixels : List ℕ) → 0 < w → 0 < h → length pixels ≡ w * h → length pixels < 65536 → AreColors pixels
-        → wire_pixels (data_of no_header w pixels).is_packed w h (data_of no_header w pixels).bytes ≡ Ok pixels }
+    ensures { (depth : Depth) (no_header : Bool) (w h : ℕ) (pixels : List ℕ) → 0 < w → 0 < h → length pixels ≡ w * h → length pixels < 65536
+        → are_pixels depth pixels ≡ true
+        → wire_pixels depth (data_of depth no_header w pixels).is_packed w h (data_of depth no_header w pixels).bytes ≡ Ok pixels }
 {}
 
 /// An order that draws has at most 90 bytes beside those of a run.
 pub fn drawing_orders_are_short()
-    ensures { (regs : Registers) (zero_bounds : Bool) (area : Rect) (d : NamedDrawing) (bounds : Option Edges)
-        → length (order_bytes regs zero_bounds (drawing_fields Bits24 area d) bounds) ≤ 90 + length (drawing_fields Bits24 area d).values.bytes }
+    ensures { (depth : Depth) (regs : Registers) (zero_bounds : Bool) (area : Rect) (d : NamedDrawing) (bounds : Option Edges)
+        → length (order_bytes regs zero_bounds (drawing_fields depth area d) bounds) ≤ 90 + length (drawing_fields depth area d).values.bytes }
 {}

@@ -13,6 +13,7 @@ ghost use Rattle.draw_ops.specs.Content.{ImageOf};
 ghost use Rattle.draw_ops.specs.Slots.{SurfaceState, lookup};
 ghost use Rattle.draw_ops.specs.Drawing.{state_after_drawing, state_after_drawings};
 ghost use Rattle.caps_sets.specs.declared.confirmed.Confirmed.{Confirmed};
+ghost use Rattle.caps_sets.specs.Confirmed.{depth_of};
 ghost use Rattle.order_means.specs.ClientState.{ClientState};
 ghost use Rattle.order_fields.specs.NamedDrawing.NamedDrawing.{Opaque, Dst as DstBlt, Scr, SaveBlock, RestoreBlock};
 ghost use Rattle.session_rules.specs.Pending.{pending_of, pending_drawings};
@@ -39,24 +40,24 @@ pub fn jump_keeps_the_agreement()
         → Agrees size (state_after_drawings size st ds) (jumped size w (pending_drawings size st ds)) client }
 {}
 
-/// The order of a Fill is obeyed, and session and client agree after it, in any clip.
+/// The order of a Fill is obeyed by a client of the confirmed depth, and session and client agree after it, in any clip.
 pub fn fill_keeps_the_agreement()
     ensures { (c : Confirmed) (size : Size) (st : SurfaceState) (w : Walk) (client : ClientState) (r : Rect) (color : ℕ) (clip : Option Rect)
-        → has_pixel r ≡ true → Agrees size st w client
+        → client.depth ≡ depth_of c → color < 2 ^ 24 → has_pixel r ≡ true → Agrees size st w client
         → ObeyedAndAgrees c size (state_after_drawing size st (drawn (Fill r color) clip)) w client (Drawn r (Opaque r color) (bounds_of r clip)) }
 {}
 
 /// The order of a Dst is obeyed, and session and client agree after it, in any clip.
 pub fn dst_keeps_the_agreement()
     ensures { (c : Confirmed) (size : Size) (st : SurfaceState) (w : Walk) (client : ClientState) (r : Rect) (code : ℕ) (clip : Option Rect)
-        → has_pixel r ≡ true → Agrees size st w client
+        → client.depth ≡ depth_of c → has_pixel r ≡ true → Agrees size st w client
         → ObeyedAndAgrees c size (state_after_drawing size st (drawn (Dst r code) clip)) w client (Drawn r (DstBlt r code) (bounds_of r clip)) }
 {}
 
 /// The order of a Copy whose source has no dirty tile is obeyed, and session and client agree after it, in any clip and however source and destination overlap.
 pub fn copy_of_clean_tiles_keeps_the_agreement()
     ensures { (c : Confirmed) (size : Size) (st : SurfaceState) (w : Walk) (client : ClientState) (r : Rect) (code : ℕ) (sx sy : ℤ) (clip : Option Rect)
-        → size.w ≤ 2048
+        → size.w ≤ 2048 → client.depth ≡ depth_of c
         → has_pixel r ≡ true → is_inside size (boxed sx sy r.w r.h) ≡ true → share_tile size w.dirty (tiles_of size (boxed sx sy r.w r.h)) ≡ false
         → Agrees size st w client
         → ObeyedAndAgrees c size (state_after_drawing size st (drawn (Copy r code sx sy) clip)) w client (Drawn r (Scr r code sx sy) (bounds_of r clip)) }
@@ -66,7 +67,7 @@ pub fn copy_of_clean_tiles_keeps_the_agreement()
 /// other held block is still there.
 pub fn save_keeps_the_agreement()
     ensures { (size : Size) (st : SurfaceState) (w : Walk) (client : ClientState) (slot : ℕ) (r : Rect) (clip : Option Rect) (position : ℕ) (c : Confirmed)
-        → size.w ≤ 2048
+        → size.w ≤ 2048 → client.depth ≡ depth_of c
         → has_pixel r ≡ true → is_inside size r ≡ true → slot < length st.blocks → share_tile size w.dirty (tiles_of size r) ≡ false
         → least_free (positions_of r.w r.h) (without_slot slot w.held) ≡ Some position → Agrees size st w client
         → ObeyedAndAgrees c size (state_after_drawing size st (drawn (Save slot r) clip)) (with_block slot (placed position r.w r.h) (given_up slot w)) client
@@ -76,7 +77,7 @@ pub fn save_keeps_the_agreement()
 /// The order of a Restore of a block that the viewer holds is obeyed, and session and client agree after it.
 pub fn restore_keeps_the_agreement()
     ensures { (size : Size) (st : SurfaceState) (w : Walk) (client : ClientState) (slot : ℕ) (x y : ℤ) (block : ImageOf) (c : Confirmed) (position : ℕ)
-        → lookup slot st.blocks ≡ Some block
+        → client.depth ≡ depth_of c → lookup slot st.blocks ≡ Some block
         → length block.pixels ≡ block.w * block.h → has_pixel (boxed x y block.w block.h) ≡ true → is_inside size (boxed x y block.w block.h) ≡ true
         → place_of slot w.held ≡ Some (placed position block.w block.h) → Agrees size st w client
         → ObeyedAndAgrees c size (state_after_drawing size st (drawn (Restore slot x y) None)) w client

@@ -79,7 +79,7 @@ pub DescribesClient-first : (size : Size) (c : Confirmed) (j : List Entry) → D
 DescribesClient-first size c j = record {
   registers = refl;
   are_registers = first_are_registers;
-  sized = record { images = lengths_of_empty _ c.bitmaps; glyphs = lengths_of_empty _ c.glyphs; brushes = length-replicate (brush_entries c.brush) None };
+  sized = record { depth = refl; images = lengths_of_empty _ c.bitmaps; glyphs = lengths_of_empty _ c.glyphs; brushes = length-replicate (brush_entries c.brush) None };
   caches = record { images = λ cache key few held. absurd (cc held); glyphs = λ cache key few held. absurd (cc held); brushes = λ key held. absurd (cc held) };
   blocks = λ slot place h. absurd (cc h);
   apart = tt;

@@ -2,9 +2,11 @@ pub mod Paint
 pub mod TileLaws
 pub mod FrameLaws
 pub mod SecondaryBack
+pub mod TurnedMap
 pub mod RegistersKept
 pub mod OrdersBack
 pub mod RegistersApart
+pub mod DepthKept
 pub mod UpdatesBack
 pub mod TileShown
 pub mod TilePhase

@@ -5,7 +5,6 @@ use Rattle.px_core.specs.declared.surface.Size.{Size}
 use Rattle.caps_sets.specs.declared.confirmed.Confirmed.{Confirmed}
 use Rattle.draw_ops.specs.Content.{ImageOf, GlyphOf}
 use Rattle.wire_num.specs.Field.{bind}
-use Rattle.px_core.specs.declared.depth.Depth.TheVariants.{Bits24}
 use Rattle.order_fields.specs.OrderTable.{Registers, Edges}
 use Rattle.order_fields.specs.Secondary.{Cached}
 use Rattle.order_fields.specs.Secondary.Cached.{Bitmap, Glyph, Brush, Marker}
@@ -19,6 +18,8 @@ use Rattle.order_means.specs.WirePixels.{turned_over}
 use Rattle.draw_ops.specs.Slots.{filled_slot}
 use Rattle.draw_ops.specs.Formulas.{over_rect, rastered, brushed, shifted, imaged, image_rows}
 use Rattle.rop3_core.specs.Palette.{client_colors}
+use Rattle.draw_ops.specs.Depths.{client_colors_at}
+use Rattle.px_core.specs.Depth.{bytes_in}
 use Rattle.px_core.specs.declared.rectangle.Rect.{Rect}
 use Rattle.px_core.specs.Picture.{Formula, rows_of}
 use Rattle.px_core.specs.Rectangle.{is_inside}
@@ -56,10 +57,10 @@ drawing_apart : (c : Confirmed) (size : Size) (bounds : Option Edges) (cl : Clie
     → client_after_drawing c size bounds (moved r cl) d ≡ over (moved r) (client_after_drawing c size bounds cl d)
 drawing_apart c size bounds cl r (Dst rect code) = refl
 drawing_apart c size bounds cl r (Pat rect code entry) =
-    let k = λ (s : ClientState) (brush : List ℕ). painted_by size bounds rect (rastered client_colors code (brushed client_colors brush) no_operand) s in
+    let k = λ (s : ClientState) (brush : List ℕ). painted_by size bounds rect (rastered (client_colors_at s.depth) code (brushed client_colors brush) no_operand) s in
     bind_over (moved r) (brush_used c cl entry) (k (moved r cl)) (k cl) (λ brush. refl)
 drawing_apart c size bounds cl r (Scr rect code sx sy) =
-    let k = λ (s : ClientState). painted_by size bounds rect (rastered client_colors code no_operand (shifted (rows_of size.w size.h cl.picture) None rect sx sy)) s in
+    let k = λ (s : ClientState). painted_by size bounds rect (rastered (client_colors_at s.depth) code no_operand (shifted (rows_of size.w size.h cl.picture) None rect sx sy)) s in
     needs_over (moved r) (is_inside size (source_rect rect sx sy)) Broken (k (moved r cl)) (k cl) refl
 drawing_apart c size bounds cl r (Opaque rect color) = refl
 drawing_apart c size bounds cl r (SaveBlock position rect) =
@@ -70,10 +71,10 @@ drawing_apart c size bounds cl r (RestoreBlock position rect) =
     let x : Result Block Fault = found (block_at position rect.w rect.h cl.blocks) Broken in
     needs_over (moved r) (is_inside size rect) Broken (bind x (k (moved r cl))) (bind x (k cl)) (bind_over (moved r) x (k (moved r cl)) (k cl) (λ b. refl))
 drawing_apart c size bounds cl r (Mem cache index rect code sx sy) =
-    let k = λ (s : ClientState) (image : ImageOf). painted_by size bounds rect (rastered client_colors code no_operand (imaged client_colors (image_rows image) rect sx sy)) s in
+    let k = λ (s : ClientState) (image : ImageOf). painted_by size bounds rect (rastered (client_colors_at s.depth) code no_operand (imaged client_colors (image_rows image) rect sx sy)) s in
     bind_over (moved r) (image_used c cl cache index (source_rect rect sx sy)) (k (moved r cl)) (k cl) (λ image. refl)
 drawing_apart c size bounds cl r (Mem3 cache index rect code sx sy entry) =
-    let k = λ (s : ClientState) (image : ImageOf) (brush : List ℕ). painted_by size bounds rect (rastered client_colors code (brushed client_colors brush) (imaged client_colors (image_rows image) rect sx sy)) s in
+    let k = λ (s : ClientState) (image : ImageOf) (brush : List ℕ). painted_by size bounds rect (rastered (client_colors_at s.depth) code (brushed client_colors brush) (imaged client_colors (image_rows image) rect sx sy)) s in
     bind_over (moved r) (image_used c cl cache index (source_rect rect sx sy)) (λ image. bind (brush_used c cl entry) (k (moved r cl) image)) (λ image. bind (brush_used c cl entry) (k cl image))
     (λ image. bind_over (moved r) (brush_used c cl entry) (k (moved r cl) image) (k cl image) (λ brush. refl))
 drawing_apart c size bounds cl r (Glyphs cache x y color run) =
@@ -86,10 +87,10 @@ drawing_apart c size bounds cl r (Glyphs cache x y color run) =
 cached_apart : (c : Confirmed) (cl : ClientState) (r : Registers) (o : Cached) → client_after_cached c (moved r cl) o ≡ over (moved r) (client_after_cached c cl o)
 cached_apart c cl r (Bitmap b) =
     let k = λ (s : ClientState) (pixels : List ℕ). let m : Made = Ok (record s { images = with_cached b.cache b.index (record { w = b.w; h = b.h; pixels = turned_over b.w b.h pixels }) s.images }) in m in
-    let f = λ (s : ClientState) (pixels : List ℕ). needs (holds (cache_size c.bitmaps b.cache) b.index (3 * (b.w * b.h))) (Oversized b.cache b.index) (k s pixels) in
-    let x : Result (List ℕ) Fault = wire_pixels b.packed b.w b.h b.bytes in
-    needs_over (moved r) (is_bitmap b.w b.h b.depth && (nat_lt b.cache 3 && (b.flags == bitmap_flags b.packed))) Broken (bind x (f (moved r cl))) (bind x (f cl))
-    (bind_over (moved r) x (f (moved r cl)) (f cl) (λ pixels. needs_over (moved r) (holds (cache_size c.bitmaps b.cache) b.index (3 * (b.w * b.h))) (Oversized b.cache b.index) (k (moved r cl) pixels) (k cl pixels) refl))
+    let f = λ (s : ClientState) (pixels : List ℕ). needs (holds (cache_size c.bitmaps b.cache) b.index (bytes_in cl.depth * (b.w * b.h))) (Oversized b.cache b.index) (k s pixels) in
+    let x : Result (List ℕ) Fault = wire_pixels cl.depth b.packed b.w b.h b.bytes in
+    needs_over (moved r) (is_bitmap cl.depth b.w b.h b.depth && (nat_lt b.cache 3 && (b.flags == bitmap_flags b.packed))) Broken (bind x (f (moved r cl))) (bind x (f cl))
+    (bind_over (moved r) x (f (moved r cl)) (f cl) (λ pixels. needs_over (moved r) (holds (cache_size c.bitmaps b.cache) b.index (bytes_in cl.depth * (b.w * b.h))) (Oversized b.cache b.index) (k (moved r cl) pixels) (k cl pixels) refl))
 cached_apart c cl r (Glyph g) =
     let k = λ (s : ClientState). let m : Made = Ok (record s { glyphs = with_cached g.cache g.index (glyph_of g) s.glyphs }) in m in
     let f = λ (s : ClientState). needs (holds (cache_size c.glyphs g.cache) g.index (length g.bits)) (Oversized (3 + g.cache) g.index) (k s) in
@@ -102,7 +103,7 @@ cached_apart c cl r (Marker ends) = refl
 
 order_apart : (c : Confirmed) (size : Size) (cl : ClientState) (r : Registers) (o : Order) → client_after_order c size (moved r cl) o ≡ over (moved r) (client_after_order c size cl o)
 order_apart c size cl r (Primary fields bounds) =
-    let x : Result NamedDrawing Fault = found (drawing_of Bits24 fields) Broken in
+    let x : Result NamedDrawing Fault = found (drawing_of cl.depth fields) Broken in
     bind_over (moved r) x (client_after_drawing c size bounds (moved r cl)) (client_after_drawing c size bounds cl) (λ d. drawing_apart c size bounds cl r d)
 order_apart c size cl r (Other o) = cached_apart c cl r o
 

@@ -6,7 +6,9 @@ use Rattle.std.proofs.lemmas.Int.{ints, clamps}
 use Rattle.std.proofs.lemmas.Bool.{and_from, and_parts}
 use Rattle.std.proofs.lemmas.Bool.Decides.{nat_tests}
 use Rattle.std.proofs.lemmas.Nat.{div_below}
+use Rattle.px_core.specs.declared.depth.Depth.{Depth}
 use Rattle.px_core.specs.declared.surface.Size.{Size}
+use Rattle.px_core.specs.Depth.{seen}
 use Rattle.px_core.specs.declared.rectangle.Rect.{Rect}
 use Rattle.px_core.specs.Picture.{pixel_count, nat_of, item, Area, Formula, where_chosen, painted_from}
 use Rattle.px_core.specs.Rectangle.{within, in_rect, in_clip, has_pixel, whole, common, clipped}
@@ -133,14 +135,14 @@ item-picture_after size clip p old i other h =
     item-painted_from size.w 0 (painted_area clip p) p.formula old i other h ∙ ap (λ j. painted_at size.w (painted_area clip p) p.formula j (item old i other)) (zero_plus i)
 
 -- a drawing that isn't sent: the tiles that it touches become dirty
-pub ShowsOutside-skipped : (size : Size) (p : Painting ℕ) (clip : Option Rect) (dirty : Tiles) (canvas : List (Option ℕ)) (old : List ℕ) → size.w ≤ 2048
-    → ShowsOutside size dirty canvas old → ShowsOutside size (either_tiles dirty (tiles_of size (clipped p.rect clip))) canvas (picture_after size (in_clip clip) p old)
-ShowsOutside-skipped size p clip dirty canvas old w s = record {
+pub ShowsOutside-skipped : (depth : Depth) (size : Size) (p : Painting ℕ) (clip : Option Rect) (dirty : Tiles) (canvas : List (Option ℕ)) (old : List ℕ) → size.w ≤ 2048
+    → ShowsOutside depth size dirty canvas old → ShowsOutside depth size (either_tiles dirty (tiles_of size (clipped p.rect clip))) canvas (picture_after size (in_clip clip) p old)
+ShowsOutside-skipped depth size p clip dirty canvas old w s = record {
   canvas_length = s.canvas_length;
   picture_length = length-painted_from size.w 0 (painted_area (in_clip clip) p) p.formula old ∙ s.picture_length;
   pixels = λ i below clean.
       let c = or_false (dirty (tile_of_place size i)) (tiles_of size (clipped p.rect clip) (tile_of_place size i)) clean in
-      s.pixels i below c.0 ∙ ap Some (sym (stays i below c.1));
+      s.pixels i below c.0 ∙ ap (seen depth) (sym (stays i below c.1));
 }
   where
     stays : (i : ℕ) → i < pixel_count size → tiles_of size (clipped p.rect clip) (tile_of_place size i) ≡ false → item (picture_after size (in_clip clip) p old) i 0 ≡ item old i 0
@@ -152,24 +154,25 @@ ShowsOutside-skipped size p clip dirty canvas old w s = record {
         by true e = absurd (true_is_not_false (sym (tiles_of-painted_area size p clip (i % size.w) (i / size.w) w (column_below size i below) (row_below size i below) e) ∙ apart))
         by false e = unpainted _ p.formula (pos (i % size.w)) (pos (i / size.w)) (item old i 0) e
 
-pixel_same : (t : Bool) (f : Formula ℕ) (g : Formula (Option ℕ)) (x y : ℤ) (old : ℕ) → (t ≡ true → g x y (Some old) ≡ Some (f x y old)) → where_chosen t g x y (Some old) ≡ Some (where_chosen t f x y old)
-pixel_same true f g x y old h = h refl
-pixel_same false f g x y old h = refl
+pixel_same : (depth : Depth) (t : Bool) (f : Formula ℕ) (g : Formula (Option ℕ)) (x y : ℤ) (old : ℕ) → (t ≡ true → g x y (seen depth old) ≡ seen depth (f x y old))
+    → where_chosen t g x y (seen depth old) ≡ seen depth (where_chosen t f x y old)
+pixel_same depth true f g x y old h = h refl
+pixel_same depth false f g x y old h = refl
 
 -- a drawing that is sent: its order paints the same pixels, and agrees on each whose tile isn't dirty
-pub ShowsOutside-sent : (size : Size) (area : Area) (p : Painting ℕ) (clip : Area) (f : Formula (Option ℕ)) (dirty : Tiles) (canvas : List (Option ℕ)) (old : List ℕ)
+pub ShowsOutside-sent : (depth : Depth) (size : Size) (area : Area) (p : Painting ℕ) (clip : Area) (f : Formula (Option ℕ)) (dirty : Tiles) (canvas : List (Option ℕ)) (old : List ℕ)
     → ((i : ℕ) → area (pos (i % size.w)) (pos (i / size.w)) ≡ painted_area clip p (pos (i % size.w)) (pos (i / size.w)))
     → ((i d : ℕ) → i < pixel_count size → dirty (tile_of_place size i) ≡ false → painted_area clip p (pos (i % size.w)) (pos (i / size.w)) ≡ true
-    → f (pos (i % size.w)) (pos (i / size.w)) (Some d) ≡ Some (p.formula (pos (i % size.w)) (pos (i / size.w)) d))
-    → ShowsOutside size dirty canvas old → ShowsOutside size dirty (painted_from size.w 0 area f canvas) (picture_after size clip p old)
-ShowsOutside-sent size area p clip f dirty canvas old same value s = record {
+    → f (pos (i % size.w)) (pos (i / size.w)) (seen depth d) ≡ seen depth (p.formula (pos (i % size.w)) (pos (i / size.w)) d))
+    → ShowsOutside depth size dirty canvas old → ShowsOutside depth size dirty (painted_from size.w 0 area f canvas) (picture_after size clip p old)
+ShowsOutside-sent depth size area p clip f dirty canvas old same value s = record {
   canvas_length = length-painted_from size.w 0 area f canvas ∙ s.canvas_length;
   picture_length = length-painted_from size.w 0 (painted_area clip p) p.formula old ∙ s.picture_length;
   pixels = λ i below clean.
       item-painted_from size.w 0 area f canvas i None (rw s.canvas_length below)
       ∙ ap (λ j. painted_at size.w area f j (item canvas i None)) (zero_plus i)
       ∙ ap (painted_at size.w area f i) (s.pixels i below clean)
-      ∙ ap (λ t. where_chosen t f (pos (i % size.w)) (pos (i / size.w)) (Some (item old i 0))) (same i)
-      ∙ pixel_same (painted_area clip p (pos (i % size.w)) (pos (i / size.w))) p.formula f (pos (i % size.w)) (pos (i / size.w)) (item old i 0) (value i (item old i 0) below clean)
-      ∙ ap Some (sym (item-picture_after size clip p old i 0 (rw s.picture_length below)));
+      ∙ ap (λ t. where_chosen t f (pos (i % size.w)) (pos (i / size.w)) (seen depth (item old i 0))) (same i)
+      ∙ pixel_same depth (painted_area clip p (pos (i % size.w)) (pos (i / size.w))) p.formula f (pos (i % size.w)) (pos (i / size.w)) (item old i 0) (value i (item old i 0) below clean)
+      ∙ ap (seen depth) (sym (item-picture_after size clip p old i 0 (rw s.picture_length below)));
 }

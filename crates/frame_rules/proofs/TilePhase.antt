@@ -1,8 +1,10 @@
 -- Once the dirty tiles were sent, the client's picture is the session's.
-use Rattle.std.proofs.Common.{◌≡◌, ℕ, zero, suc, ◌+◌, ◌*◌, ◌/◌, ◌%◌, ◌≤◌, ◌<◌, ◌≢◌, List, [], ◌∷◌, refl, ap, sym, ◌∙◌, arith, length, map, Some, None, ◌⊎◌, inl, inr, filter, subst}
+use Rattle.std.proofs.Common.{◌≡◌, ℕ, zero, suc, ◌+◌, ◌*◌, ◌/◌, ◌%◌, ◌≤◌, ◌<◌, ◌≢◌, List, [], ◌∷◌, refl, ap, sym, ◌∙◌, arith, length, map, None, ◌⊎◌, inl, inr, filter, subst}
 use Rattle.std.specs.Prelude.{Bool, true, false, ◌||◌, ◌==◌, Option, pos}
 use Rattle.std.proofs.lemmas.Bool.Decides.{nat_tests}
+use Rattle.px_core.specs.declared.depth.Depth.{Depth}
 use Rattle.px_core.specs.declared.surface.Size.{Size}
+use Rattle.px_core.specs.Depth.{seen}
 use Rattle.px_core.specs.Picture.{pixel_count, item, listed}
 use Rattle.px_core.specs.Rectangle.{whole, in_rect}
 use Rattle.px_core.specs.Tiles.{Tiles, tile_number, tile_rect, tile_on, tiles_of, picture_tiles, tiles_in}
@@ -58,8 +60,8 @@ not_true true h = absurd (h refl)
 not_true false h = refl
 
 -- what is shown outside dirty tiles is shown outside those of them that lie on the picture
-ShowsOutside-on : (size : Size) (dirty : Tiles) (canvas : List (Option ℕ)) (picture : List ℕ) → size.w ≤ 2048 → ShowsOutside size dirty canvas picture → ShowsOutside size (is_among (tiles_in size dirty)) canvas picture
-ShowsOutside-on size dirty canvas picture w s = record {
+ShowsOutside-on : (depth : Depth) (size : Size) (dirty : Tiles) (canvas : List (Option ℕ)) (picture : List ℕ) → size.w ≤ 2048 → ShowsOutside depth size dirty canvas picture → ShowsOutside depth size (is_among (tiles_in size dirty)) canvas picture
+ShowsOutside-on depth size dirty canvas picture w s = record {
   canvas_length = s.canvas_length;
   picture_length = s.picture_length;
   pixels = λ i below clean. s.pixels i below (not_true (dirty (tile_of_place size i))
@@ -74,17 +76,17 @@ in_its_tile size i w below =
     let hy = row_below size i below in
     in_rect-common (tile_rect (tile_of_place size i)) (whole size) (pos (i % size.w)) (pos (i / size.w)) (in_rect-tile_rect (i % size.w) (i / size.w) (omega arith)) (in_rect-whole size (i % size.w) (i / size.w) hx hy)
 
-all_pixels : (xs : List (Option ℕ)) (ys : List ℕ) → length xs ≡ length ys → ((k : ℕ) → k < length xs → item xs k None ≡ Some (item ys k 0)) → xs ≡ map Some ys
-all_pixels [] [] e h = refl
-all_pixels [] (y ∷ ys) e h = absurd (omega (arith, e))
-all_pixels (x ∷ xs) [] e h = absurd (omega (arith, e))
-all_pixels (x ∷ xs) (y ∷ ys) e h = ap (λ p. p ∷ xs) (h 0 (omega arith)) ∙ ap (λ ps. Some y ∷ ps) (all_pixels xs ys (omega (arith, e)) (λ k b. h (suc k) (omega (arith, b))))
+all_pixels : (depth : Depth) (xs : List (Option ℕ)) (ys : List ℕ) → length xs ≡ length ys → ((k : ℕ) → k < length xs → item xs k None ≡ seen depth (item ys k 0)) → xs ≡ map (seen depth) ys
+all_pixels depth [] [] e h = refl
+all_pixels depth [] (y ∷ ys) e h = absurd (omega (arith, e))
+all_pixels depth (x ∷ xs) [] e h = absurd (omega (arith, e))
+all_pixels depth (x ∷ xs) (y ∷ ys) e h = ap (λ p. p ∷ xs) (h 0 (omega arith)) ∙ ap (λ ps. seen depth y ∷ ps) (all_pixels depth xs ys (omega (arith, e)) (λ k b. h (suc k) (omega (arith, b))))
 
-tiles_show : (size : Size) (picture : List ℕ) (ts : List ℕ) (canvas : List (Option ℕ)) → size.w ≤ 2048 → ShowsOutside size (is_among ts) canvas picture → canvas_after_tiles size picture ts canvas ≡ map Some picture
-tiles_show size picture [] canvas w s =
-    all_pixels canvas picture (s.canvas_length ∙ sym s.picture_length) (λ k b. s.pixels k (rw (← s.canvas_length) b) refl)
-tiles_show size picture (t ∷ ts) canvas w s = tiles_show size picture ts (canvas_after_cut size picture (tile_on size t) canvas) w
-    (ShowsOutside-cut size (tile_on size t) (is_among (t ∷ ts)) (is_among ts) canvas picture covered s)
+tiles_show : (depth : Depth) (size : Size) (picture : List ℕ) (ts : List ℕ) (canvas : List (Option ℕ)) → size.w ≤ 2048 → ShowsOutside depth size (is_among ts) canvas picture → canvas_after_tiles depth size picture ts canvas ≡ map (seen depth) picture
+tiles_show depth size picture [] canvas w s =
+    all_pixels depth canvas picture (s.canvas_length ∙ sym s.picture_length) (λ k b. s.pixels k (rw (← s.canvas_length) b) refl)
+tiles_show depth size picture (t ∷ ts) canvas w s = tiles_show depth size picture ts (canvas_after_cut depth size picture (tile_on size t) canvas) w
+    (ShowsOutside-cut depth size (tile_on size t) (is_among (t ∷ ts)) (is_among ts) canvas picture covered s)
   where
     covered : (i : ℕ) → i < pixel_count size → is_among ts (tile_of_place size i) ≡ false
         → (is_among (t ∷ ts) (tile_of_place size i) ≡ false) ⊎ (in_rect (tile_on size t) (pos (i % size.w)) (pos (i / size.w)) ≡ true)
@@ -96,6 +98,6 @@ tiles_show size picture (t ∷ ts) canvas w s = tiles_show size picture ts (canv
         by false e = inl (ap (λ b. b || is_among ts (tile_of_place size i)) e ∙ clean)
 
 -- once the dirty tiles that lie on the picture were sent
-pub canvas_after_dirty_tiles : (size : Size) (dirty : Tiles) (canvas : List (Option ℕ)) (picture : List ℕ) → size.w ≤ 2048 → ShowsOutside size dirty canvas picture
-    → canvas_after_tiles size picture (tiles_in size dirty) canvas ≡ map Some picture
-canvas_after_dirty_tiles size dirty canvas picture w s = tiles_show size picture (tiles_in size dirty) canvas w (ShowsOutside-on size dirty canvas picture w s)
+pub canvas_after_dirty_tiles : (depth : Depth) (size : Size) (dirty : Tiles) (canvas : List (Option ℕ)) (picture : List ℕ) → size.w ≤ 2048 → ShowsOutside depth size dirty canvas picture
+    → canvas_after_tiles depth size picture (tiles_in size dirty) canvas ≡ map (seen depth) picture
+canvas_after_dirty_tiles depth size dirty canvas picture w s = tiles_show depth size picture (tiles_in size dirty) canvas w (ShowsOutside-on depth size dirty canvas picture w s)

@@ -3,14 +3,17 @@ use Rattle.std.proofs.Common.{◌≡◌, ℕ, zero, suc, ◌+◌, ◌*◌, ◌/�
 use Rattle.std.specs.Prelude.{Bool, true, false, Option, ℤ, pos, ◌-ℤ◌, ◌+ℤ◌}
 use Rattle.std.proofs.lemmas.Int.{ints}
 use Rattle.std.proofs.lemmas.Bool.{and_parts}
+use Rattle.px_core.specs.declared.depth.Depth.{Depth}
 use Rattle.px_core.specs.declared.surface.Size.{Size}
+use Rattle.px_core.specs.Depth.{seen, shown_colors}
 use Rattle.px_core.specs.declared.rectangle.Rect.{Rect}
-use Rattle.px_core.specs.Picture.{pixel_count, nat_of, item, listed, front, skipped, rows_of, pixel_in, where_chosen, painted}
+use Rattle.px_core.specs.Picture.{pixel_count, nat_of, item, listed, front, skipped, rows_of, pixel_in, where_chosen}
 use Rattle.px_core.specs.Rectangle.{within, in_rect, pixel_of, cut_out}
 use Rattle.px_core.specs.Tiles.{Tiles}
 use Rattle.rop3_core.specs.Palette.{client_colors}
-use Rattle.draw_ops.specs.Formulas.{replaced, imaged}
-use Rattle.frame_rules.specs.Shown.{tile_of_place, ShowsOutside}
+use Rattle.draw_ops.specs.Formulas.{replaced, shifted, imaged}
+use Rattle.draw_ops.proofs.Shapes.{shifted_shown}
+use Rattle.frame_rules.specs.Shown.{tile_of_place, ShowsOutside, canvas_after_cut}
 use Rattle.frame_rules.proofs.Paint.{painted_at, item-painted_from, length-painted_from}
 use Rattle.frame_rules.proofs.TileLaws.{column_below, row_below, within-low, within-high, pos-nat_of}
 
@@ -84,45 +87,52 @@ place_again size i h = by size.w h
     by (suc w) k = omega arith
 
 -- the pixel that the cut out rectangle puts at a place is the picture's
-pub cut_shows : (size : Size) (picture : List ℕ) (r : Rect) (i : ℕ) (old : Option ℕ) → i < pixel_count size → in_rect r (pos (i % size.w)) (pos (i / size.w)) ≡ true
-    → replaced (imaged client_colors (rows_of r.w r.h (cut_out size picture 0 r)) r (pos 0) (pos 0)) (pos (i % size.w)) (pos (i / size.w)) old ≡ Some (item picture i 0)
-cut_shows size picture r i old below inside =
+cut_shows : (size : Size) (picture : List ℕ) (r : Rect) (i : ℕ) → i < pixel_count size → in_rect r (pos (i % size.w)) (pos (i / size.w)) ≡ true
+    → shifted (rows_of r.w r.h (cut_out size picture 0 r)) 0 r (pos 0) (pos 0) (pos (i % size.w)) (pos (i / size.w)) ≡ item picture i 0
+cut_shows size picture r i below inside =
     let parts = and_parts (within r.x r.w (pos (i % size.w))) (within r.y r.h (pos (i / size.w))) inside in
     let a = offset r.x r.w (i % size.w) parts.0 in
     let b = offset r.y r.h (i / size.w) parts.1 in
     let rows = rows_of r.w r.h (cut_out size picture 0 r) in
     let all = rows_of size.w size.h picture in
-    ap (λ z. Some (pixel_in rows 0 z ((pos (i / size.w) -ℤ r.y) +ℤ pos 0))) a.1
-    ∙ ap (λ z. Some (pixel_in rows 0 (pos (nat_of (pos (i % size.w) -ℤ r.x))) z)) b.1
-    ∙ ap Some (cut_pixel size picture r (nat_of (pos (i % size.w) -ℤ r.x)) (nat_of (pos (i / size.w) -ℤ r.y)) a.0 b.0)
-    ∙ ap (λ z. Some (pixel_in all 0 z (r.y +ℤ pos (nat_of (pos (i / size.w) -ℤ r.y))))) a.2
-    ∙ ap (λ z. Some (pixel_in all 0 (pos (i % size.w)) z)) b.2
-    ∙ ap Some (item_rows size.w size.h picture (i % size.w) (i / size.w) 0 (column_below size i below) (row_below size i below))
-    ∙ ap (λ j. Some (item picture j 0)) (place_again size i below)
+    ap (λ z. pixel_in rows 0 z ((pos (i / size.w) -ℤ r.y) +ℤ pos 0)) a.1
+    ∙ ap (λ z. pixel_in rows 0 (pos (nat_of (pos (i % size.w) -ℤ r.x))) z) b.1
+    ∙ cut_pixel size picture r (nat_of (pos (i % size.w) -ℤ r.x)) (nat_of (pos (i / size.w) -ℤ r.y)) a.0 b.0
+    ∙ ap (λ z. pixel_in all 0 z (r.y +ℤ pos (nat_of (pos (i / size.w) -ℤ r.y)))) a.2
+    ∙ ap (λ z. pixel_in all 0 (pos (i % size.w)) z) b.2
+    ∙ item_rows size.w size.h picture (i % size.w) (i / size.w) 0 (column_below size i below) (row_below size i below)
+    ∙ ap (λ j. item picture j 0) (place_again size i below)
+
+-- and is as it is shown at a depth, where the rectangle's pixels are
+pub cut_seen : (depth : Depth) (size : Size) (picture : List ℕ) (r : Rect) (i : ℕ) (old : Option ℕ) → i < pixel_count size → in_rect r (pos (i % size.w)) (pos (i / size.w)) ≡ true
+    → replaced (imaged client_colors (rows_of r.w r.h (shown_colors depth (cut_out size picture 0 r))) r (pos 0) (pos 0)) (pos (i % size.w)) (pos (i / size.w)) old ≡ seen depth (item picture i 0)
+cut_seen depth size picture r i old below inside =
+    ap Some (shifted_shown depth r.w r.h (cut_out size picture 0 r) r (pos 0) (pos 0) (pos (i % size.w)) (pos (i / size.w)))
+    ∙ ap (seen depth) (cut_shows size picture r i below inside)
 
 -- ---- the client's picture after a tile
 
 -- tiles that are clean after a rectangle: those that were, and those whose pixels all lie in it
-pub ShowsOutside-cut : (size : Size) (r : Rect) (dirty later : Tiles) (canvas : List (Option ℕ)) (picture : List ℕ)
+pub ShowsOutside-cut : (depth : Depth) (size : Size) (r : Rect) (dirty later : Tiles) (canvas : List (Option ℕ)) (picture : List ℕ)
     → ((i : ℕ) → i < pixel_count size → later (tile_of_place size i) ≡ false → (dirty (tile_of_place size i) ≡ false) ⊎ (in_rect r (pos (i % size.w)) (pos (i / size.w)) ≡ true))
-    → ShowsOutside size dirty canvas picture
-    → ShowsOutside size later (painted size (in_rect r) (replaced (imaged client_colors (rows_of r.w r.h (cut_out size picture 0 r)) r (pos 0) (pos 0))) canvas) picture
-ShowsOutside-cut size r dirty later canvas picture covered s = record {
+    → ShowsOutside depth size dirty canvas picture
+    → ShowsOutside depth size later (canvas_after_cut depth size picture r canvas) picture
+ShowsOutside-cut depth size r dirty later canvas picture covered s = record {
   canvas_length = length-painted_from size.w 0 (in_rect r) f canvas ∙ s.canvas_length;
   picture_length = s.picture_length;
   pixels = λ i below clean.
       let zero_plus : 0 + i ≡ i = omega arith in
       item-painted_from size.w 0 (in_rect r) f canvas i None (rw s.canvas_length below)
       ∙ ap (λ j. painted_at size.w (in_rect r) f j (item canvas i None)) zero_plus
-      ∙ shown i below (in_rect r (pos (i % size.w)) (pos (i / size.w))) refl (covered i below clean);
+      ∙ is_seen i below (in_rect r (pos (i % size.w)) (pos (i / size.w))) refl (covered i below clean);
 }
   where
     f : ℤ → ℤ → Option ℕ → Option ℕ
-    f = replaced (imaged client_colors (rows_of r.w r.h (cut_out size picture 0 r)) r (pos 0) (pos 0))
+    f = replaced (imaged client_colors (rows_of r.w r.h (shown_colors depth (cut_out size picture 0 r))) r (pos 0) (pos 0))
 
-    shown : (i : ℕ) → i < pixel_count size → (b : Bool) → in_rect r (pos (i % size.w)) (pos (i / size.w)) ≡ b
+    is_seen : (i : ℕ) → i < pixel_count size → (b : Bool) → in_rect r (pos (i % size.w)) (pos (i / size.w)) ≡ b
         → (dirty (tile_of_place size i) ≡ false) ⊎ (in_rect r (pos (i % size.w)) (pos (i / size.w)) ≡ true)
-        → where_chosen (in_rect r (pos (i % size.w)) (pos (i / size.w))) f (pos (i % size.w)) (pos (i / size.w)) (item canvas i None) ≡ Some (item picture i 0)
-    shown i below true e why = ap (λ t. where_chosen t f (pos (i % size.w)) (pos (i / size.w)) (item canvas i None)) e ∙ cut_shows size picture r i (item canvas i None) below e
-    shown i below false e (inl clean) = ap (λ t. where_chosen t f (pos (i % size.w)) (pos (i / size.w)) (item canvas i None)) e ∙ s.pixels i below clean
-    shown i below false e (inr inside) = absurd (cc (sym e ∙ inside))
+        → where_chosen (in_rect r (pos (i % size.w)) (pos (i / size.w))) f (pos (i % size.w)) (pos (i / size.w)) (item canvas i None) ≡ seen depth (item picture i 0)
+    is_seen i below true e why = ap (λ t. where_chosen t f (pos (i % size.w)) (pos (i / size.w)) (item canvas i None)) e ∙ cut_seen depth size picture r i (item canvas i None) below e
+    is_seen i below false e (inl clean) = ap (λ t. where_chosen t f (pos (i % size.w)) (pos (i / size.w)) (item canvas i None)) e ∙ s.pixels i below clean
+    is_seen i below false e (inr inside) = absurd (cc (sym e ∙ inside))

@@ -1,12 +1,15 @@
 -- Reading the updates of a frame's orders is obeying these orders one by one.
 use Rattle.std.proofs.Common.{◌≡◌, ℕ, suc, ◌+◌, ◌-◌, ◌^◌, ◌<◌, ◌≤◌, List, [], ◌∷◌, ◌++◌, length, map, refl, ap, sym, ◌∙◌, arith, Bool, true, false, append-nil, length-append, flat_map, subst}
-use Rattle.std.specs.Prelude.{Result, Ok, Err, not, ◌&&◌, if◌then◌else◌}
+use Rattle.std.specs.Prelude.{None, Result, Ok, Err, not, ◌&&◌, if◌then◌else◌}
 use Rattle.std.proofs.lemmas.Bool.Decides.{nat_tests}
 use Rattle.px_core.specs.declared.surface.Size.{Size}
 use Rattle.caps_sets.specs.declared.confirmed.Confirmed.{Confirmed}
 use Rattle.wire_num.specs.Field.{bind}
 use Rattle.order_fields.specs.OrderTable.{Registers, AreRegisters}
-use Rattle.order_fields.specs.OrderStream.{Order}
+use Rattle.caps_sets.specs.Confirmed.{depth_of}
+use Rattle.order_fields.specs.OrderStream.{Order, orders_in}
+use Rattle.order_fields.specs.OrderStream.Order.{Other}
+use Rattle.order_fields.specs.Secondary.Cached.{Marker}
 use Rattle.wire_num.proofs.Numbers.{little_back}
 use Rattle.order_means.specs.UpdateBodies.{orders_body, synchronize_body, synchronize_packet}
 use Rattle.share_pdu.specs.Packet.{update_packet}
@@ -19,11 +22,11 @@ use Rattle.order_means.specs.FrameMarks.Update.{Orders}
 use Rattle.order_means.proofs.Packet.{update_cut}
 use Rattle.order_means.proofs.Pieces.{read_joined}
 use Rattle.frame_rules.specs.FrameOrders.{SentOrder}
-use Rattle.frame_rules.specs.FrameOrders.SentOrder.{FrameMarker}
 use Rattle.frame_rules.specs.FrameBytes.{bytes_of_order, registers_after_order, bytes_of_orders, registers_after_orders, joined_bytes, joins_update, onto_update, gathered_after, update_of, updates_of, mark_bytes}
 use Rattle.frame_rules.specs.FrameRead.{as_read, FitsOrder, FitOrders, AreShort, Reads}
 use Rattle.frame_rules.proofs.OrdersBack.{orders_back, sent_registers_all}
 use Rattle.frame_rules.proofs.RegistersApart.{over, view_orders_apart}
+use Rattle.frame_rules.proofs.DepthKept.{depth_kept}
 
 -- ---- one packet
 
@@ -45,32 +48,37 @@ orders_body_back n bytes h = let few : n < 256 ^ 2 = omega arith in rw (little_b
 
 length-bytes_of_orders : (c : Confirmed) (regs : Registers) (os : List SentOrder) → length (bytes_of_orders c regs os) ≡ length os
 length-bytes_of_orders c regs [] = refl
-length-bytes_of_orders c regs (o ∷ os) = ap suc (length-bytes_of_orders c (registers_after_order regs o) os)
+length-bytes_of_orders c regs (o ∷ os) = ap suc (length-bytes_of_orders c (registers_after_order c regs o) os)
 
 -- the bytes of some orders, one after the other
 abbrev all_bytes : Confirmed → Registers → List SentOrder → List ℕ
 all_bytes c regs os = joined_bytes (bytes_of_orders c regs os)
 
-orders_body_obeyed : (c : Confirmed) (size : Size) (v w : View) (os : List SentOrder) (place : ℕ) → AreRegisters v.client.registers → FitOrders c os → length os < 2 ^ 16
-    → view_after_orders c size v (map (as_read c) os) ≡ Ok w
-    → view_after_body c size v (record { place = place; bytes = orders_body (length os) (all_bytes c v.client.registers os) }) ≡ Ok (with_registers w (registers_after_orders v.client.registers os))
-orders_body_obeyed c size v w os place are fits few obeys =
-    let regs = v.client.registers in
-    let body : Body = record { place = place; bytes = orders_body (length os) (all_bytes c regs os) } in
-    ap (view_after_read c size body v) (orders_body_back (length os) (all_bytes c regs os) few)
-    ∙ ap (view_after_stream c size body v) (orders_back c regs os are fits)
-    ∙ ap (meant place) (view_orders_apart c size v (registers_after_orders regs os) (map (as_read c) os))
-    ∙ ap (λ r. meant place (over (λ u. with_registers u (registers_after_orders regs os)) r)) obeys
+-- an Orders update whose bytes are read as orders
+stream_obeyed : (c : Confirmed) (size : Size) (v w : View) (place count : ℕ) (bytes : List ℕ) (orders : List Order) (after : Registers) → count < 2 ^ 16
+    → orders_in v.client.depth bytes count v.client.registers ≡ record { orders = orders; after = after; refused = None }
+    → view_after_orders c size v orders ≡ Ok w
+    → view_after_body c size v (record { place = place; bytes = orders_body count bytes }) ≡ Ok (with_registers w after)
+stream_obeyed c size v w place count bytes orders after few read obeys =
+    let body : Body = record { place = place; bytes = orders_body count bytes } in
+    ap (view_after_read c size body v) (orders_body_back count bytes few)
+    ∙ ap (view_after_stream c size body v) read
+    ∙ ap (meant place) (view_orders_apart c size v after orders)
+    ∙ ap (λ r. meant place (over (λ u. with_registers u after) r)) obeys
 
-pub update_obeyed : (c : Confirmed) (size : Size) (v w : View) (p : ℕ) (os : List SentOrder) → AreRegisters v.client.registers → FitOrders c os → length os < 2 ^ 16
+pub update_obeyed : (c : Confirmed) (size : Size) (v w : View) (p : ℕ) (os : List SentOrder) → v.client.depth ≡ depth_of c → AreRegisters v.client.registers → FitOrders c os → length os < 2 ^ 16
     → length (all_bytes c v.client.registers os) ≤ 16357
     → view_after_orders c size v (map (as_read c) os) ≡ Ok w
     → read_on c size (reading v (cutting p Between)) (update_of (bytes_of_orders c v.client.registers os))
-    ≡ Ok (reading (with_registers w (registers_after_orders v.client.registers os)) (cutting (p + length (update_of (bytes_of_orders c v.client.registers os))) Between))
-update_obeyed c size v w p os are fits few short obeys =
+    ≡ Ok (reading (with_registers w (registers_after_orders c v.client.registers os)) (cutting (p + length (update_of (bytes_of_orders c v.client.registers os))) Between))
+update_obeyed c size v w p os deep are fits few short obeys =
     let regs = v.client.registers in
+    let bytes = all_bytes c regs os in
     let count : length (bytes_of_orders c regs os) ≡ length os = length-bytes_of_orders c regs os in
-    rw count (packet_obeyed c size v (with_registers w (registers_after_orders regs os)) p (orders_body (length os) (all_bytes c regs os)) (omega (arith, short)) (λ place. orders_body_obeyed c size v w os place are fits few obeys))
+    let read : orders_in v.client.depth bytes (length os) regs ≡ record { orders = map (as_read c) os; after = registers_after_orders c regs os; refused = None } =
+    ap (λ depth. orders_in depth bytes (length os) regs) deep ∙ orders_back c regs os are fits in
+    rw count (packet_obeyed c size v (with_registers w (registers_after_orders c regs os)) p (orders_body (length os) bytes) (omega (arith, short))
+    (λ place. stream_obeyed c size v w place (length os) bytes (map (as_read c) os) (registers_after_orders c regs os) few read obeys))
 
 -- ---- bytes read one after the other
 
@@ -123,13 +131,13 @@ onto_all-open [] updates = refl
 onto_all-open (x ∷ xs) updates = ap (onto_update x) (onto_all-open xs updates)
 
 bytes_of_orders-last : (c : Confirmed) (regs : Registers) (os : List SentOrder) (o : SentOrder)
-    → bytes_of_orders c regs os ++ bytes_of_order c (registers_after_orders regs os) o ∷ [] ≡ bytes_of_orders c regs (os ++ o ∷ [])
+    → bytes_of_orders c regs os ++ bytes_of_order c (registers_after_orders c regs os) o ∷ [] ≡ bytes_of_orders c regs (os ++ o ∷ [])
 bytes_of_orders-last c regs [] o = refl
-bytes_of_orders-last c regs (x ∷ xs) o = ap (λ bs. bytes_of_order c regs x ∷ bs) (bytes_of_orders-last c (registers_after_order regs x) xs o)
+bytes_of_orders-last c regs (x ∷ xs) o = ap (λ bs. bytes_of_order c regs x ∷ bs) (bytes_of_orders-last c (registers_after_order c regs x) xs o)
 
-registers-last : (regs : Registers) (os : List SentOrder) (o : SentOrder) → registers_after_order (registers_after_orders regs os) o ≡ registers_after_orders regs (os ++ o ∷ [])
-registers-last regs [] o = refl
-registers-last regs (x ∷ xs) o = registers-last (registers_after_order regs x) xs o
+registers-last : (c : Confirmed) (regs : Registers) (os : List SentOrder) (o : SentOrder) → registers_after_order c (registers_after_orders c regs os) o ≡ registers_after_orders c regs (os ++ o ∷ [])
+registers-last c regs [] o = refl
+registers-last c regs (x ∷ xs) o = registers-last c (registers_after_order c regs x) xs o
 
 joined-last : (xs : List (List ℕ)) (y : List ℕ) → length (joined_bytes (xs ++ y ∷ [])) ≡ length (joined_bytes xs) + length y
 joined-last [] y = let e = append-nil y in omega (arith, ap length e)
@@ -160,14 +168,15 @@ view_or v (Err fault) = v
 module _ (c : Confirmed) (size : Size) where
   -- what is still begun, with its bytes, and what is gathered after it
   rest_bytes : Registers → List SentOrder → ℕ → List SentOrder → List ℕ
-  rest_bytes regs begun used os = flat_map update_of (onto_all (bytes_of_orders c regs begun) (gathered_after used (bytes_of_orders c (registers_after_orders regs begun) os)))
+  rest_bytes regs begun used os = flat_map update_of (onto_all (bytes_of_orders c regs begun) (gathered_after used (bytes_of_orders c (registers_after_orders c regs begun) os)))
 
   -- the premises of reading on: orders that are begun, those after them, and the views after both
   record GoesOn (begun os : List SentOrder) (v u w : View) (used : ℕ) : Type 0 where
+    deep : v.client.depth ≡ depth_of c
     are : AreRegisters v.client.registers
     begun_fit : FitOrders c begun
     fit : FitOrders c os
-    short : AreShort c (registers_after_orders v.client.registers begun) os
+    short : AreShort c (registers_after_orders c v.client.registers begun) os
     used_is : used ≡ length (all_bytes c v.client.registers begun)
     fits : used ≤ 16357
     few : length begun + length os < 2 ^ 16
@@ -175,7 +184,7 @@ module _ (c : Confirmed) (size : Size) where
     obeyed_ : view_after_orders c size u (map (as_read c) os) ≡ Ok w
 
   final : View → List SentOrder → List SentOrder → View → View
-  final v begun os w = with_registers w (registers_after_orders (registers_after_orders v.client.registers begun) os)
+  final v begun os w = with_registers w (registers_after_orders c (registers_after_orders c v.client.registers begun) os)
 
   all_open : (begun : List SentOrder) (v u w : View) (p used : ℕ) → GoesOn begun [] v u w used → Reads c size v p (rest_bytes v.client.registers begun used []) (final v begun [] w)
   unfolding rest_bytes final onto_all
@@ -187,34 +196,35 @@ module _ (c : Confirmed) (size : Size) where
       let few : length begun < 2 ^ 16 = let f = g.few in omega arith in
       let short : length (all_bytes c regs begun) ≤ 16357 = let a = g.used_is in let b = g.fits in omega arith in
       let same : view_after_orders c size v (map (as_read c) begun) ≡ Ok w = g.opened ∙ g.obeyed_ in
-      reads_same c size v (with_registers w (registers_after_orders regs begun)) p _ _ bytes (update_obeyed c size v w p begun g.are g.begun_fit few short same)
+      reads_same c size v (with_registers w (registers_after_orders c regs begun)) p _ _ bytes (update_obeyed c size v w p begun g.deep g.are g.begun_fit few short same)
 
   gathered_obeyed : (os begun : List SentOrder) (v u w : View) (p used : ℕ) → GoesOn begun os v u w used → Reads c size v p (rest_bytes v.client.registers begun used os) (final v begun os w)
   unfolding rest_bytes final onto_all
   gathered_obeyed [] begun v u w p used g = all_open begun v u w p used g
-  gathered_obeyed (o ∷ os) begun v u w p used g = by_joining (joins_update used (length (bytes_of_order c (registers_after_orders v.client.registers begun) o))) refl
+  gathered_obeyed (o ∷ os) begun v u w p used g = by_joining (joins_update used (length (bytes_of_order c (registers_after_orders c v.client.registers begun) o))) refl
       (λ v' u' p' used' g'. gathered_obeyed os (begun ++ o ∷ []) v' u' w p' used' g')
       (λ v' u' w' p' used' g'. gathered_obeyed os (o ∷ []) v' u' w' p' used' g')
     where
-      by_joining : (b : Bool) → joins_update used (length (bytes_of_order c (registers_after_orders v.client.registers begun) o)) ≡ b
+      by_joining : (b : Bool) → joins_update used (length (bytes_of_order c (registers_after_orders c v.client.registers begun) o)) ≡ b
           → ((v' u' : View) (p' used' : ℕ) → GoesOn (begun ++ o ∷ []) os v' u' w used' → Reads c size v' p' (rest_bytes v'.client.registers (begun ++ o ∷ []) used' os) (final v' (begun ++ o ∷ []) os w))
           → ((v' u' w' : View) (p' used' : ℕ) → GoesOn (o ∷ []) os v' u' w' used' → Reads c size v' p' (rest_bytes v'.client.registers (o ∷ []) used' os) (final v' (o ∷ []) os w'))
           → Reads c size v p (rest_bytes v.client.registers begun used (o ∷ os)) (final v begun (o ∷ os) w)
       by_joining true e joined fresh =
           let regs = v.client.registers in
-          let R = registers_after_orders regs begun in
+          let R = registers_after_orders c regs begun in
           let chunk = bytes_of_order c R o in
-          let X = bytes_of_orders c (registers_after_order R o) os in
+          let X = bytes_of_orders c (registers_after_order c R o) os in
           let B = bytes_of_orders c regs begun in
           let n = used + length chunk in
           let m = between (view_after_order c size u (as_read c o)) (λ x. view_after_orders c size x (map (as_read c) os)) w g.obeyed_ in
           let used_is = g.used_is in
           let few = g.few in
           let next : GoesOn (begun ++ o ∷ []) os v m.mid w n = record {
+            deep = g.deep;
             are = g.are;
             begun_fit = fit-last c begun o g.begun_fit g.fit.0;
             fit = g.fit.1;
-            short = subst (λ r. AreShort c r os) (registers-last regs begun o) g.short.1;
+            short = subst (λ r. AreShort c r os) (registers-last c regs begun o) g.short.1;
             used_is = omega (arith, joined-last B chunk, ap (λ bs. length (joined_bytes bs)) (bytes_of_orders-last c regs begun o));
             fits = joins_short used (length chunk) e;
             few = omega (arith, length-last begun o);
@@ -223,17 +233,17 @@ module _ (c : Confirmed) (size : Size) where
             obeyed_ = m.second;
           } in
           let bytes : rest_bytes regs (begun ++ o ∷ []) n os ≡ rest_bytes regs begun used (o ∷ os) =
-          ap (λ r. flat_map update_of (onto_all (bytes_of_orders c regs (begun ++ o ∷ [])) (gathered_after n (bytes_of_orders c r os)))) (sym (registers-last regs begun o))
+          ap (λ r. flat_map update_of (onto_all (bytes_of_orders c regs (begun ++ o ∷ [])) (gathered_after n (bytes_of_orders c r os)))) (sym (registers-last c regs begun o))
           ∙ ap (λ bs. flat_map update_of (onto_all bs (gathered_after n X))) (sym (bytes_of_orders-last c regs begun o))
           ∙ ap (flat_map update_of) (sym (onto_all-last B chunk (gathered_after n X)))
           ∙ ap (λ b. flat_map update_of (onto_all B (if b then onto_update chunk (gathered_after n X) else [] ∷ onto_update chunk (gathered_after (length chunk) X)))) (sym e) in
-          let last : final v (begun ++ o ∷ []) os w ≡ final v begun (o ∷ os) w = ap (λ r. with_registers w (registers_after_orders r os)) (sym (registers-last regs begun o)) in
+          let last : final v (begun ++ o ∷ []) os w ≡ final v begun (o ∷ os) w = ap (λ r. with_registers w (registers_after_orders c r os)) (sym (registers-last c regs begun o)) in
           subst (λ x. Reads c size v p (rest_bytes regs begun used (o ∷ os)) x) last (reads_same c size v (final v (begun ++ o ∷ []) os w) p _ _ bytes (joined v m.mid p n next))
       by_joining false e joined fresh =
           let regs = v.client.registers in
-          let R = registers_after_orders regs begun in
+          let R = registers_after_orders c regs begun in
           let chunk = bytes_of_order c R o in
-          let X = bytes_of_orders c (registers_after_order R o) os in
+          let X = bytes_of_orders c (registers_after_order c R o) os in
           let B = bytes_of_orders c regs begun in
           let m = between (view_after_order c size u (as_read c o)) (λ x. view_after_orders c size x (map (as_read c) os)) w g.obeyed_ in
           let used_is = g.used_is in
@@ -244,6 +254,7 @@ module _ (c : Confirmed) (size : Size) where
           let alone = append-nil chunk in
           let small = g.short.0 in
           let next : GoesOn (o ∷ []) os (with_registers u R) (with_registers m.mid R) (with_registers w R) (length (chunk ++ [])) = record {
+            deep = depth_kept c size v u (map (as_read c) begun) g.opened ∙ g.deep;
             are = sent_registers_all c regs begun g.are g.begun_fit;
             begun_fit = (g.fit.0, tt);
             fit = g.fit.1;
@@ -254,7 +265,7 @@ module _ (c : Confirmed) (size : Size) where
             opened = view_orders_apart c size u R (as_read c o ∷ []) ∙ ap (over (λ x. with_registers x R)) (one_obeyed c size u m.mid (as_read c o) m.first);
             obeyed_ = view_orders_apart c size m.mid R (map (as_read c) os) ∙ ap (over (λ x. with_registers x R)) m.second;
           } in
-          let one = update_obeyed c size v u p begun g.are g.begun_fit here short g.opened in
+          let one = update_obeyed c size v u p begun g.deep g.are g.begun_fit here short g.opened in
           let two = fresh (with_registers u R) (with_registers m.mid R) (with_registers w R) (p + length (update_of B)) (length (chunk ++ [])) next in
           let bytes : update_of B ++ rest_bytes R (o ∷ []) (length (chunk ++ [])) os ≡ rest_bytes regs begun used (o ∷ os) =
           ap (λ n. update_of B ++ flat_map update_of (onto_update chunk (gathered_after n X))) (ap length alone)
@@ -263,21 +274,22 @@ module _ (c : Confirmed) (size : Size) where
           reads_same c size v (final v begun (o ∷ os) w) p _ _ bytes (reads_then c size v (with_registers u R) (final v begun (o ∷ os) w) p (update_of B) (rest_bytes R (o ∷ []) (length (chunk ++ [])) os) one two)
 
   -- the updates that orders are gathered into are read as the orders, obeyed one by one
-  pub updates_obeyed : (os : List SentOrder) (v w : View) (p : ℕ) → AreRegisters v.client.registers → FitOrders c os → AreShort c v.client.registers os → length os < 2 ^ 16
+  pub updates_obeyed : (os : List SentOrder) (v w : View) (p : ℕ) → v.client.depth ≡ depth_of c → AreRegisters v.client.registers → FitOrders c os → AreShort c v.client.registers os → length os < 2 ^ 16
       → view_after_orders c size v (map (as_read c) os) ≡ Ok w
-      → Reads c size v p (updates_of (bytes_of_orders c v.client.registers os)) (with_registers w (registers_after_orders v.client.registers os))
+      → Reads c size v p (updates_of (bytes_of_orders c v.client.registers os)) (with_registers w (registers_after_orders c v.client.registers os))
   unfolding rest_bytes final onto_all
-  updates_obeyed [] v w p are fit short few obeys =
+  updates_obeyed [] v w p deep are fit short few obeys =
       let same : v ≡ w = ap (λ r. view_or v r) obeys in
       subst (λ x. Reads c size v p [] (with_registers x v.client.registers)) same (reads_nothing c size v p)
-  updates_obeyed (o ∷ os) v w p are fit short few obeys =
+  updates_obeyed (o ∷ os) v w p deep are fit short few obeys =
       let regs = v.client.registers in
       let chunk = bytes_of_order c regs o in
-      let X = bytes_of_orders c (registers_after_order regs o) os in
+      let X = bytes_of_orders c (registers_after_order c regs o) os in
       let m = between (view_after_order c size v (as_read c o)) (λ x. view_after_orders c size x (map (as_read c) os)) w obeys in
       let alone = append-nil chunk in
       let small = short.0 in
       let next : GoesOn (o ∷ []) os v m.mid w (length (chunk ++ [])) = record {
+        deep = deep;
         are = are;
         begun_fit = (fit.0, tt);
         fit = fit.1;
@@ -288,7 +300,7 @@ module _ (c : Confirmed) (size : Size) where
         opened = one_obeyed c size v m.mid (as_read c o) m.first;
         obeyed_ = m.second;
       } in
-      reads_same c size v (with_registers w (registers_after_orders regs (o ∷ os))) p _ _ (ap (λ n. flat_map update_of (onto_update chunk (gathered_after n X))) (ap length alone))
+      reads_same c size v (with_registers w (registers_after_orders c regs (o ∷ os))) p _ _ (ap (λ n. flat_map update_of (onto_update chunk (gathered_after n X))) (ap length alone))
       (gathered_obeyed os (o ∷ []) v m.mid w p (length (chunk ++ [])) next)
 
 -- ---- the mark
@@ -296,14 +308,17 @@ module _ (c : Confirmed) (size : Size) where
 synchronize_obeyed : (c : Confirmed) (size : Size) (v : View) (p : ℕ) → c.marker ≡ false → Reads c size v p synchronize_packet (marked_if true v)
 synchronize_obeyed c size v p e = packet_obeyed c size v (marked_if true v) p synchronize_body (omega arith) (λ place. ap (λ b. Ok (marked_if (not b) v)) e)
 
-marker_obeyed : (c : Confirmed) (size : Size) (v : View) (p : ℕ) → AreRegisters v.client.registers → c.marker ≡ true → Reads c size v p (update_of (frame_marker_bytes true ∷ [])) (marked_if true v)
-marker_obeyed c size v p are e =
-    update_obeyed c size v (marked_if true v) p (FrameMarker true ∷ []) are (tt, tt) (omega arith) (omega arith) (ap (λ b. Ok (marked_if (b && true) v)) e)
+-- a frame marker is read alike at every depth
+marker_obeyed : (c : Confirmed) (size : Size) (v : View) (p : ℕ) → c.marker ≡ true → Reads c size v p (update_of (frame_marker_bytes true ∷ [])) (marked_if true v)
+marker_obeyed c size v p e =
+    let bytes = joined_bytes (frame_marker_bytes true ∷ []) in
+    packet_obeyed c size v (marked_if true v) p (orders_body 1 bytes) (omega arith)
+    (λ place. stream_obeyed c size v (marked_if true v) place 1 bytes (Other (Marker true) ∷ []) v.client.registers (omega arith) refl (ap (λ b. Ok (marked_if (b && true) v)) e))
 
-mark_by : (c : Confirmed) (size : Size) (v : View) (p : ℕ) (b : Bool) → c.marker ≡ b → AreRegisters v.client.registers → Reads c size v p (mark_bytes b) (marked_if true v)
-mark_by c size v p true e are = marker_obeyed c size v p are e
-mark_by c size v p false e are = synchronize_obeyed c size v p e
+mark_by : (c : Confirmed) (size : Size) (v : View) (p : ℕ) (b : Bool) → c.marker ≡ b → Reads c size v p (mark_bytes b) (marked_if true v)
+mark_by c size v p true e = marker_obeyed c size v p e
+mark_by c size v p false e = synchronize_obeyed c size v p e
 
 -- the mark's update shows the picture, with or without frame markers
 pub mark_obeyed : (c : Confirmed) (size : Size) (v : View) (p : ℕ) → AreRegisters v.client.registers → Reads c size v p (mark_bytes c.marker) (marked_if true v)
-mark_obeyed c size v p are = mark_by c size v p c.marker refl are
+mark_obeyed c size v p are = mark_by c size v p c.marker refl

@@ -1,6 +1,8 @@
 -- That an encoder describes its client, and the promise of one frame.
 use Rattle.std.specs.Prelude.{◌≡◌, ℕ, zero, suc, ◌+◌, ◌≤◌, ◌<◌, true, false, List, [], ◌∷◌, ◌++◌, map, length, slice_get, Option, Some, None, option_and_then, Ok}
+use Rattle.px_core.specs.declared.depth.Depth.{Depth}
 use Rattle.px_core.specs.declared.surface.Size.{Size}
+use Rattle.px_core.specs.Depth.{seen, shown_colors}
 use Rattle.px_core.specs.Picture.{pixel_count}
 use Rattle.px_core.specs.Rectangle.{is_session_size}
 use Rattle.draw_ops.specs.declared.shape.Drawing.{Drawing}
@@ -9,8 +11,9 @@ use Rattle.draw_ops.specs.declared.shape.Shape.TheVariants.{Fill, Dst, Pat, Copy
 use Rattle.draw_ops.specs.Content.{ImageOf, GlyphOf}
 use Rattle.draw_ops.specs.Slots.{SurfaceState, lookup}
 use Rattle.caps_sets.specs.declared.confirmed.Confirmed.{Confirmed}
+use Rattle.caps_sets.specs.Confirmed.{depth_of}
 use Rattle.order_fields.specs.OrderTable.{AreRegisters}
-use Rattle.order_means.specs.WirePixels.{padded_image, padded_glyph}
+use Rattle.order_means.specs.WirePixels.{kept_image, padded_glyph}
 use Rattle.order_means.specs.ClientState.{ClientState, Block, cached, block_at, brush_entries}
 use Rattle.order_means.specs.Updates.{cutting}
 use Rattle.order_means.specs.Updates.Stage.{Between}
@@ -102,31 +105,32 @@ IsHeld c uses cache key = misses (entries_of c cache) (uses_of cache uses) key �
 abbrev pub index_of : Confirmed → Uses → ℕ → ℕ → ℕ
 index_of c uses cache key = last_index (entries_of c cache) (uses_of cache uses) key
 
--- the index of each held key has the content of that key's load: an image with the columns that were added to its width, a glyph with its padded bits
+-- the index of each held key has the content of that key's load, as it is shown at the client's depth: an image with the columns that were added to its width, a glyph with its padded bits
 pub record CachesAgree (size : Size) (c : Confirmed) (j : List Entry) (uses : Uses) (client : ClientState) : Type 0 where
   pub images : (cache key : ℕ) → cache < first_glyph_cache → IsHeld c uses cache key
-      → (image : ImageOf) × (image_loaded size j key ≡ Some image) × (cached cache (index_of c uses cache key) client.images ≡ Some (padded_image image))
+      → (image : ImageOf) × (image_loaded size j key ≡ Some image) × (cached cache (index_of c uses cache key) client.images ≡ Some (kept_image client.depth image))
   pub glyphs : (cache key : ℕ) → cache < 10 → IsHeld c uses (first_glyph_cache + cache) key
       → (glyph : GlyphOf) × (glyph_loaded size j key ≡ Some glyph) × (cached cache (index_of c uses (first_glyph_cache + cache) key) client.glyphs ≡ Some (padded_glyph glyph))
   pub brushes : (key : ℕ) → IsHeld c uses brush_cache key
-      → (brush : List ℕ) × (brush_loaded size j key ≡ Some brush) × (lookup (index_of c uses brush_cache key) client.brushes ≡ Some brush)
+      → (brush : List ℕ) × (brush_loaded size j key ≡ Some brush) × (lookup (index_of c uses brush_cache key) client.brushes ≡ Some (shown_colors client.depth brush))
 
--- the client's caches have the confirmed numbers of entries
+-- the client has the confirmed depth, and its caches the confirmed numbers of entries
 pub record IsSized (c : Confirmed) (client : ClientState) : Type 0 where
+  pub depth : client.depth ≡ depth_of c
   pub images : map length client.images ≡ map (λ s. s.entries) c.bitmaps
   pub glyphs : map length client.glyphs ≡ map (λ s. s.entries) c.glyphs
   pub brushes : length client.brushes ≡ brush_entries c.brush
 
 -- ---- blocks
 
-abbrev pub block_shown : Place → ImageOf → Block
-block_shown place block = record { position = place.position; w = place.w; h = place.h; pixels = map Some block.pixels }
+abbrev pub block_shown : Depth → Place → ImageOf → Block
+block_shown depth place block = record { position = place.position; w = place.w; h = place.h; pixels = map (seen depth) block.pixels }
 
--- each held block is the client's, with the pixels of its slot
+-- each held block is the client's, with the pixels of its slot as they are shown at its depth
 abbrev pub BlocksAgree : SurfaceState → Held → ClientState → Type 0
 BlocksAgree st held client = (slot : ℕ) (place : Place) → place_of slot held ≡ Some place
     → (block : ImageOf) × (lookup slot st.blocks ≡ Some block) × (block.w ≡ place.w) × (block.h ≡ place.h)
-    × (block_at place.position place.w place.h client.blocks ≡ Some (block_shown place block))
+    × (block_at place.position place.w place.h client.blocks ≡ Some (block_shown client.depth place block))
 
 -- ---- the encoder and the client
 
@@ -139,15 +143,15 @@ pub record DescribesClient (size : Size) (c : Confirmed) (j : List Entry) (numbe
   pub blocks : BlocksAgree (state_after size j number).surface e.held client
   pub apart : AreApart e.held
   pub pixels : length client.picture ≡ pixel_count size
-  pub picture : 0 < number → client.picture ≡ map Some (state_after size j number).surface.picture
+  pub picture : 0 < number → client.picture ≡ map (seen (depth_of c)) (state_after size j number).surface.picture
 
 -- ---- one frame
 
--- what a viewer makes of a take's bytes: they aren't refused and leave no rest, there is one mark, which shows the picture after the entries that the take found, and the encoder describes the client after them
+-- what a viewer makes of a take's bytes: they aren't refused and leave no rest, there is one mark, which shows the picture after the entries that the take found at the viewer's depth, and the encoder describes the client after them
 pub record ShowsFrame (size : Size) (c : Confirmed) (j : List Entry) (e : Encoder) (t : TakeOf) (view : View) (place : ℕ) : Type 0 where
   pub after : View
   pub reads : read_on c size (reading view (cutting place Between)) (take_bytes size c j e t) ≡ Ok (reading after (cutting (place + length (take_bytes size c j e t)) Between))
-  pub mark : after.pictures ≡ view.pictures ++ map Some (state_after size j t.number).surface.picture ∷ []
+  pub mark : after.pictures ≡ view.pictures ++ map (seen (depth_of c)) (state_after size j t.number).surface.picture ∷ []
   pub describes : DescribesClient size c j t.number (encoder_after size c j e t) after.client
 
 -- three bitmap caches and ten glyph caches, which the type of what a viewer confirmed always has

@@ -37,7 +37,7 @@ abbrev pub encoder_after_frame : Size → Confirmed → Encoder → FrameOf → 
 encoder_after_frame size c e f = record {
   held = f.held;
   uses = uses_after c e.uses f.sent;
-  registers = registers_after_orders e.registers (orders_before_tiles size c e.uses f);
+  registers = registers_after_orders c e.registers (orders_before_tiles size c e.uses f);
 }
 
 -- the encoder after a take's frame

@@ -4,7 +4,7 @@ use Rattle.px_core.specs.declared.surface.Size.{Size}
 use Rattle.px_core.specs.Rectangle.{cut_out}
 use Rattle.px_core.specs.Tiles.{tile_on}
 use Rattle.caps_sets.specs.declared.confirmed.Confirmed.{Confirmed}
-use Rattle.px_core.specs.declared.depth.Depth.TheVariants.{Bits24}
+use Rattle.caps_sets.specs.Confirmed.{depth_of}
 use Rattle.order_fields.specs.OrderTable.{Registers, registers_after}
 use Rattle.order_fields.specs.OrderDelta.{order_bytes, edges_of_optional}
 use Rattle.order_fields.specs.NamedDrawing.{drawing_fields}
@@ -16,30 +16,30 @@ use Rattle.frame_rules.specs.FrameOrders.SentOrder.{Drawn, CacheImage, CacheGlyp
 
 -- ---- orders
 
--- the bytes of one order against the registers; images go packed where the viewer confirmed bitmaps without a header and the packer isn't raw
+-- the bytes of one order against the registers, at the viewer's depth; images go packed where the viewer confirmed bitmaps without a header and the packer isn't raw
 abbrev pub bytes_of_order : Confirmed → Registers → SentOrder → List ℕ
-bytes_of_order c regs (Drawn touched d bounds) = order_bytes regs c.zero_bounds (drawing_fields Bits24 touched d) (edges_of_optional bounds)
-bytes_of_order c regs (CacheImage cache index image) = cache_bitmap_bytes c.no_header cache index image
+bytes_of_order c regs (Drawn touched d bounds) = order_bytes regs c.zero_bounds (drawing_fields (depth_of c) touched d) (edges_of_optional bounds)
+bytes_of_order c regs (CacheImage cache index image) = cache_bitmap_bytes (depth_of c) c.no_header cache index image
 bytes_of_order c regs (CacheGlyph cache index glyph) = cache_glyph_bytes cache index glyph
-bytes_of_order c regs (CacheBrush entry brush) = cache_brush_bytes entry brush
+bytes_of_order c regs (CacheBrush entry brush) = cache_brush_bytes (depth_of c) entry brush
 bytes_of_order c regs (FrameMarker ends) = frame_marker_bytes ends
 
 -- the registers after an order, which cache orders and markers leave
-abbrev pub registers_after_order : Registers → SentOrder → Registers
-registers_after_order regs (Drawn touched d bounds) = registers_after regs (drawing_fields Bits24 touched d) (edges_of_optional bounds)
-registers_after_order regs (CacheImage cache index image) = regs
-registers_after_order regs (CacheGlyph cache index glyph) = regs
-registers_after_order regs (CacheBrush entry brush) = regs
-registers_after_order regs (FrameMarker ends) = regs
+abbrev pub registers_after_order : Confirmed → Registers → SentOrder → Registers
+registers_after_order c regs (Drawn touched d bounds) = registers_after regs (drawing_fields (depth_of c) touched d) (edges_of_optional bounds)
+registers_after_order c regs (CacheImage cache index image) = regs
+registers_after_order c regs (CacheGlyph cache index glyph) = regs
+registers_after_order c regs (CacheBrush entry brush) = regs
+registers_after_order c regs (FrameMarker ends) = regs
 
 -- the bytes of each order
 abbrev pub bytes_of_orders : Confirmed → Registers → List SentOrder → List (List ℕ)
 bytes_of_orders c regs [] = []
-bytes_of_orders c regs (o ∷ os) = bytes_of_order c regs o ∷ bytes_of_orders c (registers_after_order regs o) os
+bytes_of_orders c regs (o ∷ os) = bytes_of_order c regs o ∷ bytes_of_orders c (registers_after_order c regs o) os
 
-abbrev pub registers_after_orders : Registers → List SentOrder → Registers
-registers_after_orders regs [] = regs
-registers_after_orders regs (o ∷ os) = registers_after_orders (registers_after_order regs o) os
+abbrev pub registers_after_orders : Confirmed → Registers → List SentOrder → Registers
+registers_after_orders c regs [] = regs
+registers_after_orders c regs (o ∷ os) = registers_after_orders c (registers_after_order c regs o) os
 
 -- ---- gathering
 
@@ -83,7 +83,7 @@ updates_of orders = flat_map update_of (gathered orders)
 
 -- the packet of a tile's bitmap update
 abbrev pub tile_bytes : Size → Confirmed → List ℕ → ℕ → List ℕ
-tile_bytes size c picture tile = tile_packet c.no_header (tile_on size tile) (cut_out size picture 0 (tile_on size tile))
+tile_bytes size c picture tile = tile_packet (depth_of c) c.no_header (tile_on size tile) (cut_out size picture 0 (tile_on size tile))
 
 -- the mark's own update
 abbrev pub mark_bytes : Bool → List ℕ

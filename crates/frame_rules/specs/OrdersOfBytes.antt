@@ -6,8 +6,10 @@ use Rattle.px_core.specs.declared.rectangle.Rect.{Rect}
 use Rattle.px_core.specs.Picture.{nat_of}
 use Rattle.px_core.specs.Rectangle.{is_session_size}
 use Rattle.caps_sets.specs.declared.confirmed.Confirmed.{Confirmed}
+use Rattle.caps_sets.specs.Confirmed.{depth_of}
 use Rattle.wire_num.specs.Field.{Read}
-use Rattle.px_core.specs.declared.depth.Depth.TheVariants.{Bits24}
+use Rattle.px_core.specs.declared.depth.Depth.{Depth}
+use Rattle.px_core.specs.Depth.{bits_in, shown_colors}
 use Rattle.order_fields.specs.OrderTable.{Registers, AreRegisters}
 use Rattle.order_fields.specs.OrderStream.{Order, Stream, orders_in}
 use Rattle.order_means.specs.WirePixels.{PixelData, data_of, turned_over}
@@ -47,27 +49,27 @@ abbrev pub read_unless_refused : Stream → Option (List ℕ) → Option OrdersR
 read_unless_refused s None = Some (orders_read (map OrderRead s.orders) s.after)
 read_unless_refused s (Some left) = None
 
--- what an update says, whose orders are read with registers
+-- what an update says, whose orders are read with registers, at a depth
 abbrev pub read_in_stream : Stream → Option OrdersRead
 read_in_stream s = read_unless_refused s s.refused
 
-abbrev pub read_in_update : Registers → Update → Option OrdersRead
-read_in_update regs (Orders count bytes) = read_in_stream (orders_in Bits24 bytes count regs)
-read_in_update regs (Tiles rectangles) = Some (orders_read (map RectangleRead rectangles) regs)
-read_in_update regs SynchronizeUpdate = Some (orders_read (SynchronizeRead ∷ []) regs)
+abbrev pub read_in_update : Depth → Registers → Update → Option OrdersRead
+read_in_update depth regs (Orders count bytes) = read_in_stream (orders_in depth bytes count regs)
+read_in_update depth regs (Tiles rectangles) = Some (orders_read (map RectangleRead rectangles) regs)
+read_in_update depth regs SynchronizeUpdate = Some (orders_read (SynchronizeRead ∷ []) regs)
 
-abbrev pub read_in_body : Registers → Read Update → Option OrdersRead
-read_in_body regs (Ok u) = read_in_update regs u.0
-read_in_body regs (Err left) = None
+abbrev pub read_in_body : Depth → Registers → Read Update → Option OrdersRead
+read_in_body depth regs (Ok u) = read_in_update depth regs u.0
+read_in_body depth regs (Err left) = None
 
 abbrev pub before_orders : OrdersRead → OrdersRead → OrdersRead
 before_orders first others = orders_read (first.orders ++ others.orders) others.after
 
 -- what updates say, each read with the registers that the ones before it leave
-abbrev pub read_in_bodies : Registers → List Body → Option OrdersRead
-read_in_bodies regs [] = Some (orders_read [] regs)
-read_in_bodies regs (body ∷ bodies) =
-    option_and_then (λ first. option_map (before_orders first) (read_in_bodies first.after bodies)) (read_in_body regs (update_at body.bytes))
+abbrev pub read_in_bodies : Depth → Registers → List Body → Option OrdersRead
+read_in_bodies depth regs [] = Some (orders_read [] regs)
+read_in_bodies depth regs (body ∷ bodies) =
+    option_and_then (λ first. option_map (before_orders first) (read_in_bodies depth first.after bodies)) (read_in_body depth regs (update_at body.bytes))
 
 abbrev pub read_if_whole : Stage → Option OrdersRead → Option OrdersRead
 read_if_whole Between found = found
@@ -78,28 +80,28 @@ read_if_whole (Inside missing second high low front) found = None
 read_if_whole (Refused place) found = None
 
 -- what whole packets say, whose orders are read with registers; nothing where one is refused, or isn't whole
-abbrev pub orders_of_bytes : Registers → List ℕ → Option OrdersRead
-orders_of_bytes regs bytes = let u = updates_in bytes in read_if_whole u.next.stage (read_in_bodies regs u.bodies)
+abbrev pub orders_of_bytes : Depth → Registers → List ℕ → Option OrdersRead
+orders_of_bytes depth regs bytes = let u = updates_in bytes in read_if_whole u.next.stage (read_in_bodies depth regs u.bodies)
 
 -- ---- what a frame's orders are read as
 
 -- a tile, with its pixels as they are on the wire
-abbrev pub rectangle_of : Rect → PixelData → Rectangle
-rectangle_of r pixels = record {
+abbrev pub rectangle_of : Depth → Rect → PixelData → Rectangle
+rectangle_of depth r pixels = record {
   left = nat_of r.x;
   top = nat_of r.y;
   right = nat_of r.x + r.w - 1;
   bottom = nat_of r.y + r.h - 1;
   w = r.w;
   h = r.h;
-  depth = 24;
+  depth = bits_in depth;
   flags = tile_flags pixels.is_packed;
   bytes = pixels.bytes;
 }
 
 abbrev pub frame_order_read : Confirmed → FrameOrder → ReadOrder
 frame_order_read c (Ordered o) = OrderRead (as_read c o)
-frame_order_read c (Tile r pixels) = RectangleRead (rectangle_of r (data_of c.no_header r.w (turned_over r.w r.h pixels)))
+frame_order_read c (Tile r pixels) = RectangleRead (rectangle_of (depth_of c) r (data_of (depth_of c) c.no_header r.w (turned_over r.w r.h (shown_colors (depth_of c) pixels))))
 frame_order_read c Synchronize = SynchronizeRead
 
 -- ---- the promise
@@ -108,7 +110,7 @@ frame_order_read c Synchronize = SynchronizeRead
 -- after it
 abbrev pub FrameReadsAsItsOrders : Size → Confirmed → List Entry → Encoder → TakeOf → Type 0
 FrameReadsAsItsOrders size c j e t =
-    orders_of_bytes e.registers (take_bytes size c j e t) ≡ Some
+    orders_of_bytes (depth_of c) e.registers (take_bytes size c j e t) ≡ Some
     (orders_read (map (frame_order_read c) (take_orders size c j e t)) (encoder_after size c j e t).registers)
 
 -- the same for every session size, every legal journal, every take, and every encoder with registers whose held blocks have positions of their own

@@ -1,7 +1,7 @@
 -- The cache orders of a use go whole: images, brushes and the glyphs of a run; and their indices are those of entries.
 use Rattle.std.proofs.Common.{◌≡◌, ℕ, zero, suc, ◌+◌, ◌-◌, ◌*◌, ◌/◌, ◌^◌, ◌<◌, ◌≤◌, List, [], ◌∷◌, length, refl, ap, ◌∙◌, arith, Some, length-append, All}
 use Rattle.std.specs.Prelude.{Bool, true, false, nat_lt, min, replicate, ⊤, ℤ, pos, negsuc, int_le, if◌then◌else◌}
-use Rattle.std.proofs.lemmas.List.{length-replicate}
+use Rattle.std.proofs.lemmas.List.{length-map, length-replicate}
 use Rattle.std.proofs.lemmas.Int.{ints}
 use Rattle.std.proofs.lemmas.Bool.{and_parts}
 use Rattle.std.proofs.lemmas.Bool.Decides.{nat_tests}
@@ -9,9 +9,9 @@ use Rattle.draw_ops.specs.Content.{ImageOf, GlyphOf}
 use Rattle.draw_ops.specs.Slots.{Loaded}
 use Rattle.draw_ops.specs.Fits.{is_offset}
 use Rattle.caps_sets.specs.declared.confirmed.Confirmed.{Confirmed}
-use Rattle.caps_sets.specs.Confirmed.{cache_size}
+use Rattle.caps_sets.specs.Confirmed.{cache_size, depth_of}
 use Rattle.order_fields.specs.OrderTable.{fits_coordinate}
-use Rattle.order_means.specs.WirePixels.{turned_over, padded, padded_image, padded_glyph, PixelData}
+use Rattle.order_means.specs.WirePixels.{turned_over, padded, padded_image, kept_image, padded_glyph, PixelData}
 use Rattle.order_means.specs.CacheOrders.{secondary_bytes, cache_bitmap_body, cache_bitmap_data}
 use Rattle.cache_plan.specs.CacheUse.{misses, cache_index, uses_of}
 use Rattle.cache_plan.proofs.Indices.{cache_index_below}
@@ -20,7 +20,10 @@ use Rattle.frame_rules.specs.FrameOrders.SentOrder.{CacheImage, CacheGlyph, Cach
 use Rattle.frame_rules.specs.FrameRead.{image_data}
 use Rattle.frame_laws.specs.Sound.{AreColors, IsSoundImage}
 use Rattle.frame_laws.proofs.TurnedOver.{length-turned_over, colors_turned_over, padded_facts}
-use Rattle.px_core.specs.declared.depth.Depth.TheVariants.{Bits24}
+use Rattle.px_core.specs.declared.depth.Depth.{Depth}
+use Rattle.px_core.specs.declared.depth.Depth.TheVariants.{Bits24, Bits16}
+use Rattle.px_core.specs.Depth.{shown, shown_colors}
+use Rattle.px_core.specs.Pixels.{pixels_bytes}
 use Rattle.px_core.proofs.Pixels.{length-pixels_bytes}
 use Rattle.frame_laws.proofs.WireBack.{data_short}
 use Rattle.frame_laws.specs.SoundState.{IsSoundGlyph}
@@ -31,29 +34,29 @@ use Rattle.frame_shows.proofs.OrderValues.{GoesWhole, AllGoWhole, whole_append, 
 -- the bytes of an image on the wire
 few_bytes : (c : Confirmed) (image : ImageOf) → IsSoundImage image → length (image_data c image).bytes ≤ 12288
 few_bytes c image s =
-    let kept = padded_image image in
+    let kept = kept_image (depth_of c) image in
     let facts = padded_facts image s in
-    let n = length-turned_over kept.w kept.h kept.pixels facts.whole in
-    let most = data_short c.no_header kept.w (turned_over kept.w kept.h kept.pixels) in
+    let n = length-turned_over kept.w kept.h kept.pixels (length-map (padded_image image).pixels (shown (depth_of c)) ∙ facts.whole) in
+    let most = data_short (depth_of c) c.no_header kept.w (turned_over kept.w kept.h kept.pixels) in
     let few_w = s.few_columns in
     let few_h = s.few_rows in
     let narrow : kept.w ≤ 64 = omega (arith, few_w) in
     let one : kept.w * kept.h ≤ 64 * kept.h = grind (arith, narrow) in
     omega (arith, most, n, one, few_h)
 
-bitmap_length : (cache index w h : ℕ) (d : PixelData) → length (cache_bitmap_data cache index w h d) ≤ 15 + length d.bytes
-bitmap_length cache index w h d = by d.is_packed
+bitmap_length : (depth : Depth) (cache index w h : ℕ) (d : PixelData) → length (cache_bitmap_data depth cache index w h d) ≤ 15 + length d.bytes
+bitmap_length depth cache index w h d = by d.is_packed
   where
-    by : (b : Bool) → length (if b then secondary_bytes 0x0400 2 (cache_bitmap_body cache index w h d.bytes) else secondary_bytes 0 0
-        (cache_bitmap_body cache index w h d.bytes)) ≤ 15 + length d.bytes
+    by : (b : Bool) → length (if b then secondary_bytes 0x0400 2 (cache_bitmap_body depth cache index w h d.bytes) else secondary_bytes 0 0
+        (cache_bitmap_body depth cache index w h d.bytes)) ≤ 15 + length d.bytes
     by true = omega arith
     by false = omega arith
 
 pub image_whole : (c : Confirmed) (cache index : ℕ) (image : ImageOf) → index < 2 ^ 16 → IsSoundImage image → GoesWhole c (CacheImage cache index image)
 image_whole c cache index image below s =
     let few = few_bytes c image s in
-    let kept = padded_image image in
-    let most = bitmap_length cache index kept.w kept.h (image_data c image) in
+    let kept = kept_image (depth_of c) image in
+    let most = bitmap_length (depth_of c) cache index kept.w kept.h (image_data c image) in
     record {
       fits = record { index_fits = below; few = omega (arith, few) };
       short = λ regs. omega (arith, few, most);
@@ -67,13 +70,19 @@ all_colors [] h k d below = absurd (omega (arith, below))
 all_colors (x ∷ xs) h zero d below = h.0
 all_colors (x ∷ xs) h (suc k) d below = all_colors xs h.1 k d (omega (arith, below))
 
+-- the bytes of a brush's pixels
+brush_short : (depth : Depth) (xs : List ℕ) → length xs ≡ 64 → length (pixels_bytes depth xs) ≤ 192
+brush_short Bits24 xs h = let n = length-pixels_bytes Bits24 xs in omega (arith, n, h)
+brush_short Bits16 xs h = let n = length-pixels_bytes Bits16 xs in omega (arith, n, h)
+
 pub brush_whole : (c : Confirmed) (entry : ℕ) (brush : List ℕ) → length brush ≡ 64 → AreColors brush → GoesWhole c (CacheBrush entry brush)
 brush_whole c entry brush whole colors =
     let n = length-turned_over 8 8 brush whole in
-    let bytes = length-pixels_bytes Bits24 (turned_over 8 8 brush) in
+    let cut = shown_colors (depth_of c) brush in
+    let bytes = brush_short (depth_of c) (turned_over 8 8 cut) (length-turned_over 8 8 cut (length-map brush (shown (depth_of c)) ∙ whole)) in
     record {
       fits = record { whole = n; colors = all_colors (turned_over 8 8 brush) (colors_turned_over 8 8 brush colors) };
-      short = λ regs. omega (arith, n, bytes);
+      short = λ regs. omega (arith, bytes);
       plain = tt;
     }
 

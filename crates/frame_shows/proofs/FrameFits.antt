@@ -9,6 +9,7 @@ use Rattle.draw_ops.specs.declared.shape.Drawing.{Drawing}
 use Rattle.draw_ops.specs.Slots.{SurfaceState}
 use Rattle.draw_ops.specs.Drawing.{state_after_drawing}
 use Rattle.caps_sets.specs.declared.confirmed.Confirmed.{Confirmed}
+use Rattle.caps_sets.specs.Confirmed.{depth_of}
 use Rattle.session_rules.specs.declared.entry.Entry.{Entry}
 use Rattle.order_fields.specs.NamedDrawing.NamedDrawing.{Opaque}
 use Rattle.save_plan.specs.Blocks.{AreApart}
@@ -22,6 +23,7 @@ use Rattle.frame_laws.specs.Drawings.{AllSound}
 use Rattle.frame_laws.proofs.Rules.{rules_kept}
 use Rattle.frame_shows.proofs.WalkKeeps.{NoneOrOne, none_or_one_pending, AllGood}
 use Rattle.frame_shows.proofs.HeldApart.{walked_apart}
+use Rattle.frame_shows.proofs.OrdersFit.{wire_below}
 use Rattle.frame_shows.proofs.OrderValues.{AllGoWhole, whole_append, drawn_whole, side_fits}
 use Rattle.frame_shows.proofs.SentOrCut.{Found, sent_or_cut_fits}
 
@@ -78,26 +80,28 @@ module _ (size : Size) (narrow : size.w ≤ 2048) (sides : Sides size.w size.h) 
   start_fits false = record { all = tt; few = omega arith }
 
   black_fits : (b : Bool) → FewWhole c 1 (black_orders size b)
-  black_fits true = record {
-    all = (
-      drawn_whole c (whole size) (Opaque (whole size) 0) None
-          (record {
-            numbers = (
-              refl,
-              (
-                refl,
-                (
-                  side_fits size.w narrow,
-                  (side_fits size.h sides.not_higher, (omega arith, (omega arith, (omega arith, tt)))),
-                ),
-              ),
-            );
-            bytes = refl;
-          }) tt (omega arith),
-      tt,
-    );
-    few = omega arith;
-  }
+  black_fits true =
+      let low = wire_below (depth_of c) 0 (omega arith) in
+      record {
+        all = (
+          drawn_whole c (whole size) (Opaque (whole size) 0) None
+              (record {
+                numbers = (
+                  refl,
+                  (
+                    refl,
+                    (
+                      side_fits size.w narrow,
+                      (side_fits size.h sides.not_higher, (omega (arith, low), (omega (arith, low), (omega (arith, low), tt)))),
+                    ),
+                  ),
+                );
+                bytes = refl;
+              }) tt (omega arith),
+          tt,
+        );
+        few = omega arith;
+      }
   black_fits false = record { all = tt; few = omega arith }
 
   together : (b black : Bool) (orders : List SentOrder) → FewWhole c 16640 orders → FewWhole c 65535 (start_orders b ++ (black_orders size black ++ orders))

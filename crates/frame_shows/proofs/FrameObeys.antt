@@ -3,6 +3,8 @@ use Rattle.std.proofs.Common.{◌≡◌, ℕ, zero, suc, ◌+◌, ◌/◌, ◌%�
 use Rattle.std.proofs.Common.{append-nil, append_assoc, Some, None}
 use Rattle.std.specs.Prelude.{Bool, true, false, not, ◌&&◌, nat_lt, Option, ℤ, pos, Ok, if◌then◌else◌}
 use Rattle.px_core.specs.declared.surface.Size.{Size}
+use Rattle.px_core.specs.declared.depth.Depth.{Depth}
+use Rattle.px_core.specs.Depth.{shown, seen}
 use Rattle.px_core.specs.Picture.{pixel_count, black_picture, item, where_chosen}
 use Rattle.px_core.specs.Rectangle.{whole, in_rect, has_pixel}
 use Rattle.px_core.specs.Tiles.{Tiles, no_tiles, tiles_of, tiles_in, either_tiles}
@@ -12,6 +14,7 @@ use Rattle.draw_ops.specs.Formulas.{painted_area, over_rect, solid}
 use Rattle.draw_ops.specs.Slots.{SurfaceState}
 use Rattle.draw_ops.specs.Drawing.{state_after_drawings}
 use Rattle.caps_sets.specs.declared.confirmed.Confirmed.{Confirmed}
+use Rattle.caps_sets.specs.Confirmed.{depth_of}
 use Rattle.session_rules.specs.declared.entry.Entry.{Entry}
 use Rattle.wire_num.specs.Field.{bind}
 use Rattle.order_fields.specs.NamedDrawing.NamedDrawing.{Opaque}
@@ -43,13 +46,13 @@ pub record Before (size : Size) (c : Confirmed) (j : List Entry) (st : SurfaceSt
   pub filled : AreFilled held
   pub pixels : length client.picture ≡ pixel_count size
   pub whole_picture : length st.picture ≡ pixel_count size
-  pub later : first ≡ false → client.picture ≡ map Some st.picture
+  pub later : first ≡ false → client.picture ≡ map (seen (depth_of c)) st.picture
   pub black : first ≡ true → st.picture ≡ black_picture size
 
-item_known : (xs : List ℕ) (k : ℕ) → k < length xs → item (map Some xs) k None ≡ Some (item xs k 0)
-item_known [] k h = absurd (omega (arith, h))
-item_known (x ∷ xs) zero h = refl
-item_known (x ∷ xs) (suc k) h = item_known xs k (omega (arith, h))
+item_seen : (depth : Depth) (xs : List ℕ) (k : ℕ) → k < length xs → item (map (seen depth) xs) k None ≡ seen depth (item xs k 0)
+item_seen depth [] k h = absurd (omega (arith, h))
+item_seen depth (x ∷ xs) zero h = refl
+item_seen depth (x ∷ xs) (suc k) h = item_seen depth xs k (omega (arith, h))
 
 abbrev color_at : List ℕ → ℕ → ℕ
 color_at xs k = item xs k 0
@@ -76,16 +79,16 @@ module _ (size : Size) (c : Confirmed) (j : List Entry) (st : SurfaceState) (hel
   started false = refl
 
   abbrev blackened : ClientState
-  blackened = after_painting size None (over_rect (whole size) (solid client_colors 0)) client
+  blackened = after_painting size None (over_rect (whole size) (solid client_colors (shown client.depth 0))) client
 
-  begun_black : (b : Bool) → has_pixel (whole size) ≡ true → client_after_sent c size client
+  begun_black : (b : Bool) → client.depth ≡ depth_of c → has_pixel (whole size) ≡ true → client_after_sent c size client
       (start_orders b ++ (Drawn (whole size) (Opaque (whole size) 0) None ∷ [])) ≡ Ok blackened
-  begun_black true some = ap (λ r. bind r (λ d. client_after_sent c size d []))
-      (obeyed_as c size client (whole size) (Opaque (whole size) 0) None (Ok blackened) some refl)
-  begun_black false some = ap (λ r. bind r (λ d. client_after_sent c size d []))
-      (obeyed_as c size client (whole size) (Opaque (whole size) 0) None (Ok blackened) some refl)
+  begun_black true same some = ap (λ r. bind r (λ d. client_after_sent c size d []))
+      (obeyed_as c size client (whole size) (Opaque (whole size) 0) None (Ok blackened) same some (omega arith) refl)
+  begun_black false same some = ap (λ r. bind r (λ d. client_after_sent c size d []))
+      (obeyed_as c size client (whole size) (Opaque (whole size) 0) None (Ok blackened) same some (omega arith) refl)
 
-  all_black : (b : Before size c j st held uses true client) → ShowsOutside size no_tiles blackened.picture st.picture
+  all_black : (b : Before size c j st held uses true client) → ShowsOutside client.depth size no_tiles blackened.picture st.picture
   all_black b = record {
     canvas_length = length-painted_from size.w 0 area f client.picture ∙ b.pixels;
     picture_length = b.whole_picture;
@@ -96,14 +99,14 @@ module _ (size : Size) (c : Confirmed) (j : List Entry) (st : SurfaceState) (hel
         item-painted_from size.w 0 area f client.picture i None (subst (λ n. i < n) (sym b.pixels) below)
         ∙ (ap (λ k. painted_at size.w area f k (item client.picture i None)) plus
         ∙ (ap (λ t. where_chosen (true && (t && true)) f (pos (i % size.w)) (pos (i / size.w)) (item client.picture i None)) here
-        ∙ ap Some (sym (ap (λ xs. color_at xs i) (b.black refl) ∙ black_at (pixel_count size) i))));
+        ∙ ap (seen client.depth) (sym (ap (λ xs. color_at xs i) (b.black refl) ∙ black_at (pixel_count size) i))));
   }
     where
       area : ℤ → ℤ → Bool
-      area = painted_area (in_bounds None) (over_rect (whole size) (solid client_colors 0))
+      area = painted_area (in_bounds None) (over_rect (whole size) (solid client_colors (shown client.depth 0)))
 
       f : ℤ → ℤ → Option ℕ → Option ℕ
-      f = solid client_colors 0
+      f = solid client_colors (shown client.depth 0)
 
   -- each pixel lies in a tile of the picture
   every_tile : size.w ≤ 2048 → (i : ℕ) → i < pixel_count size → tiles_of size (whole size) (tile_of_place size i) ≡ true
@@ -120,7 +123,9 @@ module _ (size : Size) (c : Confirmed) (j : List Entry) (st : SurfaceState) (hel
       shown = record {
         canvas_length = b.pixels;
         picture_length = b.whole_picture;
-        pixels = λ i below clean. ap (λ xs. item xs i None) (b.later refl) ∙ item_known st.picture i (subst (λ n. i < n) (sym b.whole_picture) below);
+        pixels = λ i below clean. ap (λ xs. item xs i None) (b.later refl)
+            ∙ (item_seen (depth_of c) st.picture i (subst (λ n. i < n) (sym b.whole_picture) below)
+            ∙ ap (λ d. seen d (item st.picture i 0)) (sym b.sized.depth));
       };
       blocks = b.blocks;
       filled = b.filled;
@@ -133,12 +138,12 @@ module _ (size : Size) (c : Confirmed) (j : List Entry) (st : SurfaceState) (hel
       by : (p : Bool) → c.pat ≡ p → Begun true
       by true e = record {
         after = blackened;
-        obeys = ap (λ t. client_after_sent c size client (start_orders c.marker ++ black_orders size t)) e ∙ begun_black c.marker some;
+        obeys = ap (λ t. client_after_sent c size client (start_orders c.marker ++ black_orders size t)) e ∙ begun_black c.marker b.sized.depth some;
         agrees = subst (λ (d : Tiles). Agrees size st (record { dirty = d; held = held }) blackened)
             (sym (ap (λ t. if true && not t then tiles_of size (whole size) else no_tiles) e))
             (record { shown = all_black b; blocks = b.blocks; filled = b.filled });
         caches = record { images = b.caches.images; glyphs = b.caches.glyphs; brushes = b.caches.brushes };
-        sized = record { images = b.sized.images; glyphs = b.sized.glyphs; brushes = b.sized.brushes };
+        sized = record { depth = b.sized.depth; images = b.sized.images; glyphs = b.sized.glyphs; brushes = b.sized.brushes };
       }
       by false e = record {
         after = client;

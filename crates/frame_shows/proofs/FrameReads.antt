@@ -5,10 +5,12 @@ use Rattle.std.specs.Prelude.{Bool, true, false, nat_lt, Option, Ok, if◌then�
 use Rattle.std.specs.Option.{option_map, option_and_then}
 use Rattle.std.proofs.lemmas.Bool.Decides.{nat_tests}
 use Rattle.px_core.specs.declared.surface.Size.{Size}
+use Rattle.px_core.specs.declared.depth.Depth.{Depth}
 use Rattle.px_core.specs.Picture.{rows_of}
 use Rattle.px_core.specs.Rectangle.{pixel_of, cut_out, is_session_size}
 use Rattle.px_core.specs.Tiles.{Tiles, tile_on}
 use Rattle.caps_sets.specs.declared.confirmed.Confirmed.{Confirmed}
+use Rattle.caps_sets.specs.Confirmed.{depth_of}
 use Rattle.order_fields.specs.OrderTable.{Registers, AreRegisters}
 use Rattle.wire_num.proofs.Numbers.{little_back}
 use Rattle.order_means.specs.UpdateBodies.{orders_body, tile_body, synchronize_body}
@@ -48,12 +50,12 @@ use Rattle.frame_shows.proofs.FrameWhole.{picture_is}
 -- ---- whole packets, one after the other
 
 -- what updates of a stretch say, read with registers
-abbrev said_by : Registers → Updates → Option OrdersRead
-said_by regs u = read_if_whole u.next.stage (read_in_bodies regs u.bodies)
+abbrev said_by : Depth → Registers → Updates → Option OrdersRead
+said_by depth regs u = read_if_whole u.next.stage (read_in_bodies depth regs u.bodies)
 
 -- bytes that say something, wherever they begin
-abbrev Says : Registers → List ℕ → OrdersRead → Type 0
-Says regs bytes x = (place : ℕ) → said_by regs (updates_from (cutting place Between) bytes) ≡ Some x
+abbrev Says : Depth → Registers → List ℕ → OrdersRead → Type 0
+Says depth regs bytes x = (place : ℕ) → said_by depth regs (updates_from (cutting place Between) bytes) ≡ Some x
 
 whole_mapped : (s : Stage) (o : Option OrdersRead) (f : OrdersRead → OrdersRead) (y : OrdersRead) → read_if_whole s o ≡ Some y
     → read_if_whole s (option_map f o) ≡ Some (f y)
@@ -65,15 +67,15 @@ whole_mapped (Inside missing second high low front) o f y e = absurd (cc e)
 whole_mapped (Refused place) o f y e = absurd (cc e)
 
 -- a packet before others
-says_packet : (regs : Registers) (body more : List ℕ) (x y : OrdersRead) → 18 + length body < 16384 → read_in_body regs (update_at body) ≡ Some x
-    → Says x.after more y
-    → Says regs (update_packet body ++ more) (before_orders x y)
-says_packet regs body more x y short first rest place =
+says_packet : (depth : Depth) (regs : Registers) (body more : List ℕ) (x y : OrdersRead) → 18 + length body < 16384 → read_in_body depth regs (update_at body) ≡ Some x
+    → Says depth x.after more y
+    → Says depth regs (update_packet body ++ more) (before_orders x y)
+says_packet depth regs body more x y short first rest place =
     let next = place + length (update_packet body) in
     let u = updates_from (cutting next Between) more in
-    ap (said_by regs) (update_cut place body more short)
-    ∙ (ap (λ o. read_if_whole u.next.stage (option_and_then (λ a. option_map (before_orders a) (read_in_bodies a.after u.bodies)) o)) first
-    ∙ whole_mapped u.next.stage (read_in_bodies x.after u.bodies) (before_orders x) y (rest next))
+    ap (said_by depth regs) (update_cut place body more short)
+    ∙ (ap (λ o. read_if_whole u.next.stage (option_and_then (λ a. option_map (before_orders a) (read_in_bodies depth a.after u.bodies)) o)) first
+    ∙ whole_mapped u.next.stage (read_in_bodies depth x.after u.bodies) (before_orders x) y (rest next))
 
 -- ---- Orders updates
 
@@ -83,33 +85,33 @@ module _ (c : Confirmed) where
 
   length-bytes : (regs : Registers) (os : List SentOrder) → length (bytes_of_orders c regs os) ≡ length os
   length-bytes regs [] = refl
-  length-bytes regs (o ∷ os) = ap suc (length-bytes (registers_after_order regs o) os)
+  length-bytes regs (o ∷ os) = ap suc (length-bytes (registers_after_order c regs o) os)
 
   map_twice : (os : List SentOrder) → map OrderRead (map (as_read c) os) ≡ map read_as os
   map_twice [] = refl
   map_twice (o ∷ os) = ap (λ l. read_as o ∷ l) (map_twice os)
 
   body_says : (regs : Registers) (os : List SentOrder) → AreRegisters regs → FitOrders c os → length os < 2 ^ 16
-      → read_in_body regs (update_at (orders_body (length os) (joined_bytes (bytes_of_orders c regs os)))) ≡ Some
-      (orders_read (map read_as os) (registers_after_orders regs os))
+      → read_in_body (depth_of c) regs (update_at (orders_body (length os) (joined_bytes (bytes_of_orders c regs os)))) ≡ Some
+      (orders_read (map read_as os) (registers_after_orders c regs os))
   body_says regs os are fit few =
       let n : length os < 256 ^ 2 = omega (arith, few) in
       let back : update_at (orders_body (length os) (joined_bytes (bytes_of_orders c regs os))) ≡ Ok
       (Orders (length os) (joined_bytes (bytes_of_orders c regs os)), []) = rw (little_back 2 (length os) n) refl in
-      ap (read_in_body regs) back
+      ap (read_in_body (depth_of c) regs) back
       ∙ (ap read_in_stream (orders_back c regs os are fit)
-      ∙ ap (λ l. Some (orders_read l (registers_after_orders regs os))) (map_twice os))
+      ∙ ap (λ l. Some (orders_read l (registers_after_orders c regs os))) (map_twice os))
 
   -- the update of some orders, before other bytes
   update_says : (regs : Registers) (os : List SentOrder) (more : List ℕ) (y : OrdersRead) → AreRegisters regs → FitOrders c os → length os < 2 ^ 16
-      → length (joined_bytes (bytes_of_orders c regs os)) ≤ 16357 → Says (registers_after_orders regs os) more y
-      → Says regs (update_of (bytes_of_orders c regs os) ++ more) (orders_read (map read_as os ++ y.orders) y.after)
+      → length (joined_bytes (bytes_of_orders c regs os)) ≤ 16357 → Says (depth_of c) (registers_after_orders c regs os) more y
+      → Says (depth_of c) regs (update_of (bytes_of_orders c regs os) ++ more) (orders_read (map read_as os ++ y.orders) y.after)
   update_says regs os more y are fit few short rest =
       let bytes = joined_bytes (bytes_of_orders c regs os) in
-      let packet : Says regs (update_packet (orders_body (length os) bytes) ++ more) (orders_read (map read_as os ++ y.orders) y.after) =
-      says_packet regs (orders_body (length os) bytes) more (orders_read (map read_as os) (registers_after_orders regs os)) y (omega (arith, short))
+      let packet : Says (depth_of c) regs (update_packet (orders_body (length os) bytes) ++ more) (orders_read (map read_as os ++ y.orders) y.after) =
+      says_packet (depth_of c) regs (orders_body (length os) bytes) more (orders_read (map read_as os) (registers_after_orders c regs os)) y (omega (arith, short))
       (body_says regs os are fit few) rest in
-      subst (λ n. Says regs (update_packet (orders_body n bytes) ++ more) (orders_read (map read_as os ++ y.orders) y.after))
+      subst (λ n. Says (depth_of c) regs (update_packet (orders_body n bytes) ++ more) (orders_read (map read_as os ++ y.orders) y.after))
       (sym (length-bytes regs os)) packet
 
   -- ---- gathering
@@ -130,14 +132,14 @@ module _ (c : Confirmed) where
   opened_more xs y (u ∷ us) = ap (λ z. z ∷ us) (sym (append_assoc xs (y ∷ []) u))
 
   bytes-last : (regs : Registers) (os : List SentOrder) (o : SentOrder)
-      → bytes_of_orders c regs os ++ bytes_of_order c (registers_after_orders regs os) o ∷ [] ≡ bytes_of_orders c regs (os ++ o ∷ [])
+      → bytes_of_orders c regs os ++ bytes_of_order c (registers_after_orders c regs os) o ∷ [] ≡ bytes_of_orders c regs (os ++ o ∷ [])
   bytes-last regs [] o = refl
-  bytes-last regs (x ∷ xs) o = ap (λ bs. bytes_of_order c regs x ∷ bs) (bytes-last (registers_after_order regs x) xs o)
+  bytes-last regs (x ∷ xs) o = ap (λ bs. bytes_of_order c regs x ∷ bs) (bytes-last (registers_after_order c regs x) xs o)
 
   registers-last : (regs : Registers) (os : List SentOrder) (o : SentOrder)
-      → registers_after_order (registers_after_orders regs os) o ≡ registers_after_orders regs (os ++ o ∷ [])
+      → registers_after_order c (registers_after_orders c regs os) o ≡ registers_after_orders c regs (os ++ o ∷ [])
   registers-last regs [] o = refl
-  registers-last regs (x ∷ xs) o = registers-last (registers_after_order regs x) xs o
+  registers-last regs (x ∷ xs) o = registers-last (registers_after_order c regs x) xs o
 
   joined-last : (xs : List (List ℕ)) (y : List ℕ) → length (joined_bytes (xs ++ y ∷ [])) ≡ length (joined_bytes xs) + length y
   joined-last [] y = let e = append-nil y in omega (arith, ap length e)
@@ -159,18 +161,18 @@ module _ (c : Confirmed) where
     are : AreRegisters regs
     begun_fit : FitOrders c begun
     fit : FitOrders c os
-    short : AreShort c (registers_after_orders regs begun) os
+    short : AreShort c (registers_after_orders c regs begun) os
     used_is : used ≡ length (joined_bytes (bytes_of_orders c regs begun))
     fits : used ≤ 16357
     few : length begun + length os < 2 ^ 16
 
   rest_bytes : Registers → List SentOrder → ℕ → List SentOrder → List ℕ
   rest_bytes regs begun used os = flat_map update_of
-      (opened (bytes_of_orders c regs begun) (gathered_after used (bytes_of_orders c (registers_after_orders regs begun) os)))
+      (opened (bytes_of_orders c regs begun) (gathered_after used (bytes_of_orders c (registers_after_orders c regs begun) os)))
 
   gathered_says : (os begun : List SentOrder) (regs : Registers) (used : ℕ) (more : List ℕ) (y : OrdersRead) → GoesOn regs begun os used
-      → Says (registers_after_orders (registers_after_orders regs begun) os) more y
-      → Says regs (rest_bytes regs begun used os ++ more) (orders_read (map read_as begun ++ (map read_as os ++ y.orders)) y.after)
+      → Says (depth_of c) (registers_after_orders c (registers_after_orders c regs begun) os) more y
+      → Says (depth_of c) regs (rest_bytes regs begun used os ++ more) (orders_read (map read_as begun ++ (map read_as os ++ y.orders)) y.after)
   unfolding rest_bytes opened
   gathered_says [] begun regs used more y g rest =
       let B = bytes_of_orders c regs begun in
@@ -179,21 +181,21 @@ module _ (c : Confirmed) where
       let n = g.few in
       let bytes : update_of B ++ more ≡ flat_map update_of (opened B ([] ∷ [])) ++ more =
       sym (ap (λ xs. (update_of xs ++ []) ++ more) (append-nil B) ∙ ap (λ bs. bs ++ more) (append-nil (update_of B))) in
-      subst (λ bs. Says regs bs (orders_read (map read_as begun ++ y.orders) y.after)) bytes
+      subst (λ bs. Says (depth_of c) regs bs (orders_read (map read_as begun ++ y.orders) y.after)) bytes
       (update_says regs begun more y g.are g.begun_fit (omega (arith, n)) (omega (arith, a, b)) rest)
   gathered_says (o ∷ os) begun regs used more y g rest =
-      by (joins_update used (length (bytes_of_order c (registers_after_orders regs begun) o))) refl
+      by (joins_update used (length (bytes_of_order c (registers_after_orders c regs begun) o))) refl
       (λ r b u h. gathered_says os b r u more y h)
     where
-      by : (b : Bool) → joins_update used (length (bytes_of_order c (registers_after_orders regs begun) o)) ≡ b
+      by : (b : Bool) → joins_update used (length (bytes_of_order c (registers_after_orders c regs begun) o)) ≡ b
           → ((r : Registers) (begun' : List SentOrder) (u : ℕ) → GoesOn r begun' os u
-          → Says (registers_after_orders (registers_after_orders r begun') os) more y
-          → Says r (rest_bytes r begun' u os ++ more) (orders_read (map read_as begun' ++ (map read_as os ++ y.orders)) y.after))
-          → Says regs (rest_bytes regs begun used (o ∷ os) ++ more) (orders_read (map read_as begun ++ (map read_as (o ∷ os) ++ y.orders)) y.after)
+          → Says (depth_of c) (registers_after_orders c (registers_after_orders c r begun') os) more y
+          → Says (depth_of c) r (rest_bytes r begun' u os ++ more) (orders_read (map read_as begun' ++ (map read_as os ++ y.orders)) y.after))
+          → Says (depth_of c) regs (rest_bytes regs begun used (o ∷ os) ++ more) (orders_read (map read_as begun ++ (map read_as (o ∷ os) ++ y.orders)) y.after)
       by true e again =
-          let R = registers_after_orders regs begun in
+          let R = registers_after_orders c regs begun in
           let chunk = bytes_of_order c R o in
-          let X = bytes_of_orders c (registers_after_order R o) os in
+          let X = bytes_of_orders c (registers_after_order c R o) os in
           let B = bytes_of_orders c regs begun in
           let n = used + length chunk in
           let used_is = g.used_is in
@@ -214,14 +216,14 @@ module _ (c : Confirmed) where
           ∙ (ap (flat_map update_of) (sym (opened_more B chunk (gathered_after n X)))
           ∙ ap (λ t. flat_map update_of
           (opened B (if t then onto_update chunk (gathered_after n X) else [] ∷ onto_update chunk (gathered_after (length chunk) X)))) (sym e))) in
-          let there = again regs (begun ++ o ∷ []) n next (subst (λ r. Says (registers_after_orders r os) more y) (registers-last regs begun o) rest) in
-          subst (λ bs. Says regs (bs ++ more) (orders_read (map read_as begun ++ (map read_as (o ∷ os) ++ y.orders)) y.after)) bytes
-          (subst (λ l. Says regs (rest_bytes regs (begun ++ o ∷ []) n os ++ more) (orders_read l y.after))
+          let there = again regs (begun ++ o ∷ []) n next (subst (λ r. Says (depth_of c) (registers_after_orders c r os) more y) (registers-last regs begun o) rest) in
+          subst (λ bs. Says (depth_of c) regs (bs ++ more) (orders_read (map read_as begun ++ (map read_as (o ∷ os) ++ y.orders)) y.after)) bytes
+          (subst (λ l. Says (depth_of c) regs (rest_bytes regs (begun ++ o ∷ []) n os ++ more) (orders_read l y.after))
           (map-last begun o (map read_as os ++ y.orders)) there)
       by false e again =
-          let R = registers_after_orders regs begun in
+          let R = registers_after_orders c regs begun in
           let chunk = bytes_of_order c R o in
-          let X = bytes_of_orders c (registers_after_order R o) os in
+          let X = bytes_of_orders c (registers_after_order c R o) os in
           let B = bytes_of_orders c regs begun in
           let used_is = g.used_is in
           let fits = g.fits in
@@ -248,17 +250,17 @@ module _ (c : Confirmed) where
           ∙ (ap (λ xs. update_of xs ++ flat_map update_of (onto_update chunk (gathered_after (length chunk) X))) (sym (append-nil B))
           ∙ ap (λ t. flat_map update_of
           (opened B (if t then onto_update chunk (gathered_after (used + length chunk) X) else [] ∷ onto_update chunk (gathered_after (length chunk) X)))) (sym e))) in
-          subst (λ bs. Says regs bs (orders_read (map read_as begun ++ (map read_as (o ∷ os) ++ y.orders)) y.after)) bytes first
+          subst (λ bs. Says (depth_of c) regs bs (orders_read (map read_as begun ++ (map read_as (o ∷ os) ++ y.orders)) y.after)) bytes first
 
   updates_say : (os : List SentOrder) (regs : Registers) (more : List ℕ) (y : OrdersRead) → AreRegisters regs → FitOrders c os → AreShort c regs os
       → length os < 2 ^ 16
-      → Says (registers_after_orders regs os) more y
-      → Says regs (updates_of (bytes_of_orders c regs os) ++ more) (orders_read (map read_as os ++ y.orders) y.after)
+      → Says (depth_of c) (registers_after_orders c regs os) more y
+      → Says (depth_of c) regs (updates_of (bytes_of_orders c regs os) ++ more) (orders_read (map read_as os ++ y.orders) y.after)
   unfolding rest_bytes opened
   updates_say [] regs more y are fit short few rest = rest
   updates_say (o ∷ os) regs more y are fit short few rest =
       let chunk = bytes_of_order c regs o in
-      let X = bytes_of_orders c (registers_after_order regs o) os in
+      let X = bytes_of_orders c (registers_after_order c regs o) os in
       let one = append-nil chunk in
       let small = short.0 in
       let next : GoesOn regs (o ∷ []) os (length chunk) =
@@ -272,7 +274,7 @@ module _ (c : Confirmed) where
             (arith, small);
         few = omega (arith, few);
       } in
-      subst (λ us. Says regs (flat_map update_of us ++ more) (orders_read (map read_as (o ∷ os) ++ y.orders) y.after))
+      subst (λ us. Says (depth_of c) regs (flat_map update_of us ++ more) (orders_read (map read_as (o ∷ os) ++ y.orders) y.after))
       (sym (opened_one chunk (gathered_after (length chunk) X)))
       (gathered_says os (o ∷ []) regs (length chunk) more y next rest)
 
@@ -282,8 +284,8 @@ module _ (c : Confirmed) where
   Tiled size picture ts = map (λ t. frame_order_read c (tile_order size picture t)) ts
 
   tiles_say : (size : Size) (picture : List ℕ) → AreColors picture → (ts : List ℕ) → AreTiles size ts → (regs : Registers) (more : List ℕ) (y : OrdersRead)
-      → Says regs more y
-      → Says regs (flat_map (tile_bytes size c picture) ts ++ more) (orders_read (Tiled size picture ts ++ y.orders) y.after)
+      → Says (depth_of c) regs more y
+      → Says (depth_of c) regs (flat_map (tile_bytes size c picture) ts ++ more) (orders_read (Tiled size picture ts ++ y.orders) y.after)
   tiles_say size picture colors [] h regs more y rest = rest
   tiles_say size picture colors (t ∷ ts) h regs more y rest =
       let r = tile_on size t in
@@ -291,16 +293,16 @@ module _ (c : Confirmed) where
       let whole = length-listed (r.w * r.h) 0 (pixel_of (rows_of size.w size.h picture) 0 r) in
       let cs = colors_cut size picture r colors in
       let later = tiles_say size picture colors ts h.1 regs more y rest in
-      let first = says_packet regs (tile_body c.no_header r cut) (flat_map (tile_bytes size c picture) ts ++ more)
+      let first = says_packet (depth_of c) regs (tile_body (depth_of c) c.no_header r cut) (flat_map (tile_bytes size c picture) ts ++ more)
       (orders_read (frame_order_read c (tile_order size picture t) ∷ []) regs)
-      (orders_read (Tiled size picture ts ++ y.orders) y.after) (body_short size c.no_header r cut h.0 whole cs)
-      (ap (read_in_body regs) (body_back size c.no_header r cut h.0 whole cs)) later in
-      subst (λ bs. Says regs bs (orders_read (Tiled size picture (t ∷ ts) ++ y.orders) y.after))
+      (orders_read (Tiled size picture ts ++ y.orders) y.after) (body_short size (depth_of c) c.no_header r cut h.0 whole cs)
+      (ap (read_in_body (depth_of c) regs) (body_back size (depth_of c) c.no_header r cut h.0 whole cs)) later in
+      subst (λ bs. Says (depth_of c) regs bs (orders_read (Tiled size picture (t ∷ ts) ++ y.orders) y.after))
       (sym (append_assoc (tile_bytes size c picture t) (flat_map (tile_bytes size c picture) ts) more)) first
 
-  mark_says : (b : Bool) (regs : Registers) → AreRegisters regs → Says regs (mark_bytes b ++ []) (orders_read (frame_order_read c (end_mark b) ∷ []) regs)
+  mark_says : (b : Bool) (regs : Registers) → AreRegisters regs → Says (depth_of c) regs (mark_bytes b ++ []) (orders_read (frame_order_read c (end_mark b) ∷ []) regs)
   mark_says true regs are = update_says regs (FrameMarker true ∷ []) [] (orders_read [] regs) are (tt, tt) (omega arith) (omega arith) (λ place. refl)
-  mark_says false regs are = says_packet regs synchronize_body [] (orders_read (frame_order_read c (end_mark false) ∷ []) regs) (orders_read [] regs)
+  mark_says false regs are = says_packet (depth_of c) regs synchronize_body [] (orders_read (frame_order_read c (end_mark false) ∷ []) regs) (orders_read [] regs)
       (omega arith) refl (λ place. refl)
 
 -- ---- a whole frame
@@ -343,7 +345,7 @@ frames_read head c j e t sized all legal up within are apart =
     (sym (pending_between_is size j t.before t.number)) over in
     let count = few.few in
     let fit = whole_fit c os few.all in
-    let later = registers_after_orders e.registers os in
+    let later = registers_after_orders c e.registers os in
     let colors = subst AreColors (sym (picture_is jump size c (is_first t) w t.asked shown ps)) (state_sound head j sized legal t.number).colors in
     let mark = mark_says c c.marker later (sent_registers_all c e.registers os are fit) in
     let tiles = tiles_say c size f.picture colors f.tiles (tiles_are size c jump (is_first t) w t.asked shown ps sized) later (mark_bytes c.marker ++ [])
@@ -353,6 +355,6 @@ frames_read head c j e t sized all legal up within are apart =
     let orders = sym (map_append c (map Ordered os) (map (tile_order size f.picture) f.tiles ++ end_mark c.marker ∷ [])
     ∙ (ap (λ l. l ++ map (frame_order_read c) (map (tile_order size f.picture) f.tiles ++ end_mark c.marker ∷ [])) (map_ordered c os)
     ∙ ap (λ l. map (λ o. OrderRead (as_read c o)) os ++ l) (map_tiled c size f.picture f.tiles (end_mark c.marker)))) in
-    ap (λ bs. orders_of_bytes e.registers (updates_of (bytes_of_orders c e.registers os) ++ (flat_map (tile_bytes size c f.picture) f.tiles ++ bs)))
+    ap (λ bs. orders_of_bytes (depth_of c) e.registers (updates_of (bytes_of_orders c e.registers os) ++ (flat_map (tile_bytes size c f.picture) f.tiles ++ bs)))
     (sym (append-nil (mark_bytes c.marker)))
     ∙ (frame 0 ∙ ap (λ l. Some (orders_read l later)) orders)

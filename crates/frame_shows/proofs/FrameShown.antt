@@ -2,17 +2,21 @@
 use Rattle.std.proofs.Common.{◌≡◌, ℕ, suc, ◌+◌, ◌*◌, ◌^◌, ◌≤◌, ◌<◌, List, [], ◌∷◌, ◌++◌, length, map, flat_map, refl, ap, sym, ◌∙◌, subst, append_assoc}
 use Rattle.std.proofs.Common.{Some}
 use Rattle.std.specs.Prelude.{Bool, true, false, ◌&&◌, ⊤, Option, Result, Ok, Err}
+use Rattle.std.proofs.lemmas.List.{length-map}
 use Rattle.px_core.specs.declared.surface.Size.{Size}
+use Rattle.px_core.specs.Depth.{seen, shown_colors}
 use Rattle.px_core.specs.Picture.{rows_of}
 use Rattle.px_core.specs.Rectangle.{pixel_of, cut_out}
 use Rattle.px_core.specs.Tiles.{tile_on, tiles_in, either_tiles}
 use Rattle.draw_ops.specs.Slots.{SurfaceState, lookup}
 use Rattle.caps_sets.specs.declared.confirmed.Confirmed.{Confirmed}
+use Rattle.caps_sets.specs.Confirmed.{depth_of}
 use Rattle.session_rules.specs.declared.entry.Entry.{Entry}
 use Rattle.session_rules.specs.Journal.{state_after}
 use Rattle.session_rules.specs.Steps.{TakeOf}
 use Rattle.wire_num.specs.Field.{bind}
 use Rattle.order_fields.specs.OrderTable.{Registers, AreRegisters}
+use Rattle.order_means.specs.WirePixels.{kept_image}
 use Rattle.order_means.specs.ClientState.{ClientState, Fault, cached, block_at, client_after_order}
 use Rattle.order_means.specs.UpdateBodies.{tile_packet}
 use Rattle.order_means.specs.FrameMarks.{View, marked_if, counted_order, view_with, view_after_orders, with_registers}
@@ -23,7 +27,7 @@ use Rattle.frame_rules.specs.FrameBytes.{bytes_of_orders, registers_after_orders
 use Rattle.frame_rules.specs.FrameRead.{as_read, FitOrders, AreShort, Reads}
 use Rattle.frame_rules.specs.Shown.{ShowsOutside, canvas_after_tiles}
 use Rattle.frame_rules.specs.Encoder.{Encoder, encoder_frame, take_bytes, encoder_after}
-use Rattle.frame_rules.specs.Describes.{DescribesClient, ShowsFrame, CachesAgree, index_of}
+use Rattle.frame_rules.specs.Describes.{DescribesClient, ShowsFrame, CachesAgree, index_of, block_shown}
 use Rattle.frame_rules.specs.Blocks.{place_of}
 use Rattle.save_plan.specs.Blocks.{AreApart}
 use Rattle.frame_rules.proofs.OrdersBack.{sent_registers_all}
@@ -109,21 +113,22 @@ AreTiles size (t ∷ ts) = IsTileRect size (tile_on size t) × AreTiles size ts
 pub record TilesTo (c : Confirmed) (size : Size) (picture : List ℕ) (ts : List ℕ) (v : View) (place : ℕ) : Type 0 where
   pub view : View
   pub reads : Reads c size v place (flat_map (tile_bytes size c picture) ts) view
-  pub is : ViewIs view (record v.client { picture = canvas_after_tiles size picture ts v.client.picture }) v.pictures
+  pub is : ViewIs view (record v.client { picture = canvas_after_tiles (depth_of c) size picture ts v.client.picture }) v.pictures
 
-pub tiles_read : (c : Confirmed) (size : Size) (picture : List ℕ) → AreColors picture → (ts : List ℕ) (v : View) (place : ℕ) → AreTiles size ts
+pub tiles_read : (c : Confirmed) (size : Size) (picture : List ℕ) → AreColors picture → (ts : List ℕ) (v : View) (place : ℕ) → v.client.depth ≡ depth_of c → AreTiles size ts
     → TilesTo c size picture ts v place
-tiles_read c size picture colors [] v place h = record { view = v; reads = reads_nothing c size v place; is = record { client = refl; pictures_are = refl } }
-tiles_read c size picture colors (t ∷ ts) v place h =
+tiles_read c size picture colors [] v place same h = record { view = v; reads = reads_nothing c size v place; is = record { client = refl; pictures_are = refl } }
+tiles_read c size picture colors (t ∷ ts) v place same h =
     let r = tile_on size t in
     let cut = cut_out size picture 0 r in
-    let u = view_after_cut size v r cut in
-    let one = tile_obeyed size c.no_header r cut h.0 (length-listed (r.w * r.h) 0 (pixel_of (rows_of size.w size.h picture) 0 r))
-    (colors_cut size picture r colors) c v place in
-    let more = tiles_read c size picture colors ts u (place + length (tile_packet c.no_header r cut)) h.1 in
+    let u = view_after_cut size v r (shown_colors (depth_of c) cut) in
+    let one = tile_obeyed size (depth_of c) c.no_header r cut h.0 (length-listed (r.w * r.h) 0 (pixel_of (rows_of size.w size.h picture) 0 r))
+    (colors_cut size picture r colors) c v place same in
+    let packet = tile_packet (depth_of c) c.no_header r cut in
+    let more = tiles_read c size picture colors ts u (place + length packet) same h.1 in
     record {
       view = more.view;
-      reads = reads_then c size v u more.view place (tile_packet c.no_header r cut) (flat_map (tile_bytes size c picture) ts) one more.reads;
+      reads = reads_then c size v u more.view place packet (flat_map (tile_bytes size c picture) ts) one more.reads;
       is = record { client = more.is.client; pictures_are = more.is.pictures_are };
     }
 
@@ -154,7 +159,7 @@ module _ (size : Size) (narrow : size.w ≤ 2048) (c : Confirmed) (j : List Entr
   os = orders_before_tiles size c e.uses f
 
   abbrev later : Registers
-  later = registers_after_orders e.registers os
+  later = registers_after_orders c e.registers os
 
   abbrev st : SurfaceState
   st = (state_after size j t.number).surface
@@ -166,13 +171,14 @@ module _ (size : Size) (narrow : size.w ≤ 2048) (c : Confirmed) (j : List Entr
       let n = view_obeys c size os view o.obeyed.after o.marks o.obeyed.obeys in
       let short : AreShort c view.client.registers os = subst (λ r. AreShort c r os) (sym regs) o.short in
       let A = updates_of (bytes_of_orders c view.client.registers os) in
-      let v1 = with_registers n.view (registers_after_orders view.client.registers os) in
-      let first : Reads c size view place A v1 = updates_obeyed c size os view n.view place are o.fit short o.few n.obeys in
+      let v1 = with_registers n.view (registers_after_orders c view.client.registers os) in
+      let first : Reads c size view place A v1 = updates_obeyed c size os view n.view place old.sized.depth are o.fit short o.few n.obeys in
+      let seen_at : n.view.client.depth ≡ depth_of c = ap (λ d. d.depth) n.is.client ∙ o.obeyed.sized.depth in
       let ts = tiles_in size (either_tiles o.walk.dirty t.asked) in
       let B = flat_map (tile_bytes size c st.picture) ts in
-      let m = tiles_read c size st.picture o.colors ts v1 (place + length A) o.are_tiles in
+      let m = tiles_read c size st.picture o.colors ts v1 (place + length A) seen_at o.are_tiles in
       let first_two = reads_then c size view v1 m.view place A B first m.reads in
-      let registers_now : m.view.client.registers ≡ later = ap (λ d. d.registers) m.is.client ∙ ap (λ r. registers_after_orders r os) regs in
+      let registers_now : m.view.client.registers ≡ later = ap (λ d. d.registers) m.is.client ∙ ap (λ r. registers_after_orders c r os) regs in
       let are_later : AreRegisters later = sent_registers_all c e.registers os old.are_registers o.fit in
       let v3 = marked_if true m.view in
       let third : Reads c size m.view (place + length (A ++ B)) (mark_bytes c.marker) v3 =
@@ -183,22 +189,24 @@ module _ (size : Size) (narrow : size.w ≤ 2048) (c : Confirmed) (j : List Entr
       ∙ ap (λ r. updates_of (bytes_of_orders c r os) ++ (B ++ mark_bytes c.marker)) regs
       ∙ ap (λ p. updates_of (bytes_of_orders c e.registers os) ++ (flat_map (tile_bytes size c p) ts ++ mark_bytes c.marker)) (sym o.picture)
       ∙ ap (λ xs. updates_of (bytes_of_orders c e.registers os) ++ (flat_map (tile_bytes size c f.picture) xs ++ mark_bytes c.marker)) (sym o.tiles) in
-      let shown : canvas_after_tiles size st.picture ts n.view.client.picture ≡ map Some st.picture =
-      canvas_after_dirty_tiles size (either_tiles o.walk.dirty t.asked) n.view.client.picture st.picture narrow
-      (ShowsOutside-more size o.walk.dirty t.asked n.view.client.picture st.picture
-      (subst (λ d. ShowsOutside size o.walk.dirty d.picture st.picture) (sym n.is.client) o.obeyed.agrees.shown)) in
-      let canvas : m.view.client.picture ≡ map Some st.picture = ap (λ d. d.picture) m.is.client ∙ shown in
+      let shown : canvas_after_tiles (depth_of c) size st.picture ts n.view.client.picture ≡ map (seen (depth_of c)) st.picture =
+      canvas_after_dirty_tiles (depth_of c) size (either_tiles o.walk.dirty t.asked) n.view.client.picture st.picture narrow
+      (ShowsOutside-more (depth_of c) size o.walk.dirty t.asked n.view.client.picture st.picture
+      (subst (λ depth. ShowsOutside depth size o.walk.dirty n.view.client.picture st.picture) seen_at
+      (subst (λ d. ShowsOutside d.depth size o.walk.dirty d.picture st.picture) (sym n.is.client) o.obeyed.agrees.shown))) in
+      let canvas : m.view.client.picture ≡ map (seen (depth_of c)) st.picture = ap (λ d. d.picture) m.is.client ∙ shown in
       let client_is : m.view.client ≡ record n.view.client {
-        registers = registers_after_orders view.client.registers os;
-        picture = canvas_after_tiles size st.picture ts n.view.client.picture;
+        registers = registers_after_orders c view.client.registers os;
+        picture = canvas_after_tiles (depth_of c) size st.picture ts n.view.client.picture;
       } = m.is.client in
+      let depth_is : m.view.client.depth ≡ o.obeyed.after.depth = ap (λ d. d.depth) client_is ∙ ap (λ d. d.depth) n.is.client in
       let caches : CachesAgree size c j (encoder_after size c j e t).uses m.view.client =
       record {
         images = λ cache key few h. let x = o.obeyed.caches.images cache key few h in (
           x.0,
           x.1,
           ap (λ d. cached cache (index_of c (encoder_after size c j e t).uses cache key) d.images) client_is
-              ∙ (ap (λ d. cached cache (index_of c (encoder_after size c j e t).uses cache key) d.images) n.is.client ∙ x.2),
+              ∙ (ap (λ d. cached cache (index_of c (encoder_after size c j e t).uses cache key) d.images) n.is.client ∙ (x.2 ∙ ap (λ depth. Some (kept_image depth x.0)) (sym depth_is))),
         );
         glyphs = λ cache key few h. let x = o.obeyed.caches.glyphs cache key few h in (
           x.0,
@@ -210,7 +218,7 @@ module _ (size : Size) (narrow : size.w ≤ 2048) (c : Confirmed) (j : List Entr
           x.0,
           x.1,
           ap (λ d. lookup (index_of c (encoder_after size c j e t).uses brush_cache key) d.brushes) client_is
-              ∙ (ap (λ d. lookup (index_of c (encoder_after size c j e t).uses brush_cache key) d.brushes) n.is.client ∙ x.2),
+              ∙ (ap (λ d. lookup (index_of c (encoder_after size c j e t).uses brush_cache key) d.brushes) n.is.client ∙ (x.2 ∙ ap (λ depth. Some (shown_colors depth x.0)) (sym depth_is))),
         );
       } in
       record {
@@ -221,6 +229,7 @@ module _ (size : Size) (narrow : size.w ≤ 2048) (c : Confirmed) (j : List Entr
           registers = registers_now;
           are_registers = are_later;
           sized = record {
+            depth = depth_is ∙ o.obeyed.sized.depth;
             images = ap (λ d. map length d.images) client_is ∙ (ap (λ d. map length d.images) n.is.client ∙ o.obeyed.sized.images);
             glyphs = ap (λ d. map length d.glyphs) client_is ∙ (ap (λ d. map length d.glyphs) n.is.client ∙ o.obeyed.sized.glyphs);
             brushes = ap (λ d. length d.brushes) client_is ∙ (ap (λ d. length d.brushes) n.is.client ∙ o.obeyed.sized.brushes);
@@ -232,14 +241,10 @@ module _ (size : Size) (narrow : size.w ≤ 2048) (c : Confirmed) (j : List Entr
             x.2,
             x.3,
             ap (λ d. block_at p.position p.w p.h d.blocks) client_is
-                ∙ (ap (λ d. block_at p.position p.w p.h d.blocks) n.is.client ∙ x.4),
+                ∙ (ap (λ d. block_at p.position p.w p.h d.blocks) n.is.client ∙ (x.4 ∙ ap (λ depth. Some (block_shown depth p x.0)) (sym depth_is))),
           );
           apart = o.apart;
-          pixels = ap length canvas ∙ (length-map st.picture ∙ o.obeyed.agrees.shown.picture_length);
+          pixels = ap length canvas ∙ (length-map st.picture (seen (depth_of c)) ∙ o.obeyed.agrees.shown.picture_length);
           picture = λ h. canvas;
         };
       }
-    where
-      length-map : (xs : List ℕ) → length (map Some xs) ≡ length xs
-      length-map [] = refl
-      length-map (x ∷ xs) = ap suc (length-map xs)

@@ -9,7 +9,7 @@ use Rattle.px_core.specs.Rectangle.{has_pixel, is_inside}
 use Rattle.px_core.proofs.Stretches.{int_le_from}
 use Rattle.draw_ops.specs.Fits.{is_corner, clip_rule}
 use Rattle.caps_sets.specs.declared.confirmed.Confirmed.{Confirmed}
-use Rattle.px_core.specs.declared.depth.Depth.TheVariants.{Bits24}
+use Rattle.caps_sets.specs.Confirmed.{depth_of}
 use Rattle.order_fields.specs.OrderTable.{Registers, fits_coordinate, IsFieldList, FitBounds}
 use Rattle.order_fields.specs.OrderDelta.{edges_of_optional}
 use Rattle.order_fields.specs.NamedDrawing.{NamedDrawing, drawing_fields}
@@ -43,19 +43,19 @@ whole_fit c (o ∷ os) h = (h.0.fits, whole_fit c os h.1)
 
 pub whole_short : (c : Confirmed) (os : List SentOrder) (regs : Registers) → AllGoWhole c os → AreShort c regs os
 whole_short c [] regs h = tt
-whole_short c (o ∷ os) regs h = (h.0.short regs, whole_short c os (registers_after_order regs o) h.1)
+whole_short c (o ∷ os) regs h = (h.0.short regs, whole_short c os (registers_after_order c regs o) h.1)
 
 pub whole_marks : (c : Confirmed) (os : List SentOrder) → AllGoWhole c os → NoMarks os
 whole_marks c [] h = tt
 whole_marks c (o ∷ os) h = (h.0.plain, whole_marks c os h.1)
 
 -- an order that draws: at most 90 bytes beside those of a run
-pub drawn_whole : (c : Confirmed) (touched : Rect) (d : NamedDrawing) (bounds : Option Rect) → IsFieldList (drawing_fields Bits24 touched d)
+pub drawn_whole : (c : Confirmed) (touched : Rect) (d : NamedDrawing) (bounds : Option Rect) → IsFieldList (drawing_fields (depth_of c) touched d)
     → FitBounds (edges_of_optional bounds)
-    → length (drawing_fields Bits24 touched d).values.bytes < 256 → GoesWhole c (Drawn touched d bounds)
+    → length (drawing_fields (depth_of c) touched d).values.bytes < 256 → GoesWhole c (Drawn touched d bounds)
 drawn_whole c touched d bounds fields edges few = record {
   fits = (fields, edges);
-  short = λ regs. let most = drawing_short regs c.zero_bounds touched d (edges_of_optional bounds) in omega (arith, most, few);
+  short = λ regs. let most = drawing_short (depth_of c) regs c.zero_bounds touched d (edges_of_optional bounds) in omega (arith, most, few);
   plain = tt;
 }
 

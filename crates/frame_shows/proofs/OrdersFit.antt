@@ -15,13 +15,16 @@ use Rattle.draw_ops.specs.Slots.{SurfaceState, Loaded, lookup, glyph_slot}
 use Rattle.draw_ops.specs.Drawing.{painting_of, restoring}
 use Rattle.draw_ops.specs.Fits.{rules_of, is_corner, starts_at_0, deltas_are_small}
 use Rattle.caps_sets.specs.declared.confirmed.Confirmed.{Confirmed}
-use Rattle.caps_sets.specs.Confirmed.{cache_size, first_cache}
+use Rattle.caps_sets.specs.Confirmed.{cache_size, first_cache, depth_of}
 use Rattle.session_rules.specs.declared.entry.Entry.{Entry}
 use Rattle.session_rules.proofs.OwnSteps.{AllNone}
-use Rattle.px_core.specs.declared.depth.Depth.TheVariants.{Bits24}
+use Rattle.px_core.specs.declared.depth.Depth.{Depth}
+use Rattle.px_core.specs.declared.depth.Depth.TheVariants.{Bits24, Bits16}
+use Rattle.px_core.specs.Depth.{brush_style}
+use Rattle.px_core.proofs.Cut.{cut_below}
 use Rattle.order_fields.specs.OrderTable.{fits_coordinate, IsFieldList}
 use Rattle.order_means.specs.ClientState.{source_rect}
-use Rattle.order_fields.specs.NamedDrawing.{drawing_fields}
+use Rattle.order_fields.specs.NamedDrawing.{wire_color, drawing_fields}
 use Rattle.order_fields.specs.NamedDrawing.NamedDrawing.{Dst as DstBlt, Pat as PatBlt, Scr as ScrBlt, Opaque as OpaqueRect, SaveBlock, RestoreBlock, Mem as MemBlt, Mem3 as Mem3Blt, Glyphs as GlyphIndex}
 use Rattle.save_plan.specs.Blocks.{AreApart}
 use Rattle.save_plan.proofs.LeastFree.{computed_is_least}
@@ -59,41 +62,52 @@ boxed_fields : {X : Type 0} (r : Rect) → IsPlainRect r → X
 boxed_fields r q x = (corner_fits r.x q.left, (corner_fits r.y q.above, (side_fits r.w q.few_columns, (side_fits r.h q.few_rows, x))))
 
 -- the fields of a cached brush, before others
-brush_fields : {X : Type 0} (entry : ℕ) → entry < 64 → X → (0 < 256 ^ 1) × ((0 < 256 ^ 1) × ((0x85 < 256 ^ 1) × ((entry < 256 ^ 1) × ((0 < 256 ^ 7) × X))))
-brush_fields entry below x = (omega arith, (omega arith, (omega arith, (omega (arith, below), (omega arith, x)))))
+brush_fields : {X : Type 0} (depth : Depth) (entry : ℕ) → entry < 64 → X
+    → (0 < 256 ^ 1) × ((0 < 256 ^ 1) × ((brush_style depth < 256 ^ 1) × ((entry < 256 ^ 1) × ((0 < 256 ^ 7) × X))))
+brush_fields depth entry below x = (omega arith, (omega arith, (style depth, (omega (arith, below), (omega arith, x)))))
+  where
+    style : (d : Depth) → brush_style d < 256 ^ 1
+    style Bits24 = omega arith
+    style Bits16 = omega arith
 
-fill_fields : (r : Rect) (color : ℕ) → IsPlainRect r → color < 2 ^ 24 → IsFieldList (drawing_fields Bits24 r (OpaqueRect r color))
-fill_fields r color q v = record { numbers = boxed_fields r q (omega (arith, v), (omega (arith, v), (omega (arith, v), tt))); bytes = refl }
+-- a colour in the three bytes of a field
+pub wire_below : (depth : Depth) (color : ℕ) → color < 2 ^ 24 → wire_color depth color < 2 ^ 24
+wire_below Bits24 color h = h
+wire_below Bits16 color h = let low = cut_below color (omega (arith, h)) in omega (arith, low)
 
-dst_fields : (r : Rect) (code : ℕ) → IsPlainRect r → code < 256 → IsFieldList (drawing_fields Bits24 r (DstBlt r code))
-dst_fields r code q v = record { numbers = boxed_fields r q (omega (arith, v), tt); bytes = refl }
+fill_fields : (depth : Depth) (r : Rect) (color : ℕ) → IsPlainRect r → color < 2 ^ 24 → IsFieldList (drawing_fields depth r (OpaqueRect r color))
+fill_fields depth r color q v =
+    let low = wire_below depth color v in record { numbers = boxed_fields r q (omega (arith, low), (omega (arith, low), (omega (arith, low), tt))); bytes = refl }
 
-pat_fields : (r : Rect) (code entry : ℕ) → IsPlainRect r → code < 256 → entry < 64 → IsFieldList (drawing_fields Bits24 r (PatBlt r code entry))
-pat_fields r code entry q v below = record {
+dst_fields : (depth : Depth) (r : Rect) (code : ℕ) → IsPlainRect r → code < 256 → IsFieldList (drawing_fields depth r (DstBlt r code))
+dst_fields depth r code q v = record { numbers = boxed_fields r q (omega (arith, v), tt); bytes = refl }
+
+pat_fields : (depth : Depth) (r : Rect) (code entry : ℕ) → IsPlainRect r → code < 256 → entry < 64 → IsFieldList (drawing_fields depth r (PatBlt r code entry))
+pat_fields depth r code entry q v below = record {
   numbers = boxed_fields r q
-      (omega (arith, v), (omega arith, (omega arith, brush_fields entry below tt)));
+      (omega (arith, v), (omega arith, (omega arith, brush_fields depth entry below tt)));
   bytes = refl;
 }
 
-scr_fields : (r : Rect) (code : ℕ) (sx sy : ℤ) → IsPlainRect r → code < 256 → fits_coordinate sx ≡ true → fits_coordinate sy ≡ true
-    → IsFieldList (drawing_fields Bits24 r (ScrBlt r code sx sy))
-scr_fields r code sx sy q v fx fy = record { numbers = boxed_fields r q (omega (arith, v), (fx, (fy, tt))); bytes = refl }
+scr_fields : (depth : Depth) (r : Rect) (code : ℕ) (sx sy : ℤ) → IsPlainRect r → code < 256 → fits_coordinate sx ≡ true → fits_coordinate sy ≡ true
+    → IsFieldList (drawing_fields depth r (ScrBlt r code sx sy))
+scr_fields depth r code sx sy q v fx fy = record { numbers = boxed_fields r q (omega (arith, v), (fx, (fy, tt))); bytes = refl }
 
-mem_fields : (cache index : ℕ) (r : Rect) (code : ℕ) (sx sy : ℤ) → cache < 3 → index < 512 → IsPlainRect r → code < 256 → fits_coordinate sx ≡ true
+mem_fields : (depth : Depth) (cache index : ℕ) (r : Rect) (code : ℕ) (sx sy : ℤ) → cache < 3 → index < 512 → IsPlainRect r → code < 256 → fits_coordinate sx ≡ true
     → fits_coordinate sy ≡ true
-    → IsFieldList (drawing_fields Bits24 r (MemBlt cache index r code sx sy))
-mem_fields cache index r code sx sy few below q v fx fy =
+    → IsFieldList (drawing_fields depth r (MemBlt cache index r code sx sy))
+mem_fields depth cache index r code sx sy few below q v fx fy =
     record { numbers = (omega (arith, few), boxed_fields r q (omega (arith, v), (fx, (fy, (omega (arith, below), tt))))); bytes = refl }
 
-mem3_fields : (cache index : ℕ) (r : Rect) (code : ℕ) (sx sy : ℤ) (entry : ℕ) → cache < 3 → index < 512 → IsPlainRect r → code < 256 → fits_coordinate sx ≡ true
+mem3_fields : (depth : Depth) (cache index : ℕ) (r : Rect) (code : ℕ) (sx sy : ℤ) (entry : ℕ) → cache < 3 → index < 512 → IsPlainRect r → code < 256 → fits_coordinate sx ≡ true
     → fits_coordinate sy ≡ true → entry < 64
-    → IsFieldList (drawing_fields Bits24 r (Mem3Blt cache index r code sx sy entry))
-mem3_fields cache index r code sx sy entry few below q v fx fy low =
+    → IsFieldList (drawing_fields depth r (Mem3Blt cache index r code sx sy entry))
+mem3_fields depth cache index r code sx sy entry few below q v fx fy low =
     record {
       numbers = (
         omega (arith, few),
         boxed_fields r q
-            (omega (arith, v), (fx, (fy, (omega arith, (omega arith, brush_fields entry low (omega (arith, below), tt)))))),
+            (omega (arith, v), (fx, (fy, (omega arith, (omega arith, brush_fields depth entry low (omega (arith, below), tt)))))),
       );
       bytes = refl;
     }
@@ -115,11 +129,12 @@ near_fits r n =
 no_brush : {X : Type 0} → X → (0 < 256 ^ 1) × ((0 < 256 ^ 1) × ((0 < 256 ^ 1) × ((0 < 256 ^ 1) × ((0 < 256 ^ 7) × X))))
 no_brush x = (omega arith, (omega arith, (omega arith, (omega arith, (omega arith, x)))))
 
-text_fields : (area : Rect) (cache : ℕ) (x y : ℤ) (color : ℕ) (run : List ℕ) → IsNear area → cache < 10 → fits_coordinate x ≡ true → fits_coordinate y ≡ true
+text_fields : (depth : Depth) (area : Rect) (cache : ℕ) (x y : ℤ) (color : ℕ) (run : List ℕ) → IsNear area → cache < 10 → fits_coordinate x ≡ true → fits_coordinate y ≡ true
     → color < 2 ^ 24 → length run < 256
-    → IsFieldList (drawing_fields Bits24 area (GlyphIndex cache x y color run))
-text_fields area cache x y color run near few fx fy v short =
+    → IsFieldList (drawing_fields depth area (GlyphIndex cache x y color run))
+text_fields depth area cache x y color run near few fx fy v short =
     let f = near_fits area near in
+    let low = wire_below depth color v in
     record {
       numbers = (
         omega (arith, few),
@@ -130,7 +145,7 @@ text_fields area cache x y color run near few fx fy v short =
             (
               omega arith,
               (
-                omega (arith, v),
+                omega (arith, low),
                 (omega arith, (f.0, (f.1, (f.2, (f.3, (refl, (refl, (refl, (refl, no_brush (fx, (fy, tt))))))))))),
               ),
             ),
@@ -283,7 +298,7 @@ module _ (size : Size) (narrow : size.w ≤ 2048) (low : size.h ≤ 2048) (c : C
       let bytes : length (run_pairs indices run) < 256 = omega (arith, pairs, short) in
       let order = Drawn area (GlyphIndex k x y color (run_pairs indices run)) (bounds_of area clip) in
       let draws : GoesWhole c order = drawn_whole c area (GlyphIndex k x y color (run_pairs indices run)) (bounds_of area clip)
-      (text_fields area k x y color (run_pairs indices run) near few (corner_fits x corners.0) (corner_fits y corners.1) v bytes)
+      (text_fields (depth_of c) area k x y color (run_pairs indices run) near few (corner_fits x corners.0) (corner_fits y corners.1) v bytes)
       (bounds_fit size area clip narrow low rules.1.0) bytes in
       let count = u.few in
       let same = as_many st font run g.glyphs g.held in
@@ -308,14 +323,14 @@ module _ (size : Size) (narrow : size.w ≤ 2048) (low : size.h ≤ 2048) (c : C
       let t = passed (supports c p (Fill r color)) size w p sent e in
       subst (λ (q : Sent). SentFits uses q) (sym t.is)
       (one (Drawn r (OpaqueRect r color) (bounds_of r clip)) uses
-      (drawn_whole c r (OpaqueRect r color) (bounds_of r clip) (fill_fields r color (plain_rect r rules.0) v)
+      (drawn_whole c r (OpaqueRect r color) (bounds_of r clip) (fill_fields (depth_of c) r color (plain_rect r rules.0) v)
       (bounds_fit size r clip narrow low rules.1.0) (omega arith)))
   sent_fits st w uses clip (Dst r code) sent h rules v g apart e =
       let p = pending_of size st (drawn (Dst r code) clip) in
       let t = passed (supports c p (Dst r code)) size w p sent e in
       subst (λ (q : Sent). SentFits uses q) (sym t.is)
       (one (Drawn r (DstBlt r code) (bounds_of r clip)) uses
-      (drawn_whole c r (DstBlt r code) (bounds_of r clip) (dst_fields r code (plain_rect r rules.0) v) (bounds_fit size r clip narrow low rules.1.0)
+      (drawn_whole c r (DstBlt r code) (bounds_of r clip) (dst_fields (depth_of c) r code (plain_rect r rules.0) v) (bounds_fit size r clip narrow low rules.1.0)
       (omega arith)))
   sent_fits st w uses clip (Copy r code sx sy) sent h rules v g apart e =
       let p = pending_of size st (drawn (Copy r code sx sy) clip) in
@@ -323,7 +338,7 @@ module _ (size : Size) (narrow : size.w ≤ 2048) (low : size.h ≤ 2048) (c : C
       let f = inside_fits size (boxed sx sy r.w r.h) narrow low g.1 in
       subst (λ (q : Sent). SentFits uses q) (sym t.is)
       (one (Drawn r (ScrBlt r code sx sy) (bounds_of r clip)) uses
-      (drawn_whole c r (ScrBlt r code sx sy) (bounds_of r clip) (scr_fields r code sx sy (plain_rect r rules.0) v f.left f.top)
+      (drawn_whole c r (ScrBlt r code sx sy) (bounds_of r clip) (scr_fields (depth_of c) r code sx sy (plain_rect r rules.0) v f.left f.top)
       (bounds_fit size r clip narrow low rules.1.0) (omega arith)))
   sent_fits st w uses clip (Pat r code brush) sent h rules v g apart e =
       let p = pending_of size st (drawn (Pat r code brush) clip) in
@@ -335,7 +350,7 @@ module _ (size : Size) (narrow : size.w ≤ 2048) (low : size.h ≤ 2048) (c : C
       let order = Drawn r (PatBlt r code now.index) (bounds_of r clip) in
       let last : AllGoWhole c (order ∷ []) = (
         drawn_whole c r (PatBlt r code now.index) (bounds_of r clip)
-            (pat_fields r code now.index (plain_rect r rules.0) v u.below) (bounds_fit size r clip narrow low rules.1.0) (omega arith),
+            (pat_fields (depth_of c) r code now.index (plain_rect r rules.0) v u.below) (bounds_fit size r clip narrow low rules.1.0) (omega arith),
         tt,
       ) in
       let count = u.few in
@@ -365,7 +380,7 @@ module _ (size : Size) (narrow : size.w ≤ 2048) (low : size.h ≤ 2048) (c : C
       let order = Drawn r (MemBlt served.0 now.index r code sx sy) (bounds_of r clip) in
       let last : AllGoWhole c (order ∷ []) = (
         drawn_whole c r (MemBlt served.0 now.index r code sx sy) (bounds_of r clip)
-            (mem_fields served.0 now.index r code sx sy served.2.bitmap u.below (plain_rect r rules.0) v f.0 f.1)
+            (mem_fields (depth_of c) served.0 now.index r code sx sy served.2.bitmap u.below (plain_rect r rules.0) v f.0 f.1)
             (bounds_fit size r clip narrow low rules.1.0) (omega arith),
         tt,
       ) in
@@ -406,7 +421,7 @@ module _ (size : Size) (narrow : size.w ≤ 2048) (low : size.h ≤ 2048) (c : C
       let order = Drawn r (Mem3Blt served.0 now.index r code sx sy brushed.index) (bounds_of r clip) in
       let last : AllGoWhole c (order ∷ []) = (
         drawn_whole c r (Mem3Blt served.0 now.index r code sx sy brushed.index) (bounds_of r clip)
-            (mem3_fields served.0 now.index r code sx sy brushed.index served.2.bitmap u.below (plain_rect r rules.0) v f.0 f.1 bu.below)
+            (mem3_fields (depth_of c) served.0 now.index r code sx sy brushed.index served.2.bitmap u.below (plain_rect r rules.0) v f.0 f.1 bu.below)
             (bounds_fit size r clip narrow low rules.1.0) (omega arith),
         tt,
       ) in

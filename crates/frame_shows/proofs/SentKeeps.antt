@@ -1,5 +1,5 @@
 -- Each drawing that is sent is obeyed, and session and client agree after it: all nine shapes that have an order.
-use Rattle.std.proofs.Common.{◌≡◌, ℕ, suc, ◌+◌, ◌-◌, ◌*◌, ◌<◌, ◌≤◌, List, [], ◌∷◌, ◌++◌, length, map, refl, ap, sym, ◌∙◌, subst, arith, Some, None, fold}
+use Rattle.std.proofs.Common.{◌≡◌, ℕ, suc, ◌+◌, ◌-◌, ◌*◌, ◌^◌, ◌<◌, ◌≤◌, List, [], ◌∷◌, ◌++◌, length, map, refl, ap, sym, ◌∙◌, subst, arith, Some, None, fold}
 use Rattle.std.specs.Prelude.{Bool, true, false, not, ◌&&◌, nat_le, max, Option, is_some, ⊤, ℤ, Ok, Result, Err, if◌then◌else◌}
 use Rattle.std.proofs.lemmas.Bool.{and_parts}
 use Rattle.std.proofs.lemmas.Bool.Decides.{nat_tests}
@@ -15,13 +15,13 @@ use Rattle.draw_ops.specs.Slots.{SurfaceState, Loaded, lookup}
 use Rattle.draw_ops.specs.Drawing.{state_after_drawing}
 use Rattle.caps_sets.specs.declared.cache_size.CacheSize.{CacheSize}
 use Rattle.caps_sets.specs.declared.confirmed.Confirmed.{Confirmed}
-use Rattle.caps_sets.specs.Confirmed.{cache_size, first_cache_from, first_cache}
+use Rattle.caps_sets.specs.Confirmed.{cache_size, first_cache_from, first_cache, depth_of}
 use Rattle.session_rules.specs.declared.entry.Entry.{Entry}
 use Rattle.wire_num.specs.Field.{bind}
-use Rattle.order_means.specs.WirePixels.{glyph_cell_bytes}
+use Rattle.order_means.specs.WirePixels.{kept_image, glyph_cell_bytes}
 use Rattle.draw_ops.specs.Formulas.{Painting}
 use Rattle.draw_ops.specs.Drawing.{painting_of, restoring}
-use Rattle.px_core.specs.declared.depth.Depth.TheVariants.{Bits24}
+use Rattle.px_core.specs.Depth.{shown_colors}
 use Rattle.order_fields.specs.OrderTable.{Edges}
 use Rattle.order_fields.specs.OrderDelta.{edges_of_optional}
 use Rattle.order_fields.specs.NamedDrawing.{NamedDrawing, drawing_of, drawing_fields}
@@ -48,6 +48,7 @@ use Rattle.frame_laws.specs.Uses.{client_after_sent, ObeyedThrough, IsServed}
 use Rattle.frame_laws.proofs.BlitSent.{blit_agrees}
 use Rattle.frame_laws.proofs.BrushUse.{pat_agrees, blit3_agrees}
 use Rattle.frame_laws.specs.Run.{AreServed}
+use Rattle.frame_laws.specs.Drawings.{HasValues}
 use Rattle.frame_laws.proofs.GlyphUse.{glyph_entries}
 use Rattle.frame_laws.specs.Run.{AreGlyphs, AreDeltas}
 use Rattle.frame_laws.proofs.TextSent.{text_agrees}
@@ -149,9 +150,10 @@ pub passed : (b : Bool) (size : Size) (w : Walk) (p : Pending) (s : Sent) → (s
 passed true size w p s e = record { test = refl; is = only_one _ s e; walk = refl }
 passed false size w p s e = absurd (cc e)
 
--- ---- an order that draws leaves the caches
+-- ---- an order that draws leaves the depth and the caches
 
 pub record CachesKept (client x : ClientState) : Type 0 where
+  pub depth : x.depth ≡ client.depth
   pub images : x.images ≡ client.images
   pub glyphs : x.glyphs ≡ client.glyphs
   pub brushes : x.brushes ≡ client.brushes
@@ -184,7 +186,7 @@ glyphs_keep client glyph (p ∷ ps) r k = bind_keeps client (glyph p.0) (λ _. w
 
 painted_keeps : (size : Size) (bounds : Option Edges) (p : Painting (Option ℕ)) (client : ClientState)
     → KeepsAll client (Ok (after_painting size bounds p client))
-painted_keeps size bounds p client = ok_keeps client (after_painting size bounds p client) (record { images = refl; glyphs = refl; brushes = refl })
+painted_keeps size bounds p client = ok_keeps client (after_painting size bounds p client) (record { depth = refl; images = refl; glyphs = refl; brushes = refl })
 
 drawing_keeps : (c : Confirmed) (size : Size) (bounds : Option Edges) (client : ClientState) (d : NamedDrawing)
     → KeepsAll client (client_after_drawing c size bounds client d)
@@ -193,7 +195,7 @@ drawing_keeps c size bounds client (PatBlt r code entry) = bind_keeps client (br
 drawing_keeps c size bounds client (ScrBlt r code sx sy) = needs_keeps client _ _ _ (painted_keeps size bounds _ client)
 drawing_keeps c size bounds client (OpaqueRect r color) = painted_keeps size bounds _ client
 drawing_keeps c size bounds client (SaveBlock position r) =
-    needs_keeps client _ _ _ (ok_keeps client _ (record { images = refl; glyphs = refl; brushes = refl }))
+    needs_keeps client _ _ _ (ok_keeps client _ (record { depth = refl; images = refl; glyphs = refl; brushes = refl }))
 drawing_keeps c size bounds client (RestoreBlock position r) =
     needs_keeps client _ _ _ (bind_keeps client (found (block_at position r.w r.h client.blocks) Broken) _ (λ b. painted_keeps size bounds _ client))
 drawing_keeps c size bounds client (MemBlt cache index r code sx sy) =
@@ -205,7 +207,7 @@ drawing_keeps c size bounds client (GlyphIndex cache x y color run) = needs_keep
 
 order_keeps : (c : Confirmed) (size : Size) (client : ClientState) (touched : Rect) (d : NamedDrawing) (bounds : Option Rect)
     → KeepsAll client (client_after_order c size client (as_read c (Drawn touched d bounds)))
-order_keeps c size client touched d bounds = bind_keeps client (found (drawing_of Bits24 (drawing_fields Bits24 touched d)) Broken) _
+order_keeps c size client touched d bounds = bind_keeps client (found (drawing_of client.depth (drawing_fields (depth_of c) touched d)) Broken) _
     (λ n. drawing_keeps c size (edges_of_optional bounds) client n)
 
 -- ---- runs
@@ -255,12 +257,21 @@ module _ (size : Size) (c : Confirmed) (j : List Entry) where
         obeys = ap (λ r. bind r (λ d. client_after_sent c size d [])) h.obeys;
         agrees = h.agrees;
         caches = record {
-          images = λ cache key few held. let x = k.images cache key few held in (x.0, x.1, ap (cached cache (index_of c uses cache key)) keeps.images ∙ x.2);
+          images = λ cache key few held. let x = k.images cache key few held in (
+            x.0,
+            x.1,
+            ap (cached cache (index_of c uses cache key)) keeps.images ∙ (x.2 ∙ ap (λ d. Some (kept_image d x.0)) (sym keeps.depth)),
+          );
           glyphs = λ cache key few held. let x = k.glyphs cache key few held in
               (x.0, x.1, ap (cached cache (index_of c uses (first_glyph_cache + cache) key)) keeps.glyphs ∙ x.2);
-          brushes = λ key held. let x = k.brushes key held in (x.0, x.1, ap (lookup (index_of c uses brush_cache key)) keeps.brushes ∙ x.2);
+          brushes = λ key held. let x = k.brushes key held in (
+            x.0,
+            x.1,
+            ap (lookup (index_of c uses brush_cache key)) keeps.brushes ∙ (x.2 ∙ ap (λ d. Some (shown_colors d x.0)) (sym keeps.depth)),
+          );
         };
         sized = record {
+          depth = keeps.depth ∙ z.depth;
           images = ap (map length) keeps.images ∙ z.images;
           glyphs = ap (map length) keeps.glyphs ∙ z.glyphs;
           brushes = ap length keeps.brushes
@@ -324,7 +335,7 @@ module _ (size : Size) (c : Confirmed) (j : List Entry) where
             → SentObeys st w uses client clip (Save slot r) (saved_at size (given_up slot w) (pending_of size st (drawn (Save slot r) clip)) slot r o).walk sent
         by_position None least clean e = absurd (cc e)
         by_position (Some position) least clean e =
-            let h = save_agrees size st w client slot r clip position c narrow g.0 g.1 g.2 clean least a in
+            let h = save_agrees size st w client slot r clip position c narrow z.depth g.0 g.1 g.2 clean least a in
             subst (λ (x : Sent). SentObeys st w uses client clip (Save slot r) (with_block slot (placed position r.w r.h) (given_up slot w)) x)
             (sym (only_one (record { pending = pending_of size st (drawn (Save slot r) clip); position = position }) sent e))
             (plainly _ (with_block slot (placed position r.w r.h) (given_up slot w)) uses client r (SaveBlock position r) None h k z)
@@ -358,7 +369,7 @@ module _ (size : Size) (c : Confirmed) (j : List Entry) where
             let is : place ≡ placed place.position g.block.w g.block.h =
             ap (λ n. placed place.position n place.h) wide ∙ ap (λ n. placed place.position g.block.w n) high in
             let there : place_of slot w.held ≡ Some (placed place.position g.block.w g.block.h) = held ∙ ap Some is in
-            let h = restore_agrees size st w client slot x y g.block c place.position g.held g.whole g.some g.inside there a in
+            let h = restore_agrees size st w client slot x y g.block c place.position z.depth g.held g.whole g.some g.inside there a in
             let area : Rect = boxed x y g.block.w g.block.h in
             let o : ObeyedThrough size c j (state_after_drawing size st (drawn (Restore slot x y) None)) w uses client
             (Drawn area (RestoreBlock place.position area) None ∷ []) = plainly _ w uses client area (RestoreBlock place.position area) None h k z in
@@ -378,12 +389,12 @@ module _ (size : Size) (c : Confirmed) (j : List Entry) where
 
     -- a text, whose run a cache serves
     text_by : (st : SurfaceState) (w : Walk) (uses : Uses) (client : ClientState) (clip : Option Rect) (x y : ℤ) (color font : ℕ) (run : List (ℕ × ℕ))
-        (sent : Sent) → GoodShape size j st clip (Text x y color font run)
+        (sent : Sent) → color < 2 ^ 24 → GoodShape size j st clip (Text x y color font run)
         → (walked size c w (pending_of size st (drawn (Text x y color font run) clip)) (Text x y color font run)).sent ≡ sent ∷ []
         → Agrees size st w client → CachesAgree size c j uses client → IsSized c client
         → SentObeys st w uses client clip (Text x y color font run)
         (walked size c w (pending_of size st (drawn (Text x y color font run) clip)) (Text x y color font run)).walk sent
-    text_by st w uses client clip x y color font run sent g e a k z =
+    text_by st w uses client clip x y color font run sent v g e a k z =
         let s = Text x y color font run in
         let p = pending_of size st (drawn s clip) in
         let t = passed (supports c p s) size w p sent e in
@@ -422,31 +433,31 @@ module _ (size : Size) (c : Confirmed) (j : List Entry) where
         ((run_use c uses (or_0 o) g.glyphs).orders ++ Drawn (painting_of size st s).rect
         (GlyphIndex (or_0 o) x y color (run_pairs (run_use c uses (or_0 o) g.glyphs).indices run)) (bounds_of (painting_of size st s).rect clip) ∷ []))
         (sym found_)
-        (text_agrees size c j cache.0 few some all.glyphs st w client uses g.glyphs x y color font run clip
+        (text_agrees size c j cache.0 few some all.glyphs st w client uses g.glyphs x y color font run clip v
         (served cache.0 g.glyphs (greatest_cell g.glyphs) g.loaded (cells_below g.glyphs) cell) g.held g.deltas (omega (arith, entries, enough)) a k z)))
 
     pub sent_by : (st : SurfaceState) (w : Walk) (uses : Uses) (client : ClientState) (clip : Option Rect) (s : Shape) (sent : Sent)
-        → GoodShape size j st clip s → (walked size c w (pending_of size st (drawn s clip)) s).sent ≡ sent ∷ []
+        → HasValues s → GoodShape size j st clip s → (walked size c w (pending_of size st (drawn s clip)) s).sent ≡ sent ∷ []
         → Agrees size st w client → CachesAgree size c j uses client → IsSized c client
         → SentObeys st w uses client clip s (walked size c w (pending_of size st (drawn s clip)) s).walk sent
-    sent_by st w uses client clip (Fill r color) sent g e a k z =
+    sent_by st w uses client clip (Fill r color) sent v g e a k z =
         let p = pending_of size st (drawn (Fill r color) clip) in
         by_passing (supports c p (Fill r color)) st w uses client clip (Fill r color) sent (passed (supports c p (Fill r color)) size w p sent e)
-        (plainly _ w uses client r (OpaqueRect r color) (bounds_of r clip) (fill_agrees c size st w client r color clip g a) k z)
-    sent_by st w uses client clip (Dst r code) sent g e a k z =
+        (plainly _ w uses client r (OpaqueRect r color) (bounds_of r clip) (fill_agrees c size st w client r color clip z.depth v g a) k z)
+    sent_by st w uses client clip (Dst r code) sent v g e a k z =
         let p = pending_of size st (drawn (Dst r code) clip) in
         by_passing (supports c p (Dst r code)) st w uses client clip (Dst r code) sent (passed (supports c p (Dst r code)) size w p sent e)
-        (plainly _ w uses client r (DstBlt r code) (bounds_of r clip) (dst_agrees c size st w client r code clip g a) k z)
-    sent_by st w uses client clip (Copy r code sx sy) sent g e a k z =
+        (plainly _ w uses client r (DstBlt r code) (bounds_of r clip) (dst_agrees c size st w client r code clip z.depth g a) k z)
+    sent_by st w uses client clip (Copy r code sx sy) sent v g e a k z =
         let p = pending_of size st (drawn (Copy r code sx sy) clip) in
         let b = supports c p (Copy r code sx sy) && reads_clean_tiles size w (Copy r code sx sy) in
         let t = passed b size w p sent e in
         let clean = (and_parts (supports c p (Copy r code sx sy)) (reads_clean_tiles size w (Copy r code sx sy)) t.test).1 in
         by_passing b st w uses client clip (Copy r code sx sy) sent t
         (plainly _ w uses client r (ScrBlt r code sx sy) (bounds_of r clip)
-        (copy_agrees c size st w client r code sx sy clip narrow g.0 g.1
+        (copy_agrees c size st w client r code sx sy clip narrow z.depth g.0 g.1
         (not_true (share_tile size w.dirty (tiles_of size (boxed sx sy r.w r.h))) clean) a) k z)
-    sent_by st w uses client clip (Pat r code brush) sent g e a k z =
+    sent_by st w uses client clip (Pat r code brush) sent v g e a k z =
         let p = pending_of size st (drawn (Pat r code brush) clip) in
         let h = g.1 in
         let t = passed (supports c p (Pat r code brush)) size w p sent e in
@@ -456,7 +467,7 @@ module _ (size : Size) (c : Confirmed) (j : List Entry) where
         (record { pending = record { drawing = drawn (Pat r code brush) clip; rect = r; image = None; brush = o; glyphs = [] }; position = 0 }))
         (sym h.held)
         (pat_agrees size c j st w client uses h.brush brush r code clip (record { whole = h.whole; loaded = h.loaded; serves = serves }) h.held g.0 a k z))
-    sent_by st w uses client clip (Blit r code image sx sy) sent g e a k z =
+    sent_by st w uses client clip (Blit r code image sx sy) sent v g e a k z =
         let p = pending_of size st (drawn (Blit r code image sx sy) clip) in
         let h = g.1 in
         let t = passed (supports c p (Blit r code image sx sy)) size w p sent e in
@@ -471,7 +482,7 @@ module _ (size : Size) (c : Confirmed) (j : List Entry) where
         ((image_use c uses (or_0 o) (Some h.image)).orders ++ Drawn r (MemBlt (or_0 o) (image_use c uses (or_0 o) (Some h.image)).index r code sx sy)
         (bounds_of r clip) ∷ [])) (sym there)
         (blit_agrees size c j st w client uses i.0 h.image image r code sx sy clip i.2 all.bitmaps h.held g.0 h.inside a k z)))
-    sent_by st w uses client clip (Blit3 r code image sx sy brush) sent g e a k z =
+    sent_by st w uses client clip (Blit3 r code image sx sy brush) sent v g e a k z =
         let p = pending_of size st (drawn (Blit3 r code image sx sy brush) clip) in
         let h = g.1 in
         let hb = g.2 in
@@ -512,10 +523,10 @@ module _ (size : Size) (c : Confirmed) (j : List Entry) where
         (brush_use c (image_use c uses (or_0 o) (Some h.image)).uses (Some hb.brush)).index) (bounds_of r clip) ∷ []))) (sym there)
         (blit3_agrees size c j st w client uses i.0 h.image hb.brush image brush r code sx sy clip i.2
         (record { whole = hb.whole; loaded = hb.loaded; serves = tests.1 }) all.bitmaps h.held hb.held g.0 h.inside a k z))))
-    sent_by st w uses client clip (Text x y color font run) sent g e a k z = text_by st w uses client clip x y color font run sent g e a k z
-    sent_by st w uses client clip (Line x0 y0 x1 y1 color) sent g e a k z = absurd (cc e)
-    sent_by st w uses client clip (Save slot r) sent g e a k z = save_by st w uses client clip slot r sent g e a k z
-    sent_by st w uses client clip (Restore slot x y) sent g e a k z = restore_by st w uses client clip slot x y sent g e a k z
-    sent_by st w uses client clip (LoadImage slot image) sent g e a k z = absurd (cc e)
-    sent_by st w uses client clip (LoadBrush slot brush) sent g e a k z = absurd (cc e)
-    sent_by st w uses client clip (LoadGlyph font code glyph) sent g e a k z = absurd (cc e)
+    sent_by st w uses client clip (Text x y color font run) sent v g e a k z = text_by st w uses client clip x y color font run sent v g e a k z
+    sent_by st w uses client clip (Line x0 y0 x1 y1 color) sent v g e a k z = absurd (cc e)
+    sent_by st w uses client clip (Save slot r) sent v g e a k z = save_by st w uses client clip slot r sent g e a k z
+    sent_by st w uses client clip (Restore slot x y) sent v g e a k z = restore_by st w uses client clip slot x y sent g e a k z
+    sent_by st w uses client clip (LoadImage slot image) sent v g e a k z = absurd (cc e)
+    sent_by st w uses client clip (LoadBrush slot brush) sent v g e a k z = absurd (cc e)
+    sent_by st w uses client clip (LoadGlyph font code glyph) sent v g e a k z = absurd (cc e)

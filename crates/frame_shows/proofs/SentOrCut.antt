@@ -71,7 +71,7 @@ module _ (size : Size) (c : Confirmed) (j : List Entry) where
   pub sent_keeps : (narrow : size.w ≤ 2048) → HasAllCaches c → Sides size.w size.h → SentKeeps size c j narrow (Found size j)
   sent_keeps narrow all sides st w uses client d s f e a k z =
       let x = sent_as sides st w d s f e in
-      let obeyed = sent_by size c j narrow all st w uses client x.drawing.clip x.drawing.shape s (good_of size j st x.drawing f.sound x.suits) x.sent a k z in
+      let obeyed = sent_by size c j narrow all st w uses client x.drawing.clip x.drawing.shape s x.suits.values (good_of size j st x.drawing f.sound x.suits) x.sent a k z in
       subst (λ (after : SurfaceState). ObeyedThrough size c j after (walked_pending size c w (pending_of size st d)).walk (sending_of c uses s).uses client
       (sending_of c uses s).orders) x.state
       (subst (λ (o : Walked). ObeyedThrough size c j (state_after_drawing size st x.drawing) o.walk (sending_of c uses s).uses client

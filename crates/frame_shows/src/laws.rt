@@ -23,7 +23,7 @@ ghost use Rattle.frame_laws.specs.SoundState.{IsSound};
 ghost use Rattle.frame_laws.specs.Drawings.{Suits};
 
 /// Every frame shows the journal: for every session and every viewer, what a take sends is read without a refusal and without a rest, has one mark,
-/// which shows the picture after the entries that the take found, and leaves a client that the encoder describes.
+/// which shows, cut to the viewer's depth, the picture after the entries that the take found, and leaves a client that the encoder describes.
 pub fn every_frame_shows_the_journal()
     ensures { (head : Head) (c : Confirmed) → FrameShowsJournal head c }
 {}

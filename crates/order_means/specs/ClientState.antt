@@ -8,13 +8,15 @@ use Rattle.rop3_core.specs.Palette.{client_colors}
 use Rattle.run_lengths.specs.RunLength.{unrle}
 use Rattle.caps_sets.specs.declared.cache_size.CacheSize.{CacheSize}
 use Rattle.caps_sets.specs.declared.confirmed.Confirmed.{Confirmed}
-use Rattle.caps_sets.specs.Confirmed.{cache_size}
+use Rattle.caps_sets.specs.Confirmed.{cache_size, depth_of}
 use Rattle.draw_ops.specs.Content.{ImageOf, GlyphOf}
+use Rattle.draw_ops.specs.Depths.{client_colors_at}
 use Rattle.draw_ops.specs.Slots.{Slots, empty_slots, filled_slot, lookup}
 use Rattle.draw_ops.specs.Formulas.{Operand, solid, rastered, replaced, absent, brushed, shifted, imaged, image_rows, run_area, run_cells, joint_of, Painting, over_rect, picture_after}
 use Rattle.wire_num.specs.Field.{bind}
 use Rattle.px_core.specs.Pixels.{pixels_of}
-use Rattle.px_core.specs.declared.depth.Depth.TheVariants.{Bits24}
+use Rattle.px_core.specs.declared.depth.Depth.{Depth}
+use Rattle.px_core.specs.Depth.{bits_in, bytes_in}
 use Rattle.order_fields.specs.OrderTable.{Edges, Registers, first_registers}
 use Rattle.order_fields.specs.Secondary.{Cached, BitmapOrder, GlyphOrder, BrushOrder}
 use Rattle.order_fields.specs.Secondary.Cached.{Bitmap, Glyph, Brush, Marker}
@@ -33,8 +35,9 @@ pub record Block : Type 0 where
   pub h : ℕ
   pub pixels : List (Option ℕ)
 
--- the registers that the next update's orders are read with, three bitmap caches, ten glyph caches, the brush cache, the saved blocks, and a picture whose pixels may be unknown
+-- the depth of its colours, the registers that the next update's orders are read with, three bitmap caches, ten glyph caches, the brush cache, the saved blocks, and a picture whose pixels may be unknown
 pub record ClientState : Type 0 where
+  pub depth : Depth
   pub registers : Registers
   pub images : List (Slots ImageOf)
   pub glyphs : List (Slots GlyphOf)
@@ -53,6 +56,7 @@ empty_cache size = empty_slots size.entries
 -- at first all caches are empty, there is no block, and all pixels are unknown
 abbrev pub first_client : Confirmed → Size → ClientState
 first_client confirmed size = record {
+  depth = depth_of confirmed;
   registers = first_registers;
   images = map empty_cache confirmed.bitmaps;
   glyphs = map empty_cache confirmed.glyphs;
@@ -107,9 +111,9 @@ in_bounds (Some e) = in_edges e
 abbrev pub after_painting : Size → Option Edges → Painting (Option ℕ) → ClientState → ClientState
 after_painting size bounds p c = record c { picture = picture_after size (in_bounds bounds) p c.picture }
 
--- a raster operation over a rectangle
-abbrev pub mixing : Rect → ℕ → Operand (Option ℕ) → Operand (Option ℕ) → Painting (Option ℕ)
-mixing r code pattern source = over_rect r (rastered client_colors code pattern source)
+-- a raster operation over a rectangle, on as many bits as the depth has
+abbrev pub mixing : Depth → Rect → ℕ → Operand (Option ℕ) → Operand (Option ℕ) → Painting (Option ℕ)
+mixing depth r code pattern source = over_rect r (rastered (client_colors_at depth) code pattern source)
 
 abbrev pub no_operand : Operand (Option ℕ)
 no_operand = absent client_colors
@@ -197,21 +201,21 @@ source_rect r sx sy = boxed sx sy r.w r.h
 
 -- the picture is painted within the bounds; sources, entries and brushes that the code doesn't need are looked up and tested all the same
 abbrev pub client_after_drawing : Confirmed → Size → Option Edges → ClientState → NamedDrawing → Result ClientState Fault
-client_after_drawing confirmed size bounds c (Dst r code) = Ok (after_painting size bounds (mixing r code no_operand no_operand) c)
+client_after_drawing confirmed size bounds c (Dst r code) = Ok (after_painting size bounds (mixing c.depth r code no_operand no_operand) c)
 client_after_drawing confirmed size bounds c (Pat r code entry) =
-    bind (brush_used confirmed c entry) (λ brush. Ok (after_painting size bounds (mixing r code (brushed client_colors brush) no_operand) c))
+    bind (brush_used confirmed c entry) (λ brush. Ok (after_painting size bounds (mixing c.depth r code (brushed client_colors brush) no_operand) c))
 client_after_drawing confirmed size bounds c (Scr r code sx sy) =
-    needs (is_inside size (source_rect r sx sy)) Broken (Ok (after_painting size bounds (mixing r code no_operand (shifted (rows_of size.w size.h c.picture) None r sx sy)) c))
+    needs (is_inside size (source_rect r sx sy)) Broken (Ok (after_painting size bounds (mixing c.depth r code no_operand (shifted (rows_of size.w size.h c.picture) None r sx sy)) c))
 client_after_drawing confirmed size bounds c (Opaque r color) = Ok (after_painting size bounds (over_rect r (solid client_colors color)) c)
 client_after_drawing confirmed size bounds c (SaveBlock position r) =
     needs (is_inside size r && nat_le (position + positions r.w r.h) 57600) Broken (Ok (with_block (block_of size c position r) c))
 client_after_drawing confirmed size bounds c (RestoreBlock position r) =
     needs (is_inside size r) Broken (bind (found (block_at position r.w r.h c.blocks) Broken) (λ b. Ok (after_painting size bounds (restoring b r) c)))
 client_after_drawing confirmed size bounds c (Mem cache index r code sx sy) =
-    bind (image_used confirmed c cache index (source_rect r sx sy)) (λ image. Ok (after_painting size bounds (mixing r code no_operand (imaged client_colors (image_rows image) r sx sy)) c))
+    bind (image_used confirmed c cache index (source_rect r sx sy)) (λ image. Ok (after_painting size bounds (mixing c.depth r code no_operand (imaged client_colors (image_rows image) r sx sy)) c))
 client_after_drawing confirmed size bounds c (Mem3 cache index r code sx sy entry) =
     bind (image_used confirmed c cache index (source_rect r sx sy)) (λ image. bind (brush_used confirmed c entry) (λ brush.
-    Ok (after_painting size bounds (mixing r code (brushed client_colors brush) (imaged client_colors (image_rows image) r sx sy)) c)))
+    Ok (after_painting size bounds (mixing c.depth r code (brushed client_colors brush) (imaged client_colors (image_rows image) r sx sy)) c)))
 client_after_drawing confirmed size bounds c (Glyphs cache x y color run) =
     needs (nat_lt cache 10) Broken (bind (found (pairs_of run) Broken) (λ pairs. with_glyphs (glyph_used confirmed c cache) pairs
     (Ok (after_painting size bounds (writing (λ index. cached cache index c.glyphs) x y color pairs) c))))
@@ -222,18 +226,18 @@ client_after_drawing confirmed size bounds c (Glyphs cache x y color run) =
 abbrev pub is_side : ℕ → Bool
 is_side n = nat_lt 0 n && nat_le n 64
 
--- sides of 1 to 64, a width of a multiple of four, 24 bits a pixel
-abbrev pub is_bitmap : ℕ → ℕ → ℕ → Bool
-is_bitmap w h depth = (is_side w && is_side h) && ((w % 4 == 0) && (depth == 24))
+-- sides of 1 to 64, a width of a multiple of four, as many bits a pixel as the depth has
+abbrev pub is_bitmap : Depth → (w h bits : ℕ) → Bool
+is_bitmap depth w h bits = (is_side w && is_side h) && ((w % 4 == 0) && (bits == bits_in depth))
 
 abbrev pub unless_refused : Result (List ℕ) ℕ → Result (List ℕ) Fault
 unless_refused (Ok pixels) = Ok pixels
 unless_refused (Err place) = Err Broken
 
 -- the pixels of raw or packed bytes, rows from the bottom up
-abbrev pub wire_pixels : Bool → ℕ → ℕ → List ℕ → Result (List ℕ) Fault
-wire_pixels false w h bytes = needs (length bytes == 3 * (w * h)) Broken (Ok (pixels_of Bits24 bytes))
-wire_pixels true w h bytes = unless_refused (unrle Bits24 bytes w h)
+abbrev pub wire_pixels : Depth → Bool → ℕ → ℕ → List ℕ → Result (List ℕ) Fault
+wire_pixels depth false w h bytes = needs (length bytes == bytes_in depth * (w * h)) Broken (Ok (pixels_of depth bytes))
+wire_pixels depth true w h bytes = unless_refused (unrle depth bytes w h)
 
 -- the flags of a cached bitmap: 0 where it is raw, NO_BITMAP_COMPRESSION_HDR where it is packed
 abbrev pub bitmap_flags : Bool → ℕ
@@ -243,9 +247,9 @@ bitmap_flags true = 0x0400
 -- an image is kept with its rows from the top; packed ones are taken whatever was confirmed
 abbrev pub client_after_bitmap : Confirmed → ClientState → BitmapOrder → Result ClientState Fault
 client_after_bitmap confirmed c b =
-    needs (is_bitmap b.w b.h b.depth && (nat_lt b.cache 3 && (b.flags == bitmap_flags b.packed))) Broken (
-    bind (wire_pixels b.packed b.w b.h b.bytes) (λ pixels.
-    needs (holds (cache_size confirmed.bitmaps b.cache) b.index (3 * (b.w * b.h))) (Oversized b.cache b.index) (
+    needs (is_bitmap c.depth b.w b.h b.depth && (nat_lt b.cache 3 && (b.flags == bitmap_flags b.packed))) Broken (
+    bind (wire_pixels c.depth b.packed b.w b.h b.bytes) (λ pixels.
+    needs (holds (cache_size confirmed.bitmaps b.cache) b.index (bytes_in c.depth * (b.w * b.h))) (Oversized b.cache b.index) (
     Ok (record c { images = with_cached b.cache b.index (record { w = b.w; h = b.h; pixels = turned_over b.w b.h pixels }) c.images }))))
 
 abbrev pub glyph_of : GlyphOrder → GlyphOf
@@ -272,7 +276,7 @@ client_after_cached confirmed c (Marker ends) = Ok c
 
 -- the client after an order, or why it is refused
 abbrev pub client_after_order : Confirmed → Size → ClientState → Order → Result ClientState Fault
-client_after_order confirmed size c (Primary o bounds) = bind (found (drawing_of Bits24 o) Broken) (client_after_drawing confirmed size bounds c)
+client_after_order confirmed size c (Primary o bounds) = bind (found (drawing_of c.depth o) Broken) (client_after_drawing confirmed size bounds c)
 client_after_order confirmed size c (Other o) = client_after_cached confirmed c o
 
 -- the client after orders, one by one

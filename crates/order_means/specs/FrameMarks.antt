@@ -9,7 +9,7 @@ use Rattle.caps_sets.specs.declared.confirmed.Confirmed.{Confirmed}
 use Rattle.draw_ops.specs.Formulas.{replaced, imaged, Painting, over_rect}
 use Rattle.wire_num.specs.Field.{Read, bind, then_read, map_read, bytes_at, wanted, all_of}
 use Rattle.wire_num.specs.Number.{little_at}
-use Rattle.px_core.specs.declared.depth.Depth.TheVariants.{Bits24}
+use Rattle.px_core.specs.declared.depth.Depth.{Depth}
 use Rattle.order_fields.specs.OrderTable.{Registers}
 use Rattle.order_fields.specs.Secondary.{Cached}
 use Rattle.order_fields.specs.Secondary.Cached.{Bitmap, Glyph, Brush, Marker}
@@ -144,13 +144,13 @@ tile_rect t = boxed (pos t.left) (pos t.top) ((t.right + 1) - t.left) ((t.bottom
 abbrev pub is_packed_tile : ℕ → Option Bool
 is_packed_tile flags = if flags == 0 then Some false else (if flags == 0x0401 then Some true else None)
 
-abbrev pub tile_pixels : Option Bool → Tile → Result (List ℕ) Fault
-tile_pixels None t = Err Broken
-tile_pixels (Some packed) t = wire_pixels packed t.w t.h t.bytes
+abbrev pub tile_pixels : Depth → Option Bool → Tile → Result (List ℕ) Fault
+tile_pixels depth None t = Err Broken
+tile_pixels depth (Some packed) t = wire_pixels depth packed t.w t.h t.bytes
 
 -- a rectangle that has a pixel, is inside the surface, no wider than its bitmap, and as high
-abbrev pub is_tile : Size → Tile → Bool
-is_tile size t = is_bitmap t.w t.h t.depth && (is_inside size (tile_rect t) && ((nat_le 1 (tile_rect t).w && nat_le (tile_rect t).w t.w) && ((tile_rect t).h == t.h)))
+abbrev pub is_tile : Depth → Size → Tile → Bool
+is_tile depth size t = is_bitmap depth t.w t.h t.depth && (is_inside size (tile_rect t) && ((nat_le 1 (tile_rect t).w && nat_le (tile_rect t).w t.w) && ((tile_rect t).h == t.h)))
 
 -- the pixels of a bitmap, rows from the top, at a rectangle's upper left corner
 abbrev pub showing : Tile → List ℕ → Painting (Option ℕ)
@@ -158,7 +158,7 @@ showing t pixels = over_rect (tile_rect t) (replaced (imaged client_colors (rows
 
 abbrev pub view_after_tile : Size → View → Tile → Result View Fault
 view_after_tile size v t =
-    needs (is_tile size t) Broken (bind (tile_pixels (is_packed_tile t.flags) t) (λ wire.
+    needs (is_tile v.client.depth size t) Broken (bind (tile_pixels v.client.depth (is_packed_tile t.flags) t) (λ wire.
     Ok (record v { client = after_painting size None (showing t (turned_over t.w t.h wire)) v.client; tiles = v.tiles + 1 })))
 
 abbrev pub view_after_tiles : Size → View → List Tile → Result View Fault
@@ -180,7 +180,7 @@ view_after_stream confirmed size body v s = obeyed confirmed size body v s s.ref
 
 -- a Synchronize update is the mark of a viewer without frame markers
 abbrev pub view_after_update : Confirmed → Size → Body → View → Update → Result View Refusal
-view_after_update confirmed size body v (Orders count bytes) = view_after_stream confirmed size body v (orders_in Bits24 bytes count v.client.registers)
+view_after_update confirmed size body v (Orders count bytes) = view_after_stream confirmed size body v (orders_in v.client.depth bytes count v.client.registers)
 view_after_update confirmed size body v (Tiles ts) = meant body.place (view_after_tiles size v ts)
 view_after_update confirmed size body v Synchronize = Ok (marked_if (not confirmed.marker) v)
 

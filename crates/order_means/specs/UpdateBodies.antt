@@ -1,7 +1,9 @@
 -- The bytes of updates ([MS-RDPBCGR] 2.2.9.1.1.3), and their packets.
 use Rattle.std.specs.Prelude.{ℕ, ◌+◌, ◌-◌, Bool, true, false, List, [], ◌∷◌, ◌++◌, length}
 use Rattle.byteorder.specs.Endian.{little_bytes}
+use Rattle.px_core.specs.declared.depth.Depth.{Depth}
 use Rattle.px_core.specs.declared.rectangle.Rect.{Rect}
+use Rattle.px_core.specs.Depth.{bits_in, shown_colors}
 use Rattle.px_core.specs.Picture.{nat_of}
 use Rattle.share_pdu.specs.Packet.{update_packet}
 use Rattle.order_means.specs.WirePixels.{turned_over, PixelData, data_of}
@@ -24,14 +26,15 @@ tile_flags true = 0x0401
 tile_flags false = 0
 
 -- destLeft, destTop, destRight, destBottom (inclusive), width, height, bitsPerPixel, flags, bitmapLength, the pixels
-abbrev pub tile_data_bytes : ℕ → ℕ → ℕ → ℕ → PixelData → List ℕ
-tile_data_bytes x y w h data_ =
-    little_bytes 2 x ++ (little_bytes 2 y ++ (little_bytes 2 (x + w - 1) ++ (little_bytes 2 (y + h - 1) ++ (little_bytes 2 w ++ (little_bytes 2 h ++ (little_bytes 2 24
+abbrev pub tile_data_bytes : Depth → ℕ → ℕ → ℕ → ℕ → PixelData → List ℕ
+tile_data_bytes depth x y w h data_ =
+    little_bytes 2 x ++ (little_bytes 2 y ++ (little_bytes 2 (x + w - 1) ++ (little_bytes 2 (y + h - 1) ++ (little_bytes 2 w ++ (little_bytes 2 h ++ (little_bytes 2 (bits_in depth)
     ++ (little_bytes 2 (tile_flags data_.is_packed) ++ (little_bytes 2 (length data_.bytes) ++ data_.bytes))))))))
 
--- a Bitmap update of one rectangle, whose pixels are given row by row from the top
-abbrev pub tile_body : Bool → Rect → List ℕ → List ℕ
-tile_body no_header r pixels = 1 ∷ 0 ∷ 1 ∷ 0 ∷ tile_data_bytes (nat_of r.x) (nat_of r.y) r.w r.h (data_of no_header r.w (turned_over r.w r.h pixels))
+-- a Bitmap update of one rectangle, whose pixels are given in the session's colours, row by row from the top
+abbrev pub tile_body : Depth → Bool → Rect → List ℕ → List ℕ
+tile_body depth no_header r pixels =
+    1 ∷ 0 ∷ 1 ∷ 0 ∷ tile_data_bytes depth (nat_of r.x) (nat_of r.y) r.w r.h (data_of depth no_header r.w (turned_over r.w r.h (shown_colors depth pixels)))
 
 -- ---- packets
 
@@ -48,5 +51,5 @@ abbrev pub synchronize_packet : List ℕ
 synchronize_packet = update_packet synchronize_body
 
 -- the packet of a Bitmap update of one rectangle
-abbrev pub tile_packet : Bool → Rect → List ℕ → List ℕ
-tile_packet no_header r pixels = update_packet (tile_body no_header r pixels)
+abbrev pub tile_packet : Depth → Bool → Rect → List ℕ → List ℕ
+tile_packet depth no_header r pixels = update_packet (tile_body depth no_header r pixels)
