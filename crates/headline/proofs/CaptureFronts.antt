@@ -4,7 +4,9 @@ use Rattle.std.specs.Prelude.{Option, Ok}
 use Rattle.std.proofs.lemmas.List.{take-append-drop, take-map}
 use Rattle.std.proofs.Math.Seq.{take-append_seam}
 use Rattle.px_core.specs.declared.surface.Size.{Size}
+use Rattle.px_core.specs.declared.depth.Depth.{Depth}
 use Rattle.caps_sets.specs.declared.confirmed.Confirmed.{Confirmed}
+use Rattle.caps_sets.specs.Confirmed.{depth_of}
 use Rattle.session_rules.specs.declared.entry.Entry.{Entry}
 use Rattle.session_rules.specs.Journal.{picture_after_entries}
 use Rattle.session_rules.specs.Steps.{journal_of_steps, frame_numbers}
@@ -22,10 +24,11 @@ use Rattle.headline.proofs.StreamFronts.{marks_front}
 use Rattle.headline.proofs.TextFronts.{bytes_in_front}
 
 -- the first pictures are those after the first numbers
-first_pictures : (size : Size) (j : List Entry) (numbers : List ℕ) (shown : List (List (Option ℕ))) → IsFront shown (pictures_after size j numbers)
-    → pictures_after size j (take (length shown) numbers) ≡ shown
-first_pictures size j numbers shown h =
-    sym (take-map (λ n. known_picture (picture_after_entries size j n)) (length shown) numbers) ∙ ap (take (length shown)) h.joined
+first_pictures : (depth : Depth) (size : Size) (j : List Entry) (numbers : List ℕ) (shown : List (List (Option ℕ)))
+    → IsFront shown (pictures_after depth size j numbers)
+    → pictures_after depth size j (take (length shown) numbers) ≡ shown
+first_pictures depth size j numbers shown h =
+    sym (take-map (λ n. known_picture depth (picture_after_entries size j n)) (length shown) numbers) ∙ ap (take (length shown)) h.joined
     ∙ take-append_seam shown h.rest
 
 -- a front of bytes that show a journal
@@ -34,11 +37,11 @@ pub front_sees : (size : Size) (confirmed : Confirmed) (j : List Entry) (numbers
     → SeesFirstOfJournal size confirmed j numbers front
 front_sees size confirmed j numbers bytes front sees h =
     let marks = ap (pictures_at_marks confirmed size) (sym h.joined) ∙ sees.marks_show_journal in
-    let first = marks_front confirmed size front h.rest (pictures_after size j numbers) marks in
+    let first = marks_front confirmed size front h.rest (pictures_after (depth_of confirmed) size j numbers) marks in
     record {
       seen = take (length first.shown) numbers;
       are_first = record { rest = drop (length first.shown) numbers; joined = sym (take-append-drop (length first.shown) numbers) };
-      marks_show_journal = first.marks_show ∙ ap Ok (sym (first_pictures size j numbers first.shown first.are_first));
+      marks_show_journal = first.marks_show ∙ ap Ok (sym (first_pictures (depth_of confirmed) size j numbers first.shown first.are_first));
     }
 
 script_front_sees : (s : Script) (capture front rest : List ℕ) → EveryViewerOfScript s capture → capture ≡ front ++ rest → EveryViewerOfFront s front

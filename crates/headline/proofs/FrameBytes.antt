@@ -2,12 +2,15 @@
 use Rattle.std.proofs.Common.{ℕ, ◌+◌, ◌-◌, List, [], ◌∷◌, ◌++◌, length, refl, arith, Bool, true, false}
 use Rattle.std.specs.Prelude.{◌≡◌, ◌<◌, ⊤, nat_lt, flat_map, if◌then◌else◌}
 use Rattle.std.proofs.lemmas.Bool.Decides.{nat_tests}
+use Rattle.px_core.specs.declared.depth.Depth.{Depth}
 use Rattle.px_core.specs.declared.surface.Size.{Size}
 use Rattle.px_core.specs.declared.rectangle.Rect.{Rect}
+use Rattle.px_core.specs.Depth.{bits_in, shown_colors}
 use Rattle.px_core.specs.Picture.{nat_of}
 use Rattle.px_core.specs.Rectangle.{cut_out}
 use Rattle.px_core.specs.Tiles.{tile_on}
 use Rattle.caps_sets.specs.declared.confirmed.Confirmed.{Confirmed}
+use Rattle.caps_sets.specs.Confirmed.{depth_of}
 use Rattle.byteorder.specs.Endian.{little_bytes, big_bytes}
 use Rattle.wire_num.proofs.Numbers.{little_are_bytes, big_are_bytes}
 use Rattle.wire_num.specs.Length.{per_len_of}
@@ -116,33 +119,34 @@ updates_are_bytes (update ∷ updates) h =
 
 orders_of_frame : (c : Confirmed) (regs : Registers) (os : List SentOrder) → HoldBytes os → AreOrders (bytes_of_orders c regs os)
 orders_of_frame c regs [] h = tt
-orders_of_frame c regs (o ∷ os) h = (order_are_bytes c regs o h.0, orders_of_frame c (registers_after_order regs o) os h.1)
+orders_of_frame c regs (o ∷ os) h = (order_are_bytes c regs o h.0, orders_of_frame c (registers_after_order c regs o) os h.1)
 
 -- ---- tiles
 
 two_before : (x : ℕ) (bs : List ℕ) → AreBytes bs → AreBytes (little_bytes 2 x ++ bs)
 two_before x bs h = bytes_append (little_bytes 2 x) bs (little_are_bytes 2 x) h
 
-tile_data_are_bytes : (x y w h : ℕ) (p : PixelData) → AreBytes p.bytes → AreBytes (tile_data_bytes x y w h p)
-tile_data_are_bytes x y w h p are =
+tile_data_are_bytes : (depth : Depth) (x y w h : ℕ) (p : PixelData) → AreBytes p.bytes → AreBytes (tile_data_bytes depth x y w h p)
+tile_data_are_bytes depth x y w h p are =
     let pixels = little_bytes 2 (length p.bytes) ++ p.bytes in
     let flags = little_bytes 2 (tile_flags p.is_packed) ++ pixels in
-    let depth = little_bytes 2 24 ++ flags in
-    let high = little_bytes 2 h ++ depth in
+    let bits = little_bytes 2 (bits_in depth) ++ flags in
+    let high = little_bytes 2 h ++ bits in
     let wide = little_bytes 2 w ++ high in
     let bottom = little_bytes 2 (y + h - 1) ++ wide in
     let right = little_bytes 2 (x + w - 1) ++ bottom in
     let top = little_bytes 2 y ++ right in
-    two_before x top (two_before y right (two_before (x + w - 1) bottom (two_before (y + h - 1) wide (two_before w high (two_before h depth
-    (two_before 24 flags (two_before (tile_flags p.is_packed) pixels (two_before (length p.bytes) p.bytes are))))))))
+    two_before x top (two_before y right (two_before (x + w - 1) bottom (two_before (y + h - 1) wide (two_before w high (two_before h bits
+    (two_before (bits_in depth) flags (two_before (tile_flags p.is_packed) pixels (two_before (length p.bytes) p.bytes are))))))))
 
-tile_are_bytes : (no_header : Bool) (r : Rect) (pixels : List ℕ) → AreBytes (update_packet (tile_body no_header r pixels))
-tile_are_bytes no_header r pixels =
-    let p = data_of no_header r.w (turned_over r.w r.h pixels) in
-    let rest = tile_data_bytes (nat_of r.x) (nat_of r.y) r.w r.h p in
+tile_are_bytes : (depth : Depth) (no_header : Bool) (r : Rect) (pixels : List ℕ) → AreBytes (update_packet (tile_body depth no_header r pixels))
+tile_are_bytes depth no_header r pixels =
+    let cut = turned_over r.w r.h (shown_colors depth pixels) in
+    let p = data_of depth no_header r.w cut in
+    let rest = tile_data_bytes depth (nat_of r.x) (nat_of r.y) r.w r.h p in
     update_are_bytes (1 ∷ 0 ∷ 1 ∷ 0 ∷ rest)
     (bytes_after (1 ∷ 0 ∷ 1 ∷ 0 ∷ []) rest refl
-    (tile_data_are_bytes (nat_of r.x) (nat_of r.y) r.w r.h p (data_are_bytes no_header r.w (turned_over r.w r.h pixels))))
+    (tile_data_are_bytes depth (nat_of r.x) (nat_of r.y) r.w r.h p (data_are_bytes depth no_header r.w cut)))
 
 -- ---- a frame
 
@@ -159,5 +163,5 @@ frame_are_bytes size c regs uses f h =
     bytes_append (updates_of orders) (tiles ++ mark_bytes c.marker) (updates_are_bytes (gathered orders) (gathered_are orders (orders_of_frame c regs os h)))
     (bytes_append tiles (mark_bytes c.marker)
     (flat_are_bytes (tile_bytes size c f.picture) f.tiles
-    (λ tile. tile_are_bytes c.no_header (tile_on size tile) (cut_out size f.picture 0 (tile_on size tile))))
+    (λ tile. tile_are_bytes (depth_of c) c.no_header (tile_on size tile) (cut_out size f.picture 0 (tile_on size tile))))
     (mark_are_bytes c regs c.marker))

@@ -98,7 +98,7 @@ gathered_full (o ∷ os) each = first_order o (gathered_after (length o) os) (ga
 
 each_fits : (c : Confirmed) (regs : Registers) (os : List SentOrder) → AreShort c regs os → EachFits (bytes_of_orders c regs os)
 each_fits c regs [] h = tt
-each_fits c regs (o ∷ os) h = let short = h.0 in (omega (arith, short), each_fits c (registers_after_order regs o) os h.1)
+each_fits c regs (o ∷ os) h = let short = h.0 in (omega (arith, short), each_fits c (registers_after_order c regs o) os h.1)
 
 pub frame_gathered : (c : Confirmed) (regs : Registers) (os : List SentOrder) → AreShort c regs os → AreGathered (gathered (bytes_of_orders c regs os))
 frame_gathered c regs os h = gathered_full (bytes_of_orders c regs os) (each_fits c regs os h)

@@ -1,5 +1,5 @@
 -- The bytes of an order are bytes.
-use Rattle.std.proofs.Common.{◌≡◌, ℕ, zero, suc, ◌+◌, ◌-◌, ◌<◌, ◌≤◌, List, [], ◌∷◌, ◌++◌, length, refl, arith, Some, None, Bool, true, false}
+use Rattle.std.proofs.Common.{◌≡◌, ℕ, zero, suc, ◌+◌, ◌-◌, ◌<◌, ◌≤◌, List, [], ◌∷◌, ◌++◌, length, refl, sym, subst, arith, Some, None, Bool, true, false}
 use Rattle.std.specs.Prelude.{ℤ, ◌-ℤ◌, ◌&&◌, Option, ⊤, ◌==◌, nat_lt, flat_map, replicate, if◌then◌else◌}
 use Rattle.std.proofs.lemmas.Bool.{and_parts}
 use Rattle.std.proofs.lemmas.Bool.Decides.{nat_tests}
@@ -8,7 +8,10 @@ use Rattle.px_core.specs.Picture.{nat_of}
 use Rattle.run_lengths.specs.RunLength.{Run}
 use Rattle.run_lengths.specs.RunLength.Run.{Background, Foreground, Mask, Color, Image, Dithered}
 use Rattle.run_lengths.specs.Packer.{length_bytes, run_bytes, packed_runs, first_stretch, later_stretch, packed}
-use Rattle.px_core.specs.declared.depth.Depth.TheVariants.{Bits24}
+use Rattle.px_core.specs.declared.depth.Depth.{Depth}
+use Rattle.px_core.specs.declared.depth.Depth.TheVariants.{Bits24, Bits16}
+use Rattle.px_core.specs.Depth.{bits_in, bytes_in, brush_format, brush_bytes, shown_colors}
+use Rattle.px_core.specs.declared.rectangle.Rect.{Rect}
 use Rattle.order_fields.specs.declared.kind.FieldKind.{FieldKind}
 use Rattle.order_fields.specs.declared.kind.FieldKind.TheVariants.{Coordinate, Number, Signed, Color as ColorKind}
 use Rattle.order_fields.specs.declared.change.Change.{Change}
@@ -22,15 +25,17 @@ use Rattle.order_fields.specs.OrderDelta.{Field, is_unchanged, value_bytes, unle
 use Rattle.order_fields.specs.OrderDelta.{edge_bytes, edge_flags, flags_between, far_edges, later_edges, edges_bytes, bounds_bytes, bit, control_byte}
 use Rattle.order_fields.specs.OrderDelta.{type_bytes, has_bounds, keeps_bounds, takes_deltas, fields_in, keeps_bytes_in, is_typed, omitted_in, bytes_by_row}
 use Rattle.order_fields.specs.OrderDelta.{edges_of_optional}
-use Rattle.order_fields.specs.NamedDrawing.{drawing_fields}
-use Rattle.order_means.specs.WirePixels.{PixelData, data_of, packed_if_shorter, turned_over, padded_image, padded_glyph, padded}
+use Rattle.order_fields.specs.NamedDrawing.{NamedDrawing, drawing_fields}
+use Rattle.order_fields.specs.NamedDrawing.NamedDrawing.{Dst, Pat, Scr, Opaque, SaveBlock, RestoreBlock, Mem, Mem3, Glyphs}
+use Rattle.order_means.specs.WirePixels.{PixelData, data_of, packed_if_shorter, turned_over, kept_image, padded_glyph, padded}
 use Rattle.order_means.specs.CacheOrders.{secondary_bytes, cache_bitmap_body, cache_bitmap_data}
 use Rattle.caps_sets.specs.declared.confirmed.Confirmed.{Confirmed}
+use Rattle.caps_sets.specs.Confirmed.{depth_of}
 use Rattle.frame_rules.specs.FrameOrders.{SentOrder}
 use Rattle.frame_rules.specs.FrameOrders.SentOrder.{Drawn, CacheImage, CacheGlyph, CacheBrush, FrameMarker}
 use Rattle.frame_rules.specs.FrameBytes.{bytes_of_order}
 use Rattle.headline.specs.Sent.{AreBytes}
-use Rattle.headline.specs.OrderBytes.{HoldsBytes}
+use Rattle.headline.specs.OrderBytes.{counted_bytes, HoldsBytes}
 
 pub bytes_nil : AreBytes []
 bytes_nil = All-nil (λ b. b < 256)
@@ -199,8 +204,8 @@ row_are_bytes (Some r) regs confirmed vs bounds small h few =
 
 -- ---- pixels
 
-pixels_are_bytes : (pixels : List ℕ) → AreBytes (pixels_bytes Bits24 pixels)
-pixels_are_bytes pixels = flat_are_bytes (pixel_bytes Bits24) pixels (λ color. little_are_bytes 3 color)
+pixels_are_bytes : (depth : Depth) (pixels : List ℕ) → AreBytes (pixels_bytes depth pixels)
+pixels_are_bytes depth pixels = flat_are_bytes (pixel_bytes depth) pixels (λ color. little_are_bytes (bytes_in depth) color)
 
 length_are_bytes : (code long_code n : ℕ) → code ≤ 128 → long_code < 256 → AreBytes (length_bytes code long_code n)
 length_are_bytes code long_code n low small = by (nat_lt n 32) refl (nat_lt n 288) refl
@@ -213,23 +218,23 @@ length_are_bytes code long_code n low small = by (nat_lt n 32) refl (nat_lt n 28
         bytes_cons code ((n - 32) ∷ []) (omega (arith, low)) (bytes_cons (n - 32) [] (omega (arith, short)) bytes_nil)
     by false e false f = bytes_cons long_code (little_bytes 2 n) small (little_are_bytes 2 n)
 
-run_are_bytes : (r : Run) → AreBytes (run_bytes Bits24 r)
-run_are_bytes (Background n) = length_are_bytes 0x00 0xF0 n (omega arith) (omega arith)
-run_are_bytes (Color n color) =
-    bytes_append (length_bytes 0x60 0xF3 n) (pixel_bytes Bits24 color) (length_are_bytes 0x60 0xF3 n (omega arith) (omega arith)) (little_are_bytes 3 color)
-run_are_bytes (Image colors) =
-    bytes_append (length_bytes 0x80 0xF4 (length colors)) (pixels_bytes Bits24 colors)
-    (length_are_bytes 0x80 0xF4 (length colors) (omega arith) (omega arith)) (pixels_are_bytes colors)
-run_are_bytes (Foreground n) = bytes_nil
-run_are_bytes (Mask bits) = bytes_nil
-run_are_bytes (Dithered n first second) = bytes_nil
+run_are_bytes : (depth : Depth) (r : Run) → AreBytes (run_bytes depth r)
+run_are_bytes depth (Background n) = length_are_bytes 0x00 0xF0 n (omega arith) (omega arith)
+run_are_bytes depth (Color n color) =
+    bytes_append (length_bytes 0x60 0xF3 n) (pixel_bytes depth color) (length_are_bytes 0x60 0xF3 n (omega arith) (omega arith)) (little_are_bytes (bytes_in depth) color)
+run_are_bytes depth (Image colors) =
+    bytes_append (length_bytes 0x80 0xF4 (length colors)) (pixels_bytes depth colors)
+    (length_are_bytes 0x80 0xF4 (length colors) (omega arith) (omega arith)) (pixels_are_bytes depth colors)
+run_are_bytes depth (Foreground n) = bytes_nil
+run_are_bytes depth (Mask bits) = bytes_nil
+run_are_bytes depth (Dithered n first second) = bytes_nil
 
-packed_are_bytes : (w : ℕ) (pixels : List ℕ) → AreBytes (packed Bits24 w pixels)
-packed_are_bytes w pixels =
+packed_are_bytes : (depth : Depth) (w : ℕ) (pixels : List ℕ) → AreBytes (packed depth w pixels)
+packed_are_bytes depth w pixels =
     let first = packed_runs (first_stretch w pixels) in
     let later = packed_runs (later_stretch w pixels) in
-    bytes_append (flat_map (run_bytes Bits24) first) (flat_map (run_bytes Bits24) later) (flat_are_bytes (run_bytes Bits24) first run_are_bytes)
-    (flat_are_bytes (run_bytes Bits24) later run_are_bytes)
+    bytes_append (flat_map (run_bytes depth) first) (flat_map (run_bytes depth) later) (flat_are_bytes (run_bytes depth) first (run_are_bytes depth))
+    (flat_are_bytes (run_bytes depth) later (run_are_bytes depth))
 
 shorter_are_bytes : (a b : List ℕ) → AreBytes a → AreBytes b → AreBytes (packed_if_shorter a b).bytes
 shorter_are_bytes a b ha hb = by (nat_lt (length a) (length b))
@@ -240,9 +245,9 @@ shorter_are_bytes a b ha hb = by (nat_lt (length a) (length b))
     by true = ha
     by false = hb
 
-pub data_are_bytes : (no_header : Bool) (w : ℕ) (pixels : List ℕ) → AreBytes (data_of no_header w pixels).bytes
-data_are_bytes false w pixels = pixels_are_bytes pixels
-data_are_bytes true w pixels = shorter_are_bytes (packed Bits24 w pixels) (pixels_bytes Bits24 pixels) (packed_are_bytes w pixels) (pixels_are_bytes pixels)
+pub data_are_bytes : (depth : Depth) (no_header : Bool) (w : ℕ) (pixels : List ℕ) → AreBytes (data_of depth no_header w pixels).bytes
+data_are_bytes depth false w pixels = pixels_are_bytes depth pixels
+data_are_bytes depth true w pixels = shorter_are_bytes (packed depth w pixels) (pixels_bytes depth pixels) (packed_are_bytes depth w pixels) (pixels_are_bytes depth pixels)
 
 -- ---- secondary orders
 
@@ -254,26 +259,38 @@ secondary_are_bytes flags kind body small h =
     (bytes_append a (b ++ kind ∷ body) (little_are_bytes 2 (length body - 7))
     (bytes_append b (kind ∷ body) (little_are_bytes 2 flags) (bytes_cons kind body small h)))
 
-image_body_are_bytes : (cache index w h : ℕ) (bytes : List ℕ) → cache < 256 → w < 256 → h < 256 → AreBytes bytes
-    → AreBytes (cache_bitmap_body cache index w h bytes)
-image_body_are_bytes cache index w h bytes c wide high are =
+bits_small : (depth : Depth) → bits_in depth < 256
+bits_small Bits24 = omega arith
+bits_small Bits16 = omega arith
+
+format_small : (depth : Depth) → brush_format depth < 256
+format_small Bits24 = omega arith
+format_small Bits16 = omega arith
+
+brush_small : (depth : Depth) → brush_bytes depth < 256
+brush_small Bits24 = omega arith
+brush_small Bits16 = omega arith
+
+image_body_are_bytes : (depth : Depth) (cache index w h : ℕ) (bytes : List ℕ) → cache < 256 → w < 256 → h < 256 → AreBytes bytes
+    → AreBytes (cache_bitmap_body depth cache index w h bytes)
+image_body_are_bytes depth cache index w h bytes c wide high are =
     let a = little_bytes 2 (length bytes) in
     let b = little_bytes 2 index in
     let data_bytes = bytes_append a (b ++ bytes) (little_are_bytes 2 (length bytes)) (bytes_append b bytes (little_are_bytes 2 index) are) in
-    bytes_cons cache (0 ∷ w ∷ h ∷ 24 ∷ (a ++ (b ++ bytes))) c (bytes_cons 0 (w ∷ h ∷ 24 ∷ (a ++ (b ++ bytes))) (omega arith)
-    (bytes_cons w (h ∷ 24 ∷ (a ++ (b ++ bytes))) wide
-    (bytes_cons h (24 ∷ (a ++ (b ++ bytes))) high (bytes_cons 24 (a ++ (b ++ bytes)) (omega arith) data_bytes))))
+    bytes_cons cache (0 ∷ w ∷ h ∷ bits_in depth ∷ (a ++ (b ++ bytes))) c (bytes_cons 0 (w ∷ h ∷ bits_in depth ∷ (a ++ (b ++ bytes))) (omega arith)
+    (bytes_cons w (h ∷ bits_in depth ∷ (a ++ (b ++ bytes))) wide
+    (bytes_cons h (bits_in depth ∷ (a ++ (b ++ bytes))) high (bytes_cons (bits_in depth) (a ++ (b ++ bytes)) (bits_small depth) data_bytes))))
 
-image_data_are_bytes : (cache index w h : ℕ) (p : PixelData) → cache < 256 → w < 256 → h < 256 → AreBytes p.bytes
-    → AreBytes (cache_bitmap_data cache index w h p)
-image_data_are_bytes cache index w h p c wide high are =
-    by p.is_packed (image_body_are_bytes cache index w h p.bytes c wide high are)
+image_data_are_bytes : (depth : Depth) (cache index w h : ℕ) (p : PixelData) → cache < 256 → w < 256 → h < 256 → AreBytes p.bytes
+    → AreBytes (cache_bitmap_data depth cache index w h p)
+image_data_are_bytes depth cache index w h p c wide high are =
+    by p.is_packed (image_body_are_bytes depth cache index w h p.bytes c wide high are)
   where
-    by : (b : Bool) → AreBytes (cache_bitmap_body cache index w h p.bytes)
-        → AreBytes (if b then secondary_bytes 0x0400 2 (cache_bitmap_body cache index w h p.bytes) else secondary_bytes 0 0
-        (cache_bitmap_body cache index w h p.bytes))
-    by true body = secondary_are_bytes 0x0400 2 (cache_bitmap_body cache index w h p.bytes) (omega arith) body
-    by false body = secondary_are_bytes 0 0 (cache_bitmap_body cache index w h p.bytes) (omega arith) body
+    by : (b : Bool) → AreBytes (cache_bitmap_body depth cache index w h p.bytes)
+        → AreBytes (if b then secondary_bytes 0x0400 2 (cache_bitmap_body depth cache index w h p.bytes) else secondary_bytes 0 0
+        (cache_bitmap_body depth cache index w h p.bytes))
+    by true body = secondary_are_bytes 0x0400 2 (cache_bitmap_body depth cache index w h p.bytes) (omega arith) body
+    by false body = secondary_are_bytes 0 0 (cache_bitmap_body depth cache index w h p.bytes) (omega arith) body
 
 zeros_are_bytes : (n : ℕ) → AreBytes (replicate n 0)
 zeros_are_bytes zero = bytes_nil
@@ -281,14 +298,29 @@ zeros_are_bytes (suc n) = bytes_cons 0 (replicate n 0) (omega arith) (zeros_are_
 
 -- ---- an order of a frame
 
+-- the counted bytes of a drawing's fields
+counted_again : (depth : Depth) (area : Rect) (d : NamedDrawing) → (drawing_fields depth area d).values.bytes ≡ counted_bytes d
+counted_again depth area (Dst r code) = refl
+counted_again depth area (Pat r code entry) = refl
+counted_again depth area (Scr r code sx sy) = refl
+counted_again depth area (Opaque r color) = refl
+counted_again depth area (SaveBlock position r) = refl
+counted_again depth area (RestoreBlock position r) = refl
+counted_again depth area (Mem cache index r code sx sy) = refl
+counted_again depth area (Mem3 cache index r code sx sy entry) = refl
+counted_again depth area (Glyphs cache x y color run) = refl
+
 pub order_are_bytes : (c : Confirmed) (regs : Registers) (o : SentOrder) → HoldsBytes o → AreBytes (bytes_of_order c regs o)
 order_are_bytes c regs (Drawn touched d bounds) h =
-    let o = drawing_fields Bits24 touched d in
-    row_are_bytes (row_of o.code) regs c.zero_bounds o.values (edges_of_optional bounds) (row_is_small table o.code table_is_small) h.0 h.1
+    let o = drawing_fields (depth_of c) touched d in
+    let is = counted_again (depth_of c) touched d in
+    row_are_bytes (row_of o.code) regs c.zero_bounds o.values (edges_of_optional bounds) (row_is_small table o.code table_is_small)
+    (subst AreBytes (sym is) h.0) (subst (λ bs. length bs < 256) (sym is) h.1)
 order_are_bytes c regs (CacheImage cache index image) h =
-    let p = padded_image image in
+    let p = kept_image (depth_of c) image in
     let pixels = turned_over p.w p.h p.pixels in
-    image_data_are_bytes cache index p.w p.h (data_of c.no_header p.w pixels) h.0 h.1 h.2 (data_are_bytes c.no_header p.w pixels)
+    image_data_are_bytes (depth_of c) cache index p.w p.h (data_of (depth_of c) c.no_header p.w pixels) h.0 h.1 h.2
+    (data_are_bytes (depth_of c) c.no_header p.w pixels)
 order_are_bytes c regs (CacheGlyph cache index glyph) h =
     let bits = (padded_glyph glyph).bits in
     let i = little_bytes 2 index in
@@ -305,9 +337,13 @@ order_are_bytes c regs (CacheGlyph cache index glyph) h =
     let rest = i ++ (x ++ (y ++ (wide ++ (high ++ bits)))) in
     secondary_are_bytes 0 3 (cache ∷ 1 ∷ rest) (omega arith) (bytes_cons cache (1 ∷ rest) h.0 (bytes_cons 1 rest (omega arith) body))
 order_are_bytes c regs (CacheBrush entry brush) h =
-    let pixels = pixels_bytes Bits24 (turned_over 8 8 brush) in
-    secondary_are_bytes 0 7 (entry ∷ 5 ∷ 8 ∷ 8 ∷ 0 ∷ 192 ∷ pixels) (omega arith)
-    (bytes_cons entry (5 ∷ 8 ∷ 8 ∷ 0 ∷ 192 ∷ pixels) h (bytes_cons 5 (8 ∷ 8 ∷ 0 ∷ 192 ∷ pixels) (omega arith) (bytes_cons 8 (8 ∷ 0 ∷ 192 ∷ pixels) (omega arith)
-    (bytes_cons 8 (0 ∷ 192 ∷ pixels) (omega arith)
-    (bytes_cons 0 (192 ∷ pixels) (omega arith) (bytes_cons 192 pixels (omega arith) (pixels_are_bytes (turned_over 8 8 brush))))))))
+    let depth = depth_of c in
+    let cut = turned_over 8 8 (shown_colors depth brush) in
+    let pixels = pixels_bytes depth cut in
+    let format = brush_format depth in
+    let count = brush_bytes depth in
+    secondary_are_bytes 0 7 (entry ∷ format ∷ 8 ∷ 8 ∷ 0 ∷ count ∷ pixels) (omega arith)
+    (bytes_cons entry (format ∷ 8 ∷ 8 ∷ 0 ∷ count ∷ pixels) h (bytes_cons format (8 ∷ 8 ∷ 0 ∷ count ∷ pixels) (format_small depth)
+    (bytes_cons 8 (8 ∷ 0 ∷ count ∷ pixels) (omega arith) (bytes_cons 8 (0 ∷ count ∷ pixels) (omega arith)
+    (bytes_cons 0 (count ∷ pixels) (omega arith) (bytes_cons count pixels (brush_small depth) (pixels_are_bytes depth cut)))))))
 order_are_bytes c regs (FrameMarker ends) h = bytes_cons 54 (little_bytes 4 (bit ends)) (omega arith) (little_are_bytes 4 (bit ends))

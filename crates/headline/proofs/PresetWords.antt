@@ -7,6 +7,7 @@ use Rattle.std.specs.List.{join_with_byte}
 use Rattle.std.proofs.lemmas.Bool.{and_parts}
 use Rattle.std.proofs.lemmas.Bool.Decides.{nat_tests}
 use Rattle.std.proofs.lemmas.List.Splits.{join_with_byte-slice_split}
+use Rattle.px_core.specs.declared.depth.Depth.TheVariants.{Bits16}
 use Rattle.caps_sets.specs.declared.confirmed.Confirmed.{Confirmed}
 use Rattle.caps_sets.specs.declared.cache_size.CacheSize.{CacheSize}
 use Rattle.caps_sets.specs.Confirmed.{sized, with_bitmap_cache, with_glyph_cache}
@@ -114,12 +115,14 @@ override_lacks c (a ∷ b ∷ k ∷ sign ∷ rest) e = by (is_ascii_digit k && (
     by false is o size more = absurd (cc more)
 
 word_lacks : (c : Confirmed) (word : List ℕ) → is_some (overridden_word c word) ≡ true → Lacks 10 word
-word_lacks c word e = by (is_same_word word (codes "cautious")) refl e
+word_lacks c word e = by (is_same_word word (codes "cautious")) refl (is_same_word word (codes "bpp=16")) refl e
   where
-    by : (t : Bool) → is_same_word word (codes "cautious") ≡ t → is_some (if t then Some (record c { cautious = true }) else overridden c word) ≡ true
+    by : (cautious : Bool) → is_same_word word (codes "cautious") ≡ cautious → (sixteen : Bool) → is_same_word word (codes "bpp=16") ≡ sixteen
+        → is_some (if cautious then Some (record c { cautious = true }) else (if sixteen then Some (record c { depth = Bits16 }) else overridden c word)) ≡ true
         → Lacks 10 word
-    by true is more = subst (Lacks 10) (sym (same_word word (codes "cautious") is)) (lacks_by 10 (codes "cautious") refl)
-    by false is more = override_lacks c word more
+    by true is sixteen other more = subst (Lacks 10) (sym (same_word word (codes "cautious") is)) (lacks_by 10 (codes "cautious") refl)
+    by false other true is more = subst (Lacks 10) (sym (same_word word (codes "bpp=16") is)) (lacks_by 10 (codes "bpp=16") refl)
+    by false other false is more = override_lacks c word more
 
 overrides_are : (c : Confirmed) (words : List (List ℕ)) → is_some (overridden_by c words) ≡ true → AreOneLine words
 overrides_are c [] e = tt

@@ -6,7 +6,9 @@ use Rattle.std.proofs.lemmas.List.{get_or_append_left}
 use Rattle.px_core.specs.declared.surface.Size.{Size}
 use Rattle.draw_ops.specs.declared.shape.Drawing.{Drawing}
 use Rattle.draw_ops.specs.declared.shape.Shape.{Shape}
+use Rattle.px_core.specs.Depth.{seen}
 use Rattle.caps_sets.specs.declared.confirmed.Confirmed.{Confirmed}
+use Rattle.caps_sets.specs.Confirmed.{depth_of}
 use Rattle.order_means.specs.ClientState.{ClientState}
 use Rattle.session_rules.specs.declared.entry.Entry.{Entry}
 use Rattle.session_rules.specs.Board.{Board, opening_board}
@@ -76,5 +78,5 @@ describes_on size c j more number e client low d =
       blocks = subst (λ st. BlocksAgree st.surface e.held client) (sym same) d.blocks;
       apart = d.apart;
       pixels = d.pixels;
-      picture = λ some. d.picture some ∙ ap (λ st. map Some st.surface.picture) (sym same);
+      picture = λ some. d.picture some ∙ ap (λ st. map (seen (depth_of c)) st.surface.picture) (sym same);
     }

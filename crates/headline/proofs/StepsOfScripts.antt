@@ -7,6 +7,7 @@ use Rattle.std.proofs.lemmas.List.{length-set}
 use Rattle.std.specs.Option.{option_and_then}
 use Rattle.px_core.specs.declared.surface.Size.{Size}
 use Rattle.px_core.specs.Rectangle.{is_session_size}
+use Rattle.px_core.specs.declared.depth.Depth.TheVariants.{Bits16}
 use Rattle.caps_sets.specs.declared.confirmed.Confirmed.{Confirmed}
 use Rattle.caps_sets.specs.declared.cache_size.CacheSize.{CacheSize}
 use Rattle.caps_sets.specs.Confirmed.{plain, with_bitmap_cache, with_glyph_cache}
@@ -65,12 +66,13 @@ overridden_has c (a ∷ b ∷ k ∷ sign ∷ rest) h = by (is_ascii_digit k && (
     by false = tt
 
 overridden_word_has : (c : Confirmed) (word : List ℕ) → HasAllCaches c → IfSome (overridden_word c word) HasAllCaches
-overridden_word_has c word h = by (is_same_word word (codes "cautious")) (overridden_has c word h)
+overridden_word_has c word h = by (is_same_word word (codes "cautious")) (is_same_word word (codes "bpp=16")) (overridden_has c word h)
   where
-    by : (t : Bool) → IfSome (overridden c word) HasAllCaches
-        → IfSome (if t then Some (record c { cautious = true }) else overridden c word) HasAllCaches
-    by true rest = record { bitmaps = h.bitmaps; glyphs = h.glyphs }
-    by false rest = rest
+    by : (cautious sixteen : Bool) → IfSome (overridden c word) HasAllCaches
+        → IfSome (if cautious then Some (record c { cautious = true }) else (if sixteen then Some (record c { depth = Bits16 }) else overridden c word)) HasAllCaches
+    by true sixteen more = record { bitmaps = h.bitmaps; glyphs = h.glyphs }
+    by false true more = record { bitmaps = h.bitmaps; glyphs = h.glyphs }
+    by false false more = more
 
 overridden_by_has : (c : Confirmed) (words : List (List ℕ)) → HasAllCaches c → IfSome (overridden_by c words) HasAllCaches
 overridden_by_has c [] h = h

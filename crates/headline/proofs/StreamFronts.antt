@@ -5,7 +5,6 @@ use Rattle.std.proofs.lemmas.List.{append-nil}
 use Rattle.px_core.specs.declared.surface.Size.{Size}
 use Rattle.caps_sets.specs.declared.confirmed.Confirmed.{Confirmed}
 use Rattle.wire_num.specs.Field.{Read, bind}
-use Rattle.px_core.specs.declared.depth.Depth.TheVariants.{Bits24}
 use Rattle.order_fields.specs.OrderStream.{Order, Stream, orders_in}
 use Rattle.order_fields.specs.OrderStream.Order.{Primary, Other}
 use Rattle.order_means.specs.WirePixels.{turned_over}
@@ -80,8 +79,8 @@ needs_extends pictures false fault r h = tt
 tile_extends : (size : Size) (v : View) (t : Tile) → Extends v.pictures (view_after_tile size v t)
 tile_extends size v t =
     let shown : List ℕ → View = λ wire. record v { client = after_painting size None (showing t (turned_over t.w t.h wire)) v.client; tiles = v.tiles + 1 } in
-    needs_extends v.pictures (is_tile size t) Broken (bind (tile_pixels (is_packed_tile t.flags) t) (λ wire. Ok (shown wire)))
-    (any_extends v.pictures (tile_pixels (is_packed_tile t.flags) t) (λ wire. Ok (shown wire)) (λ wire. front_of_itself v.pictures))
+    needs_extends v.pictures (is_tile v.client.depth size t) Broken (bind (tile_pixels v.client.depth (is_packed_tile t.flags) t) (λ wire. Ok (shown wire)))
+    (any_extends v.pictures (tile_pixels v.client.depth (is_packed_tile t.flags) t) (λ wire. Ok (shown wire)) (λ wire. front_of_itself v.pictures))
 
 tiles_extend : (size : Size) (ts : List Tile) (v : View) → Extends v.pictures (view_after_tiles size v ts)
 tiles_extend size [] v = front_of_itself v.pictures
@@ -101,7 +100,7 @@ obeyed_extends confirmed size body v s (Some left) = tt
 
 update_extends : (confirmed : Confirmed) (size : Size) (body : Body) (v : View) (u : Update) → Extends v.pictures (view_after_update confirmed size body v u)
 update_extends confirmed size body v (Orders count bytes) =
-    let s = orders_in Bits24 bytes count v.client.registers in obeyed_extends confirmed size body v s s.refused
+    let s = orders_in v.client.depth bytes count v.client.registers in obeyed_extends confirmed size body v s s.refused
 update_extends confirmed size body v (Tiles ts) = meant_extends v.pictures body.place (view_after_tiles size v ts) (tiles_extend size ts v)
 update_extends confirmed size body v Synchronize = marked_extends (not confirmed.marker) v
 

@@ -2,8 +2,10 @@
 use Rattle.std.proofs.Common.{◌≡◌, ℕ, ◌+◌, ◌≤◌, List, [], ◌∷◌, ◌++◌, length, map, ap, sym, ◌∙◌, subst, arith, append_assoc, append-nil, Some, None}
 use Rattle.std.specs.Prelude.{true, Option, Result, Ok, Err}
 use Rattle.px_core.specs.declared.surface.Size.{Size}
+use Rattle.px_core.specs.Depth.{seen}
 use Rattle.px_core.specs.Rectangle.{is_session_size}
 use Rattle.caps_sets.specs.declared.confirmed.Confirmed.{Confirmed}
+use Rattle.caps_sets.specs.Confirmed.{depth_of}
 use Rattle.session_rules.specs.declared.entry.Entry.{Entry}
 use Rattle.session_rules.specs.Journal.{Head, state_after, IsLegalJournal}
 use Rattle.session_rules.specs.Steps.{TakeOf, TakesFollow}
@@ -42,7 +44,7 @@ ends_between c size bytes view end e = ends_by c size (view_after_bodies c size 
 pub record TakesShown (head : Head) (c : Confirmed) (j : List Entry) (e : Encoder) (ts : List TakeOf) (to : ℕ) (view : View) (place : ℕ) : Type 0 where
   pub after : View
   pub reads : Reads c head.size view place (joined_bytes (bytes_of_takes head.size c j e ts)) after
-  pub marks : after.pictures ≡ view.pictures ++ pictures_after head.size j (map (λ t. t.number) ts)
+  pub marks : after.pictures ≡ view.pictures ++ pictures_after (depth_of c) head.size j (map (λ t. t.number) ts)
   pub describes : DescribesClient head.size c j to (encoder_after_takes head.size c j e ts) after.client
 
 module _ (head : Head) (c : Confirmed) (shows : FrameShowsJournal head c) (sized : is_session_size head.size.w head.size.h ≡ true) (all : HasAllCaches c)
@@ -72,9 +74,9 @@ module _ (head : Head) (c : Confirmed) (shows : FrameShowsJournal head c) (sized
       record {
         after = more.after;
         reads = reads_then c head.size view one.after more.after place bytes (joined_bytes (bytes_of_takes head.size c j next ts)) one.reads more.reads;
-        marks = more.marks ∙ (ap (λ ps. ps ++ pictures_after head.size j (map (λ t. t.number) ts)) one.mark
-            ∙ append_assoc view.pictures (map Some (state_after head.size j t.number).surface.picture ∷ [])
-            (pictures_after head.size j (map (λ t. t.number) ts)));
+        marks = more.marks ∙ (ap (λ ps. ps ++ pictures_after (depth_of c) head.size j (map (λ t. t.number) ts)) one.mark
+            ∙ append_assoc view.pictures (map (seen (depth_of c)) (state_after head.size j t.number).surface.picture ∷ [])
+            (pictures_after (depth_of c) head.size j (map (λ t. t.number) ts)));
         describes = more.describes;
       }
 

@@ -2,6 +2,7 @@
 use Rattle.std.specs.Prelude.{◌≡◌, ℕ, List, ◌++◌, Option, Ok, ⊤}
 use Rattle.px_core.specs.declared.surface.Size.{Size}
 use Rattle.caps_sets.specs.declared.confirmed.Confirmed.{Confirmed}
+use Rattle.caps_sets.specs.Confirmed.{depth_of}
 use Rattle.session_rules.specs.declared.entry.Entry.{Entry}
 use Rattle.session_rules.specs.Journal.{Head}
 use Rattle.session_rules.specs.Steps.{journal_of_steps, frame_numbers}
@@ -31,12 +32,12 @@ pub record ShowsFirst (confirmed : Confirmed) (size : Size) (bytes : List ℕ) (
   pub marks_show : pictures_at_marks confirmed size bytes ≡ Ok shown
   pub are_first : IsFront shown pictures
 
--- a viewer's bytes aren't refused; their marks, one for each of the first ones of these takes, show the pictures after exactly as
--- many entries of the journal as the takes found
+-- a viewer's bytes aren't refused; their marks, one for each of the first ones of these takes, show, cut to the depth that the
+-- viewer confirmed, the pictures after exactly as many entries of the journal as the takes found
 pub record SeesFirstOfJournal (size : Size) (confirmed : Confirmed) (j : List Entry) (numbers : List ℕ) (bytes : List ℕ) : Type 0 where
   pub seen : List ℕ
   pub are_first : IsFront seen numbers
-  pub marks_show_journal : pictures_at_marks confirmed size bytes ≡ Ok (pictures_after size j seen)
+  pub marks_show_journal : pictures_at_marks confirmed size bytes ≡ Ok (pictures_after (depth_of confirmed) size j seen)
 
 -- each viewer's bytes in a front of a script's capture
 abbrev pub EveryViewerOfFront : Script → List ℕ → Type 0

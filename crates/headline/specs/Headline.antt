@@ -1,12 +1,14 @@
 -- The headline: whatever the interleaving of joins, inputs, drawings, refreshes, takes and departures, no viewer's bytes are
--- ever refused by the protocol's own reading, and at each mark they show the picture after exactly the journal entries that the
--- frame's take found; each change was made by the holder of control.
+-- ever refused by the protocol's own reading, and at each mark they show, cut to the viewer's depth, the picture after exactly the
+-- journal entries that the frame's take found; each change was made by the holder of control.
 use Rattle.std.specs.Prelude.{◌≡◌, ℕ, Bool, true, List, [], ◌∷◌, map, Ok, ⊤, IsTrue}
 use Rattle.std.specs.declared.option.Option.{Option}
-use Rattle.std.specs.declared.option.Option.TheVariants.{Some}
+use Rattle.px_core.specs.declared.depth.Depth.{Depth}
 use Rattle.px_core.specs.declared.surface.Size.{Size}
+use Rattle.px_core.specs.Depth.{seen}
 use Rattle.px_core.specs.Rectangle.{is_session_size}
 use Rattle.caps_sets.specs.declared.confirmed.Confirmed.{Confirmed}
+use Rattle.caps_sets.specs.Confirmed.{depth_of}
 use Rattle.session_rules.specs.declared.entry.Entry.{Entry}
 use Rattle.session_rules.specs.Journal.{Head, picture_after_entries, is_present, IsLegalJournal, ChangesAreTheHolders}
 use Rattle.session_rules.specs.Steps.{Step, Play, play_at_first, outcome, journal_of_steps, frame_numbers}
@@ -18,18 +20,18 @@ use Rattle.script_rules.specs.Capture.{viewer_bytes}
 use Rattle.frame_rules.specs.Describes.{HasAllCaches}
 use Rattle.script_rules.specs.CaptureText.{run_at_first, run_after_all, sent_from, encoder_frames}
 
--- a picture of which each pixel is known
-abbrev pub known_picture : List ℕ → List (Option ℕ)
-known_picture picture = map Some picture
+-- a picture of which each pixel is known, cut to a depth
+abbrev pub known_picture : Depth → List ℕ → List (Option ℕ)
+known_picture depth picture = map (seen depth) picture
 
--- the pictures after these numbers of a journal's entries
-abbrev pub pictures_after : Size → List Entry → List ℕ → List (List (Option ℕ))
-pictures_after size j numbers = map (λ n. known_picture (picture_after_entries size j n)) numbers
+-- the pictures after these numbers of a journal's entries, cut to a depth
+abbrev pub pictures_after : Depth → Size → List Entry → List ℕ → List (List (Option ℕ))
+pictures_after depth size j numbers = map (λ n. known_picture depth (picture_after_entries size j n)) numbers
 
--- a viewer's bytes aren't refused and leave no rest after their last whole packet; their marks, one for each of these takes, show
--- the pictures after exactly as many entries of the journal as the takes found
+-- a viewer's bytes aren't refused and leave no rest after their last whole packet; their marks, one for each of these takes, show,
+-- cut to the depth that the viewer confirmed, the pictures after exactly as many entries of the journal as the takes found
 pub record SeesJournal (size : Size) (confirmed : Confirmed) (j : List Entry) (numbers : List ℕ) (bytes : List ℕ) : Type 0 where
-  pub marks_show_journal : pictures_at_marks confirmed size bytes ≡ Ok (pictures_after size j numbers)
+  pub marks_show_journal : pictures_at_marks confirmed size bytes ≡ Ok (pictures_after (depth_of confirmed) size j numbers)
   pub ends_between_packets : EndsBetween bytes
 
 abbrev pub steps_of : List Asked → List Step

@@ -1,4 +1,4 @@
-//! The headline: whatever the interleaving, every viewer is sent bytes that are read whole, and each mark shows the picture after the
+//! The headline: whatever the interleaving, every viewer is sent bytes that are read whole, and each mark shows, cut to the viewer's depth, the picture after the
 //! entries that the take found; over steps, over captures and over scripts.
 #![tactic(auto)]
 

@@ -8,7 +8,7 @@ ghost use Rattle.draw_ops.specs.Content.{GlyphOf};
 ghost use Rattle.draw_ops.specs.Slots.{Loaded};
 ghost use Rattle.caps_sets.specs.declared.confirmed.Confirmed.{Confirmed};
 ghost use Rattle.order_fields.specs.OrderTable.{Registers};
-ghost use Rattle.px_core.specs.declared.depth.Depth.TheVariants.{Bits24};
+ghost use Rattle.px_core.specs.declared.depth.Depth.{Depth};
 ghost use Rattle.run_lengths.specs.Packer.{packed};
 ghost use Rattle.px_core.specs.Pixels.{pixels_bytes};
 ghost use Rattle.cache_plan.specs.CacheUse.{misses, cache_index, uses_of};
@@ -91,12 +91,12 @@ pub fn rectangles_are_the_tiles_to_send()
         → IsOneOf tile (tiles_in size tiles) }
 {}
 
-/// The pixels of a tile or an image go packed exactly where the viewer takes packed pixels without a header and the packed bytes are fewer.
+/// The pixels of a tile or an image go packed exactly where the viewer takes packed pixels without a header and the packed bytes are fewer, at any depth.
 pub fn pixels_go_packed_where_that_is_shorter()
-    ensures packed { (no_header : Bool) (w : ℕ) (pixels : List ℕ)
-        → (data_of no_header w pixels).is_packed ≡ (no_header && nat_lt (length (packed Bits24 w pixels)) (length (pixels_bytes Bits24 pixels))) }
-    ensures as_packed { (no_header : Bool) (w : ℕ) (pixels : List ℕ) → (data_of no_header w pixels).is_packed ≡ true
-        → (data_of no_header w pixels).bytes ≡ packed Bits24 w pixels }
-    ensures as_they_are { (no_header : Bool) (w : ℕ) (pixels : List ℕ) → (data_of no_header w pixels).is_packed ≡ false
-        → (data_of no_header w pixels).bytes ≡ pixels_bytes Bits24 pixels }
+    ensures packed { (depth : Depth) (no_header : Bool) (w : ℕ) (pixels : List ℕ)
+        → (data_of depth no_header w pixels).is_packed ≡ (no_header && nat_lt (length (packed depth w pixels)) (length (pixels_bytes depth pixels))) }
+    ensures as_packed { (depth : Depth) (no_header : Bool) (w : ℕ) (pixels : List ℕ) → (data_of depth no_header w pixels).is_packed ≡ true
+        → (data_of depth no_header w pixels).bytes ≡ packed depth w pixels }
+    ensures as_they_are { (depth : Depth) (no_header : Bool) (w : ℕ) (pixels : List ℕ) → (data_of depth no_header w pixels).is_packed ≡ false
+        → (data_of depth no_header w pixels).bytes ≡ pixels_bytes depth pixels }
 {}

@@ -17,7 +17,7 @@ ghost use Rattle.headline.specs.Headline.{SeesJournal, EveryViewerOfSteps, AreBy
 ghost use Rattle.headline.specs.Interleaving.{frames_from};
 
 /// A viewer that is sent its takes over a legal journal, one after the other from its first on, sees that journal:
-/// its bytes aren't refused and leave no rest, and each take's mark shows the picture after the entries that the take found.
+/// its bytes aren't refused and leave no rest, and each take's mark shows, cut to the viewer's depth, the picture after the entries that the take found.
 pub fn takes_show_the_journal()
     ensures { (head : Head) (c : Confirmed) (j : List Entry) (ts : List TakeOf) (last : ℕ) → is_session_size head.size.w head.size.h ≡ true → HasAllCaches c
         → IsLegalJournal head j → TakesFollow 0 ts last → last ≤ length j

@@ -2,6 +2,7 @@
 use Rattle.std.proofs.Common.{◌≡◌, ℕ, List, ◌++◌, refl}
 use Rattle.std.specs.Fmt.{digits}
 use Rattle.std.specs.Prelude.{codes, Ok}
+use Rattle.px_core.specs.declared.depth.Depth.TheVariants.{Bits24}
 use Rattle.rop3_core.specs.Rop3.{ternary_raster}
 use Rattle.session_rules.specs.Steps.{journal_of_steps, frame_numbers}
 use Rattle.order_means.specs.FrameMarks.{pictures_at_marks}
@@ -15,9 +16,9 @@ abbrev ShowsOpening : ℕ → List ℕ → Opening → Type 0
 ShowsOpening v capture NoSize = ⊥
 ShowsOpening v capture Unended = ⊥
 ShowsOpening v capture (Opened s) = pictures_at_marks (confirmed_in s.head s.asked v) s.head.size (viewer_bytes v capture)
-    ≡ Ok (pictures_after s.head.size (journal_of_steps s.head (steps_of s.asked)) (frame_numbers s.head (steps_of s.asked) v))
+    ≡ Ok (pictures_after Bits24 s.head.size (journal_of_steps s.head (steps_of s.asked)) (frame_numbers s.head (steps_of s.asked) v))
 
--- the marks of a viewer's bytes in a script's capture show the journal
+-- the marks of a viewer's bytes in a script's capture show the journal, at 24 bits
 abbrev Shows : ℕ → List ℕ → Type 0
 Shows v script = ShowsOpening v (capture_of encoder_frames script) (opening_of script)
 

@@ -11,6 +11,7 @@ pub mod Frames
 pub mod Rooms
 pub mod Caches
 pub mod CautiousScripts
+pub mod DepthScripts
 pub mod ManyFills
 pub mod Largest
 pub mod Headlines
@@ -26,3 +27,4 @@ pub mod CautiousRows
 mod MeaningsOfFrames
 mod PendingRows
 mod Depths
+mod DepthRows

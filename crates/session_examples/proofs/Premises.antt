@@ -1,6 +1,7 @@
 -- A list of steps that lacks a premise of the headline, and what fails of it.
 use Rattle.std.proofs.Common.{◌≡◌, ℕ, List, [], ◌∷◌, refl, sym, ◌∙◌, false}
 use Rattle.std.specs.Prelude.{codes, Ok}
+use Rattle.px_core.specs.declared.depth.Depth.TheVariants.{Bits24}
 use Rattle.px_core.specs.declared.surface.Size.{Size}
 use Rattle.caps_sets.specs.Confirmed.{plain, marked}
 use Rattle.session_rules.specs.declared.entry.Role.TheVariants.{Owner, View}
@@ -42,6 +43,6 @@ no_mark = refl
 a_take_before_its_viewer_joins : EveryViewerSeesTheJournal two early sent → ⊥
 unfolding early two small sent
 a_take_before_its_viewer_joins sees =
-    let seen : Ok [] ≡ Ok (pictures_after small (journal_of_steps two (steps_of early)) (frame_numbers two (steps_of early) 2)) = sym no_mark ∙
+    let seen : Ok [] ≡ Ok (pictures_after Bits24 small (journal_of_steps two (steps_of early)) (frame_numbers two (steps_of early) 2)) = sym no_mark ∙
     (sees.viewers 2).marks_show_journal in
     absurd (cc seen)

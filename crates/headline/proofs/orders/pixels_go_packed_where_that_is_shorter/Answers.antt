@@ -3,7 +3,7 @@ use Rattle.headline.proofs.orders.pixels_go_packed_where_that_is_shorter.Goals a
 
 pub returns : goal.returns
 returns k = record {
-  packed = λ no_header w pixels. packed_where w pixels no_header;
-  as_packed = λ no_header w pixels. as_packed w pixels no_header;
-  as_they_are = λ no_header w pixels. as_they_are w pixels no_header;
+  packed = λ depth no_header w pixels. packed_where depth w pixels no_header;
+  as_packed = λ depth no_header w pixels. as_packed depth w pixels no_header;
+  as_they_are = λ depth no_header w pixels. as_they_are depth w pixels no_header;
 }
