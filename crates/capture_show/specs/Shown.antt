@@ -6,10 +6,11 @@ use Rattle.px_core.specs.declared.surface.Size.{Size}
 use Rattle.px_core.specs.Picture.{pixel_at}
 use Rattle.order_means.specs.FrameMarks.{View, ClientReading, Refusal, read_stream}
 use Rattle.client_view.specs.Views.{capped, last_picture}
+use Rattle.client_view.specs.Widened.{widened_picture}
 use Rattle.script_rules.specs.Capture.{JoinedAs, first_broken_line, joined_as, viewer_bytes}
 
 -- what a capture shows a viewer: its first line that breaks the rules of captures; that no line joins it; the place where its bytes are
--- refused; that they have no mark; or the picture at the last mark, with how many marks, orders and tiles there were
+-- refused; that they have no mark; or the picture at the last mark, in colours of 24 bits, with how many marks, orders and tiles there were
 pub data Shown : Type 0 where
   BrokenAt : ℕ → Shown
   NeverJoined : Shown
@@ -19,7 +20,7 @@ pub data Shown : Type 0 where
 
 abbrev pub marked_shown : Size → View → List (List (Option ℕ)) → Shown
 marked_shown size view [] = Unmarked
-marked_shown size view (p ∷ ps) = Marked size (length view.pictures) view.orders view.tiles (last_picture p ps)
+marked_shown size view (p ∷ ps) = Marked size (length view.pictures) view.orders view.tiles (widened_picture view.client.depth (last_picture p ps))
 
 abbrev pub view_shown : Size → View → Shown
 view_shown size view = marked_shown size view view.pictures

@@ -1,6 +1,7 @@
 //! A picture, written row by row.
 ghost use Rattle.std.specs.Prelude.{◌<◌, None, IfErr};
 ghost use Rattle.px_core.specs.Picture.{pixel_at};
+ghost use Rattle.client_view.specs.Widened.{widened_picture};
 ghost use Rattle.capture_show.specs.Answers.{Writes, WriteCause, IsWriteFault};
 ghost use Rattle.capture_show.specs.Shown.{row_text, rows_text, picture_text};
 
@@ -18,7 +19,7 @@ pub(crate) fn write_picture<K: Sink>(
     output: &mut K,
 ) -> Result<(), ShowFault>
     ensures written { Writes result (picture_text client.now.viewer.pictures.size client.now.viewer.marks client.now.viewer.orders
-        client.now.viewer.tiles client.now.viewer.pictures.marked) (K.told output.old) (K.told output.new) }
+        client.now.viewer.tiles (widened_picture client.now.viewer.pictures.depth client.now.viewer.pictures.marked)) (K.told output.old) (K.told output.new) }
     ensures fault { IfErr result IsWriteFault }
     ensures cause { WriteCause result (K.faults output.old) (K.faults output.new) }
 {
@@ -38,7 +39,7 @@ pub(crate) fn write_picture<K: Sink>(
 /// Writes the pixels of the last mark. An `Err` leaves a front of them there.
 fn write_rows<K: Sink>(alloc: Global, client: &Client, output: &mut K) -> Result<(), ShowFault>
     ensures written { Writes result (rows_text client.now.viewer.pictures.size.w
-        (λ x y. pixel_at client.now.viewer.pictures.size client.now.viewer.pictures.marked None x y) client.now.viewer.pictures.size.h)
+        (λ x y. pixel_at client.now.viewer.pictures.size (widened_picture client.now.viewer.pictures.depth client.now.viewer.pictures.marked) None x y) client.now.viewer.pictures.size.h)
         (K.told output.old) (K.told output.new) }
     ensures fault { IfErr result IsWriteFault }
     ensures cause { WriteCause result (K.faults output.old) (K.faults output.new) }
@@ -58,7 +59,7 @@ fn write_row<K: Sink>(
     output: &mut K,
 ) -> Result<(), ShowFault>
     requires { y < client.now.viewer.pictures.size.h }
-    ensures written { Writes result (row_text (λ x. pixel_at client.now.viewer.pictures.size client.now.viewer.pictures.marked None x y)
+    ensures written { Writes result (row_text (λ x. pixel_at client.now.viewer.pictures.size (widened_picture client.now.viewer.pictures.depth client.now.viewer.pictures.marked) None x y)
         client.now.viewer.pictures.size.w) (K.told output.old) (K.told output.new) }
     ensures fault { IfErr result IsWriteFault }
     ensures cause { WriteCause result (K.faults output.old) (K.faults output.new) }

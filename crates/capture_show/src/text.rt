@@ -9,6 +9,7 @@
 //! | pixels | red, green and blue, row by row from the top |
 ghost use Rattle.std.specs.Prelude.{◌≡◌, ◌++◌, ◌<◌, decimal, IfOk, OnOk, None};
 ghost use Rattle.px_core.specs.Picture.{pixel_at};
+ghost use Rattle.client_view.specs.Widened.{widened_picture};
 ghost use Rattle.capture_show.specs.Shown.{line_of, pixel_text, row_text, picture_head};
 
 use crate::OutOfMemory;
@@ -59,7 +60,7 @@ fn add_number(alloc: Global, out: &mut Vec<u8>, word: &[u8], number: u64) -> Res
 pub(crate) fn add_row(out: &mut Vec<u8>, client: &Client, y: u32) -> Result<(), OutOfMemory>
     requires { y < client.now.viewer.pictures.size.h }
     ensures { OnOk result (out.new.items ≡ out.old.items ++ row_text
-        (λ x. pixel_at client.now.viewer.pictures.size client.now.viewer.pictures.marked None x y) client.now.viewer.pictures.size.w) }
+        (λ x. pixel_at client.now.viewer.pictures.size (widened_picture client.now.viewer.pictures.depth client.now.viewer.pictures.marked) None x y) client.now.viewer.pictures.size.w) }
 {
     for x in 0..client.size().w {
         out.extend_from_slice(&pixel_text(client.marked(x, y)))?;

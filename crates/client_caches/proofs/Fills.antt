@@ -5,7 +5,7 @@ use Rattle.std.proofs.lemmas.Int.{ints}
 use Rattle.px_core.specs.Picture.{nat_of}
 use Rattle.std.proofs.lemmas.Bool.Decides.{nat_tests}
 use Rattle.px_core.specs.declared.rectangle.Rect.{Rect}
-use Rattle.px_core.specs.declared.depth.Depth.TheVariants.{Bits24}
+use Rattle.px_core.specs.declared.depth.Depth.{Depth}
 use Rattle.order_fields.specs.OrderTable.{OrderName, Row, table, row_of, row_in, chosen_row, FieldList, Values, fits_coordinate, IsBelow}
 use Rattle.order_fields.specs.OrderTable.OrderName.{DstBlt, PatBlt, ScrBlt, OpaqueRect, SaveBitmap, MemBlt, Mem3Blt, GlyphIndex}
 use Rattle.order_fields.specs.NamedDrawing.{NamedDrawing, drawing_of, drawing_of_values, drawing_in_row, drawing_if, save_if, save_or_restore}
@@ -59,15 +59,15 @@ no_save_if : (test : Bool) (operation position : ℕ) (r : Rect) → fill_in (sa
 no_save_if true operation position r = no_save operation position r
 no_save_if false operation position r = refl
 
-no_fill_named : (name : OrderName) (vs : List ℤ) (bytes : List ℕ) → is_opaque name ≡ false → fill_in (drawing_of_values Bits24 name vs bytes) ≡ None
-no_fill_named DstBlt vs bytes e = no_fill_if _ _ refl
-no_fill_named PatBlt vs bytes e = no_fill_if _ _ refl
-no_fill_named ScrBlt vs bytes e = no_fill_if _ _ refl
-no_fill_named OpaqueRect vs bytes e = absurd (let no : ⊥ = cc in no)
-no_fill_named SaveBitmap vs bytes e = no_save_if _ _ _ _
-no_fill_named MemBlt vs bytes e = no_fill_if _ _ refl
-no_fill_named Mem3Blt vs bytes e = no_fill_if _ _ refl
-no_fill_named GlyphIndex vs bytes e = no_fill_if _ _ refl
+no_fill_named : (depth : Depth) (name : OrderName) (vs : List ℤ) (bytes : List ℕ) → is_opaque name ≡ false → fill_in (drawing_of_values depth name vs bytes) ≡ None
+no_fill_named depth DstBlt vs bytes e = no_fill_if _ _ refl
+no_fill_named depth PatBlt vs bytes e = no_fill_if _ _ refl
+no_fill_named depth ScrBlt vs bytes e = no_fill_if _ _ refl
+no_fill_named depth OpaqueRect vs bytes e = absurd (let no : ⊥ = cc in no)
+no_fill_named depth SaveBitmap vs bytes e = no_save_if _ _ _ _
+no_fill_named depth MemBlt vs bytes e = no_fill_if _ _ refl
+no_fill_named depth Mem3Blt vs bytes e = no_fill_if _ _ refl
+no_fill_named depth GlyphIndex vs bytes e = no_fill_if _ _ refl
 
 abbrev EachNamed : List Row → Type 0
 EachNamed [] = ⊤
@@ -84,16 +84,16 @@ row_named (x ∷ rows) code r h e = chosen_name (x.code == code) x (row_in rows 
 table_named : EachNamed table
 table_named = (refl, (refl, (refl, (refl, (refl, (refl, (refl, (refl, tt))))))))
 
-no_fill_by : (code : ℕ) (found : Option Row) (vs : Values) → row_of code ≡ found → (code ≡ 10 → ⊥) → fill_in (drawing_in_row Bits24 found vs) ≡ None
-no_fill_by code None vs e other = refl
-no_fill_by code (Some r) vs e other =
+no_fill_by : (depth : Depth) (code : ℕ) (found : Option Row) (vs : Values) → row_of code ≡ found → (code ≡ 10 → ⊥) → fill_in (drawing_in_row depth found vs) ≡ None
+no_fill_by depth code None vs e other = refl
+no_fill_by depth code (Some r) vs e other =
     let is : r.code ≡ code = code_of_row code r e in
     let test : (r.code == 10) ≡ false = grind (arith, nat_tests) in
-    no_fill_named r.name vs.numbers vs.bytes (row_named table code r table_named e ∙ test)
+    no_fill_named depth r.name vs.numbers vs.bytes (row_named table code r table_named e ∙ test)
 
 -- an order of another type is no fill
-pub no_fill : (o : FieldList) (kind : ℕ) → kind ≡ o.code → (kind ≡ 10 → ⊥) → fill_in (drawing_of Bits24 o) ≡ None
-no_fill o kind is other = no_fill_by o.code (row_of o.code) o.values refl (λ e. other (is ∙ e))
+pub no_fill : (depth : Depth) (o : FieldList) (kind : ℕ) → kind ≡ o.code → (kind ≡ 10 → ⊥) → fill_in (drawing_of depth o) ≡ None
+no_fill depth o kind is other = no_fill_by depth o.code (row_of o.code) o.values refl (λ e. other (is ∙ e))
 
 -- ---- the values of a fill
 

@@ -3,6 +3,8 @@ use Rattle.std.proofs.Common.{◌≡◌, ℕ, zero, suc, ◌*◌, Bool, true, fa
 use Rattle.std.specs.Prelude.{Result, Ok, Err}
 use Rattle.wire_num.specs.Field.{bind}
 use Rattle.order_means.specs.WirePixels.{turned_over}
+use Rattle.px_core.specs.declared.depth.Depth.{Depth}
+use Rattle.px_core.specs.Depth.{bytes_in}
 use Rattle.draw_ops.specs.Content.{ImageOf}
 use Rattle.caps_sets.specs.declared.cache_size.CacheSize.{CacheSize}
 use Rattle.caps_sets.specs.declared.confirmed.Confirmed.{Confirmed}
@@ -39,36 +41,40 @@ kept_by (Ok p) w h more = refl
 kept_by (Err f) w h more = refl
 
 -- an image is kept where its cache has the entry and its cell
-abbrev after_image : Confirmed → ClientState → CachedBitmap → ImageOf → Result ClientState Fault
-after_image confirmed c b image = needs (holds (cache_size confirmed.bitmaps b.cache) b.index (3 * (b.w * b.h))) (oversized_fault b.cache b.index) (Ok (record c { images = with_cached b.cache b.index image c.images }))
+abbrev after_image : Confirmed → ClientState → CachedBitmap → Depth → ImageOf → Result ClientState Fault
+after_image confirmed c b depth image =
+    needs (holds (cache_size confirmed.bitmaps b.cache) b.index (bytes_in depth * (b.w * b.h))) (oversized_fault b.cache b.index) (Ok (record c { images = with_cached b.cache b.index image c.images }))
 
-bitmap_parts : (confirmed : Confirmed) (c : ClientState) (b : CachedBitmap) (bytes : List ℕ) →
-    client_after_bitmap confirmed c (bitmap_order b bytes) ≡ needs (is_cached_bitmap b) broken_fault (bind (kept_image b.packed b.w b.h bytes) (after_image confirmed c b))
-bitmap_parts confirmed c b bytes = ap (needs (is_cached_bitmap b) broken_fault) (kept_by (wire_pixels b.packed b.w b.h bytes) b.w b.h (after_image confirmed c b))
+abbrev after_test : Confirmed → ClientState → CachedBitmap → List ℕ → Depth → Bool → Result ClientState Fault
+after_test confirmed c b bytes depth test = needs test broken_fault (bind (kept_image depth b.packed b.w b.h bytes) (after_image confirmed c b depth))
 
-taken : (confirmed : Confirmed) (c : ClientState) (b : CachedBitmap) (bytes : List ℕ) → is_cached_bitmap b ≡ true →
-    client_after_bitmap confirmed c (bitmap_order b bytes) ≡ bind (kept_image b.packed b.w b.h bytes) (after_image confirmed c b)
-taken confirmed c b bytes t = bitmap_parts confirmed c b bytes ∙ ap (λ test. needs test broken_fault (bind (kept_image b.packed b.w b.h bytes) (after_image confirmed c b))) t
+module _ (confirmed : Confirmed) (c : ClientState) (depth : Depth) (b : CachedBitmap) (bytes : List ℕ) (same : c.depth ≡ depth) where
+  bitmap_parts : client_after_bitmap confirmed c (bitmap_order b bytes) ≡ after_test confirmed c b bytes depth (is_cached_bitmap depth b)
+  bitmap_parts =
+      ap (needs (is_cached_bitmap c.depth b) broken_fault) (kept_by (wire_pixels c.depth b.packed b.w b.h bytes) b.w b.h (after_image confirmed c b c.depth))
+      ∙ ap (λ (d : Depth). after_test confirmed c b bytes d (is_cached_bitmap d b)) same
 
-pub not_taken : (confirmed : Confirmed) (c : ClientState) (b : CachedBitmap) (bytes : List ℕ) → is_cached_bitmap b ≡ false → client_after_bitmap confirmed c (bitmap_order b bytes) ≡ Err broken_fault
-not_taken confirmed c b bytes t = bitmap_parts confirmed c b bytes ∙ ap (λ test. needs test broken_fault (bind (kept_image b.packed b.w b.h bytes) (after_image confirmed c b))) t
+  taken : is_cached_bitmap depth b ≡ true → client_after_bitmap confirmed c (bitmap_order b bytes) ≡ bind (kept_image depth b.packed b.w b.h bytes) (after_image confirmed c b depth)
+  taken t = bitmap_parts ∙ ap (after_test confirmed c b bytes depth) t
 
-pub no_image : (f : ObeyFault) (confirmed : Confirmed) (c : ClientState) (b : CachedBitmap) (bytes : List ℕ) → is_cached_bitmap b ≡ true → Refuses f (kept_image b.packed b.w b.h bytes) →
-    Refuses f (client_after_bitmap confirmed c (bitmap_order b bytes))
-no_image f confirmed c b bytes t r =
-    refused_by f (kept_image b.packed b.w b.h bytes) (client_after_bitmap confirmed c (bitmap_order b bytes)) (λ g e. taken confirmed c b bytes t ∙ ap (λ k. bind k (after_image confirmed c b)) e) r
+  pub not_taken : is_cached_bitmap depth b ≡ false → client_after_bitmap confirmed c (bitmap_order b bytes) ≡ Err broken_fault
+  not_taken t = bitmap_parts ∙ ap (after_test confirmed c b bytes depth) t
 
-image_kept : (confirmed : Confirmed) (c : ClientState) (b : CachedBitmap) (bytes : List ℕ) (image : ImageOf) (test : Bool) → is_cached_bitmap b ≡ true → kept_image b.packed b.w b.h bytes ≡ Ok image
-    → holds (cache_size confirmed.bitmaps b.cache) b.index (3 * (b.w * b.h)) ≡ test
-    → client_after_bitmap confirmed c (bitmap_order b bytes) ≡ needs test (oversized_fault b.cache b.index) (Ok (record c { images = with_cached b.cache b.index image c.images }))
-image_kept confirmed c b bytes image test t e h =
-    taken confirmed c b bytes t ∙ ap (λ k. bind k (after_image confirmed c b)) e
-    ∙ ap (λ s. needs s (oversized_fault b.cache b.index) (Ok (record c { images = with_cached b.cache b.index image c.images }))) h
+  pub no_image : (f : ObeyFault) → is_cached_bitmap depth b ≡ true → Refuses f (kept_image depth b.packed b.w b.h bytes) → Refuses f (client_after_bitmap confirmed c (bitmap_order b bytes))
+  no_image f t r =
+      refused_by f (kept_image depth b.packed b.w b.h bytes) (client_after_bitmap confirmed c (bitmap_order b bytes)) (λ g e. taken t ∙ ap (λ k. bind k (after_image confirmed c b depth)) e) r
 
-pub too_large : (confirmed : Confirmed) (c : ClientState) (b : CachedBitmap) (bytes : List ℕ) (image : ImageOf) → is_cached_bitmap b ≡ true → kept_image b.packed b.w b.h bytes ≡ Ok image
-    → holds (cache_size confirmed.bitmaps b.cache) b.index (3 * (b.w * b.h)) ≡ false → client_after_bitmap confirmed c (bitmap_order b bytes) ≡ Err (oversized_fault b.cache b.index)
-too_large confirmed c b bytes image t e h = image_kept confirmed c b bytes image false t e h
+  image_kept : (image : ImageOf) (test : Bool) → is_cached_bitmap depth b ≡ true → kept_image depth b.packed b.w b.h bytes ≡ Ok image
+      → holds (cache_size confirmed.bitmaps b.cache) b.index (bytes_in depth * (b.w * b.h)) ≡ test
+      → client_after_bitmap confirmed c (bitmap_order b bytes) ≡ needs test (oversized_fault b.cache b.index) (Ok (record c { images = with_cached b.cache b.index image c.images }))
+  image_kept image test t e h =
+      taken t ∙ ap (λ k. bind k (after_image confirmed c b depth)) e
+      ∙ ap (λ s. needs s (oversized_fault b.cache b.index) (Ok (record c { images = with_cached b.cache b.index image c.images }))) h
 
-pub is_kept : (confirmed : Confirmed) (c : ClientState) (b : CachedBitmap) (bytes : List ℕ) (image : ImageOf) → is_cached_bitmap b ≡ true → kept_image b.packed b.w b.h bytes ≡ Ok image
-    → holds (cache_size confirmed.bitmaps b.cache) b.index (3 * (b.w * b.h)) ≡ true → client_after_bitmap confirmed c (bitmap_order b bytes) ≡ Ok (record c { images = with_cached b.cache b.index image c.images })
-is_kept confirmed c b bytes image t e h = image_kept confirmed c b bytes image true t e h
+  pub too_large : (image : ImageOf) → is_cached_bitmap depth b ≡ true → kept_image depth b.packed b.w b.h bytes ≡ Ok image
+      → holds (cache_size confirmed.bitmaps b.cache) b.index (bytes_in depth * (b.w * b.h)) ≡ false → client_after_bitmap confirmed c (bitmap_order b bytes) ≡ Err (oversized_fault b.cache b.index)
+  too_large image t e h = image_kept image false t e h
+
+  pub is_kept : (image : ImageOf) → is_cached_bitmap depth b ≡ true → kept_image depth b.packed b.w b.h bytes ≡ Ok image
+      → holds (cache_size confirmed.bitmaps b.cache) b.index (bytes_in depth * (b.w * b.h)) ≡ true → client_after_bitmap confirmed c (bitmap_order b bytes) ≡ Ok (record c { images = with_cached b.cache b.index image c.images })
+  is_kept image t e h = image_kept image true t e h

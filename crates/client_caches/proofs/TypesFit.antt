@@ -1,7 +1,7 @@
 -- An order's fields have values that their type can hold.
 use Rattle.std.proofs.Common.{◌≡◌, ◌≤◌, ℕ, ℤ, length, Bool, true, false, List, ap, ◌∙◌, sym, subst, Some, None, arith}
 use Rattle.std.specs.Prelude.{Option, IfSome}
-use Rattle.px_core.specs.declared.depth.Depth.TheVariants.{Bits24}
+use Rattle.px_core.specs.declared.depth.Depth.{Depth}
 use Rattle.order_fields.specs.OrderTable.{Row, row_of, FieldList, FitRow, FitsRow, FitKinds, BytesFit, IsFieldList}
 use Rattle.order_fields.specs.NamedDrawing.{drawing_of, drawing_of_values, drawing_in_row}
 
@@ -15,10 +15,10 @@ fits_row o kind code r fits is that row = subst (λ (x : Option Row). FitsRow x 
 pub kind_fits : (o : FieldList) (kind code : ℕ) (r : Row) (values : List ℤ) → IsFieldList o → kind ≡ o.code → kind ≡ code → row_of code ≡ Some r → values ≡ o.values.numbers → FitKinds r.kinds values
 kind_fits o kind code r values fits is that row e = subst (λ (zs : List ℤ). FitKinds r.kinds zs) (sym e) (fits_row o kind code r fits is that row).numbers
 
-pub kind_draws : (o : FieldList) (kind code : ℕ) (r : Row) (values : List ℤ) → IsFieldList o → kind ≡ o.code → kind ≡ code → row_of code ≡ Some r → values ≡ o.values.numbers
-    → drawing_of_values Bits24 r.name values o.values.bytes ≡ drawing_of Bits24 o
-kind_draws o kind code r values fits is that row e =
-    ap (λ (zs : List ℤ). drawing_of_values Bits24 r.name zs o.values.bytes) e ∙ ap (λ (x : Option Row). drawing_in_row Bits24 x o.values) (sym (found o kind code r is that row))
+pub kind_draws : (depth : Depth) (o : FieldList) (kind code : ℕ) (r : Row) (values : List ℤ) → IsFieldList o → kind ≡ o.code → kind ≡ code → row_of code ≡ Some r → values ≡ o.values.numbers
+    → drawing_of_values depth r.name values o.values.bytes ≡ drawing_of depth o
+kind_draws depth o kind code r values fits is that row e =
+    ap (λ (zs : List ℤ). drawing_of_values depth r.name zs o.values.bytes) e ∙ ap (λ (x : Option Row). drawing_in_row depth x o.values) (sym (found o kind code r is that row))
 
 short_by : (counted : Bool) (bytes : List ℕ) → BytesFit counted bytes → length bytes ≤ 255
 short_by true bytes h = omega (arith, h)

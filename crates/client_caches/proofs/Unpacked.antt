@@ -7,8 +7,10 @@ use Rattle.px_core.specs.Colors.{is_color, are_colors}
 use Rattle.px_core.proofs.Colors.{color_is, color_below, are_colors-append, are_colors-drop, replicated_are_colors}
 use Rattle.wire_num.specs.Field.{Read, then_read, map_read, given, taken, bytes_at}
 use Rattle.wire_num.specs.Number.{little_value, little_at}
-use Rattle.px_core.specs.declared.depth.Depth.TheVariants.{Bits24}
-use Rattle.px_core.specs.Pixels.{pixels_of}
+use Rattle.px_core.specs.declared.depth.Depth.{Depth}
+use Rattle.px_core.specs.declared.depth.Depth.TheVariants.{Bits24, Bits16}
+use Rattle.px_core.specs.Depth.{bytes_in, white}
+use Rattle.px_core.specs.Pixels.{pixels_of, pixels_of_3, pixels_of_2}
 use Rattle.run_lengths.specs.Codes.{row_of, row_among, code_table}
 use Rattle.run_lengths.specs.declared.codes.RunKind.{RunKind}
 use Rattle.run_lengths.specs.declared.codes.RunKind.TheVariants.{BackgroundRun, ForegroundRun, MaskImage, ColorRun, ColorImage, DitheredRun, FixedMask, FixedColor}
@@ -74,14 +76,37 @@ three_bytes (b ∷ g ∷ r ∷ x ∷ xs) h = absurd (omega (arith, h.1))
 number_reads : (n : ℕ) (bs : List ℕ) → Bytes bs → Reads Any (little_at n bs)
 number_reads n bs h = map_reads (AreSoMany n) Any little_value (bytes_at n bs) (taken_reads bs n bs h) (λ xs k. tt)
 
-pixel_reads : (bs : List ℕ) → Bytes bs → Reads IsColor (wire_pixel_at Bits24 bs)
-pixel_reads bs h = map_reads (AreSoMany 3) IsColor little_value (bytes_at 3 bs) (taken_reads bs 3 bs h) three_bytes
+two_bytes : (xs : List ℕ) → AreSoMany 2 xs → IsColor (little_value xs)
+two_bytes [] h = absurd (omega (arith, h.1))
+two_bytes (l ∷ []) h = absurd (omega (arith, h.1))
+two_bytes (l ∷ u ∷ []) h = color_is (little_value (l ∷ u ∷ [])) (omega (arith, h.0.0, h.0.1.0))
+two_bytes (l ∷ u ∷ x ∷ xs) h = absurd (omega (arith, h.1))
 
-pixels_colors : (bs : List ℕ) → Bytes bs → AreColors (pixels_of Bits24 bs)
-pixels_colors [] h = refl
-pixels_colors (b ∷ []) h = refl
-pixels_colors (b ∷ g ∷ []) h = refl
-pixels_colors (b ∷ g ∷ r ∷ bs) h = and_from _ _ (three_bytes (b ∷ g ∷ r ∷ []) ((h.0, (h.1.0, (h.1.1.0, tt))), refl)) (pixels_colors bs h.1.1.1)
+pixel_bytes_color : (depth : Depth) (xs : List ℕ) → AreSoMany (bytes_in depth) xs → IsColor (little_value xs)
+pixel_bytes_color Bits24 xs h = three_bytes xs h
+pixel_bytes_color Bits16 xs h = two_bytes xs h
+
+pixel_reads : (depth : Depth) (bs : List ℕ) → Bytes bs → Reads IsColor (wire_pixel_at depth bs)
+pixel_reads depth bs h = map_reads (AreSoMany (bytes_in depth)) IsColor little_value (bytes_at (bytes_in depth) bs) (taken_reads bs (bytes_in depth) bs h) (pixel_bytes_color depth)
+
+pixels_colors_3 : (bs : List ℕ) → Bytes bs → AreColors (pixels_of_3 bs)
+pixels_colors_3 [] h = refl
+pixels_colors_3 (b ∷ []) h = refl
+pixels_colors_3 (b ∷ g ∷ []) h = refl
+pixels_colors_3 (b ∷ g ∷ r ∷ bs) h = and_from _ _ (three_bytes (b ∷ g ∷ r ∷ []) ((h.0, (h.1.0, (h.1.1.0, tt))), refl)) (pixels_colors_3 bs h.1.1.1)
+
+pixels_colors_2 : (bs : List ℕ) → Bytes bs → AreColors (pixels_of_2 bs)
+pixels_colors_2 [] h = refl
+pixels_colors_2 (l ∷ []) h = refl
+pixels_colors_2 (l ∷ u ∷ bs) h = and_from _ _ (two_bytes (l ∷ u ∷ []) ((h.0, (h.1.0, tt)), refl)) (pixels_colors_2 bs h.1.1)
+
+pixels_colors : (depth : Depth) (bs : List ℕ) → Bytes bs → AreColors (pixels_of depth bs)
+pixels_colors Bits24 bs h = pixels_colors_3 bs h
+pixels_colors Bits16 bs h = pixels_colors_2 bs h
+
+white_color : (depth : Depth) → IsColor (white depth)
+white_color Bits24 = refl
+white_color Bits16 = refl
 
 -- ---- orders
 
@@ -116,20 +141,20 @@ length_reads (InCode scale more) (suc low) greatest stream rest h = given_reads 
 length_reads TwoBytes low greatest stream rest h = then_reads Any Any (little_at 2 rest) (λ n after. length_if greatest n after rest) (number_reads 2 rest h) (λ n after any k. given_reads _ n after rest k)
 length_reads (Fixed n) low greatest stream rest h = given_reads _ n rest stream h
 
-foreground_reads : (sets : Bool) (bs : List ℕ) → Bytes bs → Reads IfColor (foreground_at Bits24 sets bs)
-foreground_reads true bs h = map_reads IsColor IfColor (λ c. Some c) (wire_pixel_at Bits24 bs) (pixel_reads bs h) (λ c k. k)
-foreground_reads false bs h = (tt, h)
+foreground_reads : (depth : Depth) (sets : Bool) (bs : List ℕ) → Bytes bs → Reads IfColor (foreground_at depth sets bs)
+foreground_reads depth true bs h = map_reads IsColor IfColor (λ c. Some c) (wire_pixel_at depth bs) (pixel_reads depth bs h) (λ c k. k)
+foreground_reads depth false bs h = (tt, h)
 
-run_reads : (kind : RunKind) (n : ℕ) (bs : List ℕ) → KindColor kind → Bytes bs → Reads RunColors (run_at Bits24 kind n bs)
-run_reads BackgroundRun n bs k h = (tt, h)
-run_reads ForegroundRun n bs k h = (tt, h)
-run_reads MaskImage n bs k h = map_reads (AreSoMany ((n + 7) / 8)) RunColors (λ ms. Mask (mask_bits n ms)) (bytes_at ((n + 7) / 8) bs) (taken_reads bs ((n + 7) / 8) bs h) (λ ms m. tt)
-run_reads ColorRun n bs k h = map_reads IsColor RunColors (λ c. Color n c) (wire_pixel_at Bits24 bs) (pixel_reads bs h) (λ c m. m)
-run_reads ColorImage n bs k h = map_reads (AreSoMany (3 * n)) RunColors (λ xs. Image (pixels_of Bits24 xs)) (bytes_at (3 * n) bs) (taken_reads bs (3 * n) bs h) (λ xs m. pixels_colors xs m.0)
-run_reads DitheredRun n bs k h = then_reads IsColor RunColors (wire_pixel_at Bits24 bs) (λ a rest. map_read (λ b. Dithered n a b) (wire_pixel_at Bits24 rest)) (pixel_reads bs h)
-    (λ a rest m l. map_reads IsColor RunColors (λ b. Dithered n a b) (wire_pixel_at Bits24 rest) (pixel_reads rest l) (λ b j. (m, j)))
-run_reads (FixedMask m) n bs k h = (tt, h)
-run_reads (FixedColor c) n bs k h = (k, h)
+run_reads : (depth : Depth) (kind : RunKind) (n : ℕ) (bs : List ℕ) → KindColor kind → Bytes bs → Reads RunColors (run_at depth kind n bs)
+run_reads depth BackgroundRun n bs k h = (tt, h)
+run_reads depth ForegroundRun n bs k h = (tt, h)
+run_reads depth MaskImage n bs k h = map_reads (AreSoMany ((n + 7) / 8)) RunColors (λ ms. Mask (mask_bits n ms)) (bytes_at ((n + 7) / 8) bs) (taken_reads bs ((n + 7) / 8) bs h) (λ ms m. tt)
+run_reads depth ColorRun n bs k h = map_reads IsColor RunColors (λ c. Color n c) (wire_pixel_at depth bs) (pixel_reads depth bs h) (λ c m. m)
+run_reads depth ColorImage n bs k h = map_reads (AreSoMany (bytes_in depth * n)) RunColors (λ xs. Image (pixels_of depth xs)) (bytes_at (bytes_in depth * n) bs) (taken_reads bs (bytes_in depth * n) bs h) (λ xs m. pixels_colors depth xs m.0)
+run_reads depth DitheredRun n bs k h = then_reads IsColor RunColors (wire_pixel_at depth bs) (λ a rest. map_read (λ b. Dithered n a b) (wire_pixel_at depth rest)) (pixel_reads depth bs h)
+    (λ a rest m l. map_reads IsColor RunColors (λ b. Dithered n a b) (wire_pixel_at depth rest) (pixel_reads depth rest l) (λ b j. (m, j)))
+run_reads depth (FixedMask m) n bs k h = (tt, h)
+run_reads depth (FixedColor c) n bs k h = (k, h)
 
 abbrev RowColor : Option Row → Type 0
 RowColor None = ⊤
@@ -147,21 +172,21 @@ found_color : (rows : List Row) (code : ℕ) → RowsColors rows → RowColor (r
 found_color [] code h = tt
 found_color (r ∷ rows) code h = chosen_color (nat_le r.first code && nat_le code r.last) r (row_among rows code) h.0 (found_color rows code h.1)
 
-table_colors : RowsColors (code_table Bits24)
-table_colors = (tt, (tt, (tt, (tt, (tt, (tt, (tt, (tt, (tt, (tt, (tt, (tt, (tt, (tt, (tt, (tt, (tt, (tt, (refl, (refl, tt))))))))))))))))))))
+table_colors : (depth : Depth) → RowsColors (code_table depth)
+table_colors depth = (tt, (tt, (tt, (tt, (tt, (tt, (tt, (tt, (tt, (tt, (tt, (tt, (tt, (tt, (tt, (tt, (tt, (tt, (white_color depth, (refl, tt))))))))))))))))))))
 
-row_reads : (row : Option Row) (left code : ℕ) (bs : List ℕ) → RowColor row → Bytes bs → Reads OrderColors (order_in_row Bits24 row left code bs)
-row_reads None left code bs k h = tt
-row_reads (Some r) left code bs k h =
+row_reads : (depth : Depth) (row : Option Row) (left code : ℕ) (bs : List ℕ) → RowColor row → Bytes bs → Reads OrderColors (order_in_row depth row left code bs)
+row_reads depth None left code bs k h = tt
+row_reads depth (Some r) left code bs k h =
     then_reads Any OrderColors (length_at r.length (code - r.first) (greatest_length r.kind left) (code ∷ bs) bs)
-    (λ n rest. then_read (foreground_at Bits24 r.sets_foreground rest) (λ f more. map_read (λ d. record { foreground = f; run = d }) (run_at Bits24 r.kind n more)))
+    (λ n rest. then_read (foreground_at depth r.sets_foreground rest) (λ f more. map_read (λ d. record { foreground = f; run = d }) (run_at depth r.kind n more)))
     (length_reads r.length (code - r.first) (greatest_length r.kind left) (code ∷ bs) bs h)
-    (λ n rest any l. then_reads IfColor OrderColors (foreground_at Bits24 r.sets_foreground rest) (λ f more. map_read (λ d. record { foreground = f; run = d }) (run_at Bits24 r.kind n more)) (foreground_reads r.sets_foreground rest l)
-    (λ f more c m. map_reads RunColors OrderColors (λ d. record { foreground = f; run = d }) (run_at Bits24 r.kind n more) (run_reads r.kind n more k m) (λ d e. (c, e))))
+    (λ n rest any l. then_reads IfColor OrderColors (foreground_at depth r.sets_foreground rest) (λ f more. map_read (λ d. record { foreground = f; run = d }) (run_at depth r.kind n more)) (foreground_reads depth r.sets_foreground rest l)
+    (λ f more c m. map_reads RunColors OrderColors (λ d. record { foreground = f; run = d }) (run_at depth r.kind n more) (run_reads depth r.kind n more k m) (λ d e. (c, e))))
 
-order_reads : (left : ℕ) (bs : List ℕ) → Bytes bs → Reads OrderColors (order_at Bits24 left bs)
-order_reads left [] h = tt
-order_reads left (code ∷ bs) h = row_reads (row_of Bits24 code) left code bs (found_color (code_table Bits24) code table_colors) h.1
+order_reads : (depth : Depth) (left : ℕ) (bs : List ℕ) → Bytes bs → Reads OrderColors (order_at depth left bs)
+order_reads depth left [] h = tt
+order_reads depth left (code ∷ bs) h = row_reads depth (row_of depth code) left code bs (found_color (code_table depth) code (table_colors depth)) h.1
 
 abbrev OrdersColors : List Order → Type 0
 OrdersColors [] = ⊤
@@ -179,12 +204,12 @@ after_colors : (left : ℕ) (r : Read Order) (others : ℕ → List ℕ → Resu
 after_colors left (Ok v) others h k = onto_colors v.0 (others (left - run_size v.0.run) v.1) h.0 (k (left - run_size v.0.run) v.1 h.1)
 after_colors left (Err refused) others h k = tt
 
-cut_colors : (most left : ℕ) (bs : List ℕ) → Bytes bs → CutColors (orders_within Bits24 most left bs)
-cut_colors most zero [] h = tt
-cut_colors most zero (b ∷ bs) h = tt
-cut_colors zero (suc left) bs h = tt
-cut_colors (suc most) (suc left) [] h = tt
-cut_colors (suc most) (suc left) (b ∷ bs) h = after_colors (suc left) (order_at Bits24 (suc left) (b ∷ bs)) (orders_within Bits24 most) (order_reads (suc left) (b ∷ bs) h) (λ l rest k. cut_colors most l rest k)
+cut_colors : (depth : Depth) (most left : ℕ) (bs : List ℕ) → Bytes bs → CutColors (orders_within depth most left bs)
+cut_colors depth most zero [] h = tt
+cut_colors depth most zero (b ∷ bs) h = tt
+cut_colors depth zero (suc left) bs h = tt
+cut_colors depth (suc most) (suc left) [] h = tt
+cut_colors depth (suc most) (suc left) (b ∷ bs) h = after_colors (suc left) (order_at depth (suc left) (b ∷ bs)) (orders_within depth most) (order_reads depth (suc left) (b ∷ bs) h) (λ l rest k. cut_colors depth most l rest k)
 
 -- ---- strokes
 
@@ -282,12 +307,12 @@ rows_colors (suc h) w row ss r s =
     are_colors-append row (rows_from h w (drawn_over (take w ss) row) (drop w ss)) r
     (rows_colors h w (drawn_over (take w ss) row) (drop w ss) (over_colors (take w ss) row (taken_strokes w ss s) r) (dropped_strokes w ss s))
 
-made_colors : (bytes : List ℕ) (w h : ℕ) (r : Result (List Order) (List ℕ)) (pixels : List ℕ) → CutColors r → pixels_of_orders Bits24 bytes w h r ≡ Ok pixels → AreColors pixels
-made_colors bytes w h (Ok os) pixels k e =
-    let same : pixels_drawn w h (strokes_of Bits24 w os) ≡ pixels = cc in
-    subst AreColors same (are_colors-drop w (rows_from h w (replicate w 0) (strokes_of Bits24 w os)) (rows_colors h w (replicate w 0) (strokes_of Bits24 w os) (replicated_are_colors w 0 refl) (strokes_colors w (nothing_drawn Bits24) os refl k)))
-made_colors bytes w h (Err refused) pixels k e = absurd (let no : ⊥ = cc in no)
+made_colors : (depth : Depth) (bytes : List ℕ) (w h : ℕ) (r : Result (List Order) (List ℕ)) (pixels : List ℕ) → CutColors r → pixels_of_orders depth bytes w h r ≡ Ok pixels → AreColors pixels
+made_colors depth bytes w h (Ok os) pixels k e =
+    let same : pixels_drawn w h (strokes_of depth w os) ≡ pixels = cc in
+    subst AreColors same (are_colors-drop w (rows_from h w (replicate w 0) (strokes_of depth w os)) (rows_colors h w (replicate w 0) (strokes_of depth w os) (replicated_are_colors w 0 refl) (strokes_colors w (nothing_drawn depth) os (white_color depth) k)))
+made_colors depth bytes w h (Err refused) pixels k e = absurd (let no : ⊥ = cc in no)
 
 -- the pixels of a stream of bytes are colours
-pub unpacked_are_colors : (bytes : List ℕ) (w h : ℕ) (pixels : List ℕ) → ((k : ℕ) → k < length bytes → get_or bytes k 0 < 256) → unrle Bits24 bytes w h ≡ Ok pixels → are_colors pixels ≡ true
-unpacked_are_colors bytes w h pixels are e = made_colors bytes w h (run_orders_in Bits24 (w * h) bytes) pixels (cut_colors (length bytes) (w * h) bytes (bytes_from bytes are)) e
+pub unpacked_are_colors : (depth : Depth) (bytes : List ℕ) (w h : ℕ) (pixels : List ℕ) → ((k : ℕ) → k < length bytes → get_or bytes k 0 < 256) → unrle depth bytes w h ≡ Ok pixels → are_colors pixels ≡ true
+unpacked_are_colors depth bytes w h pixels are e = made_colors depth bytes w h (run_orders_in depth (w * h) bytes) pixels (cut_colors depth (length bytes) (w * h) bytes (bytes_from bytes are)) e

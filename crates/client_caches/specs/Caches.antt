@@ -1,5 +1,6 @@
 -- The caches of a client.
 use Rattle.std.specs.Prelude.{◌≡◌, ℕ, Bool, List, map, length, Result, Ok}
+use Rattle.px_core.specs.declared.depth.Depth.{Depth}
 use Rattle.draw_ops.specs.Content.{ImageOf, GlyphOf}
 use Rattle.draw_ops.specs.Slots.{Slots, empty_slots}
 use Rattle.wire_num.specs.Field.{bind}
@@ -31,10 +32,14 @@ pub record HasAll (k : CachesOf) : Type 0 where
 abbrev pub Stores : Result (Unit {0}) ObeyFault → (ClientState → Result ClientState Fault) → CachesOf → CachesOf → Type 0
 Stores result after old new = (c : ClientState) → Gives (λ _. with_caches c new) result (after (with_caches c old))
 
+-- the same for clients of a depth
+abbrev pub StoresAt : Depth → Result (Unit {0}) ObeyFault → (ClientState → Result ClientState Fault) → CachesOf → CachesOf → Type 0
+StoresAt depth result after old new = (c : ClientState) → c.depth ≡ depth → Gives (λ _. with_caches c new) result (after (with_caches c old))
+
 -- the pixels of raw or packed bytes, rows from the top
-abbrev pub upright_pixels : Bool → ℕ → ℕ → List ℕ → Result (List ℕ) Fault
-upright_pixels packed w h bytes = bind (wire_pixels packed w h bytes) (λ pixels. Ok (turned_over w h pixels))
+abbrev pub upright_pixels : Depth → Bool → ℕ → ℕ → List ℕ → Result (List ℕ) Fault
+upright_pixels depth packed w h bytes = bind (wire_pixels depth packed w h bytes) (λ pixels. Ok (turned_over w h pixels))
 
 -- the image of raw or packed bytes, rows from the top
-abbrev pub kept_image : Bool → ℕ → ℕ → List ℕ → Result ImageOf Fault
-kept_image packed w h bytes = bind (upright_pixels packed w h bytes) (λ pixels. Ok (record { w = w; h = h; pixels = pixels }))
+abbrev pub kept_image : Depth → Bool → ℕ → ℕ → List ℕ → Result ImageOf Fault
+kept_image depth packed w h bytes = bind (upright_pixels depth packed w h bytes) (λ pixels. Ok (record { w = w; h = h; pixels = pixels }))

@@ -1,5 +1,6 @@
 -- What a client keeps of cache orders.
 use Rattle.std.specs.Prelude.{ℕ, ◌==◌, nat_lt, Bool, ◌&&◌, List, Result, Ok}
+use Rattle.px_core.specs.declared.depth.Depth.{Depth}
 use Rattle.draw_ops.specs.Content.{GlyphOf}
 use Rattle.draw_ops.specs.Slots.{filled_slot}
 use Rattle.caps_sets.specs.declared.confirmed.Confirmed.{Confirmed}
@@ -12,9 +13,9 @@ use Rattle.client_caches.specs.declared.cached_bitmap.CachedBitmap.{CachedBitmap
 abbrev pub bitmap_order : CachedBitmap → List ℕ → BitmapOrder
 bitmap_order b bytes = record { cache = b.cache; index = b.index; w = b.w; h = b.h; depth = b.depth; flags = b.flags; packed = b.packed; bytes = bytes }
 
--- its sides, its bits per pixel, its cache and its flags are those that a client takes
-abbrev pub is_cached_bitmap : CachedBitmap → Bool
-is_cached_bitmap b = is_bitmap b.w b.h b.depth && (nat_lt b.cache 3 && (b.flags == bitmap_flags b.packed))
+-- its sides, its bits per pixel, its cache and its flags are those that a client of this depth takes
+abbrev pub is_cached_bitmap : Depth → CachedBitmap → Bool
+is_cached_bitmap depth b = is_bitmap depth b.w b.h b.depth && (nat_lt b.cache 3 && (b.flags == bitmap_flags b.packed))
 
 -- a glyph, as an order
 abbrev pub glyph_order : ℕ → ℕ → GlyphOf → GlyphOrder

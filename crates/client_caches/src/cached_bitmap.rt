@@ -35,11 +35,11 @@ pub struct CachedBitmap {
     pub packed: bool,
 }
 
-/// Whether a bitmap of the wire has sides of 1 to 64, a width of a multiple of four, and 24 bits a pixel.
-pub fn is_bitmap(w: u16, h: u16, depth: u16) -> bool
-    ensures { result ≡ is_bitmap w h depth }
+/// Whether a bitmap of the wire has sides of 1 to 64, a width of a multiple of four, and as many bits a pixel as the depth has.
+pub fn is_bitmap(w: u16, h: u16, bits: u16, depth: Depth) -> bool
+    ensures { result ≡ is_bitmap depth w h bits }
 {
-    is_side(w) && is_side(h) && w % WIDTH_UNIT == 0 && depth == bits_in(Depth::Bits24)
+    is_side(w) && is_side(h) && w % WIDTH_UNIT == 0 && bits == bits_in(depth)
 }
 
 /// Whether a bitmap may have a side of so many pixels.
@@ -56,11 +56,11 @@ fn bitmap_flags(packed: bool) -> u16
     if packed { NO_BITMAP_COMPRESSION_HDR } else { 0 }
 }
 
-/// Whether its sides, its bits per pixel, its cache and its flags are those that a client takes.
-pub(crate) fn is_cached_bitmap(b: &CachedBitmap) -> bool
-    ensures { result ≡ is_cached_bitmap b.now }
+/// Whether its sides, its bits per pixel, its cache and its flags are those that a client of this depth takes.
+pub(crate) fn is_cached_bitmap(b: &CachedBitmap, depth: Depth) -> bool
+    ensures { result ≡ is_cached_bitmap depth b.now }
 {
-    is_bitmap(u16::from(b.w), u16::from(b.h), u16::from(b.depth))
+    is_bitmap(u16::from(b.w), u16::from(b.h), u16::from(b.depth), depth)
         && b.cache < BITMAP_CACHES
         && b.flags == bitmap_flags(b.packed)
 }
@@ -70,10 +70,18 @@ pub(crate) fn image_of(
     alloc: Global,
     b: &CachedBitmap,
     bytes: &[u8],
+    depth: Depth,
 ) -> Result<KeptImage, ObeyFault>
-    requires { is_cached_bitmap b.now ≡ true }
-    ensures { Gives (λ image. image) result (kept_image b.now.packed b.now.w b.now.h bytes.now) }
+    requires { is_cached_bitmap depth b.now ≡ true }
+    ensures { Gives (λ image. image) result (kept_image depth b.now.packed b.now.w b.now.h bytes.now) }
 {
-    let pixels = upright_pixels(alloc, b.packed, usize::from(b.w), usize::from(b.h), bytes)?;
+    let pixels = upright_pixels(
+        alloc,
+        b.packed,
+        usize::from(b.w),
+        usize::from(b.h),
+        bytes,
+        depth,
+    )?;
     Ok(KeptImage::new(u16::from(b.w), u16::from(b.h), pixels))
 }

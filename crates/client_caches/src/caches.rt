@@ -6,7 +6,7 @@ ghost use Rattle.px_core.specs.Rectangle.{is_inside};
 ghost use Rattle.draw_ops.specs.Slots.{lookup};
 ghost use Rattle.order_means.specs.ClientState.{ClientState, empty_cache, cached, with_cached, image_used, glyph_used, brush_used, client_after_bitmap, client_after_glyph};
 ghost use Rattle.client_caches.specs.Answers.{Gives};
-ghost use Rattle.client_caches.specs.Caches.{first_caches, with_caches, Stores};
+ghost use Rattle.client_caches.specs.Caches.{first_caches, with_caches, Stores, StoresAt};
 ghost use Rattle.client_caches.specs.Stored.{bitmap_order, glyph_order, client_after_upright_brush};
 
 use crate::cached_bitmap::{CachedBitmap, image_of, is_cached_bitmap};
@@ -65,23 +65,24 @@ impl ClientCaches {
         })
     }
 
-    /// Keeps the bitmap of an order. An `Err` leaves the caches as they were.
+    /// Keeps the bitmap of an order at a depth. An `Err` leaves the caches as they were.
     pub fn store_bitmap(
         &mut self,
         alloc: Global,
         confirmed: &Confirmed,
         bitmap: &CachedBitmap,
         bytes: &[u8],
+        depth: Depth,
     ) -> Result<(), ObeyFault>
-        ensures stored { Stores result (λ c. client_after_bitmap confirmed.now c (bitmap_order bitmap.now bytes.now)) self.old self.new }
+        ensures stored { StoresAt depth result (λ c. client_after_bitmap confirmed.now c (bitmap_order bitmap.now bytes.now)) self.old self.new }
         ensures unchanged { OnErr result (self.new ≡ self.old) }
     {
-        if !is_cached_bitmap(bitmap) {
+        if !is_cached_bitmap(bitmap, depth) {
             return Err(ObeyFault::Broken);
         }
-        let image = image_of(alloc, bitmap, bytes)?;
+        let image = image_of(alloc, bitmap, bytes, depth)?;
         let cache = usize::from(bitmap.cache);
-        let cell = bytes_in(Depth::Bits24) * (usize::from(bitmap.w) * usize::from(bitmap.h));
+        let cell = bytes_in(depth) * (usize::from(bitmap.w) * usize::from(bitmap.h));
         if !holds(
             size_of(confirmed.bitmaps.sizes(), cache),
             bitmap.index,

@@ -3,11 +3,11 @@
 ghost use Rattle.std.specs.Prelude.{◌≡◌, ◌≤◌, true};
 ghost use Rattle.std.specs.Ordering.{int_eq};
 ghost use Rattle.px_core.specs.Picture.{nat_of};
-ghost use Rattle.px_core.specs.declared.depth.Depth.TheVariants.{Bits24};
 ghost use Rattle.order_fields.specs.OrderTable.{fits_coordinate};
-ghost use Rattle.order_fields.specs.NamedDrawing.{value, number, rect_at, closed_rect_at, side_between, is_cached_brush, is_cached_run, are_zero};
+ghost use Rattle.order_fields.specs.NamedDrawing.{value, number, rect_at, closed_rect_at, side_between, color_said, is_cached_brush, is_black, is_cached_run, are_zero};
 ghost use Rattle.client_caches.specs.Named.{FitsAt, FitBox, IsNumberAt};
 
+use client_pixel::Color;
 use px_core::{Depth, Rect, cached_brush_style};
 
 /// The value at a place.
@@ -103,18 +103,14 @@ pub fn closed_rect_at(values: &[i64], place: usize) -> Rect
     }
 }
 
-/// Whether the brush from a place on is an entry of the brush cache: its origin is 0.
-pub fn is_cached_brush(values: &[i64], place: usize) -> bool
+/// Whether the brush from a place on is an entry of the brush cache: its origin is 0, and its style that of the depth.
+pub fn is_cached_brush(values: &[i64], place: usize, depth: Depth) -> bool
     requires { place ≤ 16 }
-    ensures { result ≡ is_cached_brush Bits24 values.now place }
+    ensures { result ≡ is_cached_brush depth values.now place }
 {
     is_value(values, place, 0)
         && is_value(values, 1 + place, 0)
-        && is_value(
-            values,
-            2 + place,
-            i64::from(cached_brush_style(Depth::Bits24)),
-        )
+        && is_value(values, 2 + place, i64::from(cached_brush_style(depth)))
 }
 
 /// Whether the value at a place is this one.
@@ -138,13 +134,37 @@ fn are_zero(values: &[i64], place: usize, count: usize) -> bool
     true
 }
 
+/// The colour that three bytes say, which are those of a colour of 24 bits; at 16 bits the first byte is the low one and the third isn't read.
+#[inline(always)]
+pub fn color_said(bytes: Color, depth: Depth) -> Color
+    ensures { result ≡ color_said depth bytes }
+{
+    match depth {
+        Depth::Bits24 => bytes,
+        Depth::Bits16 => {
+            let number = bytes.number();
+            Color::low(number / 0x1_0000 + 0x100 * (number / 0x100 % 0x100))
+        }
+    }
+}
+
+/// Whether the three bytes of the value at a place say black.
+fn is_black(values: &[i64], place: usize, depth: Depth) -> bool
+    ensures { IsNumberAt 16777216 values.now place → result ≡ is_black depth values.now place }
+{
+    match depth {
+        Depth::Bits24 => is_value(values, place, 0),
+        Depth::Bits16 => color_said(Color::low(number(values, place)), depth).number() == 0,
+    }
+}
+
 /// Whether a run is one of cached glyphs: flAccel 3, ulCharInc 0, fOpRedundant 1, foreColor 0, and the edges op and the brush 0.
-pub fn is_cached_run(values: &[i64]) -> bool
-    ensures { result ≡ is_cached_run Bits24 values.now }
+pub fn is_cached_run(values: &[i64], depth: Depth) -> bool
+    ensures { IsNumberAt 16777216 values.now 5 → result ≡ is_cached_run depth values.now }
 {
     is_value(values, 1, 3)
         && is_value(values, 2, 0)
         && is_value(values, 3, 1)
-        && is_value(values, 5, 0)
+        && is_black(values, 5, depth)
         && are_zero(values, 10, 9)
 }

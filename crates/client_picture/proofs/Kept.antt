@@ -5,6 +5,7 @@ use Rattle.std.specs.Vec.{with_items}
 use Rattle.std.proofs.lemmas.List.{with_items_is}
 use Rattle.px_core.specs.declared.surface.Size.{Size}
 use Rattle.px_core.specs.declared.rectangle.Rect.{Rect}
+use Rattle.px_core.specs.declared.depth.Depth.{Depth}
 use Rattle.px_core.specs.Picture.{Area, Formula, both, pixel_at, painted, where_chosen}
 use Rattle.px_core.specs.Rectangle.{in_rect}
 use Rattle.draw_ops.proofs.Painted.{length-painted_from, pixel_at-painted}
@@ -54,10 +55,10 @@ kept_after size flags frame picture marked before clip r inner f old_flags new_f
     (subst (λ (ps : List (Option ℕ)). AreKept size new_flags next ps marked) (sym (with_items_is picture new en ∙ done ∙ ap (painted size (both clip (both (in_rect r) inner)) f) ep))
     (after_painting size flags.items frame picture.items marked before clip r inner f new_flags next (subst (λ (ts : List Bool). AddsRows size (both clip (in_rect r)) ts new_flags) ef added) wider))
 
-abbrev pub pictures : Size → List (Option ℕ) → List (Option ℕ) → Pictures
-pictures size picture marked = record { size = size; picture = picture; marked = marked }
+abbrev pub pictures : Depth → Size → List (Option ℕ) → List (Option ℕ) → Pictures
+pictures depth size picture marked = record { depth = depth; size = size; picture = picture; marked = marked }
 
 -- the value with a new picture
-pub value_is : {P : Type 0} (size : Size) (picture : Vec (Option ℕ) P) (marked new after : List (Option ℕ)) → length new ≡ picture.len → new ≡ after
-    → pictures size (with_items picture new).items marked ≡ pictures size after marked
-value_is size picture marked new after e done = ap (λ (ps : List (Option ℕ)). pictures size ps marked) (with_items_is picture new e ∙ done)
+pub value_is : {P : Type 0} (depth : Depth) (size : Size) (picture : Vec (Option ℕ) P) (marked new after : List (Option ℕ)) → length new ≡ picture.len → new ≡ after
+    → pictures depth size (with_items picture new).items marked ≡ pictures depth size after marked
+value_is depth size picture marked new after e done = ap (λ (ps : List (Option ℕ)). pictures depth size ps marked) (with_items_is picture new e ∙ done)

@@ -10,7 +10,8 @@ use borrow.Rule.Slice.PartMut.{put_mid, mid_of}
 use Rattle.px_core.specs.declared.surface.Size.{Size}
 use Rattle.px_core.specs.Picture.{pixel_count, pixel_at}
 use Rattle.px_core.proofs.Pictures.{item-get_or}
-use Rattle.rop3_core.specs.Palette.{maybe_raster}
+use Rattle.px_core.specs.declared.depth.Depth.{Depth}
+use Rattle.draw_ops.specs.Depths.{maybe_raster_at}
 use Rattle.client_picture.specs.declared.part.Part.{Part}
 use Rattle.client_picture.specs.declared.corner.Corner.{Corner}
 use Rattle.client_picture.specs.Sources.{copied_color}
@@ -224,11 +225,11 @@ row_stretch size x n f old ys r a m e high fits ea em long same =
     (λ u more less. let there : x + (u - x) ≡ u = omega (arith, more) in same (u - x) (omega (arith, more, less)) ∙ ap (λ j. f j r) there)
 
 -- an operation over equal operands
-pub same_mix : (code : ℕ) (p q s t d e : Option ℕ) → p ≡ q → s ≡ t → d ≡ e → maybe_raster code p s d ≡ maybe_raster code q t e
-same_mix code p q s t d e f g h = ap (λ k. maybe_raster code k s d) f ∙ ap (λ k. maybe_raster code q k d) g ∙ ap (λ k. maybe_raster code q t k) h
+pub same_mix : (depth : Depth) (code : ℕ) (p q s t d e : Option ℕ) → p ≡ q → s ≡ t → d ≡ e → maybe_raster_at depth code p s d ≡ maybe_raster_at depth code q t e
+same_mix depth code p q s t d e f g h = ap (λ k. maybe_raster_at depth code k s d) f ∙ ap (λ k. maybe_raster_at depth code q k d) g ∙ ap (λ k. maybe_raster_at depth code q t k) h
 
 -- a copy from pixels that weren't painted yet
-pub same_copy : (size : Size) (p : Part) (code : ℕ) (from : Corner) (old cur : List (Option ℕ)) (u v : ℕ)
+pub same_copy : (depth : Depth) (size : Size) (p : Part) (code : ℕ) (from : Corner) (old cur : List (Option ℕ)) (u v : ℕ)
     → pixel_at size cur None (from.x + (u - p.x)) (from.y + (v - p.y)) ≡ pixel_at size old None (from.x + (u - p.x)) (from.y + (v - p.y)) → pixel_at size cur None u v ≡ pixel_at size old None u v
-    → copied_color size cur p code from u v ≡ copied_color size old p code from u v
-same_copy size p code from old cur u v f g = same_mix code (Some 0) (Some 0) (pixel_at size cur None (from.x + (u - p.x)) (from.y + (v - p.y))) (pixel_at size old None (from.x + (u - p.x)) (from.y + (v - p.y))) (pixel_at size cur None u v) (pixel_at size old None u v) refl f g
+    → copied_color depth size cur p code from u v ≡ copied_color depth size old p code from u v
+same_copy depth size p code from old cur u v f g = same_mix depth code (Some 0) (Some 0) (pixel_at size cur None (from.x + (u - p.x)) (from.y + (v - p.y))) (pixel_at size old None (from.x + (u - p.x)) (from.y + (v - p.y))) (pixel_at size cur None u v) (pixel_at size old None u v) refl f g

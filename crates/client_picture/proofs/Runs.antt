@@ -124,15 +124,15 @@ run_more size clip glyphs x y color p run ps = painted_either size.w 0 clip (gly
 -- ---- the same of a client's pictures
 
 pub drawn_nowhere : (clip : Option Rect) (color : ℕ) (s : Pictures) → drawn_within clip nowhere color s ≡ s
-drawn_nowhere clip color s = ap (λ (ps : List (Option ℕ)). pictures s.size ps s.marked) (painted_nowhere s.size.w 0 (in_clip clip) (solid client_colors color) s.picture)
+drawn_nowhere clip color s = ap (λ (ps : List (Option ℕ)). pictures s.depth s.size ps s.marked) (painted_nowhere s.size.w 0 (in_clip clip) (solid client_colors color) s.picture)
 
 pub drawn_more : (clip : Option Rect) (glyphs : ℕ → Option GlyphOf) (x y : ℤ) (color : ℕ) (p : ℕ × ℕ) (run : List (ℕ × ℕ)) (s : Pictures)
     → drawn_within clip (run_area glyphs (x +ℤ pos p.1) y run) color (drawn_within clip (glyph_area (glyphs p.0) (x +ℤ pos p.1) y) color s) ≡ drawn_within clip (run_area glyphs x y (p ∷ run)) color s
-drawn_more clip glyphs x y color p run s = ap (λ (ps : List (Option ℕ)). pictures s.size ps s.marked) (run_more s.size (in_clip clip) glyphs x y color p run s.picture)
+drawn_more clip glyphs x y color p run s = ap (λ (ps : List (Option ℕ)). pictures s.depth s.size ps s.marked) (run_more s.size (in_clip clip) glyphs x y color p run s.picture)
 
 pub written_is : (clip : Option Rect) (glyphs : ℕ → Option GlyphOf) (x y : ℤ) (color : ℕ) (run : List (ℕ × ℕ)) (s : Pictures)
     → drawn_within clip (run_area glyphs x y run) color s ≡ painted_within clip (writing glyphs x y color run) s
-written_is clip glyphs x y color run s = ap (λ (ps : List (Option ℕ)). pictures s.size ps s.marked) (text_is s.size (in_clip clip) glyphs x y color run s.picture)
+written_is clip glyphs x y color run s = ap (λ (ps : List (Option ℕ)). pictures s.depth s.size ps s.marked) (text_is s.size (in_clip clip) glyphs x y color run s.picture)
 
 -- ---- pairs of bytes
 

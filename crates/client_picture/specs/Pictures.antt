@@ -1,6 +1,7 @@
 -- What a client's picture is seen as, and what becomes of it.
 use Rattle.std.specs.Prelude.{◌≡◌, ℕ, ◌*◌, IsTrue, List, length, replicate, Option, Some, None}
 use Rattle.px_core.specs.declared.surface.Size.{Size}
+use Rattle.px_core.specs.declared.depth.Depth.{Depth}
 use Rattle.px_core.specs.declared.rectangle.Rect.{Rect}
 use Rattle.px_core.specs.Picture.{pixel_count, rows_of, Area, both, painted}
 use Rattle.px_core.specs.Rectangle.{is_inside, in_clip}
@@ -9,8 +10,9 @@ use Rattle.draw_ops.specs.Formulas.{Operand, solid, absent, brushed, imaged, Pai
 use Rattle.order_means.specs.ClientState.{source_rect}
 use Rattle.client_picture.specs.declared.source.Source.{Source}
 
--- a client's sides, which never change, its picture, and the picture that it had at its last mark; pixels may be unknown
+-- a client's depth and its sides, which never change, its picture, and the picture that it had at its last mark; pixels may be unknown
 pub record Pictures : Type 0 where
+  pub depth : Depth
   pub size : Size
   pub picture : List (Option ℕ)
   pub marked : List (Option ℕ)
@@ -19,8 +21,8 @@ pub record Pictures : Type 0 where
 abbrev pub unknown_picture : Size → List (Option ℕ)
 unknown_picture size = replicate (pixel_count size) None
 
-abbrev pub first_pictures : Size → Pictures
-first_pictures size = record { size = size; picture = unknown_picture size; marked = unknown_picture size }
+abbrev pub first_pictures : Depth → Size → Pictures
+first_pictures depth size = record { depth = depth; size = size; picture = unknown_picture size; marked = unknown_picture size }
 
 -- the pictures after a painting within a clip
 abbrev pub painted_within : Option Rect → Painting (Option ℕ) → Pictures → Pictures

@@ -2,8 +2,9 @@
 use Rattle.std.specs.Prelude.{◌≡◌, ℕ, ◌+◌, ◌-◌, ◌*◌, ◌%◌, ◌≤◌, ℤ, pos, ◌+ℤ◌, ◌-ℤ◌, List, length, get_or, Option, Some, None, option_copied}
 use Rattle.px_core.specs.declared.surface.Size.{Size}
 use Rattle.px_core.specs.declared.rectangle.Rect.{Rect}
+use Rattle.px_core.specs.declared.depth.Depth.{Depth}
 use Rattle.px_core.specs.Picture.{pixel_at}
-use Rattle.rop3_core.specs.Palette.{maybe_raster}
+use Rattle.draw_ops.specs.Depths.{maybe_raster_at}
 use Rattle.client_picture.specs.Pictures.{brush_operand}
 use Rattle.client_picture.specs.declared.part.Part.{Part}
 use Rattle.client_picture.specs.declared.corner.Corner.{Corner}
@@ -45,19 +46,19 @@ source_color part (Some t) x y = texture_color part t x y
 -- what a raster operation makes of a pixel of a part, over the old picture
 abbrev pub mixed_color : Size → List (Option ℕ) → Part → Mix → ℕ → ℕ → Option ℕ
 mixed_color size old part mix x y =
-    maybe_raster mix.rop (brush_operand (option_copied mix.brush) (pos x) (pos y)) (Some (source_color part mix.texture x y)) (pixel_at size old None x y)
+    maybe_raster_at mix.depth mix.rop (brush_operand (option_copied mix.brush) (pos x) (pos y)) (Some (source_color part mix.texture x y)) (pixel_at size old None x y)
 
 -- what a copy makes of a pixel of a part, over the old picture
-abbrev pub copied_color : Size → List (Option ℕ) → Part → ℕ → Corner → ℕ → ℕ → Option ℕ
-copied_color size old part rop from x y =
-    maybe_raster rop (Some 0) (pixel_at size old None (from.x + (x - part.x)) (from.y + (y - part.y))) (pixel_at size old None x y)
+abbrev pub copied_color : Depth → Size → List (Option ℕ) → Part → ℕ → Corner → ℕ → ℕ → Option ℕ
+copied_color depth size old part rop from x y =
+    maybe_raster_at depth rop (Some 0) (pixel_at size old None (from.x + (x - part.x)) (from.y + (y - part.y))) (pixel_at size old None x y)
 
 -- the source of a copy lies inside the picture
 pub record IsSourceInside (size : Size) (part : Part) (from : Corner) : Type 0 where
   pub columns : from.x + part.w ≤ size.w
   pub rows : from.y + part.h ≤ size.h
 
--- a colour that may be unknown, as the code CC copies it: bits from 24 on are dropped
+-- a colour that may be unknown, as the code CC copies it at 24 bits: bits from 24 on are dropped
 abbrev pub copied : Option ℕ → Option ℕ
 copied None = None
 copied (Some color) = Some (color % 16777216)

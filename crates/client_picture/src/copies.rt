@@ -1,6 +1,6 @@
 //! Copies within the picture, row by row.
 ghost use Rattle.std.specs.Prelude.{◌≡◌, ℕ, ◌+◌, ◌<◌, ◌≤◌, Some, None, length, get_or};
-ghost use Rattle.rop3_core.specs.Palette.{maybe_raster};
+ghost use Rattle.draw_ops.specs.Depths.{maybe_raster_at};
 ghost use Rattle.client_picture.specs.Parts.{in_part, part_at, IsCanvas, IsInside, IsRepainted};
 ghost use Rattle.client_picture.specs.Sources.{copied, copied_color, IsSourceInside};
 
@@ -8,7 +8,7 @@ use crate::corner::Corner;
 use crate::part::Part;
 use crate::pixel::{SOURCE_COPY, copied, mixed};
 use client_pixel::Pixel;
-use px_core::Size;
+use px_core::{Depth, Size};
 
 /// Makes each pixel of a part what the operation of a code makes of it, with the picture itself as its source, from a corner on. The row is for the
 /// source of one row.
@@ -18,6 +18,7 @@ pub(crate) fn copy_part(
     pixels: &mut [Pixel],
     size: Size,
     part: Part,
+    depth: Depth,
     rop: u8,
     from: Corner,
     source: &mut [Pixel],
@@ -26,12 +27,12 @@ pub(crate) fn copy_part(
     requires inside { IsInside size part }
     requires from { IsSourceInside size part from }
     requires source { length source.old ≡ part.w }
-    ensures { IsRepainted size (in_part part) (copied_color size pixels.old part rop from) pixels.old pixels.new }
+    ensures { IsRepainted size (in_part part) (copied_color depth size pixels.old part rop from) pixels.old pixels.new }
 {
     if from.y < part.y {
-        copy_upwards(pixels, size, part, rop, from, source)
+        copy_upwards(pixels, size, part, depth, rop, from, source)
     } else {
-        copy_downwards(pixels, size, part, rop, from, source)
+        copy_downwards(pixels, size, part, depth, rop, from, source)
     }
 }
 
@@ -40,6 +41,7 @@ fn copy_downwards(
     pixels: &mut [Pixel],
     size: Size,
     part: Part,
+    depth: Depth,
     rop: u8,
     from: Corner,
     source: &mut [Pixel],
@@ -49,10 +51,10 @@ fn copy_downwards(
     requires from { IsSourceInside size part from }
     requires not_above { part.y ≤ from.y }
     requires source { length source.old ≡ part.w }
-    ensures { IsRepainted size (in_part part) (copied_color size pixels.old part rop from) pixels.old pixels.new }
+    ensures { IsRepainted size (in_part part) (copied_color depth size pixels.old part rop from) pixels.old pixels.new }
 {
     for k in 0..part.h {
-        copy_row(pixels, size, part, rop, from, part.y + k, source);
+        copy_row(pixels, size, part, depth, rop, from, part.y + k, source);
     }
 }
 
@@ -61,6 +63,7 @@ fn copy_upwards(
     pixels: &mut [Pixel],
     size: Size,
     part: Part,
+    depth: Depth,
     rop: u8,
     from: Corner,
     source: &mut [Pixel],
@@ -70,13 +73,14 @@ fn copy_upwards(
     requires from { IsSourceInside size part from }
     requires above { from.y ≤ part.y }
     requires source { length source.old ≡ part.w }
-    ensures { IsRepainted size (in_part part) (copied_color size pixels.old part rop from) pixels.old pixels.new }
+    ensures { IsRepainted size (in_part part) (copied_color depth size pixels.old part rop from) pixels.old pixels.new }
 {
     for k in 0..part.h {
         copy_row(
             pixels,
             size,
             part,
+            depth,
             rop,
             from,
             part.y + (part.h - 1 - k),
@@ -90,6 +94,7 @@ fn copy_row(
     pixels: &mut [Pixel],
     size: Size,
     part: Part,
+    depth: Depth,
     rop: u8,
     from: Corner,
     y: usize,
@@ -101,28 +106,28 @@ fn copy_row(
     requires above { part.y ≤ y }
     requires below { y < part.y + part.h }
     requires source { length source.old ≡ part.w }
-    ensures { IsRepainted size (in_part (part_at part.x y part.w 1)) (copied_color size pixels.old part rop from) pixels.old pixels.new }
+    ensures { IsRepainted size (in_part (part_at part.x y part.w 1)) (copied_color depth size pixels.old part rop from) pixels.old pixels.new }
 {
     let width = size.w as usize;
     let start = width * (from.y + (y - part.y)) + from.x;
     source.copy_from_slice(&pixels[start..start + part.w]);
     let at = width * y + part.x;
-    mix_source(&mut pixels[at..at + part.w], source, rop);
+    mix_source(&mut pixels[at..at + part.w], source, depth, rop);
 }
 
 /// Makes each pixel of a row what the operation of a code makes of it and of the source at its place.
-fn mix_source(row: &mut [Pixel], source: &[Pixel], rop: u8)
+fn mix_source(row: &mut [Pixel], source: &[Pixel], depth: Depth, rop: u8)
     requires { length source.now ≡ length row.old }
-    ensures { (k : ℕ) → k < length row.old → get_or row.new k None ≡ maybe_raster rop (Some 0) (get_or source.now k None) (get_or row.old k None) }
+    ensures { (k : ℕ) → k < length row.old → get_or row.new k None ≡ maybe_raster_at depth rop (Some 0) (get_or source.now k None) (get_or row.old k None) }
 {
-    if rop == SOURCE_COPY {
-        copy_pixels(row, source);
-    } else {
-        mix_pixels(row, source, rop);
+    match depth {
+        Depth::Bits24 if rop == SOURCE_COPY => copy_pixels(row, source),
+        Depth::Bits24 => mix_pixels(row, source, Depth::Bits24, rop),
+        Depth::Bits16 => mix_pixels(row, source, Depth::Bits16, rop),
     }
 }
 
-/// Copies the source over a row.
+/// Copies the source of 24 bits over a row.
 fn copy_pixels(row: &mut [Pixel], source: &[Pixel])
     requires { length source.now ≡ length row.old }
     ensures { (k : ℕ) → k < length row.old → get_or row.new k None ≡ copied (get_or source.now k None) }
@@ -132,12 +137,13 @@ fn copy_pixels(row: &mut [Pixel], source: &[Pixel])
     }
 }
 
-/// Mixes the source into a row, pixel by pixel.
-fn mix_pixels(row: &mut [Pixel], source: &[Pixel], rop: u8)
+/// Mixes the source into a row at a depth, pixel by pixel.
+#[inline(always)]
+fn mix_pixels(row: &mut [Pixel], source: &[Pixel], depth: Depth, rop: u8)
     requires { length source.now ≡ length row.old }
-    ensures { (k : ℕ) → k < length row.old → get_or row.new k None ≡ maybe_raster rop (Some 0) (get_or source.now k None) (get_or row.old k None) }
+    ensures { (k : ℕ) → k < length row.old → get_or row.new k None ≡ maybe_raster_at depth rop (Some 0) (get_or source.now k None) (get_or row.old k None) }
 {
     for k in 0..row.len() {
-        row[k] = mixed(rop, 0, source[k], row[k]);
+        row[k] = mixed(depth, rop, 0, source[k], row[k]);
     }
 }

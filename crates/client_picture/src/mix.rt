@@ -1,6 +1,7 @@
 //! Raster operations by rows.
 ghost use Rattle.std.specs.Prelude.{◌≡◌, ℕ, ◌+◌, ◌<◌, ◌≤◌, Some, None, pos, length, get_or, IfSome, option_copied};
-ghost use Rattle.rop3_core.specs.Palette.{maybe_raster};
+ghost use Rattle.px_core.specs.declared.depth.Depth.TheVariants.{Bits24};
+ghost use Rattle.draw_ops.specs.Depths.{maybe_raster_at};
 ghost use Rattle.client_picture.specs.Parts.{in_part, IsCanvas, IsInside, IsRepainted};
 ghost use Rattle.client_picture.specs.Pictures.{brush_operand};
 ghost use Rattle.client_picture.specs.Sources.{copied, source_color, texture_color, mixed_color, CoversPart};
@@ -10,7 +11,7 @@ use crate::part::Part;
 use crate::pixel::{SOURCE_COPY, copied_color, over_source};
 use client_pixel::Pixel;
 use draw_ops::Brush;
-use px_core::Size;
+use px_core::{Depth, Size};
 
 /// The columns, and the rows, of a brush.
 const BRUSH_SIDE: usize = 8;
@@ -23,9 +24,10 @@ pub(crate) struct Texture<'a> {
     pub(crate) from: Corner,
 }
 
-/// A raster operation by its code, with a brush as its pattern and an image as its source; one that is missing counts as 0.
+/// A raster operation by its depth and its code, with a brush as its pattern and an image as its source; one that is missing counts as 0.
 #[derive(Clone, Copy)]
 pub(crate) struct Mix<'a> {
+    pub(crate) depth: Depth,
     pub(crate) rop: u8,
     pub(crate) brush: Option<&'a Brush>,
     pub(crate) texture: Option<Texture<'a>>,
@@ -52,15 +54,30 @@ fn mix_row(row: &mut [Pixel], part: Part, y: usize, mix: Mix)
     requires above { part.y ≤ y }
     requires below { y < part.y + part.h }
     requires texture { IfSome mix.texture (CoversPart part) }
-    ensures { (k : ℕ) → k < length row.old → get_or row.new k None ≡ maybe_raster mix.entry.rop (brush_operand (option_copied mix.entry.brush) (pos (part.x + k)) (pos y)) (Some (source_color part mix.entry.texture (part.x + k) y)) (get_or row.old k None) }
+    ensures { (k : ℕ) → k < length row.old → get_or row.new k None ≡ maybe_raster_at mix.entry.depth mix.entry.rop (brush_operand (option_copied mix.entry.brush) (pos (part.x + k)) (pos y)) (Some (source_color part mix.entry.texture (part.x + k) y)) (get_or row.old k None) }
 {
-    match mix.texture {
-        Some(texture) if mix.rop == SOURCE_COPY => copy_row(row, part, y, texture),
-        _ => mix_pixels(row, part, y, mix),
+    match mix.depth {
+        Depth::Bits24 => mix_row_24(row, part, y, mix),
+        Depth::Bits16 => mix_pixels(row, part, y, Depth::Bits16, mix),
     }
 }
 
-/// Copies an image over row y of a part.
+/// The same at 24 bits, where a copy needs no operation.
+fn mix_row_24(row: &mut [Pixel], part: Part, y: usize, mix: Mix)
+    requires wide { length row.old ≡ part.w }
+    requires columns { part.x + part.w ≤ 65535 }
+    requires above { part.y ≤ y }
+    requires below { y < part.y + part.h }
+    requires texture { IfSome mix.texture (CoversPart part) }
+    ensures { (k : ℕ) → k < length row.old → get_or row.new k None ≡ maybe_raster_at Bits24 mix.entry.rop (brush_operand (option_copied mix.entry.brush) (pos (part.x + k)) (pos y)) (Some (source_color part mix.entry.texture (part.x + k) y)) (get_or row.old k None) }
+{
+    match mix.texture {
+        Some(texture) if mix.rop == SOURCE_COPY => copy_row(row, part, y, texture),
+        _ => mix_pixels(row, part, y, Depth::Bits24, mix),
+    }
+}
+
+/// Copies an image of 24 bits over row y of a part.
 fn copy_row(row: &mut [Pixel], part: Part, y: usize, texture: Texture)
     requires wide { length row.old ≡ part.w }
     requires above { part.y ≤ y }
@@ -72,7 +89,7 @@ fn copy_row(row: &mut [Pixel], part: Part, y: usize, texture: Texture)
     copy_colors(row, &texture.pixels[from..from + part.w]);
 }
 
-/// Copies colours over a row.
+/// Copies colours of 24 bits over a row.
 fn copy_colors(row: &mut [Pixel], colors: &[u32])
     requires { length colors.now ≡ length row.old }
     ensures { (k : ℕ) → k < length row.old → get_or row.new k None ≡ copied (Some (get_or colors.now k 0)) }
@@ -82,20 +99,21 @@ fn copy_colors(row: &mut [Pixel], colors: &[u32])
     }
 }
 
-/// Mixes row y of a part, pixel by pixel.
-fn mix_pixels(row: &mut [Pixel], part: Part, y: usize, mix: Mix)
+/// Mixes row y of a part at a depth, pixel by pixel.
+#[inline(always)]
+fn mix_pixels(row: &mut [Pixel], part: Part, y: usize, depth: Depth, mix: Mix)
     requires wide { length row.old ≡ part.w }
     requires columns { part.x + part.w ≤ 65535 }
     requires above { part.y ≤ y }
     requires below { y < part.y + part.h }
     requires texture { IfSome mix.texture (CoversPart part) }
-    ensures { (k : ℕ) → k < length row.old → get_or row.new k None ≡ maybe_raster mix.entry.rop (brush_operand (option_copied mix.entry.brush) (pos (part.x + k)) (pos y)) (Some (source_color part mix.entry.texture (part.x + k) y)) (get_or row.old k None) }
+    ensures { (k : ℕ) → k < length row.old → get_or row.new k None ≡ maybe_raster_at depth mix.entry.rop (brush_operand (option_copied mix.entry.brush) (pos (part.x + k)) (pos y)) (Some (source_color part mix.entry.texture (part.x + k) y)) (get_or row.old k None) }
 {
     for k in 0..row.len() {
         let x = part.x + k;
         let pattern = brush_color(mix.brush, x, y);
         let source = texture_color(mix.texture, part, x, y);
-        row[k] = over_source(mix.rop, pattern, source, row[k]);
+        row[k] = over_source(depth, mix.rop, pattern, source, row[k]);
     }
 }
 

@@ -1,5 +1,5 @@
 //! A client's present picture and that of its last mark.
-ghost use Rattle.std.specs.Prelude.{◌≡◌, ◌<◌, ◌≤◌, ◌*◌, ℕ, List, Some, None, pos, IfOk, IfSome, IsTrue, length, replicate, option_copied};
+ghost use Rattle.std.specs.Prelude.{◌≡◌, ◌<◌, ◌≤◌, ◌*◌, ◌^◌, ℕ, List, Some, None, pos, IfOk, IfSome, IsTrue, length, replicate, option_copied};
 ghost use Rattle.px_core.specs.Colors.{are_colors};
 ghost use Rattle.px_core.specs.Picture.{pixel_at, rows_of};
 ghost use Rattle.px_core.specs.Rectangle.{is_inside, cut_out};
@@ -19,7 +19,7 @@ use crate::source::Source;
 use crate::touched::{copy_touched, touch_found, touch_rect};
 use client_pixel::{Color, Pixel};
 use draw_ops::{Brush, Glyph};
-use px_core::{Rect, Size};
+use px_core::{Depth, Rect, Size};
 use std::alloc::Global;
 use std::marker::Model;
 
@@ -36,11 +36,12 @@ const EMPTY: Frame = Frame {
 
 /// A client's picture, each pixel a colour or unknown, and the picture that it had at its last mark.
 ///
-/// Colours are `65536 * red + 256 * green + blue`. Every list of pixels goes row by row from the top. `bounds` is the rectangle outside of
+/// Colours are those of its depth: `65536 * red + 256 * green + blue` or, at 16 bits, `2048 * red + 32 * green + blue`. Every list of pixels goes row by row from the top. `bounds` is the rectangle outside of
 /// which an order changes nothing. Only `new` and `save` take memory.
 #[derive(Drop)]
 pub struct ClientPicture {
     alloc: Global,
+    depth: Depth,
     size: Size,
     picture: Vec<Pixel>,
     marked: Vec<Pixel>,
@@ -59,15 +60,15 @@ impl Model for ClientPicture {
 
     ghost Value = { Pictures };
 
-    ghost view = { λ s. record { size = s.size; picture = s.picture.items; marked = s.marked.items } };
+    ghost view = { λ s. record { depth = s.depth; size = s.size; picture = s.picture.items; marked = s.marked.items } };
 
     ghost invariant = { λ s. AreKept s.size s.touched.items s.frame s.picture.items s.marked.items × (length s.row.items ≡ s.size.w) };
 }
 
 impl ClientPicture {
-    /// A picture of this size, of which each pixel is unknown, now and at the last mark. There is no memory for a side above 65,535.
-    pub fn new(alloc: Global, size: Size) -> Result<ClientPicture, OutOfMemory>
-        ensures { IfOk result (λ pictures. pictures ≡ first_pictures size) }
+    /// A picture of this size and depth, of which each pixel is unknown, now and at the last mark. There is no memory for a side above 65,535.
+    pub fn new(alloc: Global, size: Size, depth: Depth) -> Result<ClientPicture, OutOfMemory>
+        ensures { IfOk result (λ pictures. pictures ≡ first_pictures depth size) }
     {
         if LONGEST < size.w || LONGEST < size.h {
             return Err(OutOfMemory);
@@ -79,6 +80,7 @@ impl ClientPicture {
         let row = unknown_pixels(alloc, size.w as usize)?;
         Ok(ClientPicture {
             alloc,
+            depth,
             size,
             picture,
             marked,
@@ -110,10 +112,12 @@ impl ClientPicture {
         source: Option<Source<'_>>,
     )
         requires { IfSome source (HasSource rect) }
-        ensures { self.new ≡ painted_within bounds (mixing rect rop (brush_operand (option_copied brush.entry)) (source_operand rect source.entry)) self.old }
+        ensures { self.new ≡ painted_within bounds (mixing self.old.depth rect rop (brush_operand (option_copied brush.entry)) (source_operand rect source.entry)) self.old }
     {
         let pixels = self.picture.as_mut_slice();
-        mix_rect(pixels, self.size, rect, bounds, rop, brush, source);
+        mix_rect(
+            pixels, self.size, rect, bounds, self.depth, rop, brush, source,
+        );
         let touched = self.touched.as_mut_slice();
         touch_rect(touched, &mut self.frame, self.size, rect, bounds);
     }
@@ -121,13 +125,14 @@ impl ClientPicture {
     /// A raster operation on a rectangle, with the picture itself, from (sx, sy) on, as its source. It may overlap the rectangle.
     pub fn copy(&mut self, rect: Rect, bounds: Option<Rect>, rop: u8, sx: i32, sy: i32)
         requires { IsTrue (is_inside self.old.size (source_rect rect sx sy)) }
-        ensures { self.new ≡ painted_within bounds (mixing rect rop no_operand (shifted (rows_of self.old.size.w self.old.size.h self.old.picture) None rect sx sy)) self.old }
+        ensures { self.new ≡ painted_within bounds (mixing self.old.depth rect rop no_operand (shifted (rows_of self.old.size.w self.old.size.h self.old.picture) None rect sx sy)) self.old }
     {
         copy_rect(
             self.picture.as_mut_slice(),
             self.size,
             rect,
             bounds,
+            self.depth,
             rop,
             sx,
             sy,
@@ -264,9 +269,17 @@ impl ClientPicture {
     pub fn marked(&self, x: u32, y: u32) -> Option<u32>
         requires column { x < self.now.size.w }
         requires row { y < self.now.size.h }
-        ensures { result ≡ pixel_at self.now.size self.now.marked None x y }
+        ensures value { result ≡ pixel_at self.now.size self.now.marked None x y }
+        ensures bound { IfSome result (λ color. color < 2 ^ 24) }
     {
         self.marked[self.size.w as usize * y as usize + x as usize].color()
+    }
+
+    /// The depth of its colours.
+    pub fn depth(&self) -> Depth
+        ensures { result ≡ self.now.depth }
+    {
+        self.depth
     }
 
     /// The sides in pixels.

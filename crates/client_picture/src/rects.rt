@@ -19,7 +19,7 @@ use crate::rows::{fill_part, paste_part};
 use crate::source::Source;
 use client_pixel::{Color, Pixel};
 use draw_ops::Brush;
-use px_core::{Rect, Size};
+use px_core::{Depth, Rect, Size};
 
 /// Gives a rectangle one colour, of which this part lies on the picture and within the bounds.
 pub(crate) fn fill_rect(
@@ -47,18 +47,20 @@ pub(crate) fn mix_rect(
     size: Size,
     rect: Rect,
     bounds: Option<Rect>,
+    depth: Depth,
     rop: u8,
     brush: Option<&Brush>,
     source: Option<Source<'_>>,
 )
     requires canvas { IsCanvas size pixels.old }
     requires source { IfSome source (HasSource rect) }
-    ensures { pixels.new ≡ picture_after size (in_clip bounds) (mixing rect rop (brush_operand (option_copied brush.entry)) (source_operand rect source.entry)) pixels.old }
+    ensures { pixels.new ≡ picture_after size (in_clip bounds) (mixing depth rect rop (brush_operand (option_copied brush.entry)) (source_operand rect source.entry)) pixels.old }
 {
     match part_of(size, rect, bounds) {
         None => {}
         Some(part) => {
             let mix = Mix {
+                depth,
                 rop,
                 brush,
                 texture: source_texture(source, rect, part),
@@ -114,7 +116,9 @@ pub(crate) fn write_rect(
     match part_of(size, rect, bounds) {
         None => {}
         Some(part) => {
+            // Colours of either depth have no bits that a copy at 24 drops.
             let mix = Mix {
+                depth: Depth::Bits24,
                 rop: SOURCE_COPY,
                 brush: None,
                 texture: Some(texture_of(source, rect, part)),
@@ -130,6 +134,7 @@ pub(crate) fn copy_rect(
     size: Size,
     rect: Rect,
     bounds: Option<Rect>,
+    depth: Depth,
     rop: u8,
     sx: i32,
     sy: i32,
@@ -138,13 +143,13 @@ pub(crate) fn copy_rect(
     requires canvas { IsCanvas size pixels.old }
     requires inside { IsTrue (is_inside size (source_rect rect sx sy)) }
     requires row { length row.old ≡ size.w }
-    ensures { pixels.new ≡ picture_after size (in_clip bounds) (mixing rect rop no_operand (shifted (rows_of size.w size.h pixels.old) None rect sx sy)) pixels.old }
+    ensures { pixels.new ≡ picture_after size (in_clip bounds) (mixing depth rect rop no_operand (shifted (rows_of size.w size.h pixels.old) None rect sx sy)) pixels.old }
 {
     match part_of(size, rect, bounds) {
         None => {}
         Some(part) => {
             let from = corner_of(rect, sx, sy, part);
-            copy_part(pixels, size, part, rop, from, &mut row[..part.w])
+            copy_part(pixels, size, part, depth, rop, from, &mut row[..part.w])
         }
     }
 }

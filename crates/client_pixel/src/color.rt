@@ -6,7 +6,7 @@ use std::marker::Model;
 /// Colours are below this.
 const COLORS: u32 = 0x100_0000;
 
-/// A colour: `65536 * red + 256 * green + blue`.
+/// A colour: `65536 * red + 256 * green + blue` or, of 16 bits, `2048 * red + 32 * green + blue`.
 #[derive(Clone, Copy, Debug)]
 pub struct Color {
     number: u32,

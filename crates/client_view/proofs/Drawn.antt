@@ -22,10 +22,10 @@ use Rattle.client_view.specs.Views.{IsSourceOf}
 -- ---- a brush
 
 abbrev with_brush : Size → Option Rect → Rect → ℕ → ClientState → Result (List ℕ) Fault → Result ClientState Fault
-with_brush size clip r code c used = bind used (λ brush. Ok (clipped_painting size clip (mixing r code (brushed client_colors brush) no_operand) c))
+with_brush size clip r code c used = bind used (λ brush. Ok (clipped_painting size clip (mixing c.depth r code (brushed client_colors brush) no_operand) c))
 
 pub patterned : (confirmed : Confirmed) (size : Size) (clip : Option Rect) (r : Rect) (code entry : ℕ) (c : ClientState) (brush : List ℕ) → brush_used confirmed c entry ≡ Ok brush
-    → client_after_clipped confirmed size clip c (Pat r code entry) ≡ Ok (clipped_painting size clip (mixing r code (brushed client_colors brush) no_operand) c)
+    → client_after_clipped confirmed size clip c (Pat r code entry) ≡ Ok (clipped_painting size clip (mixing c.depth r code (brushed client_colors brush) no_operand) c)
 patterned confirmed size clip r code entry c brush e = ap (with_brush size clip r code c) e
 
 pub no_pattern : (confirmed : Confirmed) (size : Size) (clip : Option Rect) (r : Rect) (code entry : ℕ) (c : ClientState) (f : Fault) → brush_used confirmed c entry ≡ Err f → client_after_clipped confirmed size clip c (Pat r code entry) ≡ Err f
@@ -41,12 +41,12 @@ source_same r image sx sy s is =
     ap (λ (rs : List (List ℕ)). imaged client_colors rs r sx sy) rows ∙ ap₂ (λ (a b : ℤ). imaged client_colors (source_rows s) r a b) (sym is.sx_is) (sym is.sy_is)
 
 abbrev with_image : Size → Option Rect → Rect → ℕ → ℤ → ℤ → ClientState → Result ImageOf Fault → Result ClientState Fault
-with_image size clip r code sx sy c used = bind used (λ image. Ok (clipped_painting size clip (mixing r code no_operand (imaged client_colors (image_rows image) r sx sy)) c))
+with_image size clip r code sx sy c used = bind used (λ image. Ok (clipped_painting size clip (mixing c.depth r code no_operand (imaged client_colors (image_rows image) r sx sy)) c))
 
 pub imaged_by : (confirmed : Confirmed) (size : Size) (clip : Option Rect) (cache index : ℕ) (r : Rect) (code : ℕ) (sx sy : ℤ) (c : ClientState) (image : ImageOf) (s : Source) → image_used confirmed c cache index (source_rect r sx sy) ≡ Ok image
-    → IsSourceOf image sx sy s → client_after_clipped confirmed size clip c (Mem cache index r code sx sy) ≡ Ok (clipped_painting size clip (mixing r code no_operand (source_operand r (Some s))) c)
+    → IsSourceOf image sx sy s → client_after_clipped confirmed size clip c (Mem cache index r code sx sy) ≡ Ok (clipped_painting size clip (mixing c.depth r code no_operand (source_operand r (Some s))) c)
 imaged_by confirmed size clip cache index r code sx sy c image s e is =
-    ap (with_image size clip r code sx sy c) e ∙ ap (λ (o : Operand (Option ℕ)). Ok (clipped_painting size clip (mixing r code no_operand o) c)) (source_same r image sx sy s is)
+    ap (with_image size clip r code sx sy c) e ∙ ap (λ (o : Operand (Option ℕ)). Ok (clipped_painting size clip (mixing c.depth r code no_operand o) c)) (source_same r image sx sy s is)
 
 pub no_image : (confirmed : Confirmed) (size : Size) (clip : Option Rect) (cache index : ℕ) (r : Rect) (code : ℕ) (sx sy : ℤ) (c : ClientState) (f : Fault) → image_used confirmed c cache index (source_rect r sx sy) ≡ Err f
     → client_after_clipped confirmed size clip c (Mem cache index r code sx sy) ≡ Err f
@@ -56,14 +56,14 @@ no_image confirmed size clip cache index r code sx sy c f e = ap (with_image siz
 
 abbrev with_both : Size → Option Rect → Rect → ℕ → ℤ → ℤ → ClientState → Result (List ℕ) Fault → Result ImageOf Fault → Result ClientState Fault
 with_both size clip r code sx sy c brush used =
-    bind used (λ image. bind brush (λ b. Ok (clipped_painting size clip (mixing r code (brushed client_colors b) (imaged client_colors (image_rows image) r sx sy)) c)))
+    bind used (λ image. bind brush (λ b. Ok (clipped_painting size clip (mixing c.depth r code (brushed client_colors b) (imaged client_colors (image_rows image) r sx sy)) c)))
 
 pub mixed_by : (confirmed : Confirmed) (size : Size) (clip : Option Rect) (cache index : ℕ) (r : Rect) (code : ℕ) (sx sy : ℤ) (entry : ℕ) (c : ClientState) (image : ImageOf) (brush : List ℕ) (s : Source)
     → image_used confirmed c cache index (source_rect r sx sy) ≡ Ok image → brush_used confirmed c entry ≡ Ok brush → IsSourceOf image sx sy s
-    → client_after_clipped confirmed size clip c (Mem3 cache index r code sx sy entry) ≡ Ok (clipped_painting size clip (mixing r code (brushed client_colors brush) (source_operand r (Some s))) c)
+    → client_after_clipped confirmed size clip c (Mem3 cache index r code sx sy entry) ≡ Ok (clipped_painting size clip (mixing c.depth r code (brushed client_colors brush) (source_operand r (Some s))) c)
 mixed_by confirmed size clip cache index r code sx sy entry c image brush s e b is =
     ap₂ (λ (y : Result (List ℕ) Fault) (x : Result ImageOf Fault). with_both size clip r code sx sy c y x) b e
-    ∙ ap (λ (o : Operand (Option ℕ)). Ok (clipped_painting size clip (mixing r code (brushed client_colors brush) o) c)) (source_same r image sx sy s is)
+    ∙ ap (λ (o : Operand (Option ℕ)). Ok (clipped_painting size clip (mixing c.depth r code (brushed client_colors brush) o) c)) (source_same r image sx sy s is)
 
 pub no_mixed_image : (confirmed : Confirmed) (size : Size) (clip : Option Rect) (cache index : ℕ) (r : Rect) (code : ℕ) (sx sy : ℤ) (entry : ℕ) (c : ClientState) (f : Fault) → image_used confirmed c cache index (source_rect r sx sy) ≡ Err f
     → client_after_clipped confirmed size clip c (Mem3 cache index r code sx sy entry) ≡ Err f

@@ -4,4 +4,5 @@ pub mod Drawn
 pub mod Obeyed
 pub mod TilesObeyed
 pub mod Updated
+pub mod WidePixels
 pub mod Streams

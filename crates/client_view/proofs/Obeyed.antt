@@ -8,7 +8,6 @@ use Rattle.px_core.specs.declared.surface.Size.{Size}
 use Rattle.px_core.specs.declared.rectangle.Rect.{Rect}
 use Rattle.wire_num.specs.Field.{bind}
 use Rattle.caps_sets.specs.declared.confirmed.Confirmed.{Confirmed}
-use Rattle.px_core.specs.declared.depth.Depth.TheVariants.{Bits24}
 use Rattle.order_fields.specs.OrderTable.{FieldList}
 use Rattle.order_fields.specs.Secondary.{Cached}
 use Rattle.order_fields.specs.NamedDrawing.{NamedDrawing, drawing_of}
@@ -41,20 +40,20 @@ view_drawn v after = record { client = after; pictures = v.pictures; orders = v.
 abbrev counted : Confirmed → Told → View → Result ClientState Fault → Result View Fault
 counted confirmed t v r = bind r (λ c. Ok (counted_told confirmed t (view_with v c)))
 
-pub told_drawing : (confirmed : Confirmed) (size : Size) (v : View) (clip : Option Rect) (o : FieldList) (d : NamedDrawing) (c after : ClientState) → v.client ≡ c → drawing_of Bits24 o ≡ Some d
+pub told_drawing : (confirmed : Confirmed) (size : Size) (v : View) (clip : Option Rect) (o : FieldList) (d : NamedDrawing) (c after : ClientState) → v.client ≡ c → drawing_of c.depth o ≡ Some d
     → client_after_clipped confirmed size clip c d ≡ Ok after → view_after_told confirmed size v (Drawn o clip) ≡ Ok (view_drawn v after)
 unfolding view_drawn
 told_drawing confirmed size v clip o d c after s e h =
-    ap (λ (x : Option NamedDrawing). counted confirmed (Drawn o clip) v (bind (found x Broken) (client_after_clipped confirmed size clip v.client))) e
-    ∙ ap (λ (y : ClientState). counted confirmed (Drawn o clip) v (client_after_clipped confirmed size clip y d)) s
+    ap (λ (y : ClientState). counted confirmed (Drawn o clip) v (bind (found (drawing_of y.depth o) Broken) (client_after_clipped confirmed size clip y))) s
+    ∙ ap (λ (x : Option NamedDrawing). counted confirmed (Drawn o clip) v (bind (found x Broken) (client_after_clipped confirmed size clip c))) e
     ∙ ap (counted confirmed (Drawn o clip) v) h
 
-pub no_drawing : (f : ObeyFault) (confirmed : Confirmed) (size : Size) (v : View) (clip : Option Rect) (o : FieldList) (d : NamedDrawing) (c : ClientState) → v.client ≡ c → drawing_of Bits24 o ≡ Some d
+pub no_drawing : (f : ObeyFault) (confirmed : Confirmed) (size : Size) (v : View) (clip : Option Rect) (o : FieldList) (d : NamedDrawing) (c : ClientState) → v.client ≡ c → drawing_of c.depth o ≡ Some d
     → Refuses f (client_after_clipped confirmed size clip c d) → Refuses f (view_after_told confirmed size v (Drawn o clip))
 no_drawing f confirmed size v clip o d c s e r =
     refused_by f (client_after_clipped confirmed size clip c d) (view_after_told confirmed size v (Drawn o clip)) (λ g h.
-    ap (λ (x : Option NamedDrawing). counted confirmed (Drawn o clip) v (bind (found x Broken) (client_after_clipped confirmed size clip v.client))) e
-    ∙ ap (λ (y : ClientState). counted confirmed (Drawn o clip) v (client_after_clipped confirmed size clip y d)) s
+    ap (λ (y : ClientState). counted confirmed (Drawn o clip) v (bind (found (drawing_of y.depth o) Broken) (client_after_clipped confirmed size clip y))) s
+    ∙ ap (λ (x : Option NamedDrawing). counted confirmed (Drawn o clip) v (bind (found x Broken) (client_after_clipped confirmed size clip c))) e
     ∙ ap (counted confirmed (Drawn o clip) v) h) r
 
 pub drawn_stands : (v : View) (m : Viewer) (blocks : List Block) (pictures : Pictures) (orders : ℕ) → StandsFor v m → SamePlace m.pictures pictures → orders ≡ capped (v.orders + 1)

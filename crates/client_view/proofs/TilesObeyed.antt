@@ -3,6 +3,7 @@ use Rattle.std.proofs.Common.{◌≡◌, ◌<◌, ℕ, ◌+◌, Bool, true, List
 use Rattle.std.specs.Prelude.{Option, Result, Ok, Err}
 use Rattle.std.proofs.Math.Seq.{drop-cons}
 use Rattle.px_core.specs.declared.surface.Size.{Size}
+use Rattle.px_core.specs.declared.depth.Depth.{Depth}
 use Rattle.wire_num.specs.Field.{bind}
 use Rattle.order_means.specs.WirePixels.{turned_over}
 use Rattle.order_means.specs.ClientState.{Fault, needs, after_painting, wire_pixels}
@@ -28,14 +29,15 @@ upright_is : (r : Result (List ℕ) Fault) (w h : ℕ) (pixels : List ℕ) (next
 upright_is (Ok p) w h pixels next e = let is : turned_over w h p ≡ pixels = cc in ap next is
 upright_is (Err f) w h pixels next e = absurd (let no : ⊥ = cc in no)
 
-pub tile_shown : (size : Size) (v : View) (t : Rectangle) (packed : Bool) (pixels : List ℕ) → is_tile size t ≡ true → is_packed_tile t.flags ≡ Some packed → upright_pixels packed t.w t.h t.bytes ≡ Ok pixels
+pub tile_shown : (size : Size) (v : View) (t : Rectangle) (packed : Bool) (pixels : List ℕ) (depth : Depth) → v.client.depth ≡ depth → is_tile depth size t ≡ true → is_packed_tile t.flags ≡ Some packed → upright_pixels depth packed t.w t.h t.bytes ≡ Ok pixels
     → view_after_tile size v t ≡ Ok (view_tiled size v t pixels)
 unfolding view_tiled
-tile_shown size v t packed pixels test flags e =
+tile_shown size v t packed pixels depth here test flags e =
     let next : List ℕ → Result View Fault = λ ps. Ok (view_tiled size v t ps) in
-    ap (λ (b : Bool). needs b Broken (bind (tile_pixels (is_packed_tile t.flags) t) (λ wire. next (turned_over t.w t.h wire)))) test
-    ∙ ap (λ (o : Option Bool). bind (tile_pixels o t) (λ wire. next (turned_over t.w t.h wire))) flags
-    ∙ upright_is (wire_pixels packed t.w t.h t.bytes) t.w t.h pixels next e
+    ap (λ (d : Depth). needs (is_tile d size t) Broken (bind (tile_pixels d (is_packed_tile t.flags) t) (λ wire. next (turned_over t.w t.h wire)))) here
+    ∙ ap (λ (b : Bool). needs b Broken (bind (tile_pixels depth (is_packed_tile t.flags) t) (λ wire. next (turned_over t.w t.h wire)))) test
+    ∙ ap (λ (o : Option Bool). bind (tile_pixels depth o t) (λ wire. next (turned_over t.w t.h wire))) flags
+    ∙ upright_is (wire_pixels depth packed t.w t.h t.bytes) t.w t.h pixels next e
 
 pub tile_stands : (v : View) (m : Viewer) (t : Rectangle) (pixels : List ℕ) (pictures : Pictures) (tiles : ℕ) → StandsFor v m → pictures ≡ painted_within None (showing t pixels) m.pictures → tiles ≡ capped (v.tiles + 1)
     → StandsFor (view_tiled m.pictures.size v t pixels) (record m { pictures = pictures; tiles = tiles })

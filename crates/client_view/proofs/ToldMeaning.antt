@@ -10,7 +10,6 @@ use Rattle.wire_num.specs.Field.{bind}
 use Rattle.draw_ops.specs.Content.{ImageOf}
 use Rattle.draw_ops.specs.Formulas.{solid, brushed, shifted, imaged, image_rows, Painting, over_rect}
 use Rattle.caps_sets.specs.declared.confirmed.Confirmed.{Confirmed}
-use Rattle.px_core.specs.declared.depth.Depth.TheVariants.{Bits24}
 use Rattle.order_fields.specs.OrderTable.{Edges}
 use Rattle.order_fields.specs.Secondary.{Cached}
 use Rattle.order_fields.specs.Secondary.Cached.{Bitmap, Glyph, Brush, Marker}
@@ -39,19 +38,19 @@ ok_alike : (size : Size) (bounds : Option Edges) (p : Painting (Option ℕ)) (c 
 ok_alike size bounds p c = ap (λ (d : ClientState). Ok d) (painted_alike size bounds p c)
 
 drawn_alike : (confirmed : Confirmed) (size : Size) (bounds : Option Edges) (c : ClientState) (d : NamedDrawing) → client_after_drawing confirmed size bounds c d ≡ client_after_clipped confirmed size (optional_rect bounds) c d
-drawn_alike confirmed size bounds c (Dst r code) = ok_alike size bounds (mixing r code no_operand no_operand) c
-drawn_alike confirmed size bounds c (Pat r code entry) = bind_same (brush_used confirmed c entry) _ _ (λ brush. ok_alike size bounds (mixing r code (brushed client_colors brush) no_operand) c)
+drawn_alike confirmed size bounds c (Dst r code) = ok_alike size bounds (mixing c.depth r code no_operand no_operand) c
+drawn_alike confirmed size bounds c (Pat r code entry) = bind_same (brush_used confirmed c entry) _ _ (λ brush. ok_alike size bounds (mixing c.depth r code (brushed client_colors brush) no_operand) c)
 drawn_alike confirmed size bounds c (Scr r code sx sy) =
-    ap (needs (is_inside size (source_rect r sx sy)) Broken) (ok_alike size bounds (mixing r code no_operand (shifted (rows_of size.w size.h c.picture) None r sx sy)) c)
+    ap (needs (is_inside size (source_rect r sx sy)) Broken) (ok_alike size bounds (mixing c.depth r code no_operand (shifted (rows_of size.w size.h c.picture) None r sx sy)) c)
 drawn_alike confirmed size bounds c (Opaque r color) = ok_alike size bounds (over_rect r (solid client_colors color)) c
 drawn_alike confirmed size bounds c (SaveBlock position r) = refl
 drawn_alike confirmed size bounds c (RestoreBlock position r) =
     ap (needs (is_inside size r) Broken) (bind_same (found (block_at position r.w r.h c.blocks) Broken) _ _ (λ (b : Block). ok_alike size bounds (restoring b r) c))
 drawn_alike confirmed size bounds c (Mem cache index r code sx sy) =
-    bind_same (image_used confirmed c cache index (source_rect r sx sy)) _ _ (λ (image : ImageOf). ok_alike size bounds (mixing r code no_operand (imaged client_colors (image_rows image) r sx sy)) c)
+    bind_same (image_used confirmed c cache index (source_rect r sx sy)) _ _ (λ (image : ImageOf). ok_alike size bounds (mixing c.depth r code no_operand (imaged client_colors (image_rows image) r sx sy)) c)
 drawn_alike confirmed size bounds c (Mem3 cache index r code sx sy entry) =
     bind_same (image_used confirmed c cache index (source_rect r sx sy)) _ _ (λ (image : ImageOf). bind_same (brush_used confirmed c entry) _ _ (λ (brush : List ℕ).
-    ok_alike size bounds (mixing r code (brushed client_colors brush) (imaged client_colors (image_rows image) r sx sy)) c))
+    ok_alike size bounds (mixing c.depth r code (brushed client_colors brush) (imaged client_colors (image_rows image) r sx sy)) c))
 drawn_alike confirmed size bounds c (Glyphs cache x y color run) =
     ap (needs (nat_lt cache 10) Broken) (bind_same (found (pairs_of run) Broken) _ _ (λ (pairs : List (ℕ × ℕ)). ap (with_glyphs (glyph_used confirmed c cache) pairs)
     (ok_alike size bounds (writing (λ index. cached cache index c.glyphs) x y color pairs) c)))
@@ -65,7 +64,7 @@ stored_alike confirmed c (Brush b) = refl
 stored_alike confirmed c (Marker ends) = refl
 
 told_alike : (confirmed : Confirmed) (size : Size) (c : ClientState) (o : Order) → client_after_order confirmed size c o ≡ client_after_told confirmed size c (told_order o)
-told_alike confirmed size c (Primary o bounds) = bind_same (found (drawing_of Bits24 o) Broken) _ _ (λ (d : NamedDrawing). drawn_alike confirmed size bounds c d)
+told_alike confirmed size c (Primary o bounds) = bind_same (found (drawing_of c.depth o) Broken) _ _ (λ (d : NamedDrawing). drawn_alike confirmed size bounds c d)
 told_alike confirmed size c (Other o) = stored_alike confirmed c o
 
 mark_alike : (confirmed : Confirmed) (o : Cached) → is_mark confirmed o ≡ is_mark confirmed (upright o)

@@ -1,5 +1,6 @@
 pub mod Told
 pub mod Views
+pub mod Widened
 pub mod Refusals
 pub mod Tiles
 pub mod OnTheWay

@@ -3,7 +3,6 @@ use Rattle.std.specs.Prelude.{◌≡◌, ◌⊎◌, ℕ, List, [], ◌∷◌, �
 use Rattle.px_core.specs.declared.surface.Size.{Size}
 use Rattle.wire_num.specs.Field.{Read}
 use Rattle.caps_sets.specs.declared.confirmed.Confirmed.{Confirmed}
-use Rattle.px_core.specs.declared.depth.Depth.TheVariants.{Bits24}
 use Rattle.order_fields.specs.OrderStream.{Order, Stream, orders_in}
 use Rattle.order_means.specs.Updates.{Body, updates_by}
 use Rattle.order_means.specs.FrameMarks.{View, Tile, Update, ClientReading, with_registers, view_after_orders, view_after_tiles, update_at, read_on}
@@ -51,7 +50,7 @@ abbrev pub WithinStream : Confirmed → Size → View → Stream → View → Ty
 WithinStream confirmed size v s w = (s.refused ≡ None) × AfterFirstOrders confirmed size (with_registers v s.after) s.orders w
 
 abbrev pub WithinUpdate : Confirmed → Size → View → Update → View → Type 0
-WithinUpdate confirmed size v (Orders count bytes) w = WithinStream confirmed size v (orders_in Bits24 bytes count v.client.registers) w
+WithinUpdate confirmed size v (Orders count bytes) w = WithinStream confirmed size v (orders_in v.client.depth bytes count v.client.registers) w
 WithinUpdate confirmed size v (Tiles ts) w = AfterFirstTiles size v ts w
 WithinUpdate confirmed size v Synchronize w = ⊥
 

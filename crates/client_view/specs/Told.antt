@@ -8,7 +8,6 @@ use Rattle.rop3_core.specs.Palette.{client_colors}
 use Rattle.wire_num.specs.Field.{bind}
 use Rattle.draw_ops.specs.Formulas.{solid, brushed, shifted, imaged, image_rows, Painting, over_rect, picture_after}
 use Rattle.caps_sets.specs.declared.confirmed.Confirmed.{Confirmed}
-use Rattle.px_core.specs.declared.depth.Depth.TheVariants.{Bits24}
 use Rattle.order_fields.specs.Secondary.{Cached}
 use Rattle.order_fields.specs.Secondary.Cached.{Bitmap, Glyph, Brush, Marker}
 use Rattle.order_fields.specs.NamedDrawing.{NamedDrawing, drawing_of}
@@ -26,21 +25,21 @@ clipped_painting size clip p c = record c { picture = picture_after size (in_cli
 
 -- the client after a drawing within a clip
 abbrev pub client_after_clipped : Confirmed → Size → Option Rect → ClientState → NamedDrawing → Result ClientState Fault
-client_after_clipped confirmed size clip c (Dst r code) = Ok (clipped_painting size clip (mixing r code no_operand no_operand) c)
+client_after_clipped confirmed size clip c (Dst r code) = Ok (clipped_painting size clip (mixing c.depth r code no_operand no_operand) c)
 client_after_clipped confirmed size clip c (Pat r code entry) =
-    bind (brush_used confirmed c entry) (λ brush. Ok (clipped_painting size clip (mixing r code (brushed client_colors brush) no_operand) c))
+    bind (brush_used confirmed c entry) (λ brush. Ok (clipped_painting size clip (mixing c.depth r code (brushed client_colors brush) no_operand) c))
 client_after_clipped confirmed size clip c (Scr r code sx sy) =
-    needs (is_inside size (source_rect r sx sy)) Broken (Ok (clipped_painting size clip (mixing r code no_operand (shifted (rows_of size.w size.h c.picture) None r sx sy)) c))
+    needs (is_inside size (source_rect r sx sy)) Broken (Ok (clipped_painting size clip (mixing c.depth r code no_operand (shifted (rows_of size.w size.h c.picture) None r sx sy)) c))
 client_after_clipped confirmed size clip c (Opaque r color) = Ok (clipped_painting size clip (over_rect r (solid client_colors color)) c)
 client_after_clipped confirmed size clip c (SaveBlock position r) =
     needs (is_inside size r && nat_le (position + positions r.w r.h) 57600) Broken (Ok (with_block (block_of size c position r) c))
 client_after_clipped confirmed size clip c (RestoreBlock position r) =
     needs (is_inside size r) Broken (bind (found (block_at position r.w r.h c.blocks) Broken) (λ b. Ok (clipped_painting size clip (restoring b r) c)))
 client_after_clipped confirmed size clip c (Mem cache index r code sx sy) =
-    bind (image_used confirmed c cache index (source_rect r sx sy)) (λ image. Ok (clipped_painting size clip (mixing r code no_operand (imaged client_colors (image_rows image) r sx sy)) c))
+    bind (image_used confirmed c cache index (source_rect r sx sy)) (λ image. Ok (clipped_painting size clip (mixing c.depth r code no_operand (imaged client_colors (image_rows image) r sx sy)) c))
 client_after_clipped confirmed size clip c (Mem3 cache index r code sx sy entry) =
     bind (image_used confirmed c cache index (source_rect r sx sy)) (λ image. bind (brush_used confirmed c entry) (λ brush.
-    Ok (clipped_painting size clip (mixing r code (brushed client_colors brush) (imaged client_colors (image_rows image) r sx sy)) c)))
+    Ok (clipped_painting size clip (mixing c.depth r code (brushed client_colors brush) (imaged client_colors (image_rows image) r sx sy)) c)))
 client_after_clipped confirmed size clip c (Glyphs cache x y color run) =
     needs (nat_lt cache 10) Broken (bind (found (pairs_of run) Broken) (λ pairs. with_glyphs (glyph_used confirmed c cache) pairs
     (Ok (clipped_painting size clip (writing (λ index. cached cache index c.glyphs) x y color pairs) c))))
@@ -53,7 +52,7 @@ client_after_stored confirmed c (Brush b) = client_after_upright_brush confirmed
 client_after_stored confirmed c (Marker ends) = Ok c
 
 abbrev pub client_after_told : Confirmed → Size → ClientState → Told → Result ClientState Fault
-client_after_told confirmed size c (Drawn o clip) = bind (found (drawing_of Bits24 o) Broken) (client_after_clipped confirmed size clip c)
+client_after_told confirmed size c (Drawn o clip) = bind (found (drawing_of c.depth o) Broken) (client_after_clipped confirmed size clip c)
 client_after_told confirmed size c (Stored o) = client_after_stored confirmed c o
 
 -- a drawing is counted, and the mark of a viewer with frame markers is kept

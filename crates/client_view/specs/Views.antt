@@ -20,6 +20,7 @@ capped n = min n (2 ^ 64 - 1)
 -- a client of its parts
 abbrev pub client_of : Registers → CachesOf → List Block → Pictures → ClientState
 client_of registers caches blocks pictures = record {
+  depth = pictures.depth;
   registers = registers;
   images = caches.images;
   glyphs = caches.glyphs;

@@ -7,9 +7,11 @@ ghost use Rattle.client_picture.specs.Pictures.{unknown_picture};
 ghost use Rattle.client_view.specs.Views.{capped, last_picture, SameViewer};
 ghost use Rattle.client_view.specs.Clients.{IsReading, Feeds};
 ghost use Rattle.client_view.specs.OnTheWay.{Stops, ComesTo};
+ghost use Rattle.client_view.specs.Widened.{widened_picture};
 
 use crate::reading::read_bytes;
 use crate::viewer::Viewer;
+use crate::wide::widened;
 use crate::{ClientFault, OutOfMemory};
 use caps_sets::Confirmed;
 use px_core::Size;
@@ -103,14 +105,18 @@ impl Client {
         self.viewer.pictures.size()
     }
 
-    /// The colour that pixel (x, y) had at the last mark; `None` where it was unknown or there was no mark.
+    /// The colour that pixel (x, y) had at the last mark, as `65536 * red + 256 * green + blue`, of which a viewer of 16 bits has the highest 5, 6
+    /// and 5 bits and the others are 0; `None` where it was unknown or there was no mark.
     pub fn marked(&self, x: u32, y: u32) -> Option<u32>
         requires column { x < self.now.viewer.pictures.size.w }
         requires row { y < self.now.viewer.pictures.size.h }
-        ensures value { result ≡ pixel_at self.now.viewer.pictures.size self.now.viewer.pictures.marked None x y }
+        ensures value { result ≡ pixel_at self.now.viewer.pictures.size (widened_picture self.now.viewer.pictures.depth self.now.viewer.pictures.marked) None x y }
         ensures shown { (r : ClientReading) → IsReading r self.now
-            → result ≡ pixel_at self.now.viewer.pictures.size (last_picture (unknown_picture self.now.viewer.pictures.size) r.view.pictures) None x y }
+            → result ≡ pixel_at self.now.viewer.pictures.size (widened_picture r.view.client.depth (last_picture (unknown_picture self.now.viewer.pictures.size) r.view.pictures)) None x y }
     {
-        self.viewer.pictures.marked(x, y)
+        match self.viewer.pictures.marked(x, y) {
+            None => None,
+            Some(color) => Some(widened(color, self.viewer.pictures.depth())),
+        }
     }
 }

@@ -12,6 +12,7 @@ mod saved;
 mod tiles;
 mod update;
 mod viewer;
+mod wide;
 
 pub use client::Client;
 pub use client_fault::ClientFault;

@@ -38,7 +38,7 @@ fn obey_drawing(viewer: &mut Viewer, fields: &Fields, bounds: Option<Rect>) -> R
     ensures same { SameViewer viewer.old viewer.new }
     ensures kept { OnErr result (SameCounts viewer.old viewer.new) }
 {
-    match fill_of(fields) {
+    match fill_of(fields, viewer.pictures.depth()) {
         Some(fill) => {
             let (rect, color) = fill;
             draw_fill(&mut viewer.pictures, bounds, rect, color);
@@ -56,7 +56,7 @@ fn obey_named(viewer: &mut Viewer, fields: &Fields, bounds: Option<Rect>) -> Res
     ensures same { SameViewer viewer.old viewer.new }
     ensures kept { OnErr result (SameCounts viewer.old viewer.new) }
 {
-    let Some(named) = drawing_of(fields) else {
+    let Some(named) = drawing_of(fields, viewer.pictures.depth()) else {
         return Err(ObeyFault::Broken);
     };
     draw(
@@ -100,9 +100,11 @@ fn obey(viewer: &mut Viewer, alloc: Global, body: &[u8], read: &Read) -> Result<
                 packed: *packed,
             };
             let confirmed = viewer.confirmed;
+            let bytes = part(body, *at);
+            let depth = viewer.pictures.depth();
             viewer
                 .caches
-                .store_bitmap(alloc, &confirmed, &bitmap, part(body, *at))
+                .store_bitmap(alloc, &confirmed, &bitmap, bytes, depth)
         }
         Read::Glyph {
             cache,

@@ -10,7 +10,7 @@ ghost use Rattle.client_view.specs.OnTheWay.{SameCounts, Stops, AfterFirstTiles}
 use crate::parts::part;
 use crate::viewer::Viewer;
 use client_caches::{ObeyFault, is_bitmap, upright_pixels};
-use px_core::{Rect, Size, is_inside};
+use px_core::{Depth, Rect, Size, is_inside};
 use std::alloc::Global;
 use update_read::Tile;
 
@@ -31,12 +31,12 @@ fn tile_rect(t: &Tile) -> Rect
     }
 }
 
-/// Whether the rectangle has a pixel, is inside the surface, no wider than its bitmap, and as high.
-fn is_tile(size: Size, t: &Tile, rect: Rect) -> bool
+/// Whether the bitmap is one of the depth, and the rectangle has a pixel, is inside the surface, no wider than its bitmap, and as high.
+fn is_tile(size: Size, t: &Tile, rect: Rect, depth: Depth) -> bool
     requires { rect ≡ tile_rect (bare_tile t.now) }
-    ensures { result ≡ is_tile size (bare_tile t.now) }
+    ensures { result ≡ is_tile depth size (bare_tile t.now) }
 {
-    is_bitmap(t.w, t.h, t.depth)
+    is_bitmap(t.w, t.h, t.depth, depth)
         && is_inside(size, rect)
         && 1 <= rect.w
         && rect.w <= u32::from(t.w)
@@ -61,14 +61,15 @@ fn obey_tile(viewer: &mut Viewer, alloc: Global, body: &[u8], t: &Tile) -> Resul
     ensures kept { OnErr result (SameCounts viewer.old viewer.new) }
 {
     let rect = tile_rect(t);
-    if !is_tile(viewer.pictures.size(), t, rect) {
+    let depth = viewer.pictures.depth();
+    if !is_tile(viewer.pictures.size(), t, rect, depth) {
         return Err(ObeyFault::Broken);
     }
     let Some(packed) = is_packed(t.flags) else {
         return Err(ObeyFault::Broken);
     };
     let (w, h) = (usize::from(t.w), usize::from(t.h));
-    let pixels = upright_pixels(alloc, packed, w, h, part(body, t.at))?;
+    let pixels = upright_pixels(alloc, packed, w, h, part(body, t.at), depth)?;
     viewer.pictures.write(rect, None, t.w, t.h, &pixels);
     viewer.tiles = viewer.tiles.saturating_add(1);
     Ok(())

@@ -14,7 +14,6 @@ use crate::parts::behind;
 use crate::tiles::obey_tiles;
 use crate::viewer::Viewer;
 use order_read::{OrderFault, read_orders};
-use px_core::Depth;
 use std::alloc::Global;
 use update_read::{Update, UpdateFault, read_update};
 
@@ -34,7 +33,8 @@ fn obey_orders(
     ensures stopped { (v : View) → StandsFor v viewer.old → OnErr result (Stops (MidUpdate viewer.old.confirmed viewer.old.pictures.size v (Orders count (drop from body.now))) viewer.new) }
 {
     let orders = behind(body, from);
-    match read_orders(alloc, orders, count, &mut viewer.regs, Depth::Bits24) {
+    let depth = viewer.pictures.depth();
+    match read_orders(alloc, orders, count, &mut viewer.regs, depth) {
         Ok(reads) => meant(at, obey_all(viewer, alloc, orders, &reads)),
         Err(OrderFault::BadOrder { at: offset }) => Err(ClientFault::Refused {
             at: behind_place(at, body.len() - orders.len(), offset),

@@ -34,7 +34,7 @@ impl Viewer {
         ensures { IfOk result (IsFirst confirmed size) }
     {
         let caches = ClientCaches::new(alloc, &confirmed)?;
-        let pictures = ClientPicture::new(alloc, size)?;
+        let pictures = ClientPicture::new(alloc, size, confirmed.depth)?;
         Ok(Viewer {
             confirmed,
             regs: Regs::new(),

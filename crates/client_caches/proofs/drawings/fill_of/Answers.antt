@@ -13,8 +13,8 @@ fill_values-requires c =
 pub returns : goal.returns
 returns c =
     let is : c.kind.result ≡ 10 = cc in
-    let told = c.fill_values.ensures c.args.fields.now.values.bytes ∙ kind_draws c.args.fields.now c.kind.result 10 opaque_rect _ c.values.ensures.fits c.kind.ensures is refl c.values.ensures.value in
+    let told = c.fill_values.ensures c.args.fields.now.values.bytes ∙ kind_draws c.args.depth c.args.fields.now c.kind.result 10 opaque_rect _ c.values.ensures.fits c.kind.ensures is refl c.values.ensures.value in
     sym (same_fill c.fill_values.result) ∙ ap fill_in told
 
 pub returns-then-kind-ne-OPAQUE_RECT : goal.returns-then-kind-ne-OPAQUE_RECT
-returns-then-kind-ne-OPAQUE_RECT c = sym (no_fill c.args.fields.now c.kind.result c.kind.ensures c.if-kind-ne-OPAQUE_RECT.true)
+returns-then-kind-ne-OPAQUE_RECT c = sym (no_fill c.args.depth c.args.fields.now c.kind.result c.kind.ensures c.if-kind-ne-OPAQUE_RECT.true)

@@ -1,7 +1,6 @@
 use Rattle.std.proofs.Common.{rules, ◌≡◌, true, lit<, ap, ap₂, sym, ◌∙◌, to_z, of_z, w32, arith}
 use Rattle.std.specs.Prelude.{◌&&◌}
 use Rattle.px_core.specs.Rectangle.{has_pixel}
-use Rattle.px_core.specs.declared.depth.Depth.TheVariants.{Bits24}
 use Rattle.order_fields.specs.OrderTable.{mem3_blt}
 use Rattle.order_fields.specs.NamedDrawing.{value, number, rect_at, is_cached_brush}
 use Rattle.client_caches.specs.Named.{FitBox}
@@ -22,5 +21,5 @@ returns c = λ run.
     let n : to_z w32 (of_z w32 c.coordinate-2.result) ≡ c.coordinate-2.result = search rules in
     let r : c.rect_at-rect.result ≡ rect_at vs 1 = c.rect_at-rect.ensures corner in
     let has : has_pixel c.rect_at-rect.result ≡ true = grind arith in
-    let brush : is_cached_brush Bits24 vs 10 ≡ true = grind arith in
+    let brush : is_cached_brush c.args.depth vs 10 ≡ true = grind arith in
     shown _ _ _ (ap₂ (λ a b. a && b) (ap has_pixel (sym r) ∙ has) brush) cc

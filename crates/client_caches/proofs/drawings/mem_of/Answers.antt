@@ -7,7 +7,7 @@ use Rattle.client_caches.proofs.FieldsFit.{kind_at, shown}
 use Rattle.client_caches.proofs.drawings.mem_of.Goals as goal
 
 pub returns : goal.returns
-returns c = λ run.
+returns c = λ depth run.
     let vs = c.args.values.now in
     let corner : FitBox vs 1 = record { first = kind_at 1 mem_blt.kinds vs c.requires (lit< tt); second = kind_at 2 mem_blt.kinds vs c.requires (lit< tt); third = kind_at 3 mem_blt.kinds vs c.requires (lit< tt); fourth = kind_at 4 mem_blt.kinds vs c.requires (lit< tt) } in
     let cache : c.short.result ≡ number vs 0 = c.short.ensures (kind_at 0 mem_blt.kinds vs c.requires (lit< tt)) in

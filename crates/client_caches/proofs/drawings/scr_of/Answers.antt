@@ -7,7 +7,7 @@ use Rattle.client_caches.proofs.FieldsFit.{kind_at, shown}
 use Rattle.client_caches.proofs.drawings.scr_of.Goals as goal
 
 pub returns : goal.returns
-returns c = λ run.
+returns c = λ depth run.
     let vs = c.args.values.now in
     let corner : FitBox vs 0 = record { first = kind_at 0 scr_blt.kinds vs c.requires (lit< tt); second = kind_at 1 scr_blt.kinds vs c.requires (lit< tt); third = kind_at 2 scr_blt.kinds vs c.requires (lit< tt); fourth = kind_at 3 scr_blt.kinds vs c.requires (lit< tt) } in
     let code : c.byte.result ≡ number vs 4 = c.byte.ensures (kind_at 4 scr_blt.kinds vs c.requires (lit< tt)) in

@@ -1,7 +1,7 @@
 use Rattle.std.proofs.Common.{◌≡◌, ℕ, ◌+◌, ◌*◌, ◌-◌, ◌<◌, pos, refl, ap, ◌∙◌, arith}
 use Rattle.std.specs.Prelude.{Option, Some, option_copied}
 use Rattle.std.proofs.lemmas.Bool.Decides.{nat_tests}
-use Rattle.rop3_core.specs.Palette.{maybe_raster}
+use Rattle.draw_ops.specs.Depths.{maybe_raster_at}
 use Rattle.client_picture.specs.Pictures.{brush_operand}
 use Rattle.client_picture.specs.Sources.{mixed_color, source_color}
 use Rattle.client_picture.proofs.Repaint.{stretch_fits, length_mid, stretch_pixel, untouched, no_rows, all_rows, next_row_down}
@@ -20,7 +20,7 @@ loop-y-preserved c = let p = c.args.part in let mix = c.args.mix in let size = c
     next_row_down size p.x p.y p.w (mixed_color size old p mix) old cur c.mix_row.new.row y n ((n + p.w) - n) c.loop-y.invariant whole c.loop-y.auto.y high c.requires.inside.columns refl em
     (c.mix_row.auto.row ∙ wide)
     (λ i below. c.mix_row.ensures i (omega (arith, below, wide))
-    ∙ ap (λ (d : Option ℕ). maybe_raster mix.rop (brush_operand (option_copied mix.brush) (pos (p.x + i)) (pos y)) (Some (source_color p mix.texture (p.x + i) y)) d)
+    ∙ ap (λ (d : Option ℕ). maybe_raster_at mix.depth mix.rop (brush_operand (option_copied mix.brush) (pos (p.x + i)) (pos y)) (Some (source_color p mix.texture (p.x + i) y)) d)
     (stretch_pixel size n ((n + p.w) - n) p.x y i cur refl (omega (arith, below, em))
     ∙ untouched size p.x p.y p.w (y - p.y) (mixed_color size old p mix) old cur (p.x + i) y c.loop-y.invariant (omega (arith, below, c.requires.inside.columns)) high (grind (arith, nat_tests, c.loop-y.auto.y))))
 

@@ -2,6 +2,7 @@ use Rattle.std.proofs.Common.{ap, sym, ◌∙◌}
 use Rattle.std.specs.Prelude.{Some, None}
 use Rattle.px_core.specs.Picture.{pixel_at}
 use Rattle.px_core.specs.Rectangle.{in_clip}
+use Rattle.px_core.specs.declared.depth.Depth.TheVariants.{Bits24}
 use Rattle.rop3_core.specs.Palette.{client_colors}
 use Rattle.draw_ops.specs.Formulas.{replaced, imaged}
 use Rattle.client_picture.specs.declared.mix.Mix.{Mix}
@@ -14,7 +15,7 @@ use Rattle.client_picture.proofs.rects.write_rect.Goals as goal
 
 pub returns-in-Some : goal.returns-in-Some
 returns-in-Some c = let size = c.args.size in let old = c.args.pixels.now in let s = c.args.source in let p = c.in-Some.part in let t = c.texture_of.result in
-    let mix : Mix = record { rop = 204; brush = None; texture = Some t } in
+    let mix : Mix = record { depth = Bits24; rop = 204; brush = None; texture = Some t } in
     over_rect_is size (in_clip c.args.bounds) c.args.rect (replaced (imaged client_colors (source_rows s) c.args.rect s.sx s.sy)) old c.requires.canvas.sized
     (in_part p) (mixed_color size old p mix) c.mix_part.new.pixels c.mix_part.ensures (λ x y left above. c.in-Some.ensures.pixels x y left above)
     (λ x y left above h. sym (copied_is (Some 0) (Some (texture_color p t x y)) (pixel_at size old None x y))

@@ -1,4 +1,4 @@
-use Rattle.std.proofs.Common.{◌≡◌, ap, refl, true, arith}
+use Rattle.std.proofs.Common.{◌≡◌, ap, refl, sym, true, arith}
 use Rattle.std.specs.Prelude.{Ok, ◌&&◌}
 use Rattle.order_fields.specs.Secondary.{BitmapOrder}
 use Rattle.order_fields.specs.Secondary.Cached.{Bitmap}
@@ -15,7 +15,7 @@ pub returns-in-Bitmap-clause-obeyed : goal.returns-in-Bitmap-clause-obeyed
 returns-in-Bitmap-clause-obeyed c = λ v s.
     let m = c.args.viewer.now in
     let b : BitmapOrder = record { cache = c.in-Bitmap.cache; index = c.in-Bitmap.index; w = c.in-Bitmap.w; h = c.in-Bitmap.h; depth = c.in-Bitmap.depth; flags = c.in-Bitmap.flags; packed = c.in-Bitmap.packed; bytes = part_of c.args.body.now c.in-Bitmap.at } in
-    rw c.in-Bitmap.is (stored_obeys c.store_bitmap.result m.confirmed m.pictures.size v (Bitmap b) m c.store_bitmap.new.self s refl (rw c.part.ensures at (c.store_bitmap.ensures.stored (client_of m.regs m.caches m.blocks m.pictures))))
+    rw c.in-Bitmap.is (stored_obeys c.store_bitmap.result m.confirmed m.pictures.size v (Bitmap b) m c.store_bitmap.new.self s refl (rw c.part-bytes.ensures at (c.store_bitmap.ensures.stored (client_of m.regs m.caches m.blocks m.pictures) (sym c.depth-depth.ensures))))
 
 pub returns-then-end-clause-obeyed : goal.returns-then-end-clause-obeyed
 returns-then-end-clause-obeyed c = λ v s.

@@ -29,5 +29,5 @@ returns c = let i = c.self.inside in let g = c.args.glyph.now in let clip = in_c
     ∙ ap (λ (z : ℤ). painted i.size (both clip (glyph_area (Some g) z Y)) f now) ex
     ∙ ap (λ (z : ℤ). painted i.size (both clip (glyph_area (Some g) c.args.x z)) f now) ey
     ∙ ap (λ (ps : List (Option ℕ)). painted i.size (both clip (glyph_area (Some g) c.args.x c.args.y)) f ps) c.as_mut_slice-pixels.ensures.value in
-    subst (λ (v : Pictures). pictures i.size (with_items i.picture c.draw_glyph.new.pixels).items i.marked.items ≡ drawn_within c.args.bounds (glyph_area (Some g) c.args.x c.args.y) c.args.color v) c.self.view_is
-    (value_is i.size i.picture i.marked.items c.draw_glyph.new.pixels _ (c.draw_glyph.auto.pixels ∙ c.as_mut_slice-pixels.ensures.len) done)
+    subst (λ (v : Pictures). pictures i.depth i.size (with_items i.picture c.draw_glyph.new.pixels).items i.marked.items ≡ drawn_within c.args.bounds (glyph_area (Some g) c.args.x c.args.y) c.args.color v) c.self.view_is
+    (value_is i.depth i.size i.picture i.marked.items c.draw_glyph.new.pixels _ (c.draw_glyph.auto.pixels ∙ c.as_mut_slice-pixels.ensures.len) done)

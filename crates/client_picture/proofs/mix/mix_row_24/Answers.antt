@@ -3,7 +3,7 @@ use Rattle.std.specs.Prelude.{Some, None, option_copied}
 use Rattle.client_picture.specs.Pictures.{brush_operand}
 use Rattle.client_picture.specs.Sources.{texture_color}
 use Rattle.client_picture.proofs.CopyCode.{mixed_copied}
-use Rattle.client_picture.proofs.mix.mix_row.Goals as goal
+use Rattle.client_picture.proofs.mix.mix_row_24.Goals as goal
 
 pub returns-in-Some : goal.returns-in-Some
 returns-in-Some c = let p = c.args.part in let mix = c.args.mix in
