@@ -11,3 +11,4 @@ pub mod NewCaches
 pub mod UseSteps
 pub mod TileShort
 pub mod TilePacket
+pub mod Styles

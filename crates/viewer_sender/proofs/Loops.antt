@@ -3,13 +3,14 @@ use Rattle.std.proofs.Common.{◌≡◌, ℕ, zero, suc, ◌+◌, ◌-◌, ◌<�
 use Rattle.std.specs.Prelude.{Bool, true, false, nat_lt}
 use Rattle.std.proofs.lemmas.Bool.Decides.{nat_tests}
 use Rattle.std.proofs.Math.Seq.{drop-cons}
+use Rattle.px_core.specs.declared.depth.Depth.{Depth}
 use Rattle.px_core.specs.declared.surface.Size.{Size}
 use Rattle.px_core.specs.declared.rectangle.Rect.{Rect}
 use Rattle.px_core.specs.Tiles.{tile_on}
 use Rattle.order_means.specs.UpdateBodies.{tile_packet}
 use Rattle.viewer_sender.specs.Gathering.{Gathering, with_packet}
 use Rattle.caps_sets.specs.declared.confirmed.Confirmed.{Confirmed}
-use Rattle.caps_sets.specs.Confirmed.{cache_size}
+use Rattle.caps_sets.specs.Confirmed.{cache_size, depth_of}
 use Rattle.draw_ops.specs.Content.{GlyphOf}
 use Rattle.draw_ops.specs.Slots.{Loaded}
 use Rattle.cache_plan.specs.CacheUse.{misses, cache_index, uses_of}
@@ -58,8 +59,9 @@ drawings_last ps i d h = ap drawings_in (take_next ps i d h) ∙ by (take i ps)
     by (q ∷ qs) = ap (λ ss. sent_as q ∷ ss) (by qs)
 
 -- the next drawing and those behind it can be written, and each names the cache that serves it
-pub next_goes : (ps : List Planned) (i : ℕ) (d : Planned) → i < length ps → AllGo (drawings_in (drop i ps)) → SentGoes (sent_as (get_or ps i d)) × AllGo (drawings_in (drop (i + 1) ps))
-next_goes ps i d h k = subst (λ (qs : List Planned). AllGo (drawings_in qs)) (drop_next ps i d h) k
+pub next_goes : (depth : Depth) (ps : List Planned) (i : ℕ) (d : Planned) → i < length ps → AllGo depth (drawings_in (drop i ps))
+    → SentGoes depth (sent_as (get_or ps i d)) × AllGo depth (drawings_in (drop (i + 1) ps))
+next_goes depth ps i d h k = subst (λ (qs : List Planned). AllGo depth (drawings_in qs)) (drop_next ps i d h) k
 
 pub next_chosen : (c : Confirmed) (ps : List Planned) (i : ℕ) (d : Planned) → i < length ps → AreChosen c (drop i ps)
     → ((get_or ps i d).cache ≡ cache_of c (sent_as (get_or ps i d))) × AreChosen c (drop (i + 1) ps)
@@ -186,8 +188,8 @@ module _ (c : Confirmed) (cache : ℕ) (g : Loaded GlyphOf) where
 
 -- ---- tiles
 
-abbrev pub tile_bytes_of : Bool → Size → ℕ × List ℕ → List ℕ
-tile_bytes_of no_header size tile = tile_packet no_header (tile_on size tile.0) tile.1
+abbrev pub tile_bytes_of : Confirmed → Size → ℕ × List ℕ → List ℕ
+tile_bytes_of c size tile = tile_packet (depth_of c) c.no_header (tile_on size tile.0) tile.1
 
 flat_map-last : {A : Type 0} (f : A → List ℕ) (xs : List A) (x : A) → flat_map f (xs ++ x ∷ []) ≡ flat_map f xs ++ f x
 flat_map-last f [] x = append-nil (f x)
@@ -195,18 +197,18 @@ flat_map-last f (y ∷ ys) x = ap (λ bs. f y ++ bs) (flat_map-last f ys x) ∙ 
 
 -- the writer after the packets of tiles
 abbrev pub with_tiles : FrameWriter → Size → List (ℕ × List ℕ) → FrameWriter
-with_tiles w size ts = record w { updates = record w.updates { packets = w.updates.packets ++ flat_map (tile_bytes_of w.confirmed.no_header size) ts } }
+with_tiles w size ts = record w { updates = record w.updates { packets = w.updates.packets ++ flat_map (tile_bytes_of w.confirmed size) ts } }
 
 pub tiles_more : (a b : FrameWriter) (u : Gathering) (size : Size) (ts : List (ℕ × List ℕ)) (t : ℕ × List ℕ) (r : Rect) (pixels : List ℕ) → b ≡ with_tiles a size ts
-    → u ≡ with_packet b.updates (tile_packet b.confirmed.no_header r pixels) → r ≡ tile_on size t.0 → pixels ≡ t.1 → record b { updates = u } ≡ with_tiles a size (ts ++ t ∷ [])
+    → u ≡ with_packet b.updates (tile_packet (depth_of b.confirmed) b.confirmed.no_header r pixels) → r ≡ tile_on size t.0 → pixels ≡ t.1 → record b { updates = u } ≡ with_tiles a size (ts ++ t ∷ [])
 tiles_more a b u size ts t r pixels wrote is place cut =
-    let f = tile_bytes_of a.confirmed.no_header size in
+    let f = tile_bytes_of a.confirmed size in
     let bytes : (a.updates.packets ++ flat_map f ts) ++ f t ≡ a.updates.packets ++ flat_map f (ts ++ t ∷ []) =
     append_assoc a.updates.packets (flat_map f ts) (f t) ∙ ap (λ bs. a.updates.packets ++ bs) (sym (flat_map-last f ts t)) in
     let after : FrameWriter → Gathering → FrameWriter = λ w g. record w { updates = g } in
     let made : List ℕ → FrameWriter = λ ps. record a { updates = record a.updates { packets = ps } } in
-    ap (λ g. after b g) (is ∙ (ap (λ q. with_packet b.updates (tile_packet b.confirmed.no_header q pixels)) place ∙ ap (λ ps. with_packet b.updates (tile_packet b.confirmed.no_header (tile_on size t.0) ps)) cut))
-    ∙ (ap (λ w. after w (with_packet w.updates (tile_packet w.confirmed.no_header (tile_on size t.0) t.1))) wrote
+    ap (λ g. after b g) (is ∙ (ap (λ q. with_packet b.updates (tile_packet (depth_of b.confirmed) b.confirmed.no_header q pixels)) place ∙ ap (λ ps. with_packet b.updates (tile_packet (depth_of b.confirmed) b.confirmed.no_header (tile_on size t.0) ps)) cut))
+    ∙ (ap (λ w. after w (with_packet w.updates (tile_packet (depth_of w.confirmed) w.confirmed.no_header (tile_on size t.0) t.1))) wrote
     ∙ ap made bytes)
 
 -- ---- a drawing by its shape

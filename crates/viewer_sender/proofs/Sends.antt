@@ -3,6 +3,7 @@ use Rattle.std.proofs.Common.{◌≡◌, ℕ, ◌+◌, ◌≤◌, List, [], ◌�
 use Rattle.std.specs.Prelude.{Bool, true, false, Option, Ok}
 use Rattle.px_core.specs.Rectangle.{is_session_size}
 use Rattle.caps_sets.specs.declared.confirmed.Confirmed.{Confirmed}
+use Rattle.caps_sets.specs.Confirmed.{depth_of}
 use Rattle.session_rules.specs.declared.entry.Entry.{Entry}
 use Rattle.session_rules.specs.Journal.{Head, IsLegalJournal}
 use Rattle.session_rules.specs.Steps.{TakeOf}
@@ -61,8 +62,8 @@ module _ (c : Confirmed) (take : TakeModel) (own : IsOwnTake c take) where
   pub own_size : is_session_size take.size.w take.size.h ≡ true
   own_size = ap (λ s. is_session_size s.w s.h) own.size_is ∙ own.sized
 
-  pub own_drawings : AllGo take.frame.sent
-  own_drawings = subst AllGo (ap (λ f. f.sent) (sym own.frame_is)) (frame_goes own.head c own.all own.journal own.held own.found own.sized own.legal own.up own.apart)
+  pub own_drawings : AllGo (depth_of c) take.frame.sent
+  own_drawings = subst (AllGo (depth_of c)) (ap (λ f. f.sent) (sym own.frame_is)) (frame_goes own.head c own.all own.journal own.held own.found own.sized own.legal own.up own.apart)
 
   pub own_tiles : TilesGo take.size take.frame.tiles
   own_tiles =
@@ -86,7 +87,7 @@ module _ (s new : SenderModel) (take : TakeModel) (out : List ℕ) (all : HasAll
       record {
         after = x.after;
         reads = subst (λ (bs : List ℕ). read_on c head.size (reading view (cutting place Between)) bs ≡ Ok (reading x.after (cutting (place + length bs) Between))) is x.reads;
-        orders = ap (orders_of_bytes e.registers) (sym is) ∙ frames_read head c j e t sized all legal up within describes.are_registers describes.apart;
+        orders = ap (orders_of_bytes (depth_of c) e.registers) (sym is) ∙ frames_read head c j e t sized all legal up within describes.are_registers describes.apart;
         mark = x.mark;
         describes = x.describes;
         stands = subst (λ size. StandsFor new (encoder_after_frame size c e f)) same (after e f stands frame);
@@ -119,14 +120,14 @@ module _ (size : Size) (w w1 w3 w4 : FrameWriter) (u2 : Gathering) (t : TakenFra
       let c = w.confirmed in
       let front : u2.packets ≡ updates_of (bytes_of_orders c w.registers orders) =
       ap (λ (g : Gathering). g.packets) shut ∙ (ap packets_of (wrote.gathered ∙ ap (λ g. after_orders g (bytes_of_orders c w.registers orders)) empty) ∙ gathered_is (bytes_of_orders c w.registers orders)) in
-      let cut : flat_map (tile_bytes_of c.no_header size) t.tiles ≡ flat_map (tile_bytes size c f.picture) f.tiles =
-      ap (λ (x : TakenFrame). flat_map (tile_bytes_of c.no_header size) x.tiles) is ∙ flat_map-map (tile_taken size f.picture) (tile_bytes_of c.no_header size) f.tiles in
+      let cut : flat_map (tile_bytes_of c size) t.tiles ≡ flat_map (tile_bytes size c f.picture) f.tiles =
+      ap (λ (x : TakenFrame). flat_map (tile_bytes_of c size) x.tiles) is ∙ flat_map-map (tile_taken size f.picture) (tile_bytes_of c size) f.tiles in
       taken
       ∙ (ap (λ (x : FrameWriter). x.updates.packets) mark
       ∙ (ap (λ (x : FrameWriter). x.updates.packets ++ mark_bytes x.confirmed.marker) tiles
-      ∙ (ap (λ (k : Confirmed). (u2.packets ++ flat_map (tile_bytes_of k.no_header size) t.tiles) ++ mark_bytes k.marker) same
-      ∙ (append_assoc u2.packets (flat_map (tile_bytes_of c.no_header size) t.tiles) (mark_bytes c.marker)
-      ∙ (ap (λ bs. bs ++ (flat_map (tile_bytes_of c.no_header size) t.tiles ++ mark_bytes c.marker)) front
+      ∙ (ap (λ (k : Confirmed). (u2.packets ++ flat_map (tile_bytes_of k size) t.tiles) ++ mark_bytes k.marker) same
+      ∙ (append_assoc u2.packets (flat_map (tile_bytes_of c size) t.tiles) (mark_bytes c.marker)
+      ∙ (ap (λ bs. bs ++ (flat_map (tile_bytes_of c size) t.tiles ++ mark_bytes c.marker)) front
       ∙ (ap (λ bs. updates_of (bytes_of_orders c w.registers orders) ++ (bs ++ mark_bytes c.marker)) cut
       ∙ ap (λ os. updates_of (bytes_of_orders c w.registers os) ++ (flat_map (tile_bytes size c f.picture) f.tiles ++ mark_bytes c.marker)) orders_are))))))
 

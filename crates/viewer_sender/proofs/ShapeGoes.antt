@@ -11,9 +11,10 @@ use Rattle.draw_ops.specs.Content.{GlyphOf}
 use Rattle.draw_ops.specs.Slots.{SurfaceState, Loaded, lookup, glyph_slot}
 use Rattle.draw_ops.specs.Fits.{rules_of, starts_at_0, deltas_are_small}
 use Rattle.caps_sets.specs.declared.confirmed.Confirmed.{Confirmed}
+use Rattle.caps_sets.specs.Confirmed.{depth_of}
 use Rattle.session_rules.specs.declared.entry.Entry.{Entry}
 use Rattle.session_rules.proofs.OwnSteps.{AllNone}
-use Rattle.px_core.specs.declared.depth.Depth.TheVariants.{Bits24}
+use Rattle.px_core.specs.declared.depth.Depth.{Depth}
 use Rattle.order_fields.specs.OrderTable.{IsFieldList}
 use Rattle.order_fields.specs.NamedDrawing.{drawing_fields}
 use Rattle.order_fields.specs.NamedDrawing.NamedDrawing.{Pat as PatBlt, Mem as MemBlt, Mem3 as Mem3Blt, Glyphs as GlyphIndex}
@@ -43,8 +44,8 @@ rest_whole c (x ∷ xs) ps h = rest_whole c xs ps h.1
 
 -- ---- other entries of caches
 
-other_brush : (r : Rect) (code entry other : ℕ) → IsFieldList (drawing_fields Bits24 r (PatBlt r code entry)) → other < 256 → IsFieldList (drawing_fields Bits24 r (PatBlt r code other))
-other_brush r code entry other h below =
+other_brush : (d : Depth) (r : Rect) (code entry other : ℕ) → IsFieldList (drawing_fields d r (PatBlt r code entry)) → other < 256 → IsFieldList (drawing_fields d r (PatBlt r code other))
+other_brush d r code entry other h below =
     let n = h.numbers in
     record {
       numbers = (
@@ -81,18 +82,18 @@ other_brush r code entry other h below =
       bytes = h.bytes;
     }
 
-other_image : (r : Rect) (cache index code : ℕ) (sx sy : ℤ) (k i : ℕ) → IsFieldList (drawing_fields Bits24 r (MemBlt cache index r code sx sy)) → k < 3 → i < 65536
-    → IsFieldList (drawing_fields Bits24 r (MemBlt k i r code sx sy))
-other_image r cache index code sx sy k i h few below =
+other_image : (d : Depth) (r : Rect) (cache index code : ℕ) (sx sy : ℤ) (k i : ℕ) → IsFieldList (drawing_fields d r (MemBlt cache index r code sx sy)) → k < 3 → i < 65536
+    → IsFieldList (drawing_fields d r (MemBlt k i r code sx sy))
+other_image d r cache index code sx sy k i h few below =
     let n = h.numbers in
     record {
       numbers = (omega (arith, few), (n.1.0, (n.1.1.0, (n.1.1.1.0, (n.1.1.1.1.0, (n.1.1.1.1.1.0, (n.1.1.1.1.1.1.0, (n.1.1.1.1.1.1.1.0, (omega (arith, below), tt)))))))));
       bytes = h.bytes;
     }
 
-other_both : (r : Rect) (cache index code : ℕ) (sx sy : ℤ) (entry k i e : ℕ) → IsFieldList (drawing_fields Bits24 r (Mem3Blt cache index r code sx sy entry)) → k < 3 → i < 65536 → e < 256
-    → IsFieldList (drawing_fields Bits24 r (Mem3Blt k i r code sx sy e))
-other_both r cache index code sx sy entry k i e h few below low =
+other_both : (d : Depth) (r : Rect) (cache index code : ℕ) (sx sy : ℤ) (entry k i e : ℕ) → IsFieldList (drawing_fields d r (Mem3Blt cache index r code sx sy entry)) → k < 3 → i < 65536 → e < 256
+    → IsFieldList (drawing_fields d r (Mem3Blt k i r code sx sy e))
+other_both d r cache index code sx sy entry k i e h few below low =
     let n = h.numbers in
     record {
       numbers = (
@@ -138,9 +139,9 @@ other_both r cache index code sx sy entry k i e h few below low =
       bytes = h.bytes;
     }
 
-other_run : (area : Rect) (cache : ℕ) (x y : ℤ) (color : ℕ) (pairs : List ℕ) (k : ℕ) (others : List ℕ) → IsFieldList (drawing_fields Bits24 area (GlyphIndex cache x y color pairs)) → k < 10
-    → length others < 256 → IsFieldList (drawing_fields Bits24 area (GlyphIndex k x y color others))
-other_run area cache x y color pairs k others h few short = record { numbers = (omega (arith, few), h.numbers.1); bytes = short }
+other_run : (d : Depth) (area : Rect) (cache : ℕ) (x y : ℤ) (color : ℕ) (pairs : List ℕ) (k : ℕ) (others : List ℕ) → IsFieldList (drawing_fields d area (GlyphIndex cache x y color pairs)) → k < 10
+    → length others < 256 → IsFieldList (drawing_fields d area (GlyphIndex k x y color others))
+other_run d area cache x y color pairs k others h few short = record { numbers = (omega (arith, few), h.numbers.1); bytes = short }
 
 -- ---- runs
 
@@ -168,63 +169,63 @@ module _ (size : Size) (c : Confirmed) (j : List Entry) where
   Whole s = AllGoWhole c (sending_of c [] s).orders
 
   save_goes : (st : SurfaceState) (w : Walk) (clip : Option Rect) (slot : ℕ) (r : Rect) (sent : Sent) → Whole sent
-      → (walked size c w (pending_of size st (drawn (Save slot r) clip)) (Save slot r)).sent ≡ sent ∷ [] → SentGoes sent
+      → (walked size c w (pending_of size st (drawn (Save slot r) clip)) (Save slot r)).sent ≡ sent ∷ [] → SentGoes (depth_of c) sent
   save_goes st w clip slot r sent whole e = by_test (supports c (pending_of size st (drawn (Save slot r) clip)) (Save slot r) && reads_clean_tiles size w (Save slot r)) e
     where
-      by_position : (o : Option ℕ) → (saved_at size (given_up slot w) (pending_of size st (drawn (Save slot r) clip)) slot r o).sent ≡ sent ∷ [] → SentGoes sent
+      by_position : (o : Option ℕ) → (saved_at size (given_up slot w) (pending_of size st (drawn (Save slot r) clip)) slot r o).sent ≡ sent ∷ [] → SentGoes (depth_of c) sent
       by_position None e = absurd (cc e)
       by_position (Some position) e =
           let is = only_one (record { pending = pending_of size st (drawn (Save slot r) clip); position = position }) sent e in
           let h = subst (λ (s : Sent). Whole s) is whole in
-          subst (λ (s : Sent). SentGoes s) (sym is)
+          subst (λ (s : Sent). SentGoes (depth_of c) s) (sym is)
           (record { shape = record { fields = h.0.fits.0; bounds = h.0.fits.1 }; image = tt; brush = tt; glyphs = tt })
 
-      by_test : (b : Bool) → (saved_if b size (given_up slot w) (pending_of size st (drawn (Save slot r) clip)) slot r).sent ≡ sent ∷ [] → SentGoes sent
+      by_test : (b : Bool) → (saved_if b size (given_up slot w) (pending_of size st (drawn (Save slot r) clip)) slot r).sent ≡ sent ∷ [] → SentGoes (depth_of c) sent
       by_test false e = absurd (cc e)
       by_test true e = by_position (least_free (positions_of r.w r.h) (without_slot slot w.held)) e
 
   restore_goes : (st : SurfaceState) (w : Walk) (clip : Option Rect) (slot : ℕ) (x y : ℤ) (sent : Sent) → Whole sent
-      → (walked size c w (pending_of size st (drawn (Restore slot x y) clip)) (Restore slot x y)).sent ≡ sent ∷ [] → SentGoes sent
+      → (walked size c w (pending_of size st (drawn (Restore slot x y) clip)) (Restore slot x y)).sent ≡ sent ∷ [] → SentGoes (depth_of c) sent
   restore_goes st w clip slot x y sent whole e = by_test (supports c (pending_of size st (drawn (Restore slot x y) clip)) (Restore slot x y)) e
     where
-      by_place : (o : Option Place) → (restored_from size w (pending_of size st (drawn (Restore slot x y) clip)) o).sent ≡ sent ∷ [] → SentGoes sent
+      by_place : (o : Option Place) → (restored_from size w (pending_of size st (drawn (Restore slot x y) clip)) o).sent ≡ sent ∷ [] → SentGoes (depth_of c) sent
       by_place None e = absurd (cc e)
       by_place (Some place) e =
           let is = only_one (record { pending = pending_of size st (drawn (Restore slot x y) clip); position = place.position }) sent e in
           let h = subst (λ (s : Sent). Whole s) is whole in
-          subst (λ (s : Sent). SentGoes s) (sym is)
+          subst (λ (s : Sent). SentGoes (depth_of c) s) (sym is)
           (record { shape = record { fields = h.0.fits.0; bounds = h.0.fits.1 }; image = tt; brush = tt; glyphs = tt })
 
-      by_test : (b : Bool) → (restored_from size w (pending_of size st (drawn (Restore slot x y) clip)) (block_if b slot w)).sent ≡ sent ∷ [] → SentGoes sent
+      by_test : (b : Bool) → (restored_from size w (pending_of size st (drawn (Restore slot x y) clip)) (block_if b slot w)).sent ≡ sent ∷ [] → SentGoes (depth_of c) sent
       by_test false e = absurd (cc e)
       by_test true e = by_place (place_of slot w.held) e
 
   pub sent_goes : (st : SurfaceState) (w : Walk) (clip : Option Rect) (s : Shape) (sent : Sent) → IsSound size j st
       → AllNone (rules_of size clip s) → GoodShape size j st clip s → AllGoWhole c (sending_of c [] sent).orders
-      → (walked size c w (pending_of size st (drawn s clip)) s).sent ≡ sent ∷ [] → SentGoes sent
+      → (walked size c w (pending_of size st (drawn s clip)) s).sent ≡ sent ∷ [] → SentGoes (depth_of c) sent
   sent_goes st w clip (Fill r color) sent h rules g whole e =
       let p = pending_of size st (drawn (Fill r color) clip) in
       let t = passed (supports c p (Fill r color)) size w p sent e in
       let o = subst (λ (s : Sent). Whole s) t.is whole in
-      subst (λ (s : Sent). SentGoes s) (sym t.is) (record { shape = record { fields = o.0.fits.0; bounds = o.0.fits.1 }; image = tt; brush = tt; glyphs = tt })
+      subst (λ (s : Sent). SentGoes (depth_of c) s) (sym t.is) (record { shape = record { fields = o.0.fits.0; bounds = o.0.fits.1 }; image = tt; brush = tt; glyphs = tt })
   sent_goes st w clip (Dst r code) sent h rules g whole e =
       let p = pending_of size st (drawn (Dst r code) clip) in
       let t = passed (supports c p (Dst r code)) size w p sent e in
       let o = subst (λ (s : Sent). Whole s) t.is whole in
-      subst (λ (s : Sent). SentGoes s) (sym t.is) (record { shape = record { fields = o.0.fits.0; bounds = o.0.fits.1 }; image = tt; brush = tt; glyphs = tt })
+      subst (λ (s : Sent). SentGoes (depth_of c) s) (sym t.is) (record { shape = record { fields = o.0.fits.0; bounds = o.0.fits.1 }; image = tt; brush = tt; glyphs = tt })
   sent_goes st w clip (Copy r code sx sy) sent h rules g whole e =
       let p = pending_of size st (drawn (Copy r code sx sy) clip) in
       let t = passed (supports c p (Copy r code sx sy) && reads_clean_tiles size w (Copy r code sx sy)) size w p sent e in
       let o = subst (λ (s : Sent). Whole s) t.is whole in
-      subst (λ (s : Sent). SentGoes s) (sym t.is) (record { shape = record { fields = o.0.fits.0; bounds = o.0.fits.1 }; image = tt; brush = tt; glyphs = tt })
+      subst (λ (s : Sent). SentGoes (depth_of c) s) (sym t.is) (record { shape = record { fields = o.0.fits.0; bounds = o.0.fits.1 }; image = tt; brush = tt; glyphs = tt })
   sent_goes st w clip (Pat r code brush) sent h rules g whole e =
       let p = pending_of size st (drawn (Pat r code brush) clip) in
       let t = passed (supports c p (Pat r code brush)) size w p sent e in
       let b = g.1 in
       let k = h.brushes brush b.brush b.held in
       let o = last_whole c _ _ (subst (λ (s : Sent). Whole s) t.is whole) in
-      subst (λ (s : Sent). SentGoes s) (sym t.is) (record {
-        shape = λ entry below. record { fields = other_brush r code _ entry o.fits.0 below; bounds = o.fits.1 };
+      subst (λ (s : Sent). SentGoes (depth_of c) s) (sym t.is) (record {
+        shape = λ entry below. record { fields = other_brush (depth_of c) r code _ entry o.fits.0 below; bounds = o.fits.1 };
         image = tt;
         brush = subst BrushGoes (sym b.held) (k.whole, k.colors);
         glyphs = tt;
@@ -234,8 +235,8 @@ module _ (size : Size) (c : Confirmed) (j : List Entry) where
       let t = passed (supports c p (Blit r code image sx sy)) size w p sent e in
       let i = g.1 in
       let o = last_whole c _ _ (subst (λ (s : Sent). Whole s) t.is whole) in
-      subst (λ (s : Sent). SentGoes s) (sym t.is) (record {
-        shape = λ cache index few below. record { fields = other_image r _ _ code sx sy cache index o.fits.0 few below; bounds = o.fits.1 };
+      subst (λ (s : Sent). SentGoes (depth_of c) s) (sym t.is) (record {
+        shape = λ cache index few below. record { fields = other_image (depth_of c) r _ _ code sx sy cache index o.fits.0 few below; bounds = o.fits.1 };
         image = subst ImageGoes (sym i.held) i.sound;
         brush = tt;
         glyphs = tt;
@@ -252,8 +253,8 @@ module _ (size : Size) (c : Confirmed) (j : List Entry) where
       let bu = brush_use c iu.uses (lookup brush st.brushes) in
       let d : SentOrder = Drawn r (Mem3Blt k0 iu.index r code sx sy bu.index) (bounds_of r clip) in
       let o : GoesWhole c d = last_whole c bu.orders d (rest_whole c iu.orders (bu.orders ++ d ∷ []) (subst (λ (s : Sent). Whole s) t.is whole)) in
-      subst (λ (s : Sent). SentGoes s) (sym t.is) (record {
-        shape = λ cache index entry few below low. record { fields = other_both r k0 iu.index code sx sy bu.index cache index entry o.fits.0 few below low; bounds = o.fits.1 };
+      subst (λ (s : Sent). SentGoes (depth_of c) s) (sym t.is) (record {
+        shape = λ cache index entry few below low. record { fields = other_both (depth_of c) r k0 iu.index code sx sy bu.index cache index entry o.fits.0 few below low; bounds = o.fits.1 };
         image = subst ImageGoes (sym i.held) i.sound;
         brush = subst BrushGoes (sym b.held) (k.whole, k.colors);
         glyphs = tt;
@@ -268,9 +269,9 @@ module _ (size : Size) (c : Confirmed) (j : List Entry) where
       last_whole c u.orders (Drawn p.rect (GlyphIndex k x y color (run_pairs u.indices run)) (bounds_of p.rect clip)) (subst (λ (s : Sent). Whole s) t.is whole) in
       let length_test = and_parts (nat_le (length run) 64) (starts_at_0 run && deltas_are_small run)
       (kept_test (nat_le (length run) 64 && (starts_at_0 run && deltas_are_small run)) 8 rules.1.1.1.1.0) in
-      subst (λ (s : Sent). SentGoes s) (sym t.is) (record {
+      subst (λ (s : Sent). SentGoes (depth_of c) s) (sym t.is) (record {
         shape = (
-          λ cache pairs few short. record { fields = other_run p.rect k x y color (run_pairs u.indices run) cache pairs o.fits.0 few short; bounds = o.fits.1 },
+          λ cache pairs few short. record { fields = other_run (depth_of c) p.rect k x y color (run_pairs u.indices run) cache pairs o.fits.0 few short; bounds = o.fits.1 },
           ap length (glyphs_are st font run g.glyphs g.held) ∙ as_many st font run g.glyphs g.held,
           at_most (length run) 64 length_test.0,
         );

@@ -54,7 +54,7 @@ module _ (c : Confirmed) (uses : Uses) (cache key index : ℕ) (content : ℕ �
 
   -- the order of a miss joined the updates
   pub wrote_missed : (old new : FrameWriter) → old.confirmed ≡ c → Miss index ≡ plan.use_of (entries_of c cache) (uses_of cache uses) key
-      → new.updates ≡ after_order old.updates (bytes_of_order old.confirmed old.registers (content index)) → new.registers ≡ registers_after_order old.registers (content index)
+      → new.updates ≡ after_order old.updates (bytes_of_order old.confirmed old.registers (content index)) → new.registers ≡ registers_after_order old.confirmed old.registers (content index)
       → CachesStand old.confirmed new.caches ((cache, key) ∷ uses) → Wrote old new (used (use_of c uses cache key content))
   wrote_missed old new same e updates registers caches =
       subst (λ (u : Use). Wrote old new (used u)) (sym (use_missed e)) (record { gathered = updates; registers = registers; caches = caches })
@@ -72,17 +72,17 @@ pub after_orders-append : (g : Gathering) (xs ys : List (List ℕ)) → after_or
 after_orders-append g [] ys = refl
 after_orders-append g (x ∷ xs) ys = after_orders-append (after_order g x) xs ys
 
-bytes_of_orders-append : (c : Confirmed) (regs : Registers) (os ps : List SentOrder) → bytes_of_orders c regs (os ++ ps) ≡ bytes_of_orders c regs os ++ bytes_of_orders c (registers_after_orders regs os) ps
+bytes_of_orders-append : (c : Confirmed) (regs : Registers) (os ps : List SentOrder) → bytes_of_orders c regs (os ++ ps) ≡ bytes_of_orders c regs os ++ bytes_of_orders c (registers_after_orders c regs os) ps
 bytes_of_orders-append c regs [] ps = refl
-bytes_of_orders-append c regs (o ∷ os) ps = ap (λ bs. bytes_of_order c regs o ∷ bs) (bytes_of_orders-append c (registers_after_order regs o) os ps)
+bytes_of_orders-append c regs (o ∷ os) ps = ap (λ bs. bytes_of_order c regs o ∷ bs) (bytes_of_orders-append c (registers_after_order c regs o) os ps)
 
-registers-append : (regs : Registers) (os ps : List SentOrder) → registers_after_orders regs (os ++ ps) ≡ registers_after_orders (registers_after_orders regs os) ps
-registers-append regs [] ps = refl
-registers-append regs (o ∷ os) ps = registers-append (registers_after_order regs o) os ps
+registers-append : (c : Confirmed) (regs : Registers) (os ps : List SentOrder) → registers_after_orders c regs (os ++ ps) ≡ registers_after_orders c (registers_after_orders c regs os) ps
+registers-append c regs [] ps = refl
+registers-append c regs (o ∷ os) ps = registers-append c (registers_after_order c regs o) os ps
 
 gathered-append : (c : Confirmed) (g : Gathering) (regs : Registers) (os ps : List SentOrder)
-    → after_orders g (bytes_of_orders c regs (os ++ ps)) ≡ after_orders (after_orders g (bytes_of_orders c regs os)) (bytes_of_orders c (registers_after_orders regs os) ps)
-gathered-append c g regs os ps = ap (after_orders g) (bytes_of_orders-append c regs os ps) ∙ after_orders-append g (bytes_of_orders c regs os) (bytes_of_orders c (registers_after_orders regs os) ps)
+    → after_orders g (bytes_of_orders c regs (os ++ ps)) ≡ after_orders (after_orders g (bytes_of_orders c regs os)) (bytes_of_orders c (registers_after_orders c regs os) ps)
+gathered-append c g regs os ps = ap (after_orders g) (bytes_of_orders-append c regs os ps) ∙ after_orders-append g (bytes_of_orders c regs os) (bytes_of_orders c (registers_after_orders c regs os) ps)
 
 module _ (a b d : FrameWriter) where
   wrote_then : (s t : Sending) → b.confirmed ≡ a.confirmed → Wrote a b s → Wrote b d t → Wrote a d (sending (s.orders ++ t.orders) t.uses)
@@ -91,9 +91,11 @@ module _ (a b d : FrameWriter) where
         gathered = q.gathered
             ∙ (ap (λ k. after_orders b.updates (bytes_of_orders k b.registers t.orders)) same
             ∙ (ap (λ r. after_orders b.updates (bytes_of_orders c r t.orders)) p.registers
-            ∙ (ap (λ g. after_orders g (bytes_of_orders c (registers_after_orders a.registers s.orders) t.orders)) p.gathered
+            ∙ (ap (λ g. after_orders g (bytes_of_orders c (registers_after_orders c a.registers s.orders) t.orders)) p.gathered
             ∙ sym (gathered-append c a.updates a.registers s.orders t.orders))));
-        registers = q.registers ∙ (ap (λ r. registers_after_orders r t.orders) p.registers ∙ sym (registers-append a.registers s.orders t.orders));
+        registers = q.registers
+            ∙ (ap (λ k. registers_after_orders k b.registers t.orders) same
+            ∙ (ap (λ r. registers_after_orders c r t.orders) p.registers ∙ sym (registers-append c a.registers s.orders t.orders)));
         caches = subst (λ k. CachesStand k d.caches t.uses) same q.caches;
       }
 

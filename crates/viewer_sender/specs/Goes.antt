@@ -1,4 +1,4 @@
--- Drawings and tiles that can be written: their fields hold the values, and what their slots held is sound.
+-- Drawings and tiles that can be written: their fields hold the values at a depth, and what their slots held is sound.
 use Rattle.std.specs.Prelude.{◌≡◌, ℕ, ◌*◌, ◌<◌, ◌≤◌, ⊤, IsTrue, List, [], ◌∷◌, length, Option, Some, None}
 use Rattle.px_core.specs.declared.surface.Size.{Size}
 use Rattle.px_core.specs.declared.rectangle.Rect.{Rect}
@@ -8,7 +8,7 @@ use Rattle.draw_ops.specs.declared.shape.Shape.{Shape}
 use Rattle.draw_ops.specs.declared.shape.Shape.TheVariants.{Fill, Dst, Pat, Copy, Blit, Blit3, Text, Line, Save, Restore, LoadImage, LoadBrush, LoadGlyph}
 use Rattle.draw_ops.specs.Content.{ImageOf, GlyphOf}
 use Rattle.draw_ops.specs.Slots.{Loaded}
-use Rattle.px_core.specs.declared.depth.Depth.TheVariants.{Bits24}
+use Rattle.px_core.specs.declared.depth.Depth.{Depth}
 use Rattle.order_fields.specs.OrderTable.{IsFieldList, FitBounds}
 use Rattle.order_fields.specs.OrderDelta.{edges_of_optional}
 use Rattle.order_fields.specs.NamedDrawing.{NamedDrawing, drawing_fields}
@@ -20,28 +20,28 @@ use Rattle.frame_rules.specs.Frame.{Sent}
 use Rattle.frame_rules.specs.FrameOrders.{bounds_of}
 
 -- an order whose fields hold its values, in a clip
-pub record FitsDrawn (area : Rect) (d : NamedDrawing) (clip : Option Rect) : Type 0 where
-  pub fields : IsFieldList (drawing_fields Bits24 area d)
+pub record FitsDrawn (depth : Depth) (area : Rect) (d : NamedDrawing) (clip : Option Rect) : Type 0 where
+  pub fields : IsFieldList (drawing_fields depth area d)
   pub bounds : FitBounds (edges_of_optional (bounds_of area clip))
 
 -- a shape whose order does so, whichever entries of caches it names
-abbrev pub ShapeGoes : Sent → Option Rect → Shape → Type 0
-ShapeGoes s clip (Fill r color) = FitsDrawn r (OpaqueRect r color) clip
-ShapeGoes s clip (Dst r code) = FitsDrawn r (DstBlt r code) clip
-ShapeGoes s clip (Pat r code brush) = (entry : ℕ) → entry < 256 → FitsDrawn r (PatBlt r code entry) clip
-ShapeGoes s clip (Copy r code sx sy) = FitsDrawn r (ScrBlt r code sx sy) clip
-ShapeGoes s clip (Blit r code image sx sy) = (cache index : ℕ) → cache < 3 → index < 65536 → FitsDrawn r (MemBlt cache index r code sx sy) clip
-ShapeGoes s clip (Blit3 r code image sx sy brush) =
-    (cache index entry : ℕ) → cache < 3 → index < 65536 → entry < 256 → FitsDrawn r (Mem3Blt cache index r code sx sy entry) clip
-ShapeGoes s clip (Text x y color font run) =
-    ((cache : ℕ) (pairs : List ℕ) → cache < 10 → length pairs < 256 → FitsDrawn s.pending.rect (GlyphIndex cache x y color pairs) clip)
+abbrev pub ShapeGoes : Depth → Sent → Option Rect → Shape → Type 0
+ShapeGoes depth s clip (Fill r color) = FitsDrawn depth r (OpaqueRect r color) clip
+ShapeGoes depth s clip (Dst r code) = FitsDrawn depth r (DstBlt r code) clip
+ShapeGoes depth s clip (Pat r code brush) = (entry : ℕ) → entry < 256 → FitsDrawn depth r (PatBlt r code entry) clip
+ShapeGoes depth s clip (Copy r code sx sy) = FitsDrawn depth r (ScrBlt r code sx sy) clip
+ShapeGoes depth s clip (Blit r code image sx sy) = (cache index : ℕ) → cache < 3 → index < 65536 → FitsDrawn depth r (MemBlt cache index r code sx sy) clip
+ShapeGoes depth s clip (Blit3 r code image sx sy brush) =
+    (cache index entry : ℕ) → cache < 3 → index < 65536 → entry < 256 → FitsDrawn depth r (Mem3Blt cache index r code sx sy entry) clip
+ShapeGoes depth s clip (Text x y color font run) =
+    ((cache : ℕ) (pairs : List ℕ) → cache < 10 → length pairs < 256 → FitsDrawn depth s.pending.rect (GlyphIndex cache x y color pairs) clip)
     × (length s.pending.glyphs ≡ length run) × (length run ≤ 64)
-ShapeGoes s clip (Line x0 y0 x1 y1 color) = ⊤
-ShapeGoes s clip (Save slot r) = FitsDrawn r (SaveBlock s.position r) None
-ShapeGoes s clip (Restore slot x y) = FitsDrawn s.pending.rect (RestoreBlock s.position s.pending.rect) None
-ShapeGoes s clip (LoadImage slot image) = ⊤
-ShapeGoes s clip (LoadBrush slot brush) = ⊤
-ShapeGoes s clip (LoadGlyph font code glyph) = ⊤
+ShapeGoes depth s clip (Line x0 y0 x1 y1 color) = ⊤
+ShapeGoes depth s clip (Save slot r) = FitsDrawn depth r (SaveBlock s.position r) None
+ShapeGoes depth s clip (Restore slot x y) = FitsDrawn depth s.pending.rect (RestoreBlock s.position s.pending.rect) None
+ShapeGoes depth s clip (LoadImage slot image) = ⊤
+ShapeGoes depth s clip (LoadBrush slot brush) = ⊤
+ShapeGoes depth s clip (LoadGlyph font code glyph) = ⊤
 
 abbrev pub ImageGoes : Option (Loaded ImageOf) → Type 0
 ImageGoes None = ⊤
@@ -56,15 +56,15 @@ GlyphsGo [] = ⊤
 GlyphsGo (g ∷ gs) = IsSoundGlyph g.content × GlyphsGo gs
 
 -- a drawing that can be written
-pub record SentGoes (s : Sent) : Type 0 where
-  pub shape : ShapeGoes s s.pending.drawing.clip s.pending.drawing.shape
+pub record SentGoes (depth : Depth) (s : Sent) : Type 0 where
+  pub shape : ShapeGoes depth s s.pending.drawing.clip s.pending.drawing.shape
   pub image : ImageGoes s.pending.image
   pub brush : BrushGoes s.pending.brush
   pub glyphs : GlyphsGo s.pending.glyphs
 
-abbrev pub AllGo : List Sent → Type 0
-AllGo [] = ⊤
-AllGo (s ∷ ss) = SentGoes s × AllGo ss
+abbrev pub AllGo : Depth → List Sent → Type 0
+AllGo depth [] = ⊤
+AllGo depth (s ∷ ss) = SentGoes depth s × AllGo depth ss
 
 -- a tile that can be written
 pub record TileGoes (size : Size) (tile : ℕ × List ℕ) : Type 0 where

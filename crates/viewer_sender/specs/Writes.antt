@@ -1,7 +1,7 @@
 -- What a writer has written between two moments, for each history of uses that its caches stand for.
 use Rattle.std.specs.Prelude.{◌≡◌, ℕ}
 use Rattle.draw_ops.specs.Slots.{Loaded}
-use Rattle.px_core.specs.declared.depth.Depth.TheVariants.{Bits24}
+use Rattle.px_core.specs.declared.depth.Depth.{Depth}
 use Rattle.order_fields.specs.OrderTable.{FieldList}
 use Rattle.order_fields.specs.NamedDrawing.{NamedDrawing, drawing_fields}
 use Rattle.px_core.specs.declared.rectangle.Rect.{Rect}
@@ -14,7 +14,7 @@ use Rattle.viewer_sender.specs.Stands.{CachesStand}
 -- what was sent has joined the updates, and moved registers and caches
 pub record Wrote (old new : FrameWriter) (s : Sending) : Type 0 where
   pub gathered : new.updates ≡ after_orders old.updates (bytes_of_orders old.confirmed old.registers s.orders)
-  pub registers : new.registers ≡ registers_after_orders old.registers s.orders
+  pub registers : new.registers ≡ registers_after_orders old.confirmed old.registers s.orders
   pub caches : CachesStand old.confirmed new.caches s.uses
 
 -- a writer has written what such a sending is after the uses so far
@@ -28,8 +28,9 @@ used u = sending u.orders u.uses
 abbrev pub loaded : {A : Type 0} → ℕ → A → Loaded A
 loaded number content = record { number = number; content = content }
 
--- fields that are those of a drawing, with few bytes of a run
+-- fields that are those of a drawing at some depth
 pub record IsDrawing (o : FieldList) : Type 0 where
+  pub depth : Depth
   pub area : Rect
   pub drawing : NamedDrawing
-  pub fields : o ≡ drawing_fields Bits24 area drawing
+  pub fields : o ≡ drawing_fields depth area drawing

@@ -2,6 +2,7 @@
 ghost use Rattle.std.specs.Prelude.{◌≡◌, ℕ, ◌<◌, [], ◌∷◌, ◌++◌, length, IfOk, OnOk};
 ghost use Rattle.order_fields.specs.NamedDrawing.NamedDrawing.{Pat, Mem, Mem3};
 ghost use Rattle.caps_sets.specs.declared.confirmed.Confirmed.{Confirmed};
+ghost use Rattle.caps_sets.specs.Confirmed.{depth_of};
 ghost use Rattle.frame_rules.specs.Support.{image_cache};
 ghost use Rattle.frame_rules.specs.FrameOrders.{Uses, or_0, bounds_of, sending, image_use, brush_use};
 ghost use Rattle.frame_rules.specs.FrameOrders.SentOrder.{Drawn};
@@ -10,10 +11,11 @@ ghost use Rattle.viewer_sender.specs.Writes.{Writes, used};
 ghost use Rattle.viewer_sender.specs.Goes.{FitsDrawn, ImageGoes, BrushGoes};
 
 use crate::OutOfMemory;
+use crate::orders::{mem3_order, pat_order};
 use crate::plain::put_drawn;
 use crate::writer::FrameWriter;
 use frame_plan::Pending;
-use order_prim::{mem_blt, mem3_blt, pat_blt};
+use order_prim::mem_blt;
 use px_core::Rect;
 use std::alloc::Global;
 
@@ -26,13 +28,15 @@ pub(crate) fn put_pat(
     rop: u8,
     clip: Option<Rect>,
 ) -> Result<(), OutOfMemory>
-    requires fits { (entry : ℕ) → entry < 256 → FitsDrawn r (Pat r rop entry) clip }
+    requires fits { (entry : ℕ) → entry < 256 → FitsDrawn (depth_of writer.old.confirmed) r (Pat r rop entry) clip }
     requires brush { BrushGoes pending.now.brush }
     ensures { OnOk result (Writes writer.old writer.new (λ uses. let b = brush_use writer.old.confirmed uses pending.now.brush in
         sending (b.orders ++ Drawn r (Pat r rop b.index) (bounds_of r clip) ∷ []) b.uses)) }
 {
+    let depth = writer.confirmed.depth;
     let entry = use_brush(alloc, writer, pending)?;
-    put_drawn(writer, &pat_blt(r, rop, entry), r, clip)
+    let order = pat_order(r, rop, entry, depth);
+    put_drawn(writer, &order, r, clip)
 }
 
 /// Adds the orders of a raster operation with an image as its source, which goes to a bitmap cache.
@@ -49,7 +53,7 @@ pub(crate) fn put_blit(
 ) -> Result<(), OutOfMemory>
     requires chosen { cache ≡ or_0 (image_cache writer.old.confirmed pending.now.image) }
     requires few { cache < 3 }
-    requires fits { (cache index : ℕ) → cache < 3 → index < 65536 → FitsDrawn r (Mem cache index r rop sx sy) clip }
+    requires fits { (cache index : ℕ) → cache < 3 → index < 65536 → FitsDrawn (depth_of writer.old.confirmed) r (Mem cache index r rop sx sy) clip }
     requires image { ImageGoes pending.now.image }
     ensures { OnOk result (Writes writer.old writer.new (λ uses.
         let cache = or_0 (image_cache writer.old.confirmed pending.now.image) in
@@ -74,7 +78,7 @@ pub(crate) fn put_blit3(
 ) -> Result<(), OutOfMemory>
     requires chosen { cache ≡ or_0 (image_cache writer.old.confirmed pending.now.image) }
     requires few { cache < 3 }
-    requires fits { (cache index entry : ℕ) → cache < 3 → index < 65536 → entry < 256 → FitsDrawn r (Mem3 cache index r rop sx sy entry) clip }
+    requires fits { (cache index entry : ℕ) → cache < 3 → index < 65536 → entry < 256 → FitsDrawn (depth_of writer.old.confirmed) r (Mem3 cache index r rop sx sy entry) clip }
     requires image { ImageGoes pending.now.image }
     requires brush { BrushGoes pending.now.brush }
     ensures { OnOk result (Writes writer.old writer.new (λ uses.
@@ -83,14 +87,11 @@ pub(crate) fn put_blit3(
         let b = brush_use writer.old.confirmed i.uses pending.now.brush in
         sending (i.orders ++ (b.orders ++ Drawn r (Mem3 cache i.index r rop sx sy b.index) (bounds_of r clip) ∷ [])) b.uses)) }
 {
+    let depth = writer.confirmed.depth;
     let index = use_image(alloc, writer, cache, pending)?;
     let entry = use_brush(alloc, writer, pending)?;
-    put_drawn(
-        writer,
-        &mem3_blt(cache, index, r, rop, sx, sy, entry),
-        r,
-        clip,
-    )
+    let order = mem3_order(cache, index, r, rop, sx, sy, entry, depth);
+    put_drawn(writer, &order, r, clip)
 }
 
 /// Uses a drawing's image, if it has one; answers its entry.

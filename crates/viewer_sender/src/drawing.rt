@@ -1,5 +1,6 @@
 //! The orders of a drawing that goes as an order, by its shape ([MS-RDPEGDI] 2.2.2.2.1.1.2).
 ghost use Rattle.std.specs.Prelude.{◌≡◌, OnOk};
+ghost use Rattle.caps_sets.specs.Confirmed.{depth_of};
 ghost use Rattle.frame_rules.specs.FrameOrders.{sending_of};
 ghost use Rattle.frame_rules.specs.Describes.{HasAllCaches};
 ghost use Rattle.frame_plan.specs.Orders.{cache_of, sent_as, drawings_in, AreChosen};
@@ -23,7 +24,7 @@ pub(crate) fn put_drawings(
     drawings: &[Planned],
 ) -> Result<(), OutOfMemory>
     requires all { HasAllCaches writer.old.confirmed }
-    requires go { AllGo (drawings_in drawings.now) }
+    requires go { AllGo (depth_of writer.old.confirmed) (drawings_in drawings.now) }
     requires chosen { AreChosen writer.old.confirmed drawings.now }
     ensures { OnOk result (Writes writer.old writer.new (λ uses. drawings_sending writer.old.confirmed uses (drawings_in drawings.now))) }
 {
@@ -40,7 +41,7 @@ fn put_drawing(
     planned: &Planned,
 ) -> Result<(), OutOfMemory>
     requires all { HasAllCaches writer.old.confirmed }
-    requires goes { SentGoes (sent_as planned.now) }
+    requires goes { SentGoes (depth_of writer.old.confirmed) (sent_as planned.now) }
     requires chosen { planned.now.cache ≡ cache_of writer.old.confirmed (sent_as planned.now) }
     ensures { OnOk result (Writes writer.old writer.new (λ uses. sending_of writer.old.confirmed uses (sent_as planned.now))) }
 {

@@ -3,6 +3,7 @@ ghost use Rattle.std.specs.Prelude.{◌≡◌, ◌*◌, ◌&&◌, ◌++◌, [], 
 ghost use Rattle.px_core.specs.Colors.{are_colors};
 ghost use Rattle.px_core.specs.Rectangle.{is_session_size, whole};
 ghost use Rattle.px_core.specs.Tiles.{tile_on};
+ghost use Rattle.caps_sets.specs.Confirmed.{depth_of};
 ghost use Rattle.bitmap_upd.specs.Place.{IsUpdated};
 ghost use Rattle.order_means.specs.UpdateBodies.{tile_packet};
 ghost use Rattle.frame_rules.specs.Frame.{FrameOf};
@@ -23,7 +24,7 @@ use crate::plain::put_fill;
 use crate::updates::Updates;
 use crate::writer::FrameWriter;
 use frame_plan::{Take, TakenTile};
-use px_core::{Rect, Size, tile_on, whole};
+use px_core::{Depth, Rect, Size, tile_on, whole};
 use std::alloc::Global;
 
 /// The packets of a take's frame.
@@ -34,14 +35,14 @@ pub(crate) fn write_frame(
 ) -> Result<Vec<u8>, OutOfMemory>
     requires size { IsTrue (is_session_size take.now.size.w take.now.size.h) }
     requires all { HasAllCaches writer.old.confirmed }
-    requires drawings { AllGo take.now.frame.sent }
+    requires drawings { AllGo (depth_of writer.old.confirmed) take.now.frame.sent }
     requires caches { take.now.caches ≡ caches_of writer.old.confirmed take.now.frame.sent }
     requires tiles { TilesGo take.now.size take.now.frame.tiles }
     requires empty { writer.old.updates ≡ nothing_gathered }
     ensures bytes { IfOk result (λ out. (uses : Uses) (f : FrameOf) → CachesStand writer.old.confirmed writer.old.caches uses → take.now.frame ≡ taken_as take.now.size f
         → out.items ≡ frame_bytes take.now.size writer.old.confirmed writer.old.registers uses f) }
     ensures registers { OnOk result ((uses : Uses) (f : FrameOf) → CachesStand writer.old.confirmed writer.old.caches uses → take.now.frame ≡ taken_as take.now.size f
-        → writer.new.registers ≡ registers_after_orders writer.old.registers (orders_before_tiles take.now.size writer.old.confirmed uses f)) }
+        → writer.new.registers ≡ registers_after_orders writer.old.confirmed writer.old.registers (orders_before_tiles take.now.size writer.old.confirmed uses f)) }
     ensures caches { OnOk result ((uses : Uses) (f : FrameOf) → CachesStand writer.old.confirmed writer.old.caches uses → take.now.frame ≡ taken_as take.now.size f
         → CachesStand writer.old.confirmed writer.new.caches (uses_after writer.old.confirmed uses f.sent)) }
     ensures confirmed { OnOk result (writer.new.confirmed ≡ writer.old.confirmed) }
@@ -58,7 +59,7 @@ pub(crate) fn write_frame(
 fn put_orders(alloc: Global, writer: &mut FrameWriter, take: &Take) -> Result<(), OutOfMemory>
     requires size { IsTrue (is_session_size take.now.size.w take.now.size.h) }
     requires all { HasAllCaches writer.old.confirmed }
-    requires drawings { AllGo take.now.frame.sent }
+    requires drawings { AllGo (depth_of writer.old.confirmed) take.now.frame.sent }
     requires caches { take.now.caches ≡ caches_of writer.old.confirmed take.now.frame.sent }
     ensures { OnOk result (Writes writer.old writer.new (λ uses. frame_sending take.now.size writer.old.confirmed take.now.frame.first uses take.now.frame.sent)) }
 {
@@ -101,14 +102,15 @@ fn put_tiles(
     requires tiles { TilesGo size tiles.now }
     ensures { OnOk result (writer.new ≡ record writer.old {
       updates = record writer.old.updates {
-        packets = writer.old.updates.packets ++ flat_map (λ tile. tile_packet writer.old.confirmed.no_header (tile_on size tile.0) tile.1) tiles.now;
+        packets = writer.old.updates.packets ++ flat_map (λ tile. tile_packet (depth_of writer.old.confirmed) writer.old.confirmed.no_header (tile_on size tile.0) tile.1) tiles.now;
       };
     }) }
 {
     for tile in tiles {
         let no_header = writer.confirmed.no_header;
+        let depth = writer.confirmed.depth;
         let r = tile_on(size, tile.number());
-        put_tile(alloc, &mut writer.updates, r, tile, no_header)?;
+        put_tile(alloc, &mut writer.updates, r, tile, no_header, depth)?;
     }
     Ok(())
 }
@@ -120,17 +122,18 @@ fn put_tile(
     r: Rect,
     tile: &TakenTile,
     no_header: bool,
+    depth: Depth,
 ) -> Result<(), OutOfMemory>
     requires place { IsUpdated r }
     requires number { length tile.now.1 ≡ r.w * r.h }
     requires colors { IsTrue (are_colors tile.now.1) }
-    ensures { OnOk result (updates.new ≡ with_packet updates.old (tile_packet no_header r tile.now.1)) }
+    ensures { OnOk result (updates.new ≡ with_packet updates.old (tile_packet depth no_header r tile.now.1)) }
 {
     match tile.pixels_in_place() {
-        Some(pixels) => updates.put_tile(alloc, r, pixels, no_header),
+        Some(pixels) => updates.put_tile(alloc, r, pixels, no_header, depth),
         None => {
             let pixels = tile.copied_pixels(alloc)?;
-            updates.put_tile(alloc, r, pixels.as_slice(), no_header)
+            updates.put_tile(alloc, r, pixels.as_slice(), no_header, depth)
         }
     }
 }

@@ -7,6 +7,7 @@ mod caches;
 mod drawing;
 mod fault;
 mod frame;
+mod orders;
 mod plain;
 mod sender;
 mod text;

@@ -1,6 +1,6 @@
 //! Runs of glyphs ([MS-RDPEGDI] 2.2.2.2.1.1.2.13): the glyphs that the viewer's cache hasn't go before the order, in the run's order.
 ghost use Rattle.std.specs.Prelude.{◌≡◌, ℕ, ◌<◌, ◌≤◌, ◌+◌, [], ◌∷◌, ◌++◌, List, length, IfOk, OnOk};
-ghost use Rattle.px_core.specs.declared.depth.Depth.TheVariants.{Bits24};
+ghost use Rattle.caps_sets.specs.Confirmed.{depth_of};
 ghost use Rattle.order_fields.specs.OrderTable.{FitBounds};
 ghost use Rattle.order_fields.specs.OrderDelta.{edges_of_optional};
 ghost use Rattle.order_fields.specs.NamedDrawing.{NamedDrawing, drawing_fields};
@@ -14,12 +14,12 @@ ghost use Rattle.viewer_sender.specs.Goes.{FitsDrawn, GlyphsGo};
 ghost use Rattle.viewer_sender.specs.Runs.{run_sending};
 
 use crate::OutOfMemory;
+use crate::orders::run_order;
 use crate::plain::put_drawn;
 use crate::writer::FrameWriter;
 use draw_ops::Run;
 use frame_plan::Pending;
 use order_fields::Fields;
-use order_prim::glyph_index_of;
 use px_core::Rect;
 use session_core::LoadedGlyph;
 use std::alloc::Global;
@@ -39,7 +39,7 @@ pub(crate) fn put_text(
 ) -> Result<(), OutOfMemory>
     requires chosen { cache ≡ or_0 (run_cache writer.old.confirmed pending.now.glyphs) }
     requires below { cache < 10 }
-    requires fits { (cache : ℕ) (pairs : List ℕ) → cache < 10 → length pairs < 256 → FitsDrawn pending.now.rect (Glyphs cache x y color pairs) clip }
+    requires fits { (cache : ℕ) (pairs : List ℕ) → cache < 10 → length pairs < 256 → FitsDrawn (depth_of writer.old.confirmed) pending.now.rect (Glyphs cache x y color pairs) clip }
     requires number { length pending.now.glyphs ≡ length run.now }
     requires few { length run.now ≤ 64 }
     requires glyphs { GlyphsGo pending.now.glyphs }
@@ -48,10 +48,11 @@ pub(crate) fn put_text(
         let g = run_use writer.old.confirmed uses cache pending.now.glyphs in
         sending (g.orders ++ Drawn pending.now.rect (Glyphs cache x y color (run_pairs g.indices run.now)) (bounds_of pending.now.rect clip) ∷ []) g.uses)) }
 {
+    let depth = writer.confirmed.depth;
     let room = mem::replace(&mut writer.run, Vec::new(alloc));
     let pairs = use_run(alloc, writer, cache, pending.glyphs(), run.pairs(), room)?;
     let area = pending.rect();
-    let order = glyph_index_of(cache, x, y, color, area, pairs);
+    let order = run_order(cache, x, y, color, area, pairs, depth);
     put_run(writer, order, area, clip)
 }
 
@@ -65,7 +66,7 @@ fn put_run(
     requires bounds { FitBounds (edges_of_optional (bounds_of area clip)) }
     requires drawing { IsDrawing order }
     requires run { length order.values.bytes < 256 }
-    ensures { OnOk result ((d : NamedDrawing) → order ≡ drawing_fields Bits24 area d → Writes writer.old writer.new (λ uses. sending (Drawn area d (bounds_of area clip) ∷ []) uses)) }
+    ensures { OnOk result ((d : NamedDrawing) → order ≡ drawing_fields (depth_of writer.old.confirmed) area d → Writes writer.old writer.new (λ uses. sending (Drawn area d (bounds_of area clip) ∷ []) uses)) }
 {
     put_drawn(writer, &order, area, clip)?;
     match order.into_bytes() {

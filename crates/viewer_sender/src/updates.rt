@@ -29,8 +29,8 @@ use bitmap_upd::TileBody;
 use draw_ops::{Brush, Glyph, Image};
 use mcs_dom::write_indication;
 use order_fields::{Fields, Regs, write_order};
-use order_second::{cache_bitmap, cache_brush, cache_glyph, frame_marker};
-use px_core::Rect;
+use order_second::{cache_bitmap_at, cache_brush_at, cache_glyph, frame_marker};
+use px_core::{Depth, Rect};
 use share_pdu::{data_headers, put_packet_headers};
 use std::alloc::Global;
 use std::marker::Model;
@@ -106,7 +106,7 @@ impl Updates {
         self.settle()
     }
 
-    /// Adds the order of an image for an entry of a bitmap cache.
+    /// Adds the order of an image, as it is shown at a depth, for an entry of a bitmap cache.
     pub(crate) fn put_image(
         &mut self,
         alloc: Global,
@@ -114,15 +114,16 @@ impl Updates {
         index: u16,
         image: &Image,
         no_header: bool,
+        depth: Depth,
     ) -> Result<(), OutOfMemory>
         requires image { image_rule image.now ≡ None }
         requires colors { IsTrue (are_colors image.now.pixels) }
-        requires some { 1 ≤ length (cache_bitmap_bytes no_header cache index image.now) }
-        requires short { length (cache_bitmap_bytes no_header cache index image.now) ≤ 16357 }
-        ensures { OnOk result (self.new ≡ after_order self.old (cache_bitmap_bytes no_header cache index image.now)) }
+        requires some { 1 ≤ length (cache_bitmap_bytes depth no_header cache index image.now) }
+        requires short { length (cache_bitmap_bytes depth no_header cache index image.now) ≤ 16357 }
+        ensures { OnOk result (self.new ≡ after_order self.old (cache_bitmap_bytes depth no_header cache index image.now)) }
     {
         self.user.truncate(self.end);
-        cache_bitmap(alloc, &mut self.user, cache, index, image, no_header)?;
+        cache_bitmap_at(alloc, &mut self.user, cache, index, image, no_header, depth)?;
         self.settle()
     }
 
@@ -144,19 +145,20 @@ impl Updates {
         self.settle()
     }
 
-    /// Adds the order of a brush for an entry of the brush cache.
+    /// Adds the order of a brush, as it is shown at a depth, for an entry of the brush cache.
     pub(crate) fn put_brush(
         &mut self,
         alloc: Global,
         entry: u8,
         brush: &Brush,
+        depth: Depth,
     ) -> Result<(), OutOfMemory>
-        requires some { 1 ≤ length (cache_brush_bytes entry brush.now) }
-        requires short { length (cache_brush_bytes entry brush.now) ≤ 16357 }
-        ensures { OnOk result (self.new ≡ after_order self.old (cache_brush_bytes entry brush.now)) }
+        requires some { 1 ≤ length (cache_brush_bytes depth entry brush.now) }
+        requires short { length (cache_brush_bytes depth entry brush.now) ≤ 16357 }
+        ensures { OnOk result (self.new ≡ after_order self.old (cache_brush_bytes depth entry brush.now)) }
     {
         self.user.truncate(self.end);
-        cache_brush(alloc, &mut self.user, entry, brush)?;
+        cache_brush_at(alloc, &mut self.user, entry, brush, depth)?;
         self.settle()
     }
 
@@ -169,7 +171,7 @@ impl Updates {
         self.settle()
     }
 
-    /// Writes the packet of a tile, whose pixels go row by row from the top, behind the packets that are whole.
+    /// Writes the packet of a tile, whose pixels go row by row from the top and are shown at a depth, behind the packets that are whole.
     #[tactic(auto, using(crate::proofs::TileShort::tile_short))]
     pub fn put_tile(
         &mut self,
@@ -177,13 +179,14 @@ impl Updates {
         r: Rect,
         pixels: &[u32],
         no_header: bool,
+        depth: Depth,
     ) -> Result<(), OutOfMemory>
         requires place { IsUpdated r }
         requires number { length pixels.now ≡ r.w * r.h }
         requires colors { IsTrue (are_colors pixels.now) }
-        ensures { OnOk result (self.new ≡ with_packet self.old (tile_packet no_header r pixels.now)) }
+        ensures { OnOk result (self.new ≡ with_packet self.old (tile_packet depth no_header r pixels.now)) }
     {
-        let body = TileBody::new(alloc, r, pixels, no_header)?;
+        let body = TileBody::new(alloc, r, pixels, no_header, depth)?;
         let size = body.size();
         put_packet_headers(&mut self.packets, UPDATE, size)?;
         body.put(&mut self.packets)

@@ -1,6 +1,6 @@
 //! A frame in the making: the registers and caches of its viewer, as they are after the orders so far, and the updates that these orders are gathered into.
 ghost use Rattle.std.specs.Prelude.{◌≡◌, ◌<◌, ◌+◌, [], ◌∷◌, length, IfOk, OnOk, Some};
-ghost use Rattle.px_core.specs.declared.depth.Depth.TheVariants.{Bits24};
+ghost use Rattle.caps_sets.specs.Confirmed.{depth_of};
 ghost use Rattle.order_fields.specs.OrderTable.{FitBounds, first_registers};
 ghost use Rattle.order_fields.specs.OrderDelta.{edges_of_optional};
 ghost use Rattle.order_fields.specs.NamedDrawing.{NamedDrawing, drawing_fields};
@@ -68,7 +68,7 @@ impl FrameWriter {
         requires bounds { FitBounds (edges_of_optional bounds) }
         requires drawing { IsDrawing fields.now }
         requires run { length fields.now.values.bytes < 256 }
-        ensures { OnOk result ((area : Rect) (d : NamedDrawing) → fields.now ≡ drawing_fields Bits24 area d → Writes self.old self.new (λ uses. sending (Drawn area d bounds ∷ []) uses)) }
+        ensures { OnOk result ((area : Rect) (d : NamedDrawing) → fields.now ≡ drawing_fields (depth_of self.old.confirmed) area d → Writes self.old self.new (λ uses. sending (Drawn area d bounds ∷ []) uses)) }
     {
         self.updates.put_drawn(
             &mut self.registers,
@@ -103,8 +103,9 @@ impl FrameWriter {
             Use::Hit(index) => Ok(index),
             Use::Miss(index) => {
                 let no_header = self.confirmed.no_header;
+                let depth = self.confirmed.depth;
                 self.updates
-                    .put_image(alloc, cache, index, image, no_header)?;
+                    .put_image(alloc, cache, index, image, no_header, depth)?;
                 Ok(index)
             }
         }
@@ -127,7 +128,8 @@ impl FrameWriter {
             Use::Hit(index) => Ok(index),
             Use::Miss(index) => {
                 let [entry, _] = index.to_le_bytes();
-                self.updates.put_brush(alloc, entry, brush)?;
+                let depth = self.confirmed.depth;
+                self.updates.put_brush(alloc, entry, brush, depth)?;
                 Ok(index)
             }
         }

@@ -1,6 +1,7 @@
 use Rattle.std.proofs.Common.{◌≡◌, ◌∙◌, ◌+◌, ◌∷◌, [], ◌++◌, List, take, refl, ap, sym, subst}
 use Rattle.std.proofs.lemmas.List.{take_all}
 use Rattle.caps_sets.specs.declared.confirmed.Confirmed.{Confirmed}
+use Rattle.caps_sets.specs.Confirmed.{depth_of}
 use Rattle.frame_rules.specs.Frame.{Sent}
 use Rattle.frame_rules.specs.Describes.{HasAllCaches}
 use Rattle.frame_plan.specs.Orders.{cache_of, sent_as, drawings_in}
@@ -25,7 +26,9 @@ pub put_drawing-requires-clause-goes : goal.put_drawing-requires-clause-goes
 put_drawing-requires-clause-goes c =
     let ps = c.args.drawings.now in
     let d = c.index-drawings-i.result in
-    subst (λ (x : Planned). SentGoes (sent_as x)) (sym c.index-drawings-i.is) (next_goes ps c.loop-i.i d c.loop-i-test.true c.loop-i.invariant.fit).0
+    let conf = c.args.writer.now.confirmed in
+    subst (λ (k : Confirmed). SentGoes (depth_of k) (sent_as d)) (sym c.loop-i.invariant.wrote.0)
+    (subst (λ (x : Planned). SentGoes (depth_of conf) (sent_as x)) (sym c.index-drawings-i.is) (next_goes (depth_of conf) ps c.loop-i.i d c.loop-i-test.true c.loop-i.invariant.fit).0)
 
 pub put_drawing-requires-clause-chosen : goal.put_drawing-requires-clause-chosen
 put_drawing-requires-clause-chosen c =
@@ -47,7 +50,7 @@ loop-i-preserved c =
     record {
       wrote = subst (λ (xs : List Sent). Writes a c.put_drawing.new.writer (λ uses. drawings_sending a.confirmed uses xs)) next
           (sent_all a b c.put_drawing.new.writer (drawings_in (take i ps)) (sent_as d ∷ []) c.loop-i.invariant.wrote (sent_alone b c.put_drawing.new.writer (sent_as d) c.in_ok-put_drawing.ensures));
-      fit = (next_goes ps i d c.loop-i-test.true c.loop-i.invariant.fit).1;
+      fit = (next_goes (depth_of a.confirmed) ps i d c.loop-i-test.true c.loop-i.invariant.fit).1;
       chosen = (next_chosen a.confirmed ps i d c.loop-i-test.true c.loop-i.invariant.chosen).1;
     }
 

@@ -3,17 +3,25 @@ use Rattle.std.specs.Prelude.{Bool, ◌&&◌}
 use Rattle.rle_enc.proofs.Pending.{on_ok_as}
 use Rattle.px_core.specs.declared.surface.Size.{Size}
 use Rattle.caps_sets.specs.declared.confirmed.Confirmed.{Confirmed}
+use Rattle.caps_sets.specs.Confirmed.{depth_of}
 use Rattle.frame_rules.specs.Frame.{Sent}
 use Rattle.frame_rules.specs.FrameOrders.{sending, start_orders, black_orders, orders_from, uses_after}
 use Rattle.frame_rules.specs.Describes.{HasAllCaches}
 use Rattle.frame_plan.specs.Orders.{drawings_in, AreChosen}
 use Rattle.viewer_sender.proofs.UseSteps.{writes_then, writes_as}
+use Rattle.viewer_sender.specs.Goes.{AllGo}
 use Rattle.viewer_sender.specs.Runs.{drawings_sending}
 use Rattle.viewer_sender.proofs.Loops.{chosen_all}
 use Rattle.viewer_sender.proofs.frame.put_orders.Goals as goal
 
 pub put_drawings-requires-clause-all : goal.put_drawings-requires-clause-all
 put_drawings-requires-clause-all c = subst HasAllCaches (sym (c.in_ok-put_black.ensures.0 ∙ c.in_ok-put_start.ensures.0)) c.requires.all
+
+pub put_drawings-requires-clause-go : goal.put_drawings-requires-clause-go
+put_drawings-requires-clause-go c =
+    let conf = c.args.writer.now.confirmed in
+    subst (λ (k : Confirmed). AllGo (depth_of k) (drawings_in c.planned.result.now)) (sym (c.in_ok-put_black.ensures.0 ∙ c.in_ok-put_start.ensures.0))
+    (subst (λ (ss : List Sent). AllGo (depth_of conf) ss) (sym (ap drawings_in c.planned.ensures ∙ c.sent.ensures.orders)) c.requires.drawings)
 
 pub put_drawings-requires-clause-chosen : goal.put_drawings-requires-clause-chosen
 put_drawings-requires-clause-chosen c =

@@ -1,4 +1,4 @@
-use Rattle.std.proofs.Common.{◌++◌, ◌∷◌, [], List, ℕ, ap, sym, subst, arith, w32, to_z, of_z}
+use Rattle.std.proofs.Common.{◌++◌, ◌∷◌, [], ◌∙◌, List, ℕ, ap, sym, subst, arith, w32, to_z, of_z}
 use Rattle.std.specs.Prelude.{ℤ}
 use Rattle.std.proofs.lemmas.Int.{to_z-of_z}
 use Rattle.rle_enc.proofs.Pending.{on_ok_as}
@@ -7,6 +7,9 @@ use Rattle.draw_ops.specs.Content.{GlyphOf}
 use Rattle.draw_ops.specs.Slots.{Loaded}
 use Rattle.order_fields.specs.OrderTable.{FitBounds}
 use Rattle.order_fields.specs.OrderDelta.{edges_of_optional}
+use Rattle.caps_sets.specs.declared.confirmed.Confirmed.{Confirmed}
+use Rattle.caps_sets.specs.Confirmed.{depth_of}
+use Rattle.order_fields.specs.NamedDrawing.{drawing_fields}
 use Rattle.order_fields.specs.NamedDrawing.NamedDrawing.{Glyphs}
 use Rattle.frame_rules.specs.Support.{run_cache}
 use Rattle.frame_rules.specs.FrameOrders.{or_0, run_use, run_pairs, bounds_of, sending}
@@ -37,7 +40,9 @@ returns c =
     let wrote = c.in_ok-pairs.ensures.orders in
     let orders : Writes a b (λ uses. run_sending (run_use a.confirmed uses k gs)) =
     (wrote.0, λ uses stands. record { gathered = (wrote.1 uses stands).gathered; registers = (wrote.1 uses stands).registers; caches = (wrote.1 uses stands).caches }) in
-    let fields = run_source c.glyph_index_of-order.result area x y c.args.x c.args.y (to_z-of_z w32 c.args.x c.ranges.x) (to_z-of_z w32 c.args.y c.ranges.y) k c.args.color pairs c.glyph_index_of-order.ensures in
+    let as_before = run_source (depth_of a.confirmed) c.run_order-order.result area x y c.args.x c.args.y (to_z-of_z w32 c.args.x c.ranges.x) (to_z-of_z w32 c.args.y c.ranges.y) k c.args.color pairs
+    c.run_order-order.ensures in
+    let fields = as_before ∙ ap (λ (k' : Confirmed). drawing_fields (depth_of k') area (Glyphs k c.args.x c.args.y c.args.color pairs)) (sym wrote.0) in
     on_ok_as _ _ c.put_run.result c.put_run.ensures (λ writes.
     subst (λ (r : Rect). Writes a d (λ uses. sending ((run_use a.confirmed uses kc c.args.pending.now.glyphs).orders
     ++ Drawn r (Glyphs kc c.args.x c.args.y c.args.color (run_pairs (run_use a.confirmed uses kc c.args.pending.now.glyphs).indices c.args.run.now)) (bounds_of r c.args.clip) ∷ []) (run_use a.confirmed uses kc c.args.pending.now.glyphs).uses)) c.rect-area.ensures

@@ -10,5 +10,5 @@ returns c =
     let u = c.self.inside in
     on_ok_as _ _ c.put.result c.put.ensures.ok (λ e.
     ap (λ ps. gathering ps (orders_in u.user.items u.end) u.count (drop u.end u.user.items))
-    (packet_put u.packets.items _ _ _ (tile_body c.args.no_header c.args.r c.args.pixels.now) _ c.in_ok-put_packet_headers.ensures.ok c.size-size.ensures c.in_ok-body.ensures e)
-    ∙ ap (λ g. with_packet g (tile_packet c.args.no_header c.args.r c.args.pixels.now)) c.self.view_is)
+    (packet_put u.packets.items _ _ _ (tile_body c.args.depth c.args.no_header c.args.r c.args.pixels.now) _ c.in_ok-put_packet_headers.ensures.ok c.size-size.ensures c.in_ok-body.ensures e)
+    ∙ ap (λ g. with_packet g (tile_packet c.args.depth c.args.no_header c.args.r c.args.pixels.now)) c.self.view_is)

@@ -9,7 +9,7 @@ put_drawn-requires-clause-some c =
     let d = c.requires.drawing in
     let w = c.args.self.now in
     subst (λ (o : FieldList). 1 ≤ length (order_bytes w.registers w.confirmed.zero_bounds o (edges_of_optional c.args.bounds))) (sym d.fields)
-    (drawing_some w.registers w.confirmed.zero_bounds d.area d.drawing (edges_of_optional c.args.bounds))
+    (drawing_some d.depth w.registers w.confirmed.zero_bounds d.area d.drawing (edges_of_optional c.args.bounds))
 
 pub put_drawn-requires-clause-short : goal.put_drawn-requires-clause-short
 put_drawn-requires-clause-short c =
@@ -17,5 +17,5 @@ put_drawn-requires-clause-short c =
     let w = c.args.self.now in
     let few = ap (λ (o : FieldList). length o.values.bytes) d.fields in
     let run = c.requires.run in
-    let most = drawing_short w.registers w.confirmed.zero_bounds d.area d.drawing (edges_of_optional c.args.bounds) in
+    let most = drawing_short d.depth w.registers w.confirmed.zero_bounds d.area d.drawing (edges_of_optional c.args.bounds) in
     subst (λ (o : FieldList). length (order_bytes w.registers w.confirmed.zero_bounds o (edges_of_optional c.args.bounds)) ≤ 16357) (sym d.fields) (omega (arith, most, few, run))

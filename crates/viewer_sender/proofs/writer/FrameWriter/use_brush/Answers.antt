@@ -37,6 +37,6 @@ returns-in_ok-put_brush-in-Miss-clause-orders c = (
       let miss = sym c.in-Miss.is ∙ c.in_ok-index.ensures.answer w.confirmed uses stands in
       let below = brush_entry_below uses c.args.number c.in-Miss.index miss in
       wrote_missed w.confirmed uses 13 c.args.number c.in-Miss.index (λ index. CacheBrush index c.args.brush.now) w _ refl miss
-      (c.in_ok-put_brush-in-Miss.ensures ∙ ap (λ bytes. after_order w.updates (cache_brush_bytes (get_or bytes 0 0) c.args.brush.now)) c.to_le_bytes.ensures ∙ ap (λ entry. after_order w.updates (cache_brush_bytes entry c.args.brush.now)) (low_byte c.in-Miss.index below)) refl
+      (c.in_ok-put_brush-in-Miss.ensures ∙ ap (λ bytes. after_order w.updates (cache_brush_bytes w.confirmed.depth (get_or bytes 0 0) c.args.brush.now)) c.to_le_bytes.ensures ∙ ap (λ entry. after_order w.updates (cache_brush_bytes w.confirmed.depth entry c.args.brush.now)) (low_byte c.in-Miss.index below)) refl
       (c.in_ok-index.ensures.after w.confirmed uses stands),
 )
