@@ -1,5 +1,5 @@
-//! The clients of these tests: what a viewer of `look_net` says in its connection sequence, which confirms opaque rectangles alone, and what
-//! a client may send behind that.
+//! The clients of these tests: what a viewer of `look_net` says in its connection sequence, which confirms opaque rectangles alone, at 24 bits
+//! or at 16, and what a client may send behind that.
 
 use crate::checks::SIZE;
 use caps_sets::preset;
@@ -11,6 +11,11 @@ use std::alloc::{AllocError, Global};
 
 /// How many bytes answer its connection sequence.
 pub const ANSWER: usize = 706;
+
+/// What such a viewer confirms, at each depth.
+pub const PLAIN: &[u8] = b"plain";
+
+pub const PLAIN_AT_16_BITS: &[u8] = b"plain bpp=16";
 
 /// More turns than a connection sequence takes.
 const MOST_TURNS: u32 = 100;
@@ -68,11 +73,11 @@ fn put_data(out: &mut Vec<u8>, data: &Data) -> Result<(), AllocError> {
     Ok(())
 }
 
-/// What a viewer of this name says to a host.
-fn viewer_says(alloc: Global, name: &Name) -> Result<Said, OutOfMemory> {
+/// What a viewer of this name, which confirms what these words say, says to a host.
+fn viewer_says(alloc: Global, name: &Name, words: &[u8]) -> Result<Said, OutOfMemory> {
     let mut hello = Vec::new(alloc);
     let mut ready = Vec::new(alloc);
-    let Some(confirmed) = preset(b"plain") else {
+    let Some(confirmed) = preset(words) else {
         return Ok(Said { hello, ready });
     };
     let mut conn = Conn::new(alloc, SIZE)?;
@@ -100,20 +105,25 @@ fn viewer_says(alloc: Global, name: &Name) -> Result<Said, OutOfMemory> {
 
 /// Its packets up to Client Info.
 pub fn hello(alloc: Global, name: &Name) -> Result<Vec<u8>, OutOfMemory> {
-    Ok(viewer_says(alloc, name)?.hello)
+    Ok(viewer_says(alloc, name, PLAIN)?.hello)
 }
 
 /// Its packets from Confirm Active to Font List.
 pub fn ready(alloc: Global, name: &Name) -> Result<Vec<u8>, OutOfMemory> {
-    Ok(viewer_says(alloc, name)?.ready)
+    Ok(viewer_says(alloc, name, PLAIN)?.ready)
 }
 
 /// All of its packets.
 pub fn whole(alloc: Global, name: &Name) -> Result<Vec<u8>, OutOfMemory> {
+    whole_of(alloc, name, PLAIN)
+}
+
+/// All packets of a viewer that confirms what these words say.
+pub fn whole_of(alloc: Global, name: &Name, words: &[u8]) -> Result<Vec<u8>, OutOfMemory> {
     let Said {
         hello: mut whole,
         ready,
-    } = viewer_says(alloc, name)?;
+    } = viewer_says(alloc, name, words)?;
     whole.extend_from_slice(&ready)?;
     Ok(whole)
 }

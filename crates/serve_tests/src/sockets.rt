@@ -1,7 +1,7 @@
 //! Two clients over the loopback interface.
 
 use crate::checks::{SIZE, WHITE, X, Y, must_have_left, new_session, owner, viewer};
-use crate::client::{ANSWER, PRESS, packets, whole};
+use crate::client::{ANSWER, PLAIN, PLAIN_AT_16_BITS, PRESS, packets, whole_of};
 use caps_sets::preset;
 use client_view::Client;
 use gate_run::{OutOfMemory, Served, serve_gate};
@@ -34,6 +34,9 @@ const MOST_READS: u32 = 10_000;
 /// The board before it is drawn on.
 pub const BLACK: u32 = 0;
 
+/// The ink of the board as a client at 16 bits shows it: of its five, six and five bits the rest is 0.
+const WHITE_AT_16_BITS: u32 = 0xF8FCF8;
+
 /// An address of this machine.
 fn local(port: u16) -> SocketAddr {
     SocketAddr::V4(SocketAddrV4::new(Ipv4Addr::LOCALHOST, port))
@@ -45,12 +48,21 @@ pub fn free_port<R: Net<Listener = TcpListener, Stream = TcpStream>>(rt: &R) -> 
     Ok(listener.local_addr()?.port())
 }
 
-/// A client, and how much of the answer to its connection sequence is still to come.
+/// What a client confirms and sends, and as what it shows the ink of the board.
+#[derive(Clone, Copy, Drop)]
+struct Guest<'a> {
+    words: &'a [u8],
+    bytes: &'a [u8],
+    ink: u32,
+}
+
+/// A client, as what it shows the ink of the board, and how much of the answer to its connection sequence is still to come.
 #[derive(Drop)]
 struct Watcher {
     stream: TcpStream,
     answer: usize,
     client: Client,
+    ink: u32,
 }
 
 impl Watcher {
@@ -59,18 +71,19 @@ impl Watcher {
         rt: &R,
         alloc: Global,
         port: u16,
-        bytes: &[u8],
+        guest: &Guest<'_>,
     ) -> Option<Watcher> {
         let mut stream = connected(rt, port)?;
         stream
             .set_read_timeout(Some(Duration::from_millis(PATIENCE)))
             .ok()?;
-        stream.write_all(bytes).ok()?;
-        let client = Client::new(alloc, preset(b"plain")?, SIZE).ok()?;
+        stream.write_all(guest.bytes).ok()?;
+        let client = Client::new(alloc, preset(guest.words)?, SIZE).ok()?;
         Some(Watcher {
             stream,
             answer: ANSWER,
             client,
+            ink: guest.ink,
         })
     }
 
@@ -87,7 +100,7 @@ impl Watcher {
     /// Reads until the last mark shows the board's ink where the mouse was pressed.
     fn watch(&mut self) -> Option<()> {
         for _ in 0..MOST_READS {
-            if pixel(&self.client, X, Y) == Some(WHITE) {
+            if pixel(&self.client, X, Y) == Some(self.ink) {
                 return Some(());
             }
             if self.read()? == 0 {
@@ -148,15 +161,16 @@ fn attend<R: Net<Listener = TcpListener, Stream = TcpStream> + Clock>(
     rt: &R,
     alloc: Global,
     port: u16,
-    bytes: &[u8],
+    guest: &Guest<'_>,
 ) -> Option<Client> {
-    let mut watcher = Watcher::new(rt, alloc, port, bytes)?;
+    let mut watcher = Watcher::new(rt, alloc, port, guest)?;
     watcher.watch()?;
     watcher.leave()?;
     let Watcher {
         stream: _,
         answer: _,
         client,
+        ink: _,
     } = watcher;
     Some(client)
 }
@@ -166,6 +180,20 @@ fn is_same_row(one: &Client, other: &Client, y: u32) -> bool {
     (0..SIZE.w).all(|x| pixel(one, x, y) == pixel(other, x, y))
 }
 
+/// Whether a row of two pictures is black at the same pixels, the other one of a client at 16 bits, and else white at both.
+fn is_cut_row(one: &Client, other: &Client, y: u32) -> bool {
+    (0..SIZE.w).all(|x| match pixel(one, x, y) {
+        Some(WHITE) => pixel(other, x, y) == Some(WHITE_AT_16_BITS),
+        color => color == Some(BLACK) && pixel(other, x, y) == color,
+    })
+}
+
+/// A client at 16 bits was shown at last what one at 24 was, each colour cut.
+fn must_show_what_is_cut(rt: &impl Abort, one: &Client, other: &Client) {
+    assert_eq!(rt; pixel(one, X, Y), Some(WHITE));
+    assert!(rt; (0..SIZE.h).all(|y| is_cut_row(one, other, y)));
+}
+
 /// Two clients were shown the same picture at last: white where the mouse was pressed, and black where not.
 fn must_show_the_same(rt: &impl Abort, one: &Client, other: &Client) {
     assert_eq!(rt; pixel(one, X, Y), Some(WHITE));
@@ -173,26 +201,56 @@ fn must_show_the_same(rt: &impl Abort, one: &Client, other: &Client) {
     assert!(rt; (0..SIZE.h).all(|y| is_same_row(one, other, y)));
 }
 
-#[test]
-fn two_clients_are_shown_what_the_owner_draws(rt: HostRuntime) -> Result<(), Fail> {
+/// The owner, who presses the mouse, and a viewer who confirms what these words say and shows the ink so, each as it left.
+fn two_clients<
+    R: Net<Listener = TcpListener, Stream = TcpStream>
+        + Abort
+        + AllocGlobal
+        + Clock
+        + Threads
+        + Wait
+        + Sync,
+>(rt: &R, words: &[u8], ink: u32) -> Result<(Client, Client), Fail> {
     let alloc = rt.alloc();
-    let port = free_port(&rt)?;
-    let mut first = whole(alloc, &owner())?;
-    first.extend_from_slice(&packets(alloc, &[PRESS])?)?;
-    let second = whole(alloc, &viewer())?;
+    let port = free_port(rt)?;
+    let mut pressing = whole_of(alloc, &owner(), PLAIN)?;
+    pressing.extend_from_slice(&packets(alloc, &[PRESS])?)?;
+    let first = Guest {
+        words: PLAIN,
+        bytes: &pressing,
+        ink: WHITE,
+    };
+    let watching = whole_of(alloc, &viewer(), words)?;
+    let second = Guest {
+        words,
+        bytes: &watching,
+        ink,
+    };
     let ((one, other), served) = thread::join(
-        &rt,
+        rt,
         || {
             thread::join(
-                &rt,
-                || attend(&rt, alloc, port, &first),
-                || attend(&rt, alloc, port, &second),
+                rt,
+                || attend(rt, alloc, port, &first),
+                || attend(rt, alloc, port, &second),
             )
         },
-        || served(&rt, alloc, port),
+        || served(rt, alloc, port),
     );
-    must_have_left(&rt, &served?, 2);
-    let (one, other) = one.zip(other).ok_or("a client wasn't served")?;
+    must_have_left(rt, &served?, 2);
+    Ok(one.zip(other).ok_or("a client wasn't served")?)
+}
+
+#[test]
+fn two_clients_are_shown_what_the_owner_draws(rt: HostRuntime) -> Result<(), Fail> {
+    let (one, other) = two_clients(&rt, PLAIN, WHITE)?;
     must_show_the_same(&rt, &one, &other);
+    Ok(())
+}
+
+#[test]
+fn a_client_at_16_bits_is_shown_what_one_at_24_draws(rt: HostRuntime) -> Result<(), Fail> {
+    let (one, other) = two_clients(&rt, PLAIN_AT_16_BITS, WHITE_AT_16_BITS)?;
+    must_show_what_is_cut(&rt, &one, &other);
     Ok(())
 }

@@ -7,8 +7,8 @@ use Rattle.px_core.specs.Rectangle.{boxed}
 use Rattle.draw_ops.specs.declared.shape.Shape.{Shape}
 use Rattle.draw_ops.specs.declared.shape.Shape.TheVariants.{Fill, Line, Save, Restore}
 use Rattle.session_rules.specs.Pending.{Pending}
-use Rattle.touch_marks.specs.Touching.{touched_by, saves_into}
-use Rattle.touch_marks.specs.Marking.{past, noted, marks_in}
+use Rattle.pending_core.specs.Touching.{touched_by, saves_into}
+use Rattle.pending_core.specs.Marking.{past, noted, marks_in}
 
 -- three tiles beside each other, in two rows
 abbrev wide : Size

@@ -28,6 +28,9 @@ const MOST_READS: u32 = 100;
 /// How many writes are made to fail at most, one after the other: more than any row has, but for the largest pictures.
 const MOST_WRITES: u32 = 70;
 
+/// How many bytes of a capture are held back at most.
+const MOST_HELD: usize = 65_536;
+
 /// How a script's line begins that adds a row.
 const INVITE: &[u8] = b"invite ";
 
@@ -294,11 +297,11 @@ fn must_have_least(way: Way, least: usize, found: &[u8]) -> Result<(), Trouble> 
     }
 }
 
-/// What was written where a write failed must be a front of the whole, and of a script's capture whole lines.
+/// What was written where a write failed must be a front of the whole, and of a script's capture that is held back at once whole lines.
 fn must_be_cut_at_write(way: Way, job: &Job<'_>, told: &[u8], found: &[u8]) -> Result<(), Trouble> {
     must_be_front(way, told, found)?;
     match job {
-        Job::Script if whole_lines(found).len() != found.len() => {
+        Job::Script if told.len() <= MOST_HELD && whole_lines(found).len() != found.len() => {
             otherwise(way, Found::Byte(found.len()))
         }
         _ => Ok(()),

@@ -19,6 +19,9 @@ const PORT: &str = "3389";
 
 const NAME: &str = "ann";
 
+/// What stands between preset words in a row.
+const BETWEEN: char = '+';
+
 /// The ending of files with what the host is told.
 const TOLD: &str = "told";
 
@@ -107,8 +110,11 @@ fn visit_of<R: Files + AllocGlobal>(rt: &R, words: &[&str]) -> Result<Visit, Tro
         return Err(Trouble::NoForm);
     };
     let (_, printed) = expected_of(rt, what)?;
+    let presets = preset.split(BETWEEN).collect::<Vec<&str>>(rt.alloc())?;
+    let mut line = Vec::from_slice(rt.alloc(), &[PORT, NAME, *marks])?;
+    line.extend_from_slice(&presets)?;
     Ok(Visit {
-        words: command_line(rt.alloc(), &[PORT, NAME, marks, preset])?,
+        words: command_line(rt.alloc(), &line)?,
         stream: files::read_hex(rt, name, STREAM)?,
         status: number(status, u8::MAX.into())? as u8,
         printed,
