@@ -135,9 +135,10 @@ def client_data(b, s, e):
             core = True
             def half(o): return u16le(b, start + o) if o + 2 <= size else None
             supported, high, beta = half(142), half(140), half(132)
-            if supported is not None: offered = supported & 1
-            elif high is not None: offered = high == 24
-            else: offered = beta == 0xCA04
+            # 24 or 16 bits for each pixel; which of them it is doesn't show in these lines
+            if supported is not None: offered = supported & 3
+            elif high is not None: offered = high in (24, 16)
+            else: offered = beta in (0xCA04, 0xCA03)
             if not offered: raise Refuse(8, start)
         elif kind == 0xC003:
             net = True
