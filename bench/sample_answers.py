@@ -272,6 +272,27 @@ def events(b, s, e):
 
 IO = 1003
 
+# the places of share PDUs, from that of the Confirm Active on
+SHARES = ('confirm', 0, 1, 2, 3, 'ready')
+
+def fast(b, i):
+    """The size of a fast-path packet of input, once it is whole, with its events read; None before."""
+    if len(b) - i < 2: return None
+    n, header = b[i+1], 2
+    if n >= 0x80:
+        if len(b) - i < 3: return None
+        n, header = u16be(b, i+1) & 0x7FFF, 3
+    if n < header: raise Refuse(2, i + 1)
+    if len(b) - i < n: return None
+    if b[i] >= 0x40: raise Refuse(14, i)
+    r = Reader(b, i + header, i + n, 14)
+    for _ in range(b[i] >> 2 or r.byte()):
+        at = r.i
+        code = r.byte() >> 5
+        if code > 4: r.fail(at)
+        for size in ((1,), (2, 2, 2), (2, 2, 2), (), (2,))[code]: r.skip(size)
+    return n
+
 def handshake(b):
     """How a stream ends: ('between',), ('within', n) or ('refused', k, at)."""
     stage, i, channels, joined = 'request', 0, 0, set()
@@ -279,6 +300,11 @@ def handshake(b):
         while True:
             if stage == 'over': return ('between',)
             if i == len(b): return ('between',)
+            if b[i] & 3 == 0 and stage in SHARES:
+                n = fast(b, i)
+                if n is None: return ('within', len(b) - i)
+                i += n
+                continue
             if b[i] != 3: raise Refuse(1, i)
             if len(b) - i < 4: return ('within', len(b) - i)
             n = u16be(b, i + 2)
