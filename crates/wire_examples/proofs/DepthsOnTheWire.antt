@@ -169,3 +169,19 @@ pub codes_of_a_packed_rectangle_at_16_bits : makes_at_16 (packet (0x01 ∷ 0x00 
     Some 0xF0F0 ∷ Some 0x0000 ∷ Some 0xF0F0 ∷ Some 0x1111 ∷ Some 0x2222 ∷ Some 0x0000 ∷ Some 0xABCD ∷ Some 0xABCD ∷
     Some 0xFFFF ∷ Some 0x0000 ∷ Some 0xFFFF ∷ Some 0x1234 ∷ Some 0x5678 ∷ Some 0x0000 ∷ Some 0xABCD ∷ Some 0xABCD ∷ [])
 codes_of_a_packed_rectangle_at_16_bits = refl
+
+-- a cached glyph of 8 by 1, entry 0 of cache 0
+abbrev glyph_of_a_row : List ℕ
+glyph_of_a_row = 0x03 ∷ 0x09 ∷ 0x00 ∷ 0x00 ∷ 0x00 ∷ 0x03 ∷ 0x00 ∷ 0x01 ∷ 0x00 ∷ 0x00 ∷ 0x00 ∷ 0x00 ∷ 0x00 ∷ 0x00 ∷ 0x08 ∷ 0x00 ∷ 0x01 ∷ 0x00 ∷ 0xFF ∷ 0x00 ∷ 0x00 ∷ 0x00 ∷ []
+
+-- GlyphIndex at (0, 0): flAccel 3, fOpRedundant 1, BackColor F800, ForeColor, the run of that glyph
+abbrev run_over : ℕ → ℕ → List ℕ
+run_over second third = 0x09 ∷ 0x1B ∷ 0x3A ∷ 0x00 ∷ 0x20 ∷ 0x03 ∷ 0x01 ∷ 0x00 ∷ 0xF8 ∷ 0x00 ∷ 0x00 ∷ second ∷ third ∷ 0x02 ∷ 0x00 ∷ 0x00 ∷ []
+
+-- of a ForeColor the third byte isn't looked at
+pub third_byte_of_a_fore_color_is_not_looked_at : makes_at_16 (orders 3 (filled_with 0x00 0x00 0x00 ++ (glyph_of_a_row ++ run_over 0x00 0x05)) ++ mark)
+    ≡ picture 2 0 (replicate 8 (Some 0xF800) ++ replicate 24 (Some 0x0000))
+third_byte_of_a_fore_color_is_not_looked_at = refl
+
+pub fore_color_of_a_run_at_16_bits : makes_at_16 (orders 3 (filled_with 0x00 0x00 0x00 ++ (glyph_of_a_row ++ run_over 0x01 0x00)) ++ mark) ≡ refused 32 Broken
+fore_color_of_a_run_at_16_bits = refl
