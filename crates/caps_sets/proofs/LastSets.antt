@@ -6,7 +6,7 @@ use Rattle.caps_sets.specs.declared.confirmed.Confirmed.{Confirmed}
 use Rattle.caps_sets.specs.declared.sets_so_far.SetsSoFar.{SetsSoFar}
 use Rattle.caps_sets.specs.declared.set_kind.SetKind.{SetKind}
 use Rattle.caps_sets.specs.declared.set_kind.SetKind.TheVariants.{General, Bitmap, Order, BitmapCache, Brush, GlyphCache, Other}
-use Rattle.caps_sets.specs.CapabilitySets.{says_cautious, says_no_header, says_support, says_zero_bounds, says_marker, says_bitmaps, says_brush_level, says_glyphs, says_glyph_level, with_set, before_sets, confirmed_together}
+use Rattle.caps_sets.specs.CapabilitySets.{says_cautious, says_no_header, says_fast, says_support, says_zero_bounds, says_marker, says_bitmaps, says_brush_level, says_glyphs, says_glyph_level, with_set, before_sets, confirmed_together}
 use Rattle.caps_sets.specs.Grammar.{Set, kind_in, is_same_kind, last_or, last_says, said_by}
 
 -- one set after the other
@@ -33,7 +33,7 @@ confirmed_over c sets = record {
   glyphs = last_says GlyphCache says_glyphs c.glyphs sets;
   cautious = last_says General says_cautious c.cautious sets;
   depth = c.depth;
-  fast = c.fast;
+  fast = last_says General says_fast c.fast sets;
   pointers = c.pointers;
 }
 
@@ -63,7 +63,7 @@ confirmed_first first c set sets = record {
   glyphs = says_first first GlyphCache says_glyphs c.glyphs set sets;
   cautious = says_first first General says_cautious c.cautious set sets;
   depth = c.depth;
-  fast = c.fast;
+  fast = says_first first General says_fast c.fast set sets;
   pointers = c.pointers;
 }
 

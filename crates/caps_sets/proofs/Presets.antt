@@ -46,6 +46,22 @@ sixteen_bits_anywhere = refl
 at_twenty_four_bits : depth_of marked ≡ Bits24
 at_twenty_four_bits = refl
 
+-- updates of the fast path by a whole word, in any place
+fast_by_a_word : confirmed_by presets (words_of (codes "plain fast")) ≡ Some (record plain { fast = true })
+fast_by_a_word = refl
+
+fast_among_others : confirmed_by presets (words_of (codes "full fast bpp=16 fast cautious")) ≡ Some (record full { cautious = true; depth = Bits16; fast = true })
+fast_among_others = refl
+
+a_longer_word : confirmed_by presets (words_of (codes "plain faster")) ≡ None
+a_longer_word = refl
+
+a_value_of_fast : confirmed_by presets (words_of (codes "plain fast=1")) ≡ None
+a_value_of_fast = refl
+
+fast_before_the_preset : confirmed_by presets (words_of (codes "fast plain")) ≡ None
+fast_before_the_preset = refl
+
 -- no other number of bits is such a word, nor is one more letter
 twenty_four_bits_said : confirmed_by presets (words_of (codes "plain bpp=24")) ≡ None
 twenty_four_bits_said = refl

@@ -20,6 +20,10 @@ set type size content = type ∷ 0 ∷ size ∷ 0 ∷ content
 abbrev general : ℕ → List ℕ
 general high = set 1 24 (replicate 11 0 ++ (high ∷ replicate 8 0))
 
+-- a General set with these extraFlags, both bytes of them
+abbrev flagged : ℕ → ℕ → List ℕ
+flagged low high = set 1 24 (replicate 10 0 ++ (low ∷ high ∷ replicate 8 0))
+
 -- a General set with this protocolVersion
 abbrev versioned : ℕ → ℕ → List ℕ
 versioned low high = set 1 24 (replicate 4 0 ++ (low ∷ high ∷ replicate 14 0))
@@ -100,6 +104,21 @@ cautious_level_two = refl
 no_longer_cautious : confirmed_of Bits24 (start 3 ++ (versioned 0 2 ++ (brush 1 ++ versioned 0 0))) ≡ Ok (record (nothing Bits24) { brush = true })
 unfolding confirm_at confirm_lengths confirm_counts set_at set_header with_content_of passing_at
 no_longer_cautious = refl
+
+-- ---- updates of the fast path, by the lowest bit of extraFlags
+
+fast : confirmed_of Bits24 (start 1 ++ flagged 1 0) ≡ Ok (record (nothing Bits24) { fast = true })
+unfolding confirm_at confirm_lengths confirm_counts set_at set_header with_content_of passing_at
+fast = refl
+
+all_other_flags : confirmed_of Bits24 (start 1 ++ flagged 254 255) ≡ Ok (record (nothing Bits24) { no_header = true })
+unfolding confirm_at confirm_lengths confirm_counts set_at set_header with_content_of passing_at
+all_other_flags = refl
+
+-- the last General set counts
+no_longer_fast : confirmed_of Bits24 (start 2 ++ (flagged 1 0 ++ flagged 0 4)) ≡ Ok (record (nothing Bits24) { no_header = true })
+unfolding confirm_at confirm_lengths confirm_counts set_at set_header with_content_of passing_at
+no_longer_fast = refl
 
 -- no set, and bytes that aren't counted
 none_counted : confirmed_of Bits24 (start 0 ++ general 4) ≡ Ok (nothing Bits24)

@@ -46,6 +46,10 @@ says_cautious content = not (number_in 2 8 content == 0)
 abbrev pub says_no_header : List ℕ → Bool
 says_no_header content = has_bits 1024 (number_in 2 14 content)
 
+-- extraFlags: FASTPATH_OUTPUT_SUPPORTED
+abbrev pub says_fast : List ℕ → Bool
+says_fast content = has_bits 1 (number_in 2 14 content)
+
 -- orderSupport: the byte at this place isn't 0 ([MS-RDPBCGR] 2.2.7.1.3)
 abbrev pub says_support : ℕ → List ℕ → Bool
 says_support place content = not (number_in 1 (36 + place) content == 0)
@@ -128,7 +132,7 @@ before_sets depth = record { confirmed = nothing depth; brush_level = 0 }
 
 -- what a General set says
 abbrev pub with_general : List ℕ → Confirmed → Confirmed
-with_general content c = record c { no_header = says_no_header content; cautious = says_cautious content }
+with_general content c = record c { no_header = says_no_header content; cautious = says_cautious content; fast = says_fast content }
 
 -- the sets so far with one more, by its content: it counts in place of earlier ones of its kind
 abbrev pub with_set : SetKind → List ℕ → SetsSoFar → SetsSoFar

@@ -72,9 +72,9 @@ marked = record full { marker = true }
 abbrev pub depth_of : Confirmed → Depth
 depth_of c = c.depth
 
--- whether a viewer's updates go in packets of the fast path: no viewer's so far
-unfoldable pub takes_fast : Confirmed → Bool
-takes_fast c = false
+-- whether a viewer's updates go in packets of the fast path
+abbrev pub takes_fast : Confirmed → Bool
+takes_fast c = c.fast
 
 -- how many pointers a viewer is told to hold: none so far
 unfoldable pub pointer_cells : Confirmed → ℕ

@@ -6,7 +6,7 @@ use Rattle.caps_sets.specs.declared.confirmed.Confirmed.{Confirmed}
 use Rattle.caps_sets.specs.declared.set_kind.SetKind.{SetKind}
 use Rattle.caps_sets.specs.declared.set_kind.SetKind.TheVariants.{General, Bitmap, Order, BitmapCache, Brush, GlyphCache, Other}
 use Rattle.caps_sets.specs.Confirmed.{sized}
-use Rattle.caps_sets.specs.CapabilitySets.{kind_of, least_length, says_cautious, says_no_header, says_support, says_zero_bounds, says_marker, says_bitmaps, says_brush_level, takes_brushes, says_glyphs, says_glyph_level}
+use Rattle.caps_sets.specs.CapabilitySets.{kind_of, least_length, says_cautious, says_no_header, says_fast, says_support, says_zero_bounds, says_marker, says_bitmaps, says_brush_level, takes_brushes, says_glyphs, says_glyph_level}
 use Rattle.caps_sets.specs.ConfirmActive.{confirm_lengths, confirm_counts, set_header}
 
 -- a capability set: its type, and its content behind the header
@@ -70,7 +70,7 @@ said_by depth sets = record {
   glyphs = last_says GlyphCache says_glyphs (replicate 10 (sized 0 0)) sets;
   cautious = last_says General says_cautious false sets;
   depth = depth;
-  fast = false;
+  fast = last_says General says_fast false sets;
   pointers = 0;
 }
 

@@ -47,11 +47,12 @@ overridden c (a ∷ b ∷ k ∷ sign ∷ rest) = if is_ascii_digit k && (sign ==
     then option_and_then (with_cache c (a ∷ b ∷ []) (k - 48)) (size_by (parts_at 44 rest)) else None
 overridden c word = None
 
--- `cautious`, `bpp=16`, or a cache of another size; a preset's own depth, 24 bits, has no word
+-- `cautious`, `fast`, `bpp=16`, or a cache of another size; a preset's own depth, 24 bits, has no word
 abbrev pub overridden_word : Confirmed → List ℕ → Option Confirmed
 overridden_word c word =
     if is_same_word word (codes "cautious") then Some (record c { cautious = true })
-    else (if is_same_word word (codes "bpp=16") then Some (record c { depth = Bits16 }) else overridden c word)
+    else (if is_same_word word (codes "fast") then Some (record c { fast = true })
+    else (if is_same_word word (codes "bpp=16") then Some (record c { depth = Bits16 }) else overridden c word))
 
 -- the overrides one after the other; later ones count
 abbrev pub overridden_by : Confirmed → List (List ℕ) → Option Confirmed

@@ -25,7 +25,7 @@ ghost use Rattle.caps_sets.specs.Faults.{IsFirstFault};
 use crate::bitmap_cache_set::says_bitmaps;
 use crate::brush_set::{says_brush_level, takes_brushes};
 use crate::caps_fault::CapsFault;
-use crate::general_set::{says_cautious, says_no_header};
+use crate::general_set::{says_cautious, says_fast, says_no_header};
 use crate::glyph_cache_set::{says_glyph_level, says_glyphs};
 use crate::order_set::with_orders;
 use crate::set_kind::{HEADER_SIZE, SetKind, kind_of, least_length};
@@ -182,6 +182,7 @@ fn with_general(confirmed: Confirmed, content: &[u8]) -> Confirmed
     Confirmed {
         no_header: says_no_header(content),
         cautious: says_cautious(content),
+        fast: says_fast(content),
         ..confirmed
     }
 }

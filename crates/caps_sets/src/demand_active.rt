@@ -9,11 +9,11 @@
 //! | 14 | 4 | sourceDescriptor | `52 44 50 00`, "RDP" |
 //! | 18 | 2 | numberCapabilities | 8 |
 //! | 20 | 2 | pad2Octets | 0 |
-//! | 22 | 24 | General Capability Set | refresh and suppression, and packed bitmaps without the compression header (2.2.7.1.1) |
+//! | 22 | 24 | General Capability Set | updates of the fast path, packed bitmaps without the compression header, refresh and suppression (2.2.7.1.1) |
 //! | 46 | 28 | Bitmap Capability Set | 24 or 16 bits for each pixel at 50, desktopWidth at 58, desktopHeight at 60, desktopResizeFlag at 64 (2.2.7.1.2) |
 //! | 74 | 88 | Order Capability Set | the seven orders, zero bounds deltas, frame markers (2.2.7.1.3) |
 //! | 162 | 10 | Pointer Capability Set | 25 pointers (2.2.7.1.5) |
-//! | 172 | 88 | Input Capability Set | scan codes, extended mouse events and Unicode (2.2.7.1.6) |
+//! | 172 | 88 | Input Capability Set | scan codes, extended mouse events, Unicode, and input of the fast path (2.2.7.1.6) |
 //! | 260 | 8 | Virtual Channel Capability Set | no compression (2.2.7.1.10) |
 //! | 268 | 8 | Share Capability Set | the server's channel, 1002 (2.2.7.2.4) |
 //! | 276 | 8 | Font Capability Set | a font list is taken (2.2.7.2.5) |
@@ -33,7 +33,7 @@ const BEFORE_BITMAP: [u8; 46] = [
     0xEA, 3, 1, 0, 4, 0, 0x0A, 1, // shareId, lengths
     0x52, 0x44, 0x50, 0, 8, 0, 0, 0, // sourceDescriptor, numberCapabilities
     1, 0, 24, 0, 1, 0, 3, 0, 0, 2, 0, 0, // General, osMajorType to pad2octetsA
-    0, 0, 0, 4, 0, 0, 0, 0, 0, 0, 1, 1, // generalCompressionTypes to suppressOutputSupport
+    0, 0, 1, 4, 0, 0, 0, 0, 0, 0, 1, 1, // generalCompressionTypes to suppressOutputSupport
 ];
 /// The Bitmap set; depth, width, height and the resize flag are filled in.
 const BITMAP: [u8; 28] = [
@@ -59,7 +59,7 @@ const AFTER_BITMAP: [u8; 214] = [
     0, 0, 4, 0, 0, 0, 0, 0, 0, 0x84, 3, 0, // textFlags to desktopSaveSize
     0, 0, 0, 0, 0, 0, 0, 0, // pad2octetsC to pad2octetsE
     8, 0, 10, 0, 1, 0, 25, 0, 25, 0, // Pointer
-    13, 0, 88, 0, 21, 0, 0, 0, // Input, inputFlags, pad2octetsA
+    13, 0, 88, 0, 61, 0, 0, 0, // Input, inputFlags, pad2octetsA
     0, 0, 0, 0, 0, 0, 0, 0, 0, 0, 0, 0, 0, 0, 0, 0, // keyboardLayout to keyboardFunctionKey
     0, 0, 0, 0, 0, 0, 0, 0, 0, 0, 0, 0, 0, 0, 0, 0, // imeFileName
     0, 0, 0, 0, 0, 0, 0, 0, 0, 0, 0, 0, 0, 0, 0, 0, //

@@ -12,6 +12,7 @@
 //! | `bcK=E,C` | bitmap cache K, 0 to 2, has E entries of at most C bytes |
 //! | `gcK=E,C` | glyph cache K, 0 to 9, likewise |
 //! | `cautious` | drawings are cut before they are sent |
+//! | `fast` | updates go in packets of the fast path |
 //! | `bpp=16` | pixels are shown at 16 bits; a preset's own 24 have no word |
 
 ghost use Rattle.std.specs.Prelude.{◌≡◌};
@@ -74,6 +75,11 @@ fn overridden_word(confirmed: Confirmed, word: &[u8]) -> Option<Confirmed>
     if is_same_word(word, b"cautious") {
         Some(Confirmed {
             cautious: true,
+            ..confirmed
+        })
+    } else if is_same_word(word, b"fast") {
+        Some(Confirmed {
+            fast: true,
             ..confirmed
         })
     } else if is_same_word(word, b"bpp=16") {

@@ -14,19 +14,22 @@ use Rattle.px_core.specs.Rectangle.{boxed, in_rect, is_inside}
 use Rattle.rop3_core.specs.Palette.{client_colors}
 use Rattle.draw_ops.specs.Formulas.{replaced, imaged}
 use Rattle.caps_sets.specs.declared.confirmed.Confirmed.{Confirmed}
+use Rattle.caps_sets.specs.Confirmed.{takes_fast}
 use Rattle.wire_num.specs.Field.{bind}
 use Rattle.wire_num.proofs.Numbers.{little_back}
 use Rattle.order_means.specs.WirePixels.{turned_over, PixelData, data_of}
 use Rattle.order_means.specs.UpdateBodies.{tile_flags, tile_data_bytes, tile_body, tile_packet}
+use Rattle.order_means.specs.Updates.{Body, body_at}
+use Rattle.order_means.specs.Updates.BodyForm.{Slow, FastBitmap}
 use Rattle.order_means.specs.ClientState.{needs, is_bitmap}
 use Rattle.order_means.specs.ClientState.Fault.{Broken}
-use Rattle.order_means.specs.FrameMarks.{View, Tile, tile_at, update_at, tile_rect, is_tile, is_packed_tile, tile_pixels, view_after_tile, view_after_tiles, view_after_body, view_after_read, meant}
+use Rattle.order_means.specs.FrameMarks.{View, Tile, tile_at, update_in, tile_rect, is_tile, is_packed_tile, tile_pixels, view_after_tile, view_after_tiles, view_after_body, view_after_read, meant}
 use Rattle.order_means.specs.FrameMarks.Update.{Tiles}
 use Rattle.frame_rules.specs.FrameRead.{Reads}
 use Rattle.frame_rules.proofs.TileLaws.{pos-nat_of}
 use Rattle.frame_rules.proofs.TurnedMap.{turned_over-map}
 use Rattle.wire_num.proofs.Bytes.{taken_all}
-use Rattle.frame_rules.proofs.UpdatesBack.{packet_obeyed}
+use Rattle.frame_rules.proofs.UpdatesBack.{packet_obeyed, fast_obeyed}
 use Rattle.frame_laws.specs.Sound.{AreColors}
 use Rattle.frame_laws.specs.Tile.{IsTileRect, view_after_cut}
 use Rattle.frame_laws.proofs.TurnedOver.{turned_over_twice, length-turned_over, colors_turned_over}
@@ -185,22 +188,36 @@ module _ (size : Size) (depth : Depth) (no_header : Bool) (r : Rect) (pixels : L
       ∙ ap (λ q. Ok (painted_in v (λ x y. true && (in_rect q x y && true)) q (shown_colors depth pixels))) rect_back
       ∙ (λ k. Ok (painted_in v (λ x y. and_true (in_rect r x y) k) r (shown_colors depth pixels)))
 
-  -- the body is read as one rectangle, and is short
-  pub body_back : update_at (tile_body depth no_header r pixels) ≡ Ok (Tiles (tile ∷ []), [])
-  body_back =
+  -- the body is read as one rectangle, slow or fast, and is short
+  pub body_back : (place : ℕ) → update_in (body_at place Slow (tile_body depth no_header r pixels)) ≡ Ok (Tiles (tile ∷ []), [])
+  body_back place =
+      let few = few_bytes in
+      rw (tile_data_back depth (nat_of r.x) (nat_of r.y) r.w r.h sent is.x_fits is.y_fits (omega (arith, few))) refl
+
+  pub fast_body_back : (place : ℕ) → update_in (body_at place FastBitmap (tile_body depth no_header r pixels)) ≡ Ok (Tiles (tile ∷ []), [])
+  fast_body_back place =
       let few = few_bytes in
       rw (tile_data_back depth (nat_of r.x) (nat_of r.y) r.w r.h sent is.x_fits is.y_fits (omega (arith, few))) refl
 
   pub body_short : 18 + length (tile_body depth no_header r pixels) < 16384
   body_short = let few = few_bytes in omega (arith, few)
 
-  body_obeyed : (conf : Confirmed) (v : View) (place : ℕ) → v.client.depth ≡ depth
-      → view_after_body conf size v (record { place = place; bytes = tile_body depth no_header r pixels }) ≡ Ok (view_after_cut size v r (shown_colors depth pixels))
-  body_obeyed conf v place same =
-      ap (view_after_read conf size (record { place = place; bytes = tile_body depth no_header r pixels }) v) body_back
-      ∙ ap (λ o. meant place (bind o (λ w. view_after_tiles size w []))) (tile_shown v same)
+  pub fast_body_short : length (tile_body depth no_header r pixels) < 32760
+  fast_body_short = let few = few_bytes in omega (arith, few)
+
+  body_obeyed : (conf : Confirmed) (v : View) (b : Body) → update_in b ≡ Ok (Tiles (tile ∷ []), []) → v.client.depth ≡ depth
+      → view_after_body conf size v b ≡ Ok (view_after_cut size v r (shown_colors depth pixels))
+  body_obeyed conf v b back same =
+      ap (view_after_read conf size b v) back
+      ∙ ap (λ o. meant b.place (bind o (λ w. view_after_tiles size w []))) (tile_shown v same)
+
+  packet_by : (conf : Confirmed) (v : View) (place : ℕ) (fast : Bool) → takes_fast conf ≡ fast → v.client.depth ≡ depth
+      → Reads conf size v place (tile_packet depth fast no_header r pixels) (view_after_cut size v r (shown_colors depth pixels))
+  packet_by conf v place false kind same = packet_obeyed conf size v (view_after_cut size v r (shown_colors depth pixels)) place (tile_body depth no_header r pixels)
+      body_short (λ p. body_obeyed conf v (body_at p Slow (tile_body depth no_header r pixels)) (body_back p) same)
+  packet_by conf v place true kind same = fast_obeyed conf size v (view_after_cut size v r (shown_colors depth pixels)) place 1 FastBitmap (tile_body depth no_header r pixels)
+      kind refl fast_body_short (λ p. body_obeyed conf v (body_at p FastBitmap (tile_body depth no_header r pixels)) (fast_body_back p) same)
 
   pub tile_obeyed : (conf : Confirmed) (v : View) (place : ℕ) → v.client.depth ≡ depth
-      → Reads conf size v place (tile_packet depth no_header r pixels) (view_after_cut size v r (shown_colors depth pixels))
-  tile_obeyed conf v place same = packet_obeyed conf size v (view_after_cut size v r (shown_colors depth pixels)) place (tile_body depth no_header r pixels)
-      body_short (λ p. body_obeyed conf v p same)
+      → Reads conf size v place (tile_packet depth (takes_fast conf) no_header r pixels) (view_after_cut size v r (shown_colors depth pixels))
+  tile_obeyed conf v place same = packet_by conf v place (takes_fast conf) refl same

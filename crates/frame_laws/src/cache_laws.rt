@@ -9,6 +9,7 @@ ghost use Rattle.draw_ops.specs.Content.{ImageOf, GlyphOf};
 ghost use Rattle.draw_ops.specs.Slots.{SurfaceState, Loaded, lookup};
 ghost use Rattle.draw_ops.specs.Drawing.{painting_of, state_after_drawing};
 ghost use Rattle.caps_sets.specs.declared.confirmed.Confirmed.{Confirmed};
+ghost use Rattle.caps_sets.specs.Confirmed.{takes_fast};
 ghost use Rattle.session_rules.specs.declared.entry.Entry.{Entry};
 ghost use Rattle.px_core.specs.declared.depth.Depth.{Depth};
 ghost use Rattle.px_core.specs.Depth.{shown_colors};
@@ -109,11 +110,11 @@ pub fn text_keeps_the_agreement()
         (bounds_of (painting_of size st (Text x y color font run)).rect clip) ∷ []) }
 {}
 
-/// The packet of a tile is read by a client of its depth: the client's picture has the tile's pixels as they are shown, packed or raw.
+/// The packet of a tile, of the kind that was confirmed, is read by a client of its depth: the client's picture has the tile's pixels as they are shown, packed or raw.
 pub fn tile_is_read()
     ensures { (size : Size) (depth : Depth) (no_header : Bool) (r : Rect) (pixels : List ℕ) → IsTileRect size r → length pixels ≡ r.w * r.h → AreColors pixels
         → (c : Confirmed) (v : View) (place : ℕ) → v.client.depth ≡ depth
-        → Reads c size v place (tile_packet depth no_header r pixels) (view_after_cut size v r (shown_colors depth pixels)) }
+        → Reads c size v place (tile_packet depth (takes_fast c) no_header r pixels) (view_after_cut size v r (shown_colors depth pixels)) }
 {}
 
 /// Pixels of a depth that go over the wire, packed or raw, are read as they were.

@@ -8,4 +8,5 @@ pub mod FrameRead
 pub mod Encoder
 pub mod Describes
 pub mod OrdersOfBytes
+pub mod PacketKinds
 pub mod Cautious

@@ -6,7 +6,7 @@ use Rattle.px_core.specs.declared.rectangle.Rect.{Rect}
 use Rattle.px_core.specs.Picture.{nat_of}
 use Rattle.px_core.specs.Rectangle.{is_session_size}
 use Rattle.caps_sets.specs.declared.confirmed.Confirmed.{Confirmed}
-use Rattle.caps_sets.specs.Confirmed.{depth_of}
+use Rattle.caps_sets.specs.Confirmed.{depth_of, takes_fast}
 use Rattle.wire_num.specs.Field.{Read}
 use Rattle.px_core.specs.declared.depth.Depth.{Depth}
 use Rattle.px_core.specs.Depth.{bits_in, shown_colors}
@@ -15,8 +15,8 @@ use Rattle.order_fields.specs.OrderStream.{Order, Stream, orders_in}
 use Rattle.order_means.specs.WirePixels.{PixelData, data_of, turned_over}
 use Rattle.order_means.specs.UpdateBodies.{tile_flags}
 use Rattle.order_means.specs.Updates.{Body, Stage, updates_in}
-use Rattle.order_means.specs.Updates.Stage.{Between, One, Two, Three, Inside, Refused}
-use Rattle.order_means.specs.FrameMarks.{Update, update_at}
+use Rattle.order_means.specs.Updates.Stage.{Between, One, Two, Three, Inside, Fast, FastLong, FastInside, Refused}
+use Rattle.order_means.specs.FrameMarks.{Update, update_in}
 use Rattle.order_means.specs.FrameMarks.{Tile as Rectangle}
 use Rattle.order_means.specs.FrameMarks.Update.{Orders, Tiles, Synchronize as SynchronizeUpdate}
 use Rattle.session_rules.specs.declared.entry.Entry.{Entry}
@@ -69,7 +69,7 @@ before_orders first others = orders_read (first.orders ++ others.orders) others.
 abbrev pub read_in_bodies : Depth → Registers → List Body → Option OrdersRead
 read_in_bodies depth regs [] = Some (orders_read [] regs)
 read_in_bodies depth regs (body ∷ bodies) =
-    option_and_then (λ first. option_map (before_orders first) (read_in_bodies depth first.after bodies)) (read_in_body depth regs (update_at body.bytes))
+    option_and_then (λ first. option_map (before_orders first) (read_in_bodies depth first.after bodies)) (read_in_body depth regs (update_in body))
 
 abbrev pub read_if_whole : Stage → Option OrdersRead → Option OrdersRead
 read_if_whole Between found = found
@@ -77,11 +77,14 @@ read_if_whole One found = None
 read_if_whole (Two second) found = None
 read_if_whole (Three second high) found = None
 read_if_whole (Inside missing second high low front) found = None
+read_if_whole Fast found = None
+read_if_whole (FastLong high) found = None
+read_if_whole (FastInside missing head front) found = None
 read_if_whole (Refused place) found = None
 
--- what whole packets say, whose orders are read with registers; nothing where one is refused, or isn't whole
-abbrev pub orders_of_bytes : Depth → Registers → List ℕ → Option OrdersRead
-orders_of_bytes depth regs bytes = let u = updates_in bytes in read_if_whole u.next.stage (read_in_bodies depth regs u.bodies)
+-- what whole packets say, of the kinds that a viewer reads, whose orders are read with registers; nothing where one is refused, or isn't whole
+abbrev pub orders_of_bytes : Confirmed → Registers → List ℕ → Option OrdersRead
+orders_of_bytes c regs bytes = let u = updates_in (takes_fast c) bytes in read_if_whole u.next.stage (read_in_bodies (depth_of c) regs u.bodies)
 
 -- ---- what a frame's orders are read as
 
@@ -110,7 +113,7 @@ frame_order_read c Synchronize = SynchronizeRead
 -- after it
 abbrev pub FrameReadsAsItsOrders : Size → Confirmed → List Entry → Encoder → TakeOf → Type 0
 FrameReadsAsItsOrders size c j e t =
-    orders_of_bytes (depth_of c) e.registers (take_bytes size c j e t) ≡ Some
+    orders_of_bytes c e.registers (take_bytes size c j e t) ≡ Some
     (orders_read (map (frame_order_read c) (take_orders size c j e t)) (encoder_after size c j e t).registers)
 
 -- the same for every session size, every legal journal, every take, and every encoder with registers whose held blocks have positions of their own

@@ -10,7 +10,7 @@ ghost use Rattle.px_core.specs.Rectangle.{in_clip, clipped};
 ghost use Rattle.px_core.specs.Tiles.{Tiles, either_tiles, tile_number, tiles_of, tiles_in};
 ghost use Rattle.draw_ops.specs.Formulas.{Painting, painted_area, picture_after};
 ghost use Rattle.caps_sets.specs.declared.confirmed.Confirmed.{Confirmed};
-ghost use Rattle.caps_sets.specs.Confirmed.{depth_of};
+ghost use Rattle.caps_sets.specs.Confirmed.{depth_of, takes_fast};
 ghost use Rattle.session_rules.specs.declared.entry.Entry.{Entry};
 ghost use Rattle.session_rules.specs.Steps.{TakeOf};
 ghost use Rattle.order_fields.specs.OrderTable.{Registers, AreRegisters};
@@ -90,14 +90,14 @@ pub fn sent_orders_are_read()
         ≡ record { orders = map (as_read c) os; after = registers_after_orders c regs os; refused = None } }
 {}
 
-/// Reading the updates that orders are gathered into is obeying these orders one by one, however they are gathered; the registers are then those after the last one.
+/// Reading the updates that orders are gathered into is obeying these orders one by one, however they are gathered, in packets of the fast path or others; the registers are then those after the last one.
 pub fn gathered_orders_are_obeyed_one_by_one()
     ensures { (c : Confirmed) (size : Size) (os : List SentOrder) (v w : View) (place : ℕ) → v.client.depth ≡ depth_of c → AreRegisters v.client.registers → FitOrders c os → AreShort c v.client.registers os
         → length os < 2 ^ 16 → view_after_orders c size v (map (as_read c) os) ≡ Ok w
-        → Reads c size v place (updates_of (bytes_of_orders c v.client.registers os)) (with_registers w (registers_after_orders c v.client.registers os)) }
+        → Reads c size v place (updates_of (takes_fast c) (bytes_of_orders c v.client.registers os)) (with_registers w (registers_after_orders c v.client.registers os)) }
 {}
 
-/// The mark's update is a mark, with frame markers or without, and changes nothing else.
+/// The mark's update is a mark, with frame markers or without, in a packet of either kind, and changes nothing else.
 pub fn mark_shows_the_picture()
-    ensures { (c : Confirmed) (size : Size) (v : View) (place : ℕ) → AreRegisters v.client.registers → Reads c size v place (mark_bytes c.marker) (marked_if true v) }
+    ensures { (c : Confirmed) (size : Size) (v : View) (place : ℕ) → AreRegisters v.client.registers → Reads c size v place (mark_bytes (takes_fast c) c.marker) (marked_if true v) }
 {}

@@ -10,7 +10,7 @@ use Rattle.px_core.specs.Rectangle.{pixel_of, cut_out}
 use Rattle.px_core.specs.Tiles.{tile_on, tiles_in, either_tiles}
 use Rattle.draw_ops.specs.Slots.{SurfaceState, lookup}
 use Rattle.caps_sets.specs.declared.confirmed.Confirmed.{Confirmed}
-use Rattle.caps_sets.specs.Confirmed.{depth_of}
+use Rattle.caps_sets.specs.Confirmed.{depth_of, takes_fast}
 use Rattle.session_rules.specs.declared.entry.Entry.{Entry}
 use Rattle.session_rules.specs.Journal.{state_after}
 use Rattle.session_rules.specs.Steps.{TakeOf}
@@ -124,7 +124,7 @@ tiles_read c size picture colors (t ∷ ts) v place same h =
     let u = view_after_cut size v r (shown_colors (depth_of c) cut) in
     let one = tile_obeyed size (depth_of c) c.no_header r cut h.0 (length-listed (r.w * r.h) 0 (pixel_of (rows_of size.w size.h picture) 0 r))
     (colors_cut size picture r colors) c v place same in
-    let packet = tile_packet (depth_of c) c.no_header r cut in
+    let packet = tile_packet (depth_of c) (takes_fast c) c.no_header r cut in
     let more = tiles_read c size picture colors ts u (place + length packet) same h.1 in
     record {
       view = more.view;
@@ -170,7 +170,7 @@ module _ (size : Size) (narrow : size.w ≤ 2048) (c : Confirmed) (j : List Entr
       let are : AreRegisters view.client.registers = subst AreRegisters (sym regs) old.are_registers in
       let n = view_obeys c size os view o.obeyed.after o.marks o.obeyed.obeys in
       let short : AreShort c view.client.registers os = subst (λ r. AreShort c r os) (sym regs) o.short in
-      let A = updates_of (bytes_of_orders c view.client.registers os) in
+      let A = updates_of (takes_fast c) (bytes_of_orders c view.client.registers os) in
       let v1 = with_registers n.view (registers_after_orders c view.client.registers os) in
       let first : Reads c size view place A v1 = updates_obeyed c size os view n.view place old.sized.depth are o.fit short o.few n.obeys in
       let seen_at : n.view.client.depth ≡ depth_of c = ap (λ d. d.depth) n.is.client ∙ o.obeyed.sized.depth in
@@ -181,14 +181,14 @@ module _ (size : Size) (narrow : size.w ≤ 2048) (c : Confirmed) (j : List Entr
       let registers_now : m.view.client.registers ≡ later = ap (λ d. d.registers) m.is.client ∙ ap (λ r. registers_after_orders c r os) regs in
       let are_later : AreRegisters later = sent_registers_all c e.registers os old.are_registers o.fit in
       let v3 = marked_if true m.view in
-      let third : Reads c size m.view (place + length (A ++ B)) (mark_bytes c.marker) v3 =
+      let third : Reads c size m.view (place + length (A ++ B)) (mark_bytes (takes_fast c) c.marker) v3 =
       mark_obeyed c size m.view (place + length (A ++ B)) (subst AreRegisters (sym registers_now) are_later) in
-      let all = reads_then c size view m.view v3 place (A ++ B) (mark_bytes c.marker) first_two third in
-      let bytes : (A ++ B) ++ mark_bytes c.marker ≡ take_bytes size c j e t =
-      append_assoc A B (mark_bytes c.marker)
-      ∙ ap (λ r. updates_of (bytes_of_orders c r os) ++ (B ++ mark_bytes c.marker)) regs
-      ∙ ap (λ p. updates_of (bytes_of_orders c e.registers os) ++ (flat_map (tile_bytes size c p) ts ++ mark_bytes c.marker)) (sym o.picture)
-      ∙ ap (λ xs. updates_of (bytes_of_orders c e.registers os) ++ (flat_map (tile_bytes size c f.picture) xs ++ mark_bytes c.marker)) (sym o.tiles) in
+      let all = reads_then c size view m.view v3 place (A ++ B) (mark_bytes (takes_fast c) c.marker) first_two third in
+      let bytes : (A ++ B) ++ mark_bytes (takes_fast c) c.marker ≡ take_bytes size c j e t =
+      append_assoc A B (mark_bytes (takes_fast c) c.marker)
+      ∙ ap (λ r. updates_of (takes_fast c) (bytes_of_orders c r os) ++ (B ++ mark_bytes (takes_fast c) c.marker)) regs
+      ∙ ap (λ p. updates_of (takes_fast c) (bytes_of_orders c e.registers os) ++ (flat_map (tile_bytes size c p) ts ++ mark_bytes (takes_fast c) c.marker)) (sym o.picture)
+      ∙ ap (λ xs. updates_of (takes_fast c) (bytes_of_orders c e.registers os) ++ (flat_map (tile_bytes size c f.picture) xs ++ mark_bytes (takes_fast c) c.marker)) (sym o.tiles) in
       let shown : canvas_after_tiles (depth_of c) size st.picture ts n.view.client.picture ≡ map (seen (depth_of c)) st.picture =
       canvas_after_dirty_tiles (depth_of c) size (either_tiles o.walk.dirty t.asked) n.view.client.picture st.picture narrow
       (ShowsOutside-more (depth_of c) size o.walk.dirty t.asked n.view.client.picture st.picture

@@ -19,6 +19,7 @@ ghost use Rattle.frame_rules.specs.FrameRead.{FitOrders, AreShort};
 ghost use Rattle.frame_rules.specs.Encoder.{Encoder, encoder_frame};
 ghost use Rattle.frame_rules.specs.Describes.{DescribesClient, HasAllCaches, FrameShowsJournal};
 ghost use Rattle.frame_rules.specs.OrdersOfBytes.{FramesReadAsTheirOrders};
+ghost use Rattle.frame_rules.specs.PacketKinds.{FramesGoAsConfirmed};
 ghost use Rattle.frame_laws.specs.SoundState.{IsSound};
 ghost use Rattle.frame_laws.specs.Drawings.{Suits};
 
@@ -47,6 +48,11 @@ pub fn frame_orders_go_whole()
 /// The bytes of a frame are read as exactly its orders, its tiles and its mark, each once and in order, and leave the registers of the encoder after it.
 pub fn frames_are_read_as_their_orders()
     ensures { (head : Head) (c : Confirmed) → FramesReadAsTheirOrders head c }
+{}
+
+/// The frames of a viewer that confirmed the fast path have its packets alone, and those of every other viewer have none.
+pub fn frames_go_in_packets_of_the_kind_confirmed()
+    ensures { (head : Head) (c : Confirmed) → FramesGoAsConfirmed head c }
 {}
 
 /// The cut of a drawing that suits a state suits it too, and does what the drawing does; a drawing without a cut leaves the picture.

@@ -10,7 +10,7 @@ use Rattle.px_core.specs.Picture.{nat_of}
 use Rattle.px_core.specs.Rectangle.{cut_out}
 use Rattle.px_core.specs.Tiles.{tile_on}
 use Rattle.caps_sets.specs.declared.confirmed.Confirmed.{Confirmed}
-use Rattle.caps_sets.specs.Confirmed.{depth_of}
+use Rattle.caps_sets.specs.Confirmed.{depth_of, takes_fast}
 use Rattle.byteorder.specs.Endian.{little_bytes, big_bytes}
 use Rattle.wire_num.proofs.Numbers.{little_are_bytes, big_are_bytes}
 use Rattle.wire_num.specs.Length.{per_len_of}
@@ -19,9 +19,10 @@ use Rattle.tpkt_x224.specs.Data.{data_header}
 use Rattle.mcs_dom.specs.SendData.{indication_start}
 use Rattle.share_pdu.specs.Share.{data_headers, share_bytes}
 use Rattle.share_pdu.specs.Packet.{update_packet}
+use Rattle.fast_path.specs.Written.{packet_length, fast_headers, fast_packet}
 use Rattle.order_fields.specs.OrderTable.{Registers}
 use Rattle.order_means.specs.WirePixels.{turned_over, PixelData, data_of}
-use Rattle.order_means.specs.UpdateBodies.{orders_head, orders_body, synchronize_body, tile_flags, tile_data_bytes, tile_body}
+use Rattle.order_means.specs.UpdateBodies.{orders_head, orders_body, orders_data, synchronize_body, synchronize_packet, tile_flags, tile_data_bytes, tile_body, tile_packet}
 use Rattle.order_means.specs.CacheOrders.{frame_marker_bytes}
 use Rattle.frame_rules.specs.Frame.{FrameOf}
 use Rattle.frame_rules.specs.FrameOrders.{SentOrder, Uses, orders_before_tiles}
@@ -65,6 +66,23 @@ update_are_bytes body h =
     (bytes_after data_header (indication_start ++ counted) refl
     (bytes_after indication_start counted refl (bytes_append (per_len_of (length user)) user (per_length_are_bytes (length user)) (share_are_bytes body h))))
 
+fast_length_are_bytes : (n : ℕ) → AreBytes (packet_length n)
+fast_length_are_bytes n = by (nat_lt (5 + n) 128) refl
+  where
+    by : (b : Bool) → nat_lt (5 + n) 128 ≡ b → AreBytes (if b then (5 + n) ∷ [] else big_bytes 2 (32768 + (6 + n)))
+    by true e = let short : 5 + n < 128 = grind (arith, nat_tests, e) in bytes_cons (5 + n) [] (omega (arith, short)) bytes_nil
+    by false e = big_are_bytes 2 (32768 + (6 + n))
+
+fast_are_bytes : (code : ℕ) (bytes : List ℕ) → code < 256 → AreBytes bytes → AreBytes (fast_packet code bytes)
+unfolding fast_headers
+fast_are_bytes code bytes small h =
+    let n = length bytes in
+    let counted = code ∷ little_bytes 2 n in
+    bytes_append (0 ∷ (packet_length n ++ counted)) bytes
+    (bytes_cons 0 (packet_length n ++ counted) (omega arith)
+    (bytes_append (packet_length n) counted (fast_length_are_bytes n) (bytes_cons code (little_bytes 2 n) small (little_are_bytes 2 n))))
+    h
+
 -- ---- updates of orders
 
 orders_are_bytes : (count : ℕ) (orders : List ℕ) → AreBytes orders → AreBytes (orders_body count orders)
@@ -92,30 +110,33 @@ either_are : (b : Bool) (xs ys : List (List (List ℕ))) → AreUpdates xs → A
 either_are true xs ys h k = h
 either_are false xs ys h k = k
 
-gathered_after_are : (os : List (List ℕ)) (used : ℕ) → AreOrders os → AreUpdates (gathered_after used os)
-gathered_after_are [] used h = (tt, tt)
-gathered_after_are (o ∷ os) used h =
-    let joins = gathered_after (used + length o) os in
-    let anew = gathered_after (length o) os in
-    either_are (joins_update used (length o)) (onto_update o joins) ([] ∷ onto_update o anew)
-    (onto_are o joins h.0 (gathered_after_are os (used + length o) h.1)) (tt, onto_are o anew h.0 (gathered_after_are os (length o) h.1))
+gathered_after_are : (fast : Bool) (os : List (List ℕ)) (used : ℕ) → AreOrders os → AreUpdates (gathered_after fast used os)
+gathered_after_are fast [] used h = (tt, tt)
+gathered_after_are fast (o ∷ os) used h =
+    let joins = gathered_after fast (used + length o) os in
+    let anew = gathered_after fast (length o) os in
+    either_are (joins_update fast used (length o)) (onto_update o joins) ([] ∷ onto_update o anew)
+    (onto_are o joins h.0 (gathered_after_are fast os (used + length o) h.1)) (tt, onto_are o anew h.0 (gathered_after_are fast os (length o) h.1))
 
-gathered_are : (os : List (List ℕ)) → AreOrders os → AreUpdates (gathered os)
-gathered_are [] h = tt
-gathered_are (o ∷ os) h = onto_are o (gathered_after (length o) os) h.0 (gathered_after_are os (length o) h.1)
+gathered_are : (fast : Bool) (os : List (List ℕ)) → AreOrders os → AreUpdates (gathered fast os)
+gathered_are fast [] h = tt
+gathered_are fast (o ∷ os) h = onto_are o (gathered_after fast (length o) os) h.0 (gathered_after_are fast os (length o) h.1)
 
 joined_are_bytes : (os : List (List ℕ)) → AreOrders os → AreBytes (joined_bytes os)
 joined_are_bytes [] h = bytes_nil
 joined_are_bytes (o ∷ os) h = bytes_append o (joined_bytes os) h.0 (joined_are_bytes os h.1)
 
-update_of_are_bytes : (orders : List (List ℕ)) → AreOrders orders → AreBytes (update_of orders)
-update_of_are_bytes orders h =
+update_of_are_bytes : (fast : Bool) (orders : List (List ℕ)) → AreOrders orders → AreBytes (update_of fast orders)
+update_of_are_bytes false orders h =
     update_are_bytes (orders_body (length orders) (joined_bytes orders)) (orders_are_bytes (length orders) (joined_bytes orders) (joined_are_bytes orders h))
+update_of_are_bytes true orders h =
+    fast_are_bytes 0 (orders_data (length orders) (joined_bytes orders)) (omega arith)
+    (bytes_append (little_bytes 2 (length orders)) (joined_bytes orders) (little_are_bytes 2 (length orders)) (joined_are_bytes orders h))
 
-updates_are_bytes : (updates : List (List (List ℕ))) → AreUpdates updates → AreBytes (flat_map update_of updates)
-updates_are_bytes [] h = bytes_nil
-updates_are_bytes (update ∷ updates) h =
-    bytes_append (update_of update) (flat_map update_of updates) (update_of_are_bytes update h.0) (updates_are_bytes updates h.1)
+updates_are_bytes : (fast : Bool) (updates : List (List (List ℕ))) → AreUpdates updates → AreBytes (flat_map (update_of fast) updates)
+updates_are_bytes fast [] h = bytes_nil
+updates_are_bytes fast (update ∷ updates) h =
+    bytes_append (update_of fast update) (flat_map (update_of fast) updates) (update_of_are_bytes fast update h.0) (updates_are_bytes fast updates h.1)
 
 orders_of_frame : (c : Confirmed) (regs : Registers) (os : List SentOrder) → HoldBytes os → AreOrders (bytes_of_orders c regs os)
 orders_of_frame c regs [] h = tt
@@ -139,29 +160,38 @@ tile_data_are_bytes depth x y w h p are =
     two_before x top (two_before y right (two_before (x + w - 1) bottom (two_before (y + h - 1) wide (two_before w high (two_before h bits
     (two_before (bits_in depth) flags (two_before (tile_flags p.is_packed) pixels (two_before (length p.bytes) p.bytes are))))))))
 
-tile_are_bytes : (depth : Depth) (no_header : Bool) (r : Rect) (pixels : List ℕ) → AreBytes (update_packet (tile_body depth no_header r pixels))
-tile_are_bytes depth no_header r pixels =
+tile_body_are_bytes : (depth : Depth) (no_header : Bool) (r : Rect) (pixels : List ℕ) → AreBytes (tile_body depth no_header r pixels)
+tile_body_are_bytes depth no_header r pixels =
     let cut = turned_over r.w r.h (shown_colors depth pixels) in
     let p = data_of depth no_header r.w cut in
     let rest = tile_data_bytes depth (nat_of r.x) (nat_of r.y) r.w r.h p in
-    update_are_bytes (1 ∷ 0 ∷ 1 ∷ 0 ∷ rest)
-    (bytes_after (1 ∷ 0 ∷ 1 ∷ 0 ∷ []) rest refl
-    (tile_data_are_bytes depth (nat_of r.x) (nat_of r.y) r.w r.h p (data_are_bytes depth no_header r.w cut)))
+    bytes_after (1 ∷ 0 ∷ 1 ∷ 0 ∷ []) rest refl
+    (tile_data_are_bytes depth (nat_of r.x) (nat_of r.y) r.w r.h p (data_are_bytes depth no_header r.w cut))
+
+tile_are_bytes : (depth : Depth) (fast no_header : Bool) (r : Rect) (pixels : List ℕ) → AreBytes (tile_packet depth fast no_header r pixels)
+tile_are_bytes depth false no_header r pixels = update_are_bytes (tile_body depth no_header r pixels) (tile_body_are_bytes depth no_header r pixels)
+tile_are_bytes depth true no_header r pixels = fast_are_bytes 1 (tile_body depth no_header r pixels) (omega arith) (tile_body_are_bytes depth no_header r pixels)
 
 -- ---- a frame
 
-mark_are_bytes : (c : Confirmed) (regs : Registers) (b : Bool) → AreBytes (mark_bytes b)
-mark_are_bytes c regs true = update_of_are_bytes (frame_marker_bytes true ∷ []) (order_are_bytes c regs (FrameMarker true) tt, tt)
-mark_are_bytes c regs false = update_are_bytes synchronize_body (bytes_after synchronize_body [] refl bytes_nil)
+synchronize_are_bytes : (fast : Bool) → AreBytes (synchronize_packet fast)
+synchronize_are_bytes false = update_are_bytes synchronize_body (bytes_after synchronize_body [] refl bytes_nil)
+synchronize_are_bytes true = fast_are_bytes 3 [] (omega arith) bytes_nil
+
+mark_are_bytes : (c : Confirmed) (regs : Registers) (fast b : Bool) → AreBytes (mark_bytes fast b)
+mark_are_bytes c regs fast true = update_of_are_bytes fast (frame_marker_bytes true ∷ []) (order_are_bytes c regs (FrameMarker true) tt, tt)
+mark_are_bytes c regs fast false = synchronize_are_bytes fast
 
 pub frame_are_bytes : (size : Size) (c : Confirmed) (regs : Registers) (uses : Uses) (f : FrameOf) → HoldBytes (orders_before_tiles size c uses f)
     → AreBytes (frame_bytes size c regs uses f)
 frame_are_bytes size c regs uses f h =
+    let fast = takes_fast c in
     let os = orders_before_tiles size c uses f in
     let orders = bytes_of_orders c regs os in
     let tiles = flat_map (tile_bytes size c f.picture) f.tiles in
-    bytes_append (updates_of orders) (tiles ++ mark_bytes c.marker) (updates_are_bytes (gathered orders) (gathered_are orders (orders_of_frame c regs os h)))
-    (bytes_append tiles (mark_bytes c.marker)
+    bytes_append (updates_of fast orders) (tiles ++ mark_bytes fast c.marker)
+    (updates_are_bytes fast (gathered fast orders) (gathered_are fast orders (orders_of_frame c regs os h)))
+    (bytes_append tiles (mark_bytes fast c.marker)
     (flat_are_bytes (tile_bytes size c f.picture) f.tiles
-    (λ tile. tile_are_bytes (depth_of c) c.no_header (tile_on size tile) (cut_out size f.picture 0 (tile_on size tile))))
-    (mark_are_bytes c regs c.marker))
+    (λ tile. tile_are_bytes (depth_of c) fast c.no_header (tile_on size tile) (cut_out size f.picture 0 (tile_on size tile))))
+    (mark_are_bytes c regs fast c.marker))

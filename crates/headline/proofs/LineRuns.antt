@@ -7,6 +7,7 @@ use Rattle.std.proofs.lemmas.List.{append-nil}
 use Rattle.std.proofs.lemmas.List.Elements.{All-nil, All-cons, All-head, All-tail}
 use Rattle.px_core.specs.declared.surface.Size.{Size}
 use Rattle.caps_sets.specs.declared.confirmed.Confirmed.{Confirmed}
+use Rattle.caps_sets.specs.Confirmed.{takes_fast}
 use Rattle.line_text.specs.Lines.{lines_of}
 use Rattle.session_rules.specs.declared.entry.Role.{Role}
 use Rattle.session_rules.specs.declared.entry.Entry.{Entry}
@@ -19,6 +20,7 @@ use Rattle.session_rules.specs.Steps.Step.{JoinStep, LeaveStep, InputStep, DrawS
 use Rattle.session_rules.specs.Steps.Answer.{Joined, Left, Accepted, Refused, Nothing, Frame}
 use Rattle.session_rules.specs.Steps.Effect.{Enters, Answers}
 use Rattle.frame_rules.specs.FrameOrders.{orders_before_tiles}
+use Rattle.fast_path.specs.Written.{fast_headers}
 use Rattle.frame_rules.specs.FrameBytes.{bytes_of_orders, updates_of, tile_bytes, mark_bytes}
 use Rattle.frame_rules.specs.Encoder.{Encoder, encoder_frame, take_bytes}
 use Rattle.script_rules.specs.Script.{Asked, Script, viewer_limit}
@@ -173,17 +175,20 @@ module _ {E : Type 0} (frames : FrameText E) (never_empty : (size : Size) (c : C
 
 -- ---- the encoder's frames
 
-mark_has_bytes : (b : Bool) → 0 < length (mark_bytes b)
-mark_has_bytes true = omega arith
-mark_has_bytes false = omega arith
+mark_has_bytes : (fast b : Bool) → 0 < length (mark_bytes fast b)
+unfolding fast_headers
+mark_has_bytes false true = omega arith
+mark_has_bytes false false = omega arith
+mark_has_bytes true true = omega arith
+mark_has_bytes true false = omega arith
 
 -- a frame has its mark at least
 take_has_bytes : (size : Size) (c : Confirmed) (j : List Entry) (e : Encoder) (take : TakeOf) → 0 < length (take_bytes size c j e take)
 take_has_bytes size c j e take =
     let f = encoder_frame size c j e take in
-    let orders = updates_of (bytes_of_orders c e.registers (orders_before_tiles size c e.uses f)) in
+    let orders = updates_of (takes_fast c) (bytes_of_orders c e.registers (orders_before_tiles size c e.uses f)) in
     let tiles = flat_map (tile_bytes size c f.picture) f.tiles in
-    omega (arith, mark_has_bytes c.marker, length-append tiles (mark_bytes c.marker), length-append orders (tiles ++ mark_bytes c.marker))
+    omega (arith, mark_has_bytes (takes_fast c) c.marker, length-append tiles (mark_bytes (takes_fast c) c.marker), length-append orders (tiles ++ mark_bytes (takes_fast c) c.marker))
 
 -- ---- the capture of steps
 

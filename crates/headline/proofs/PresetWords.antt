@@ -115,14 +115,17 @@ override_lacks c (a ∷ b ∷ k ∷ sign ∷ rest) e = by (is_ascii_digit k && (
     by false is o size more = absurd (cc more)
 
 word_lacks : (c : Confirmed) (word : List ℕ) → is_some (overridden_word c word) ≡ true → Lacks 10 word
-word_lacks c word e = by (is_same_word word (codes "cautious")) refl (is_same_word word (codes "bpp=16")) refl e
+word_lacks c word e = by (is_same_word word (codes "cautious")) refl (is_same_word word (codes "fast")) refl (is_same_word word (codes "bpp=16")) refl e
   where
-    by : (cautious : Bool) → is_same_word word (codes "cautious") ≡ cautious → (sixteen : Bool) → is_same_word word (codes "bpp=16") ≡ sixteen
-        → is_some (if cautious then Some (record c { cautious = true }) else (if sixteen then Some (record c { depth = Bits16 }) else overridden c word)) ≡ true
+    by : (cautious : Bool) → is_same_word word (codes "cautious") ≡ cautious → (fast : Bool) → is_same_word word (codes "fast") ≡ fast
+        → (sixteen : Bool) → is_same_word word (codes "bpp=16") ≡ sixteen
+        → is_some (if cautious then Some (record c { cautious = true }) else (if fast then Some (record c { fast = true })
+        else (if sixteen then Some (record c { depth = Bits16 }) else overridden c word))) ≡ true
         → Lacks 10 word
-    by true is sixteen other more = subst (Lacks 10) (sym (same_word word (codes "cautious") is)) (lacks_by 10 (codes "cautious") refl)
-    by false other true is more = subst (Lacks 10) (sym (same_word word (codes "bpp=16") is)) (lacks_by 10 (codes "bpp=16") refl)
-    by false other false is more = override_lacks c word more
+    by true is fast other sixteen more_other more = subst (Lacks 10) (sym (same_word word (codes "cautious") is)) (lacks_by 10 (codes "cautious") refl)
+    by false other true is sixteen more_other more = subst (Lacks 10) (sym (same_word word (codes "fast") is)) (lacks_by 10 (codes "fast") refl)
+    by false other false more_other true is more = subst (Lacks 10) (sym (same_word word (codes "bpp=16") is)) (lacks_by 10 (codes "bpp=16") refl)
+    by false other false more_other false is more = override_lacks c word more
 
 overrides_are : (c : Confirmed) (words : List (List ℕ)) → is_some (overridden_by c words) ≡ true → AreOneLine words
 overrides_are c [] e = tt

@@ -1,6 +1,6 @@
 -- The definitions, computed on worked lists: orders of updates, orders that draw, rectangles, and lists that aren't what the laws say.
 use Rattle.std.proofs.Common.{◌≡◌, [], ◌∷◌, refl, arith, None}
-use Rattle.std.specs.Prelude.{pos, false}
+use Rattle.std.specs.Prelude.{pos, true, false}
 use Rattle.px_core.specs.Rectangle.{boxed}
 use Rattle.order_fields.specs.NamedDrawing.NamedDrawing.{Opaque as OpaqueRect, Pat as PatBlt}
 use Rattle.frame_rules.specs.FrameOrders.FrameOrder.{Ordered, Tile, Synchronize}
@@ -16,11 +16,14 @@ three_bytes_in_two_orders = refl
 orders_of_two_updates : orders_of_updates (((1 ∷ []) ∷ []) ∷ ((2 ∷ 3 ∷ []) ∷ []) ∷ []) ≡ (1 ∷ []) ∷ (2 ∷ 3 ∷ []) ∷ []
 orders_of_two_updates = refl
 
-two_short_orders_share_an_update : gathered ((1 ∷ []) ∷ (2 ∷ 3 ∷ []) ∷ []) ≡ ((1 ∷ []) ∷ (2 ∷ 3 ∷ []) ∷ []) ∷ []
+two_short_orders_share_an_update : gathered false ((1 ∷ []) ∷ (2 ∷ 3 ∷ []) ∷ []) ≡ ((1 ∷ []) ∷ (2 ∷ 3 ∷ []) ∷ []) ∷ []
 two_short_orders_share_an_update = refl
 
+so_they_do_on_the_fast_path : gathered true ((1 ∷ []) ∷ (2 ∷ 3 ∷ []) ∷ []) ≡ ((1 ∷ []) ∷ (2 ∷ 3 ∷ []) ∷ []) ∷ []
+so_they_do_on_the_fast_path = refl
+
 -- two short orders in two updates aren't gathered
-two_updates_are_too_many : AreGathered (((1 ∷ []) ∷ []) ∷ ((2 ∷ 3 ∷ []) ∷ []) ∷ []) → ⊥
+two_updates_are_too_many : AreGathered false (((1 ∷ []) ∷ []) ∷ ((2 ∷ 3 ∷ []) ∷ []) ∷ []) → ⊥
 two_updates_are_too_many h = let full = h.1 in absurd (omega (arith, full))
 
 one_order_draws : drawn_orders (FrameMarker false ∷ CacheBrush 5 [] ∷ Drawn (boxed (pos 0) (pos 0) 8 8) (PatBlt (boxed (pos 0) (pos 0) 8 8) 0xF0 5) None ∷ [])

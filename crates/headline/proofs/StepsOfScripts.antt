@@ -66,13 +66,16 @@ overridden_has c (a ∷ b ∷ k ∷ sign ∷ rest) h = by (is_ascii_digit k && (
     by false = tt
 
 overridden_word_has : (c : Confirmed) (word : List ℕ) → HasAllCaches c → IfSome (overridden_word c word) HasAllCaches
-overridden_word_has c word h = by (is_same_word word (codes "cautious")) (is_same_word word (codes "bpp=16")) (overridden_has c word h)
+overridden_word_has c word h =
+    by (is_same_word word (codes "cautious")) (is_same_word word (codes "fast")) (is_same_word word (codes "bpp=16")) (overridden_has c word h)
   where
-    by : (cautious sixteen : Bool) → IfSome (overridden c word) HasAllCaches
-        → IfSome (if cautious then Some (record c { cautious = true }) else (if sixteen then Some (record c { depth = Bits16 }) else overridden c word)) HasAllCaches
-    by true sixteen more = record { bitmaps = h.bitmaps; glyphs = h.glyphs }
-    by false true more = record { bitmaps = h.bitmaps; glyphs = h.glyphs }
-    by false false more = more
+    by : (cautious fast sixteen : Bool) → IfSome (overridden c word) HasAllCaches
+        → IfSome (if cautious then Some (record c { cautious = true }) else (if fast then Some (record c { fast = true })
+        else (if sixteen then Some (record c { depth = Bits16 }) else overridden c word))) HasAllCaches
+    by true fast sixteen more = record { bitmaps = h.bitmaps; glyphs = h.glyphs }
+    by false true sixteen more = record { bitmaps = h.bitmaps; glyphs = h.glyphs }
+    by false false true more = record { bitmaps = h.bitmaps; glyphs = h.glyphs }
+    by false false false more = more
 
 overridden_by_has : (c : Confirmed) (words : List (List ℕ)) → HasAllCaches c → IfSome (overridden_by c words) HasAllCaches
 overridden_by_has c [] h = h

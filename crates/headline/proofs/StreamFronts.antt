@@ -4,6 +4,7 @@ use Rattle.std.specs.Prelude.{Option, Result, Ok, Err, ⊤, not}
 use Rattle.std.proofs.lemmas.List.{append-nil}
 use Rattle.px_core.specs.declared.surface.Size.{Size}
 use Rattle.caps_sets.specs.declared.confirmed.Confirmed.{Confirmed}
+use Rattle.caps_sets.specs.Confirmed.{takes_fast}
 use Rattle.wire_num.specs.Field.{Read, bind}
 use Rattle.order_fields.specs.OrderStream.{Order, Stream, orders_in}
 use Rattle.order_fields.specs.OrderStream.Order.{Primary, Other}
@@ -13,7 +14,7 @@ use Rattle.order_means.specs.ClientState.Fault.{Broken}
 use Rattle.order_means.specs.Updates.{Body, Cutting, updates_from, refusal_in}
 use Rattle.order_means.specs.FrameMarks.{Tile, Update, View, ClientReading, Refusal, reading, first_reading, meant, marked_if, is_mark, counted_order, view_with}
 use Rattle.order_means.specs.FrameMarks.{view_after_order, view_after_orders, is_packed_tile, tile_pixels, is_tile, showing, view_after_tile, view_after_tiles}
-use Rattle.order_means.specs.FrameMarks.{with_registers, obeyed, view_after_update, view_after_read, view_after_body, view_after_bodies, update_at}
+use Rattle.order_means.specs.FrameMarks.{with_registers, obeyed, view_after_update, view_after_read, view_after_body, view_after_bodies, update_in}
 use Rattle.order_means.specs.FrameMarks.{unless_refused_at, read_on, read_stream, pictures_at_marks}
 use Rattle.order_means.specs.FrameMarks.Update.{Orders, Tiles, Synchronize}
 use Rattle.order_means.proofs.Pieces.{read_joined}
@@ -112,7 +113,7 @@ bodies_extend : (confirmed : Confirmed) (size : Size) (bs : List Body) (v : View
 bodies_extend confirmed size [] v = front_of_itself v.pictures
 bodies_extend confirmed size (b ∷ bs) v =
     bind_extends v.pictures (view_after_body confirmed size v b) (λ w. view_after_bodies confirmed size w bs)
-    (read_extends confirmed size b v (update_at b.bytes)) (λ w. bodies_extend confirmed size bs w)
+    (read_extends confirmed size b v (update_in b)) (λ w. bodies_extend confirmed size bs w)
 
 -- a reading that is reached has these pictures first
 abbrev ReadingExtends : Pictures → Result ClientReading Refusal → Type 0
@@ -127,7 +128,7 @@ reading_extends pictures (Err e) o cut h = tt
 
 reading_on_extends : (confirmed : Confirmed) (size : Size) (r : ClientReading) (bytes : List ℕ) → ReadingExtends r.view.pictures (read_on confirmed size r bytes)
 reading_on_extends confirmed size r bytes =
-    let u = updates_from r.cut bytes in
+    let u = updates_from (takes_fast confirmed) r.cut bytes in
     reading_extends r.view.pictures (view_after_bodies confirmed size r.view u.bodies) (refusal_in u.next.stage) u.next
     (bodies_extend confirmed size u.bodies r.view)
 

@@ -5,7 +5,7 @@ use Rattle.px_core.specs.declared.surface.Size.{Size}
 use Rattle.px_core.specs.Depth.{seen}
 use Rattle.px_core.specs.Rectangle.{is_session_size}
 use Rattle.caps_sets.specs.declared.confirmed.Confirmed.{Confirmed}
-use Rattle.caps_sets.specs.Confirmed.{depth_of}
+use Rattle.caps_sets.specs.Confirmed.{depth_of, takes_fast}
 use Rattle.session_rules.specs.declared.entry.Entry.{Entry}
 use Rattle.session_rules.specs.Journal.{Head, state_after, IsLegalJournal}
 use Rattle.session_rules.specs.Steps.{TakeOf, TakesFollow}
@@ -34,9 +34,9 @@ ends_by c size (Ok v) (Some place) next view end e = absurd (cc e)
 ends_by c size (Err refusal) o next view end e = absurd (cc e)
 
 ends_between : (c : Confirmed) (size : Size) (bytes : List ℕ) (view : View) (end : ℕ) → read_stream c size bytes ≡ Ok (reading view (cutting end Between))
-    → EndsBetween bytes
-ends_between c size bytes view end e = ends_by c size (view_after_bodies c size (first_view c size) (updates_in bytes).bodies)
-    (refusal_in (updates_in bytes).next.stage) (updates_in bytes).next view end e
+    → EndsBetween (takes_fast c) bytes
+ends_between c size bytes view end e = ends_by c size (view_after_bodies c size (first_view c size) (updates_in (takes_fast c) bytes).bodies)
+    (refusal_in (updates_in (takes_fast c) bytes).next.stage) (updates_in (takes_fast c) bytes).next view end e
 
 -- ---- takes, one after the other
 

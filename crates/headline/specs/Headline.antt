@@ -8,7 +8,7 @@ use Rattle.px_core.specs.declared.surface.Size.{Size}
 use Rattle.px_core.specs.Depth.{seen}
 use Rattle.px_core.specs.Rectangle.{is_session_size}
 use Rattle.caps_sets.specs.declared.confirmed.Confirmed.{Confirmed}
-use Rattle.caps_sets.specs.Confirmed.{depth_of}
+use Rattle.caps_sets.specs.Confirmed.{depth_of, takes_fast}
 use Rattle.session_rules.specs.declared.entry.Entry.{Entry}
 use Rattle.session_rules.specs.Journal.{Head, picture_after_entries, is_present, IsLegalJournal, ChangesAreTheHolders}
 use Rattle.session_rules.specs.Steps.{Step, Play, play_at_first, outcome, journal_of_steps, frame_numbers}
@@ -32,7 +32,7 @@ pictures_after depth size j numbers = map (λ n. known_picture depth (picture_af
 -- cut to the depth that the viewer confirmed, the pictures after exactly as many entries of the journal as the takes found
 pub record SeesJournal (size : Size) (confirmed : Confirmed) (j : List Entry) (numbers : List ℕ) (bytes : List ℕ) : Type 0 where
   pub marks_show_journal : pictures_at_marks confirmed size bytes ≡ Ok (pictures_after (depth_of confirmed) size j numbers)
-  pub ends_between_packets : EndsBetween bytes
+  pub ends_between_packets : EndsBetween (takes_fast confirmed) bytes
 
 abbrev pub steps_of : List Asked → List Step
 steps_of asked = map (λ a. a.step) asked

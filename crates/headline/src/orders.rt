@@ -7,6 +7,7 @@ ghost use Rattle.px_core.specs.Tiles.{Tiles, either_tiles, picture_tiles, tiles_
 ghost use Rattle.draw_ops.specs.Content.{GlyphOf};
 ghost use Rattle.draw_ops.specs.Slots.{Loaded};
 ghost use Rattle.caps_sets.specs.declared.confirmed.Confirmed.{Confirmed};
+ghost use Rattle.caps_sets.specs.Confirmed.{takes_fast};
 ghost use Rattle.order_fields.specs.OrderTable.{Registers};
 ghost use Rattle.px_core.specs.declared.depth.Depth.{Depth};
 ghost use Rattle.run_lengths.specs.Packer.{packed};
@@ -31,17 +32,19 @@ ghost use Rattle.headline.specs.Runs.{indices_in, AreOrdersOfRun};
 ghost use Rattle.headline.specs.TilesSent.{tiles_among, IsOneOf, IsAscending, dirty_tiles};
 ghost use Rattle.headline.specs.SentOnce.{IsSentOnceOrNot, drawn_orders, AreDrawnAs, EachEndsWithItsOrder};
 
-/// Gathering orders into updates loses none and moves none; each update has at most the user data that a packet takes, and ends only where the next order
-/// wouldn't have fitted, as long as each order fits into an update of its own, as those of every take over a legal journal do.
+/// Gathering orders into updates loses none and moves none; each update has at most the user data that a packet takes, or the bytes of a packet of the
+/// fast path, and ends only where the next order wouldn't have fitted, as long as each order fits into an update of its own, as those of every take over
+/// a legal journal do.
 pub fn orders_are_gathered_as_far_as_they_fit()
-    ensures stay { (orders : List (List ℕ)) → orders_of_updates (gathered orders) ≡ orders }
-    ensures full { (orders : List (List ℕ)) → EachFits orders → AreGathered (gathered orders) }
+    ensures stay { (fast : Bool) (orders : List (List ℕ)) → orders_of_updates (gathered fast orders) ≡ orders }
+    ensures full { (fast : Bool) (orders : List (List ℕ)) → EachFits fast orders → AreGathered fast (gathered fast orders) }
     ensures frame { (c : Confirmed) (regs : Registers) (orders : List SentOrder) → AreShort c regs orders
-        → AreGathered (gathered (bytes_of_orders c regs orders)) }
+        → AreGathered (takes_fast c) (gathered (takes_fast c) (bytes_of_orders c regs orders)) }
     ensures take { (head : Head) (c : Confirmed) (j : List Entry) (e : Encoder) (t : TakeOf) (client : ClientState)
         → is_session_size head.size.w head.size.h ≡ true → HasAllCaches c
         → IsLegalJournal head j → t.before ≤ t.number → DescribesClient head.size c j t.before e client
-        → AreGathered (gathered (bytes_of_orders c e.registers (orders_before_tiles head.size c e.uses (encoder_frame head.size c j e t)))) }
+        → AreGathered (takes_fast c)
+        (gathered (takes_fast c) (bytes_of_orders c e.registers (orders_before_tiles head.size c e.uses (encoder_frame head.size c j e t)))) }
 {}
 
 /// Of a pending drawing nothing is sent, or, once, what it is walked as. Each drawing that is sent goes as exactly one order of its shape, in order;

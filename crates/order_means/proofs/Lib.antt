@@ -3,3 +3,4 @@ pub mod Packet
 pub mod Orders
 pub mod Cut
 mod Indication
+mod FastPackets

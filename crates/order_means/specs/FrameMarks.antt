@@ -6,6 +6,7 @@ use Rattle.px_core.specs.Picture.{rows_of}
 use Rattle.px_core.specs.Rectangle.{boxed, is_inside}
 use Rattle.rop3_core.specs.Palette.{client_colors}
 use Rattle.caps_sets.specs.declared.confirmed.Confirmed.{Confirmed}
+use Rattle.caps_sets.specs.Confirmed.{takes_fast}
 use Rattle.draw_ops.specs.Formulas.{replaced, imaged, Painting, over_rect}
 use Rattle.wire_num.specs.Field.{Read, bind, then_read, map_read, bytes_at, wanted, all_of}
 use Rattle.wire_num.specs.Number.{little_at}
@@ -18,10 +19,11 @@ use Rattle.order_fields.specs.OrderStream.Order.{Primary, Other}
 use Rattle.order_means.specs.WirePixels.{turned_over}
 use Rattle.order_means.specs.ClientState.{ClientState, Fault, first_client, client_after_order, after_painting, needs, is_bitmap, wire_pixels}
 use Rattle.order_means.specs.ClientState.Fault.{Broken}
-use Rattle.order_means.specs.Updates.{Body, Cutting, cutting, Updates, updates_from, updates_in, refusal_in, rest_of}
+use Rattle.order_means.specs.Updates.{Body, BodyForm, Cutting, cutting, Updates, updates_from, updates_in, refusal_in, rest_of}
+use Rattle.order_means.specs.Updates.BodyForm.{Slow, FastOrders, FastBitmap, FastSynchronize}
 use Rattle.order_means.specs.Updates.Stage.{Between}
 
--- ---- update bodies ([MS-RDPBCGR] 2.2.9.1.1.3)
+-- ---- update bodies ([MS-RDPBCGR] 2.2.9.1.1.3), and data of the fast path (2.2.9.1.2.1)
 
 -- a rectangle of a Bitmap update: destLeft, destTop, destRight, destBottom (inclusive), width, height, bitsPerPixel, flags, bytes
 pub record Tile : Type 0 where
@@ -82,6 +84,29 @@ update_by NoKind whole bs = Err whole
 abbrev pub update_at : List ℕ → Read Update
 update_at bs = then_read (little_at 2 bs) (λ t a. update_by (update_kind t) bs a)
 
+-- numberOrders 2, the orders
+abbrev pub orders_in_fast : List ℕ → Read Update
+orders_in_fast bs = then_read (little_at 2 bs) (λ n a. Ok (Orders n a, []))
+
+-- the whole body of a Bitmap update, whose updateType is one field
+abbrev pub tiles_in_fast : List ℕ → Read Update
+tiles_in_fast bs = then_read (wanted (1 ∷ 0 ∷ []) bs) (λ type a. tiles_update_at a)
+
+-- nothing
+abbrev pub synchronize_in_fast : List ℕ → Read Update
+synchronize_in_fast [] = Ok (Synchronize, [])
+synchronize_in_fast (b ∷ bs) = Err (b ∷ bs)
+
+abbrev pub update_by_form : BodyForm → List ℕ → Read Update
+update_by_form Slow bs = update_at bs
+update_by_form FastOrders bs = orders_in_fast bs
+update_by_form FastBitmap bs = tiles_in_fast bs
+update_by_form FastSynchronize bs = synchronize_in_fast bs
+
+-- what a body says
+abbrev pub update_in : Body → Read Update
+update_in body = update_by_form body.form body.bytes
+
 -- ---- the viewer
 
 -- a client, the pictures at its marks so far, and how many primary orders and rectangles of Bitmap updates it obeyed
@@ -102,7 +127,7 @@ pub record Refusal : Type 0 where
 abbrev pub refused : {A : Type 0} → ℕ → Result A Refusal
 refused place = Err (record { place = place; fault = Broken })
 
--- a refusal by meaning stands at the first byte of its update body
+-- a refusal by meaning stands at the first byte of its update body, or of its data; where these are none, behind their size
 abbrev pub meant : {A : Type 0} → ℕ → Result A Fault → Result A Refusal
 meant place (Ok v) = Ok v
 meant place (Err fault) = Err (record { place = place; fault = fault })
@@ -189,7 +214,7 @@ view_after_read confirmed size body v (Ok u) = view_after_update confirmed size 
 view_after_read confirmed size body v (Err left) = refused (body.place + (length body.bytes - length left))
 
 abbrev pub view_after_body : Confirmed → Size → View → Body → Result View Refusal
-view_after_body confirmed size v body = view_after_read confirmed size body v (update_at body.bytes)
+view_after_body confirmed size v body = view_after_read confirmed size body v (update_in body)
 
 abbrev pub view_after_bodies : Confirmed → Size → View → List Body → Result View Refusal
 view_after_bodies confirmed size v [] = Ok v
@@ -218,7 +243,7 @@ reading_after confirmed size v u = bind (view_after_bodies confirmed size v u.bo
 
 -- a viewer that reads on
 abbrev pub read_on : Confirmed → Size → ClientReading → List ℕ → Result ClientReading Refusal
-read_on confirmed size r bytes = reading_after confirmed size r.view (updates_from r.cut bytes)
+read_on confirmed size r bytes = reading_after confirmed size r.view (updates_from (takes_fast confirmed) r.cut bytes)
 
 -- what a viewer makes of a host's bytes
 abbrev pub read_stream : Confirmed → Size → List ℕ → Result ClientReading Refusal
@@ -228,10 +253,10 @@ read_stream confirmed size bytes = read_on confirmed size (first_reading confirm
 abbrev pub pictures_at_marks : Confirmed → Size → List ℕ → Result (List (List (Option ℕ))) Refusal
 pictures_at_marks confirmed size bytes = bind (read_stream confirmed size bytes) (λ r. Ok r.view.pictures)
 
--- the bytes after the last whole packet, which are left unread
-abbrev pub unread : List ℕ → List ℕ
-unread bytes = rest_of (updates_in bytes).next.stage
+-- the bytes after the last whole packet, which are left unread, of a viewer that takes the fast path or not
+abbrev pub unread : Bool → List ℕ → List ℕ
+unread fast bytes = rest_of (updates_in fast bytes).next.stage
 
 -- a stream that ends between packets: no byte is left after the last whole one
-abbrev pub EndsBetween : List ℕ → Type 0
-EndsBetween bytes = (updates_in bytes).next.stage ≡ Between
+abbrev pub EndsBetween : Bool → List ℕ → Type 0
+EndsBetween fast bytes = (updates_in fast bytes).next.stage ≡ Between

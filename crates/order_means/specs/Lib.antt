@@ -5,3 +5,4 @@ pub mod WirePixels
 pub mod CacheOrders
 pub mod UpdateBodies
 pub mod Indication
+pub mod FastHeader

@@ -1,4 +1,4 @@
--- The bytes of updates ([MS-RDPBCGR] 2.2.9.1.1.3), and their packets.
+-- The bytes of updates ([MS-RDPBCGR] 2.2.9.1.1.3), and their packets of either kind: Send Data Indications, or those of the fast path (2.2.9.1.2).
 use Rattle.std.specs.Prelude.{ℕ, ◌+◌, ◌-◌, Bool, true, false, List, [], ◌∷◌, ◌++◌, length}
 use Rattle.byteorder.specs.Endian.{little_bytes}
 use Rattle.px_core.specs.declared.depth.Depth.{Depth}
@@ -6,6 +6,7 @@ use Rattle.px_core.specs.declared.rectangle.Rect.{Rect}
 use Rattle.px_core.specs.Depth.{bits_in, shown_colors}
 use Rattle.px_core.specs.Picture.{nat_of}
 use Rattle.share_pdu.specs.Packet.{update_packet}
+use Rattle.fast_path.specs.Written.{fast_packet}
 use Rattle.order_means.specs.WirePixels.{turned_over, PixelData, data_of}
 
 -- what stands before so many orders: updateType, pad, numberOrders, pad
@@ -36,20 +37,28 @@ abbrev pub tile_body : Depth → Bool → Rect → List ℕ → List ℕ
 tile_body depth no_header r pixels =
     1 ∷ 0 ∷ 1 ∷ 0 ∷ tile_data_bytes depth (nat_of r.x) (nat_of r.y) r.w r.h (data_of depth no_header r.w (turned_over r.w r.h (shown_colors depth pixels)))
 
--- ---- packets
+-- ---- packets, of the fast path or not
 
--- how many bytes of user data an Orders update has whose orders have so many
-abbrev pub orders_user_data : ℕ → ℕ
-orders_user_data count = 26 + count
+-- how many bytes an Orders update counts for whose orders have so many: its user data, or its whole packet of the fast path with two length bytes
+abbrev pub orders_size : Bool → ℕ → ℕ
+orders_size false count = 26 + count
+orders_size true count = 8 + count
+
+-- the data of orders: numberOrders, the orders
+abbrev pub orders_data : ℕ → List ℕ → List ℕ
+orders_data count orders = little_bytes 2 count ++ orders
 
 -- the packet of an Orders update
-abbrev pub orders_packet : ℕ → List ℕ → List ℕ
-orders_packet count orders = update_packet (orders_body count orders)
+abbrev pub orders_packet : Bool → ℕ → List ℕ → List ℕ
+orders_packet false count orders = update_packet (orders_body count orders)
+orders_packet true count orders = fast_packet 0 (orders_data count orders)
 
 -- the packet of a Synchronize update
-abbrev pub synchronize_packet : List ℕ
-synchronize_packet = update_packet synchronize_body
+abbrev pub synchronize_packet : Bool → List ℕ
+synchronize_packet false = update_packet synchronize_body
+synchronize_packet true = fast_packet 3 []
 
--- the packet of a Bitmap update of one rectangle
-abbrev pub tile_packet : Depth → Bool → Rect → List ℕ → List ℕ
-tile_packet depth no_header r pixels = update_packet (tile_body depth no_header r pixels)
+-- the packet of a Bitmap update of one rectangle, whose data are the whole body
+abbrev pub tile_packet : Depth → Bool → Bool → Rect → List ℕ → List ℕ
+tile_packet depth false no_header r pixels = update_packet (tile_body depth no_header r pixels)
+tile_packet depth true no_header r pixels = fast_packet 1 (tile_body depth no_header r pixels)
