@@ -1,25 +1,30 @@
 -- Readings of a host's bytes, byte by byte, and of those within a packet.
-use Rattle.std.proofs.Common.{◌≡◌, ◌<◌, ℕ, ◌+◌, List, [], ◌∷◌, ◌++◌, append_assoc, inl, inr, length, get_or, drop, take, take-append-drop, drop-drop, refl, ap, sym, subst, ◌∙◌, Some, None, append-nil, add-one}
-use Rattle.std.specs.Prelude.{Option, Result, Ok, Err, OnErr, is_ok, true, false}
+use Rattle.std.proofs.Common.{◌≡◌, ◌<◌, ℕ, ◌+◌, List, [], ◌∷◌, ◌++◌, append_assoc, inl, inr, length, get_or, drop, take, take-append-drop, drop-drop, refl, ap, sym, subst, ◌∙◌, Some, None, append-nil, add-one, arith}
+use Rattle.std.specs.Prelude.{Bool, Option, Result, Ok, Err, OnErr, is_ok, true, false}
 use Rattle.std.proofs.Math.Seq.{drop-cons}
 use Rattle.px_core.specs.declared.surface.Size.{Size}
 use Rattle.wire_num.specs.Field.{bind, Read as Field}
 use Rattle.caps_sets.specs.declared.confirmed.Confirmed.{Confirmed}
+use Rattle.caps_sets.specs.Confirmed.{takes_fast}
 use Rattle.order_means.specs.ClientState.Fault.{Broken, Oversized, Empty}
-use Rattle.order_means.specs.Updates.{Body, Cutting, Updates, updates, updates_by, updates_from, refusal_in}
-use Rattle.order_means.specs.FrameMarks.{View, Refusal, Update as Meaning, ClientReading, reading, reading_after, read_on, view_after_body, view_after_bodies, update_at, unless_refused_at}
+use Rattle.order_means.specs.Updates.{Body, BodyForm as Form, body_at, Updates, updates, before_updates, updates_by, updates_from, refusal_in}
+use Rattle.order_means.specs.FrameMarks.{View, Refusal, Update as Meaning, ClientReading, reading, reading_after, read_on, view_after_body, view_after_bodies, update_by_form, unless_refused_at}
 use Rattle.order_means.proofs.Pieces.{read_joined}
+use Rattle.update_read.specs.declared.form.BodyForm.{BodyForm}
 use Rattle.update_read.specs.declared.state.State.{State}
-use Rattle.update_read.specs.declared.state.State.TheVariants.{Open, Whole, Refused as RefusedAt}
+use Rattle.update_read.specs.declared.state.State.TheVariants.{Open, Update as Whole, Ended, Refused as RefusedAt}
 use Rattle.update_read.specs.declared.step.Step.TheVariants.{More, Update, Refused as RefusedStep}
-use Rattle.update_read.specs.Cutters.{CutterOf, Stands, StandsBy, Gives, GoesOn, AreBodies, stage_of, step_by, body_by}
+use Rattle.update_read.specs.Forms.{told_form}
+use Rattle.update_read.specs.Cutters.{CutterOf, Tells, Gives, GoesOn, behind_first, pending, pending_by, step_by, step_of, body_by}
+use Rattle.update_read.proofs.Taken.{open_stage}
 use Rattle.client_view.specs.declared.client_fault.ClientFault.{ClientFault}
 use Rattle.client_view.specs.declared.client_fault.ClientFault.TheVariants.{Refused, Named, OutOfMemory}
 use Rattle.client_view.specs.declared.viewer.Viewer.{Viewer}
-use Rattle.client_view.specs.Views.{capped}
-use Rattle.client_view.specs.Refusals.{RefusesAt, Shows, refusal, body_at}
+use Rattle.client_view.specs.Views.{capped, StandsFor}
+use Rattle.client_view.specs.Refusals.{RefusesAt, Shows, refusal}
 use Rattle.client_view.specs.Clients.{StandFor, Reads}
-use Rattle.client_view.specs.OnTheWay.{Stops, WithinRead, MidUpdate, MidBody, ComesNext, ComesTo}
+use Rattle.client_view.specs.OnTheWay.{Stops, WithinRead, MidUpdate, MidBody, WithinPacket, ComesNext, ComesTo}
+use Rattle.client_view.proofs.Obeyed.{counts_of}
 
 -- a refusal of one part is a refusal of the whole
 pub refuses_through : {A B : Type 0} (f : ClientFault) (part : Result A Refusal) (whole : Result B Refusal) → ((g : Refusal) → part ≡ Err g → whole ≡ Err g) → RefusesAt f part → RefusesAt f whole
@@ -28,122 +33,209 @@ refuses_through (Named at true cache index) part whole through r = (r.0, through
 refuses_through (Named at false cache index) part whole through r = (r.0, through (refusal r.0 (Empty cache index)) r.1, r.2)
 refuses_through OutOfMemory part whole through r = tt
 
--- ---- what a byte gives
+-- ---- what a packet gives
 
-open_stage : (packet : List ℕ) → refusal_in (stage_of packet) ≡ None
-open_stage [] = refl
-open_stage (a ∷ []) = refl
-open_stage (a ∷ b ∷ []) = refl
-open_stage (a ∷ b ∷ h ∷ []) = refl
-open_stage (a ∷ b ∷ h ∷ l ∷ rest) = refl
-
-more_by : (st : State) (start : ℕ) (u : Updates) (k : CutterOf) → step_by st start ≡ More → AreBodies st u.bodies k → StandsBy st u.next k → (u.bodies ≡ []) × (refusal_in u.next.stage ≡ None)
-more_by Open start u k e b s = (b, ap (λ (c : Cutting). refusal_in c.stage) s.2 ∙ open_stage k.packet)
-more_by (Whole part) start u k e b s = absurd (let no : ⊥ = cc in no)
-more_by (RefusedAt at) start u k e b s = absurd (let no : ⊥ = cc in no)
-
-pub gives_more : (u : Updates) (k : CutterOf) → step_by k.state k.start ≡ More → Gives u k → (u.bodies ≡ []) × (refusal_in u.next.stage ≡ None)
-gives_more u k e g = more_by k.state k.start u k e g.0 g.1
-
--- an update's body, and that nothing is refused
-pub record GivesBody (u : Updates) (k : CutterOf) (at : ℕ) : Type 0 where
+-- an update's body, and those behind it
+pub record GivesBody (u : Updates) (k : CutterOf) (at : ℕ) (form : BodyForm) : Type 0 where
   pub place : ℕ
-  pub bodies : u.bodies ≡ body_at place (body_by k.state k.packet) ∷ []
+  pub more : Updates
+  pub is : u ≡ before_updates (body_at place (told_form form) (body_by k.state k.packet) ∷ []) more
   pub at_is : at ≡ capped place
-  pub unrefused : refusal_in u.next.stage ≡ None
+  pub some : 0 < pending k
 
-whole_by : (st : State) (u : Updates) (k : CutterOf) (at : ℕ) → k.state ≡ st → step_by st k.start ≡ Update at → AreBodies st u.bodies k → StandsBy st u.next k → GivesBody u k at
-whole_by Open u k at same e b s = absurd (let no : ⊥ = cc in no)
-whole_by (Whole part) u k at same e b s =
-    let is : capped (k.start + part.from) ≡ at = cc in
+whole_by : (st : State) (u : Updates) (k : CutterOf) (s at : ℕ) (form : BodyForm) → k.state ≡ st → step_by st k.start ≡ Update at form → k.start ≡ capped s → Tells st u s k.packet → GivesBody u k at form
+whole_by Open u k s at form same e start told = absurd (let no : ⊥ = cc in no)
+whole_by (Whole found) u k s at form same e start told =
+    let is : capped (k.start + found.body.from) ≡ at = cc in
+    let so : found.form ≡ form = cc in
     record {
-      place = b.0;
-      bodies = b.1 ∙ ap (λ (st : State). body_at b.0 (body_by st k.packet) ∷ []) (sym same);
-      at_is = sym is ∙ sym b.2;
-      unrefused = ap (λ (c : Cutting). refusal_in c.stage) s.2;
+      place = s + found.body.from;
+      more = told.more;
+      is = told.told
+          ∙ ap (λ (f : BodyForm). before_updates (body_at (s + found.body.from) (told_form f) (body_by (Whole found) k.packet) ∷ []) told.more) so
+          ∙ ap (λ (st : State). before_updates (body_at (s + found.body.from) (told_form form) (body_by st k.packet) ∷ []) told.more) (sym same);
+      at_is = omega (arith, is, start);
+      some = subst (λ (st : State). 0 < pending_by st k.packet) (sym same) (omega arith);
     }
-whole_by (RefusedAt x) u k at same e b s = absurd (let no : ⊥ = cc in no)
+whole_by Ended u k s at form same e start told = absurd (let no : ⊥ = cc in no)
+whole_by (RefusedAt x) u k s at form same e start told = absurd (let no : ⊥ = cc in no)
 
-pub gives_body : (u : Updates) (k : CutterOf) (at : ℕ) → step_by k.state k.start ≡ Update at → Gives u k → GivesBody u k at
-gives_body u k at e g = whole_by k.state u k at refl e g.0 g.1
+pub gives_body : (u : Updates) (k : CutterOf) (at : ℕ) (form : BodyForm) → step_of k ≡ Update at form → Gives u k → GivesBody u k at form
+gives_body u k at form e g = whole_by k.state u k g.0 at form refl e g.1 g.2
 
-refused_by_step : (st : State) (start : ℕ) (u : Updates) (k : CutterOf) (at : ℕ) → step_by st start ≡ RefusedStep at → AreBodies st u.bodies k → StandsBy st u.next k
-    → (place : ℕ) × (u.bodies ≡ []) × (refusal_in u.next.stage ≡ Some place) × (at ≡ capped place)
-refused_by_step Open start u k at e b s = absurd (let no : ⊥ = cc in no)
-refused_by_step (Whole part) start u k at e b s = absurd (let no : ⊥ = cc in no)
-refused_by_step (RefusedAt x) start u k at e b s = let is : x ≡ at = cc in (s.0, b, ap refusal_in s.2, sym is ∙ s.1)
+-- no update, and nothing is refused
+none_of : (u : Updates) → u.bodies ≡ [] → u ≡ updates [] u.next
+none_of u e = ap (λ (bs : List Body). updates bs u.next) e
 
-pub gives_refusal : (u : Updates) (k : CutterOf) (at : ℕ) → step_by k.state k.start ≡ RefusedStep at → Gives u k → (place : ℕ) × (u.bodies ≡ []) × (refusal_in u.next.stage ≡ Some place) × (at ≡ capped place)
-gives_refusal u k at e g = refused_by_step k.state k.start u k at e g.0 g.1
+more_bodies : (st : State) (u : Updates) (k : CutterOf) (s : ℕ) → step_by st k.start ≡ More → Tells st u s k.packet → (u.bodies ≡ []) × (refusal_in u.next.stage ≡ None)
+more_bodies Open u k s e told = (ap (λ (x : Updates). x.bodies) told.0, ap (λ (x : Updates). refusal_in x.next.stage) told.0 ∙ open_stage k.packet)
+more_bodies (Whole found) u k s e told = absurd (let no : ⊥ = cc in no)
+more_bodies Ended u k s e told = (ap (λ (x : Updates). x.bodies) told, ap (λ (x : Updates). refusal_in x.next.stage) told)
+more_bodies (RefusedAt at) u k s e told = absurd (let no : ⊥ = cc in no)
 
--- ---- what is made of a byte
+gives_more : (u : Updates) (k : CutterOf) → step_of k ≡ More → Gives u k → (u.bodies ≡ []) × (refusal_in u.next.stage ≡ None)
+gives_more u k e g = more_bodies k.state u k g.0 e g.2
 
-abbrev by_byte : ClientReading → ℕ → Updates
-by_byte r b = updates_by r.cut.place r.cut.stage b
+-- no update, and the stream is refused
+refused_by_step : (st : State) (start : ℕ) (u : Updates) (packet : List ℕ) (s at : ℕ) → step_by st start ≡ RefusedStep at → Tells st u s packet → (place : ℕ) × (u.bodies ≡ []) × (refusal_in u.next.stage ≡ Some place) × (at ≡ capped place)
+refused_by_step Open start u packet s at e told = absurd (let no : ⊥ = cc in no)
+refused_by_step (Whole found) start u packet s at e told = absurd (let no : ⊥ = cc in no)
+refused_by_step Ended start u packet s at e told = absurd (let no : ⊥ = cc in no)
+refused_by_step (RefusedAt x) start u packet s at e told = let is : x ≡ at = cc in (told.0, told.1, ap refusal_in told.2, sym is ∙ told.3)
 
-one_byte : (confirmed : Confirmed) (size : Size) (r : ClientReading) (b : ℕ) → read_on confirmed size r (b ∷ []) ≡ reading_after confirmed size r.view (by_byte r b)
-one_byte confirmed size r b = ap (λ (bs : List Body). reading_after confirmed size r.view (updates bs (by_byte r b).next)) (append-nil (by_byte r b).bodies)
+gives_refusal : (u : Updates) (k : CutterOf) (at : ℕ) → step_of k ≡ RefusedStep at → Gives u k → (place : ℕ) × (u.bodies ≡ []) × (refusal_in u.next.stage ≡ Some place) × (at ≡ capped place)
+gives_refusal u k at e g = refused_by_step k.state k.start u k.packet g.0 at e g.2
+
+-- ---- updates of a packet, one by one
+
+-- some were obeyed, and the cutter gives the others
+pub record LeftUpdates (confirmed : Confirmed) (size : Size) (v : View) (u : Updates) (m : Viewer) (k : CutterOf) : Type 0 where
+  pub front : List Body
+  pub left : Updates
+  pub here : View
+  pub whole : u ≡ before_updates front left
+  pub obeyed : view_after_bodies confirmed size v front ≡ Ok here
+  pub view : StandsFor here m
+  pub gives : Gives left k
+
+pub all_updates : (confirmed : Confirmed) (size : Size) (v : View) (u : Updates) (m : Viewer) (k : CutterOf) → StandsFor v m → Gives u k → LeftUpdates confirmed size v u m k
+all_updates confirmed size v u m k s g = record { front = []; left = u; here = v; whole = refl; obeyed = refl; view = s; gives = g }
+
+bodies_by : (confirmed : Confirmed) (size : Size) (v w : View) (b : Body) (front more : List Body) (r : Result View Refusal) → view_after_body confirmed size v b ≡ r → view_after_bodies confirmed size v (b ∷ front) ≡ Ok w
+    → ((x : View) → view_after_bodies confirmed size x front ≡ Ok w → view_after_bodies confirmed size x (front ++ more) ≡ view_after_bodies confirmed size w more)
+    → view_after_bodies confirmed size v (b ∷ (front ++ more)) ≡ view_after_bodies confirmed size w more
+bodies_by confirmed size v w b front more (Ok x) f e others =
+    let rest : view_after_bodies confirmed size x front ≡ Ok w = sym (ap (λ (r : Result View Refusal). bind r (λ y. view_after_bodies confirmed size y front)) f) ∙ e in
+    ap (λ (r : Result View Refusal). bind r (λ y. view_after_bodies confirmed size y (front ++ more))) f ∙ others x rest
+bodies_by confirmed size v w b front more (Err g) f e others =
+    let stopped : Err g ≡ Ok w = sym (ap (λ (r : Result View Refusal). bind r (λ y. view_after_bodies confirmed size y front)) f) ∙ e in
+    absurd (let no : ⊥ = cc in no)
+
+bodies_then : (confirmed : Confirmed) (size : Size) (v w : View) (front more : List Body) → view_after_bodies confirmed size v front ≡ Ok w → view_after_bodies confirmed size v (front ++ more) ≡ view_after_bodies confirmed size w more
+bodies_then confirmed size v w [] more e = ap (λ (r : Result View Refusal). bind r (λ x. view_after_bodies confirmed size x more)) e
+bodies_then confirmed size v w (b ∷ front) more e = bodies_by confirmed size v w b front more (view_after_body confirmed size v b) refl e (λ x rest. bodies_then confirmed size x w front more rest)
 
 abbrev goes : View → Updates → Option ℕ → Result ClientReading Refusal
 goes w u o = unless_refused_at o (reading w u.next)
 
-no_body : (confirmed : Confirmed) (size : Size) (v : View) (u : Updates) (o : Option ℕ) → u.bodies ≡ [] → refusal_in u.next.stage ≡ o → reading_after confirmed size v u ≡ goes v u o
-no_body confirmed size v u o b e =
-    ap (λ (bs : List Body). bind (view_after_bodies confirmed size v bs) (λ w. goes w u (refusal_in u.next.stage))) b ∙ ap (goes v u) e
+-- what all updates come to
+left_read : (confirmed : Confirmed) (size : Size) (v : View) (u : Updates) (m : Viewer) (k : CutterOf) → (l : LeftUpdates confirmed size v u m k)
+    → reading_after confirmed size v u ≡ bind (view_after_bodies confirmed size l.here l.left.bodies) (λ w. goes w l.left (refusal_in l.left.next.stage))
+left_read confirmed size v u m k l =
+    ap (reading_after confirmed size v) l.whole
+    ∙ ap (λ (r : Result View Refusal). bind r (λ w. goes w l.left (refusal_in l.left.next.stage))) (bodies_then confirmed size v l.here l.front l.left.bodies l.obeyed)
 
-single : {A E : Type 0} (r : Result A E) → bind r (λ w. Ok w) ≡ r
-single (Ok v) = refl
-single (Err e) = refl
+none_left_read : (confirmed : Confirmed) (size : Size) (v : View) (u : Updates) (m : Viewer) (k : CutterOf) (o : Option ℕ) → (l : LeftUpdates confirmed size v u m k) → l.left.bodies ≡ [] → refusal_in l.left.next.stage ≡ o
+    → reading_after confirmed size v u ≡ goes l.here l.left o
+none_left_read confirmed size v u m k o l b e =
+    left_read confirmed size v u m k l
+    ∙ ap (λ (bs : List Body). bind (view_after_bodies confirmed size l.here bs) (λ w. goes w l.left (refusal_in l.left.next.stage))) b
+    ∙ ap (goes l.here l.left) e
 
-one_body : (confirmed : Confirmed) (size : Size) (v : View) (u : Updates) (body : Body) → u.bodies ≡ body ∷ [] → refusal_in u.next.stage ≡ None
-    → reading_after confirmed size v u ≡ bind (view_after_body confirmed size v body) (λ w. Ok (reading w u.next))
-one_body confirmed size v u body b e =
-    ap (λ (bs : List Body). bind (view_after_bodies confirmed size v bs) (λ w. goes w u (refusal_in u.next.stage))) b
-    ∙ ap (λ (r : Result View Refusal). bind r (λ w. goes w u (refusal_in u.next.stage))) (single (view_after_body confirmed size v body))
-    ∙ ap (λ (o : Option ℕ). bind (view_after_body confirmed size v body) (λ w. goes w u o)) e
+first_left_read : (confirmed : Confirmed) (size : Size) (v : View) (u : Updates) (m : Viewer) (k : CutterOf) (body : Body) (more : Updates) (r : Result View Refusal) → (l : LeftUpdates confirmed size v u m k)
+    → l.left ≡ before_updates (body ∷ []) more → view_after_body confirmed size l.here body ≡ r
+    → reading_after confirmed size v u ≡ bind (bind r (λ x. view_after_bodies confirmed size x more.bodies)) (λ w. goes w more (refusal_in more.next.stage))
+first_left_read confirmed size v u m k body more r l e f =
+    left_read confirmed size v u m k l
+    ∙ ap (λ (x : Updates). bind (view_after_bodies confirmed size l.here x.bodies) (λ w. goes w x (refusal_in x.next.stage))) e
+    ∙ ap (λ (r : Result View Refusal). bind (bind r (λ x. view_after_bodies confirmed size x more.bodies)) (λ w. goes w more (refusal_in more.next.stage))) f
 
--- the packet goes on
-pub reads_more : (confirmed : Confirmed) (size : Size) (r : ClientReading) (b : ℕ) (m : Viewer) (old new : CutterOf) → StandFor r m old → Gives (by_byte r b) new → step_by new.state new.start ≡ More
-    → Reads (Ok tt) (read_on confirmed size r (b ∷ [])) m new
-reads_more confirmed size r b m old new s g e =
-    let more = gives_more (by_byte r b) new e g in (
-      reading r.view (by_byte r b).next,
-      one_byte confirmed size r b ∙ no_body confirmed size r.view (by_byte r b) None more.0 more.1,
-      record { view = s.view; cut = g.1; unrefused = more.1 },
+-- nothing is left
+pub packet_read : (confirmed : Confirmed) (size : Size) (v : View) (u : Updates) (m : Viewer) (k : CutterOf) → (l : LeftUpdates confirmed size v u m k) → step_of k ≡ More → k.fast ≡ takes_fast m.confirmed
+    → Reads (Ok tt) (reading_after confirmed size v u) m k
+packet_read confirmed size v u m k l e fast =
+    let more = gives_more l.left k e l.gives in (
+      reading l.here l.left.next,
+      none_left_read confirmed size v u m k None l more.0 more.1,
+      record { view = l.view; cut = subst (λ (x : Updates). Gives x k) (none_of l.left more.0) l.gives; fast = fast; unrefused = more.1 },
     )
 
--- bytes lie within the packet
-pub reads_within : (confirmed : Confirmed) (size : Size) (r : ClientReading) (xs : List ℕ) (m : Viewer) (old new : CutterOf) → StandFor r m old → GoesOn r.cut (updates_from r.cut xs) new
-    → Reads (Ok tt) (read_on confirmed size r xs) m new
-reads_within confirmed size r xs m old new s g =
-    let u : Updates = updates_from r.cut xs in
-    let none = g.2 s.unrefused in
-    (reading r.view u.next, no_body confirmed size r.view u None g.0 none, record { view = s.view; cut = g.1; unrefused = none })
-
 -- the stream is refused
-pub reads_refusal : (confirmed : Confirmed) (size : Size) (r : ClientReading) (b at : ℕ) (new : CutterOf) → Gives (by_byte r b) new → step_by new.state new.start ≡ RefusedStep at
-    → RefusesAt (Refused at) (read_on confirmed size r (b ∷ []))
-reads_refusal confirmed size r b at new g e =
-    let no = gives_refusal (by_byte r b) new at e g in
-    (no.0, one_byte confirmed size r b ∙ no_body confirmed size r.view (by_byte r b) (Some no.0) no.1 no.2, no.3)
+pub packet_refused : (confirmed : Confirmed) (size : Size) (v : View) (u : Updates) (m : Viewer) (k : CutterOf) (at : ℕ) → (l : LeftUpdates confirmed size v u m k) → step_of k ≡ RefusedStep at
+    → RefusesAt (Refused at) (reading_after confirmed size v u)
+packet_refused confirmed size v u m k at l e =
+    let no = gives_refusal l.left k at e l.gives in
+    (no.0, none_left_read confirmed size v u m k (Some no.0) l no.1 no.2, no.3)
 
-body_by_result : (result : Result (Unit {0}) ClientFault) (confirmed : Confirmed) (size : Size) (r : ClientReading) (b : ℕ) (body : Body) (m : Viewer) (new : CutterOf) → (by_byte r b).bodies ≡ body ∷ [] → refusal_in (by_byte r b).next.stage ≡ None
-    → Stands (by_byte r b).next new → Shows result (view_after_body confirmed size r.view body) m → Reads result (read_on confirmed size r (b ∷ [])) m new
-body_by_result (Ok done) confirmed size r b body m new bodies unrefused cut shown = (
-  reading shown.0 (by_byte r b).next,
-  one_byte confirmed size r b ∙ one_body confirmed size r.view (by_byte r b) body bodies unrefused ∙ ap (λ (x : Result View Refusal). bind x (λ w. Ok (reading w (by_byte r b).next))) shown.1,
-  record { view = shown.2; cut = cut; unrefused = unrefused },
+pub packet_refused_stops : (confirmed : Confirmed) (size : Size) (v : View) (u : Updates) (m : Viewer) (k : CutterOf) → (l : LeftUpdates confirmed size v u m k) → Stops (WithinPacket confirmed size v u.bodies) m
+packet_refused_stops confirmed size v u m k l = (
+  l.here,
+  record { front = l.front; more = l.left.bodies; whole = ap (λ (x : Updates). x.bodies) l.whole; before = l.here; obeyed = l.obeyed; there = inl refl },
+  counts_of l.here m l.view,
 )
-body_by_result (Err f) confirmed size r b body m new bodies unrefused cut shown =
-    refuses_through f (view_after_body confirmed size r.view body) (read_on confirmed size r (b ∷ [])) (λ g e.
-    one_byte confirmed size r b ∙ one_body confirmed size r.view (by_byte r b) body bodies unrefused ∙ ap (λ (x : Result View Refusal). bind x (λ w. Ok (reading w (by_byte r b).next))) e) shown
 
--- the packet is whole
-pub reads_body : (result : Result (Unit {0}) ClientFault) (confirmed : Confirmed) (size : Size) (r : ClientReading) (b at : ℕ) (m : Viewer) (new : CutterOf) → (g : Gives (by_byte r b) new) → (e : step_by new.state new.start ≡ Update at)
-    → Shows result (view_after_body confirmed size r.view (body_at (gives_body (by_byte r b) new at e g).place (body_by new.state new.packet))) m → Reads result (read_on confirmed size r (b ∷ [])) m new
-reads_body result confirmed size r b at m new g e shown =
-    let given = gives_body (by_byte r b) new at e g in
-    body_by_result result confirmed size r b (body_at given.place (body_by new.state new.packet)) m new given.bodies given.unrefused g.1 shown
+-- an update was obeyed
+pub update_less : (confirmed : Confirmed) (size : Size) (v : View) (u : Updates) (m n : Viewer) (k j : CutterOf) (at : ℕ) (form : BodyForm) → (l : LeftUpdates confirmed size v u m k) → (g : GivesBody l.left k at form)
+    → Shows (Ok tt) (view_after_body confirmed size l.here (body_at g.place (told_form form) (body_by k.state k.packet))) n → Gives (behind_first l.left) j → LeftUpdates confirmed size v u n j
+update_less confirmed size v u m n k j at form l g shown gives =
+    let body : Body = body_at g.place (told_form form) (body_by k.state k.packet) in
+    record {
+      front = l.front ++ body ∷ [];
+      left = g.more;
+      here = shown.0;
+      whole = l.whole ∙ ap (before_updates l.front) g.is ∙ ap (λ (bs : List Body). updates bs g.more.next) (sym (append_assoc l.front (body ∷ []) g.more.bodies));
+      obeyed = bodies_then confirmed size v l.here l.front (body ∷ []) l.obeyed ∙ ap (λ (r : Result View Refusal). bind r (λ x. view_after_bodies confirmed size x [])) shown.1;
+      view = shown.2;
+      gives = subst (λ (x : Updates). Gives x j) (ap behind_first g.is) gives;
+    }
+
+-- an update is refused
+pub update_refused : (f : ClientFault) (confirmed : Confirmed) (size : Size) (v : View) (u : Updates) (m : Viewer) (k : CutterOf) (at : ℕ) (form : BodyForm) → (l : LeftUpdates confirmed size v u m k) → (g : GivesBody l.left k at form)
+    → RefusesAt f (view_after_body confirmed size l.here (body_at g.place (told_form form) (body_by k.state k.packet))) → RefusesAt f (reading_after confirmed size v u)
+update_refused f confirmed size v u m k at form l g r =
+    let body : Body = body_at g.place (told_form form) (body_by k.state k.packet) in
+    refuses_through f (view_after_body confirmed size l.here body) (reading_after confirmed size v u) (λ h e. first_left_read confirmed size v u m k body g.more (Err h) l g.is e) r
+
+pub update_stops : (confirmed : Confirmed) (size : Size) (v : View) (u : Updates) (m n : Viewer) (k : CutterOf) (at : ℕ) (form : BodyForm) → (l : LeftUpdates confirmed size v u m k) → (g : GivesBody l.left k at form)
+    → Stops (MidBody confirmed size l.here (told_form form) (body_by k.state k.packet)) n → Stops (WithinPacket confirmed size v u.bodies) n
+update_stops confirmed size v u m n k at form l g s =
+    let body : Body = body_at g.place (told_form form) (body_by k.state k.packet) in (
+      s.0,
+      record {
+        front = l.front;
+        more = body ∷ g.more.bodies;
+        whole = ap (λ (x : Updates). x.bodies) l.whole ∙ ap (λ (x : Updates). l.front ++ x.bodies) g.is;
+        before = l.here;
+        obeyed = l.obeyed;
+        there = s.1;
+      },
+      s.2,
+    )
+
+-- ---- what is made of a byte
+
+abbrev by_byte : Confirmed → ClientReading → ℕ → Updates
+by_byte confirmed r b = updates_by (takes_fast confirmed) r.cut.place r.cut.stage b
+
+pub one_byte : (confirmed : Confirmed) (size : Size) (r : ClientReading) (b : ℕ) → reading_after confirmed size r.view (by_byte confirmed r b) ≡ read_on confirmed size r (b ∷ [])
+one_byte confirmed size r b = ap (λ (bs : List Body). reading_after confirmed size r.view (updates bs (by_byte confirmed r b).next)) (sym (append-nil (by_byte confirmed r b).bodies))
+
+abbrev after_next : Bool → ClientReading → ℕ → Updates
+after_next fast r b = updates_by fast r.cut.place r.cut.stage b
+
+-- the updates that a byte gives were obeyed, or one of them refused
+pub byte_read : (result : Result (Unit {0}) ClientFault) (confirmed : Confirmed) (size : Size) (r : ClientReading) (b : ℕ) (fast : Bool) (m : Viewer) (k : CutterOf) → fast ≡ takes_fast confirmed
+    → Reads result (reading_after confirmed size r.view (after_next fast r b)) m k → Reads result (read_on confirmed size r (b ∷ [])) m k
+byte_read result confirmed size r b fast m k same read =
+    subst (λ (x : Result ClientReading Refusal). Reads result x m k) (ap (λ (f : Bool). reading_after confirmed size r.view (after_next f r b)) same ∙ one_byte confirmed size r b) read
+
+pub byte_stops : (result : Result (Unit {0}) ClientFault) (confirmed : Confirmed) (size : Size) (r : ClientReading) (b : ℕ) (fast : Bool) (m : Viewer) → fast ≡ takes_fast confirmed
+    → OnErr result (Stops (WithinPacket confirmed size r.view (after_next fast r b).bodies) m) → OnErr result (Stops (ComesNext confirmed size r (b ∷ [])) m)
+byte_stops (Ok done) confirmed size r b fast m same s = tt
+byte_stops (Err f) confirmed size r b fast m same s = (s.0, inr (subst (λ (f : Bool). WithinPacket confirmed size r.view (after_next f r b).bodies s.0) same s.1), s.2)
+
+-- bytes lie within the packet
+pub reads_within : (confirmed : Confirmed) (size : Size) (r : ClientReading) (xs : List ℕ) (m : Viewer) (old new : CutterOf) → confirmed ≡ m.confirmed → StandFor r m old → new.fast ≡ old.fast → GoesOn r.cut (updates_from old.fast r.cut xs) new
+    → Reads (Ok tt) (read_on confirmed size r xs) m new
+reads_within confirmed size r xs m old new same s kept g =
+    let u : Updates = updates_from (takes_fast confirmed) r.cut xs in
+    let is : updates_from old.fast r.cut xs ≡ u = ap (λ fast. updates_from fast r.cut xs) (s.fast ∙ ap takes_fast (sym same)) in
+    let h : GoesOn r.cut u new = subst (λ (x : Updates). GoesOn r.cut x new) is g in
+    let none = h.2 s.unrefused in (
+      reading r.view u.next,
+      ap (λ (bs : List Body). bind (view_after_bodies confirmed size r.view bs) (λ w. goes w u (refusal_in u.next.stage))) h.0 ∙ ap (goes r.view u) none,
+      record { view = s.view; cut = h.1; fast = kept ∙ s.fast; unrefused = none },
+    )
 
 -- ---- views on the way
 
@@ -155,14 +247,9 @@ stops_by (Err x) (Ok y) P Q m same f s = absurd (let no : ⊥ = cc in no)
 stops_by (Err x) (Err y) P Q m same f s = (s.0, f s.0 s.1, s.2)
 
 -- within an update, by what its body says
-pub mid_body : (confirmed : Confirmed) (size : Size) (v : View) (bytes : List ℕ) (u : Meaning) (w : View) → update_at bytes ≡ Ok (u, []) → MidUpdate confirmed size v u w → MidBody confirmed size v bytes w
-mid_body confirmed size v bytes u w e (inl h) = inl h
-mid_body confirmed size v bytes u w e (inr h) = inr (subst (λ (r : Field Meaning). WithinRead confirmed size v r w) (sym e) h)
-
--- within the update whose packet a byte ends
-pub next_body : (confirmed : Confirmed) (size : Size) (r : ClientReading) (b place : ℕ) (packet : List ℕ) (w : View) → (by_byte r b).bodies ≡ body_at place packet ∷ [] → MidBody confirmed size r.view packet w → ComesNext confirmed size r (b ∷ []) w
-next_body confirmed size r b place packet w e (inl h) = inl h
-next_body confirmed size r b place packet w e (inr h) = inr (body_at place packet, e, h)
+pub mid_body : (confirmed : Confirmed) (size : Size) (v : View) (form : Form) (bytes : List ℕ) (u : Meaning) (w : View) → update_by_form form bytes ≡ Ok (u, []) → MidUpdate confirmed size v u w → MidBody confirmed size v form bytes w
+mid_body confirmed size v form bytes u w e (inl h) = inl h
+mid_body confirmed size v form bytes u w e (inr h) = inr (subst (λ (r : Field Meaning). WithinRead confirmed size v r w) (sym e) h)
 
 next_further : (confirmed : Confirmed) (size : Size) (r : ClientReading) (b : ℕ) (bs : List ℕ) (w : View) → ComesNext confirmed size r (b ∷ []) w → ComesNext confirmed size r (b ∷ bs) w
 next_further confirmed size r b bs w (inl h) = inl h
@@ -211,15 +298,15 @@ pub one_byte_less : (confirmed : Confirmed) (size : Size) (first : ClientReading
 one_byte_less confirmed size first all b bs left m n k j l e o = further confirmed size first all (b ∷ []) bs left m n k j l e o
 
 -- those within the packet are read
-pub taken_left : (confirmed : Confirmed) (size : Size) (first : ClientReading) (all : List ℕ) (n : ℕ) (left : List ℕ) (m : Viewer) (k j : CutterOf) → (l : LeftBytes confirmed size first all left m k)
-    → GoesOn l.here.cut (updates_from l.here.cut (take n left)) j → LeftBytes confirmed size first all (drop n left) m j
-taken_left confirmed size first all n left m k j l g =
-    further confirmed size first all (take n left) (drop n left) left m m k j l (sym (take-append-drop n left)) (reads_within confirmed size l.here (take n left) m k j l.stand g)
+pub taken_left : (confirmed : Confirmed) (size : Size) (first : ClientReading) (all : List ℕ) (n : ℕ) (left : List ℕ) (m : Viewer) (k j : CutterOf) → (l : LeftBytes confirmed size first all left m k) → confirmed ≡ m.confirmed
+    → j.fast ≡ k.fast → GoesOn l.here.cut (updates_from k.fast l.here.cut (take n left)) j → LeftBytes confirmed size first all (drop n left) m j
+taken_left confirmed size first all n left m k j l same kept g =
+    further confirmed size first all (take n left) (drop n left) left m m k j l (sym (take-append-drop n left)) (reads_within confirmed size l.here (take n left) m k j same l.stand kept g)
 
-pub taken_behind : (confirmed : Confirmed) (size : Size) (first : ClientReading) (all : List ℕ) (n i : ℕ) (bytes : List ℕ) (m : Viewer) (k j : CutterOf) → (l : LeftBytes confirmed size first all (drop i bytes) m k)
-    → GoesOn l.here.cut (updates_from l.here.cut (take n (drop i bytes))) j → LeftBytes confirmed size first all (drop (i + n) bytes) m j
-taken_behind confirmed size first all n i bytes m k j l g =
-    subst (λ (left : List ℕ). LeftBytes confirmed size first all left m j) (drop-drop n i bytes) (taken_left confirmed size first all n (drop i bytes) m k j l g)
+pub taken_behind : (confirmed : Confirmed) (size : Size) (first : ClientReading) (all : List ℕ) (n i : ℕ) (bytes : List ℕ) (m : Viewer) (k j : CutterOf) → (l : LeftBytes confirmed size first all (drop i bytes) m k) → confirmed ≡ m.confirmed → j.fast ≡ k.fast
+    → GoesOn l.here.cut (updates_from k.fast l.here.cut (take n (drop i bytes))) j → LeftBytes confirmed size first all (drop (i + n) bytes) m j
+taken_behind confirmed size first all n i bytes m k j l same kept g =
+    subst (λ (left : List ℕ). LeftBytes confirmed size first all left m j) (drop-drop n i bytes) (taken_left confirmed size first all n (drop i bytes) m k j l same kept g)
 
 pub one_byte_refused : (f : ClientFault) (confirmed : Confirmed) (size : Size) (first : ClientReading) (all : List ℕ) (b : ℕ) (bs left : List ℕ) (m : Viewer) (k : CutterOf) → (l : LeftBytes confirmed size first all left m k) → left ≡ b ∷ bs
     → RefusesAt f (read_on confirmed size l.here (b ∷ [])) → RefusesAt f (read_on confirmed size first all)

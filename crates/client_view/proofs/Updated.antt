@@ -10,20 +10,21 @@ use Rattle.order_fields.specs.OrderStream.{Stream}
 use Rattle.order_read.specs.Told.{Told, told_order, told_orders}
 use Rattle.order_means.specs.ClientState.{ClientState}
 use Rattle.order_means.specs.ClientState.Fault.{Broken}
+use Rattle.order_means.specs.Updates.{BodyForm, body_at}
 use Rattle.order_means.specs.FrameMarks.{View, Update, meant, obeyed, with_registers, view_after_orders, view_after_stream, view_after_read}
 use Rattle.update_read.specs.Told.{IsRefusedAt}
 use Rattle.client_view.specs.declared.viewer.Viewer.{Viewer}
 use Rattle.client_view.specs.Told.{view_after_all_told}
 use Rattle.client_view.specs.Views.{StandsFor}
 use Rattle.client_view.specs.OnTheWay.{AfterFirstTold, WithinStream}
-use Rattle.client_view.specs.Refusals.{refusal, body_at}
+use Rattle.client_view.specs.Refusals.{refusal}
 use Rattle.client_view.proofs.ToldMeaning.{all_alike}
 
 -- the orders of an update that was read whole, as they are told
-pub stream_shown : (confirmed : Confirmed) (size : Size) (place : ℕ) (bytes : List ℕ) (v : View) (s : Stream) (regs : Registers) (ts : List Told) → s.refused ≡ None → s.after ≡ regs → ts ≡ told_orders s.orders
-    → view_after_stream confirmed size (body_at place bytes) v s ≡ meant place (view_after_all_told confirmed size (with_registers v regs) ts)
-stream_shown confirmed size place bytes v s regs ts r a t =
-    ap (obeyed confirmed size (body_at place bytes) v s) r
+pub stream_shown : (confirmed : Confirmed) (size : Size) (place : ℕ) (form : BodyForm) (bytes : List ℕ) (v : View) (s : Stream) (regs : Registers) (ts : List Told) → s.refused ≡ None → s.after ≡ regs → ts ≡ told_orders s.orders
+    → view_after_stream confirmed size (body_at place form bytes) v s ≡ meant place (view_after_all_told confirmed size (with_registers v regs) ts)
+stream_shown confirmed size place form bytes v s regs ts r a t =
+    ap (obeyed confirmed size (body_at place form bytes) v s) r
     ∙ ap (meant place) (all_alike confirmed size (with_registers v s.after) s.orders ∙ ap (view_after_all_told confirmed size (with_registers v s.after)) (sym t))
     ∙ ap (λ (x : Registers). meant place (view_after_all_told confirmed size (with_registers v x) ts)) a
 
@@ -37,10 +38,10 @@ registers_stand v m regs s = record {
 }
 
 -- an update that is refused at a field
-pub bad_update : (confirmed : Confirmed) (size : Size) (v : View) (place : ℕ) (bytes : List ℕ) (read : Read Update) (at : ℕ) → IsRefusedAt bytes read at
-    → view_after_read confirmed size (body_at place bytes) v read ≡ Err (refusal (place + (0 + at)) Broken)
-bad_update confirmed size v place bytes (Ok u) at h = absurd h
-bad_update confirmed size v place bytes (Err left) at h =
+pub bad_update : (confirmed : Confirmed) (size : Size) (v : View) (place : ℕ) (form : BodyForm) (bytes : List ℕ) (read : Read Update) (at : ℕ) → IsRefusedAt bytes read at
+    → view_after_read confirmed size (body_at place form bytes) v read ≡ Err (refusal (place + (0 + at)) Broken)
+bad_update confirmed size v place form bytes (Ok u) at h = absurd h
+bad_update confirmed size v place form bytes (Err left) at h =
     let same : length bytes - length left ≡ 0 + at = omega (arith, h) in
     ap (λ (n : ℕ). Err (refusal (place + n) Broken)) same
 

@@ -1,5 +1,6 @@
 -- A client in code, and which readings of a host's bytes it stands for.
 use Rattle.std.specs.Prelude.{◌≡◌, Option, Some, None, Result, Ok, Err}
+use Rattle.caps_sets.specs.Confirmed.{takes_fast}
 use Rattle.order_means.specs.Updates.{refusal_in}
 use Rattle.order_means.specs.FrameMarks.{ClientReading, Refusal}
 use Rattle.update_read.specs.Cutters.{CutterOf, Stands}
@@ -18,6 +19,7 @@ pub record ClientOf : Type 0 where
 pub record StandFor (r : ClientReading) (m : Viewer) (k : CutterOf) : Type 0 where
   pub view : StandsFor r.view m
   pub cut : Stands r.cut k
+  pub fast : k.fast ≡ takes_fast m.confirmed
   pub unrefused : refusal_in r.cut.stage ≡ None
 
 -- the meaning gives a reading, for which they then stand, or refuses

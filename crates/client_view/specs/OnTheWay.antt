@@ -4,8 +4,9 @@ use Rattle.px_core.specs.declared.surface.Size.{Size}
 use Rattle.wire_num.specs.Field.{Read}
 use Rattle.caps_sets.specs.declared.confirmed.Confirmed.{Confirmed}
 use Rattle.order_fields.specs.OrderStream.{Order, Stream, orders_in}
-use Rattle.order_means.specs.Updates.{Body, updates_by}
-use Rattle.order_means.specs.FrameMarks.{View, Tile, Update, ClientReading, with_registers, view_after_orders, view_after_tiles, update_at, read_on}
+use Rattle.caps_sets.specs.Confirmed.{takes_fast}
+use Rattle.order_means.specs.Updates.{Body, BodyForm, updates_by}
+use Rattle.order_means.specs.FrameMarks.{View, Tile, Update, ClientReading, with_registers, view_after_orders, view_after_tiles, view_after_bodies, update_by_form, update_in, read_on}
 use Rattle.order_means.specs.FrameMarks.Update.{Orders, Tiles, Synchronize}
 use Rattle.order_read.specs.Told.{Told}
 use Rattle.client_picture.specs.Pictures.{unknown_picture}
@@ -62,22 +63,37 @@ WithinRead confirmed size v (Err left) w = ⊥
 abbrev pub MidUpdate : Confirmed → Size → View → Update → View → Type 0
 MidUpdate confirmed size v u w = (w ≡ v) ⊎ WithinUpdate confirmed size v u w
 
-abbrev pub MidBody : Confirmed → Size → View → List ℕ → View → Type 0
-MidBody confirmed size v bytes w = (w ≡ v) ⊎ WithinRead confirmed size v (update_at bytes) w
+abbrev pub MidBody : Confirmed → Size → View → BodyForm → List ℕ → View → Type 0
+MidBody confirmed size v form bytes w = (w ≡ v) ⊎ WithinRead confirmed size v (update_by_form form bytes) w
+
+-- ---- within the updates of a packet
+
+-- within the first one of these updates
+abbrev pub WithinFirst : Confirmed → Size → View → List Body → View → Type 0
+WithinFirst confirmed size v [] w = ⊥
+WithinFirst confirmed size v (body ∷ bodies) w = WithinRead confirmed size v (update_in body) w
+
+-- the first updates of a packet are obeyed, none, some or all, and the view is the one after them, or within the next one
+pub record WithinPacket (confirmed : Confirmed) (size : Size) (v : View) (bodies : List Body) (w : View) : Type 0 where
+  pub front : List Body
+  pub more : List Body
+  pub whole : bodies ≡ front ++ more
+  pub before : View
+  pub obeyed : view_after_bodies confirmed size v front ≡ Ok before
+  pub there : (w ≡ before) ⊎ WithinFirst confirmed size before more w
 
 -- ---- in a stream
 
--- within the update whose packet the next byte ends
+-- within the packet that the next byte ends
 abbrev pub WithinNext : Confirmed → Size → ClientReading → List ℕ → View → Type 0
 WithinNext confirmed size here [] w = ⊥
-WithinNext confirmed size here (b ∷ bs) w =
-    (body : Body) × ((updates_by here.cut.place here.cut.stage b).bodies ≡ body ∷ []) × WithinRead confirmed size here.view (update_at body.bytes) w
+WithinNext confirmed size here (b ∷ bs) w = WithinPacket confirmed size here.view (updates_by (takes_fast confirmed) here.cut.place here.cut.stage b).bodies w
 
--- the view of a reading, or one within the update whose packet the next byte ends
+-- the view of a reading, or one within the packet that the next byte ends
 abbrev pub ComesNext : Confirmed → Size → ClientReading → List ℕ → View → Type 0
 ComesNext confirmed size here bytes w = (w ≡ here.view) ⊎ WithinNext confirmed size here bytes w
 
--- a viewer that reads on from a reading comes to this view: a front of the bytes is read, and the view is the one after it, or within the next update
+-- a viewer that reads on from a reading comes to this view: a front of the bytes is read, and the view is the one after it, or within the next packet
 pub record ComesTo (confirmed : Confirmed) (size : Size) (r : ClientReading) (bytes : List ℕ) (w : View) : Type 0 where
   pub front : List ℕ
   pub left : List ℕ

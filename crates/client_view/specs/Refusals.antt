@@ -1,8 +1,7 @@
 -- What calls say that read a host's bytes: where and why they are refused.
-use Rattle.std.specs.Prelude.{◌≡◌, ℕ, List, true, false, Result, Ok, Err, ⊤}
+use Rattle.std.specs.Prelude.{◌≡◌, ℕ, true, false, Result, Ok, Err, ⊤}
 use Rattle.order_means.specs.ClientState.{Fault}
 use Rattle.order_means.specs.ClientState.Fault.{Broken, Oversized, Empty}
-use Rattle.order_means.specs.Updates.{Body}
 use Rattle.order_means.specs.FrameMarks.{View, Refusal}
 use Rattle.client_view.specs.declared.client_fault.ClientFault.{ClientFault}
 use Rattle.client_view.specs.declared.client_fault.ClientFault.TheVariants.{Refused, Named, OutOfMemory}
@@ -24,7 +23,3 @@ RefusesAt OutOfMemory meaning = ⊤
 abbrev pub Shows : Result (Unit {0}) ClientFault → Result View Refusal → Viewer → Type 0
 Shows (Ok done) meaning new = (w : View) × (meaning ≡ Ok w) × StandsFor w new
 Shows (Err f) meaning new = RefusesAt f meaning
-
--- an update's body at its place
-abbrev pub body_at : ℕ → List ℕ → Body
-body_at place bytes = record { place = place; bytes = bytes }

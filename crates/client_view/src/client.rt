@@ -19,7 +19,8 @@ use std::alloc::Global;
 use std::marker::Model;
 use update_read::Cutter;
 
-/// What a viewer is shown: it reads the host's bytes from the first update on, and keeps the picture of its last mark.
+/// What a viewer is shown: it reads the host's bytes from the first update on, in packets of the fast path too where it takes them, and keeps
+/// the picture of its last mark.
 #[derive(Drop)]
 pub struct Client {
     alloc: Global,
@@ -43,8 +44,9 @@ impl Client {
         ensures confirmed { IfOk result (λ client. client.viewer.confirmed ≡ confirmed) }
         ensures size { IfOk result (λ client. client.viewer.pictures.size ≡ size) }
     {
+        let fast = confirmed.fast;
         let viewer = Viewer::new(alloc, confirmed, size)?;
-        let cutter = Cutter::new(alloc)?;
+        let cutter = Cutter::new(alloc, fast)?;
         Ok(Client {
             alloc,
             viewer,
@@ -55,7 +57,7 @@ impl Client {
 
     /// Reads the next bytes of the stream, and refuses it where it is to be refused, then and from then on. After want of memory the client
     /// is spent, and answers it again. After an `Err` nothing changes any more: the marks, the picture of the last one and the counts are
-    /// those of a view that the reading came to, be it before an update or behind some of its orders or rectangles.
+    /// those of a view that the reading came to: before an update, also behind others of its packet, or behind some of its orders or rectangles.
     pub fn feed(&mut self, bytes: &[u8]) -> Result<(), ClientFault>
         ensures read { (r : ClientReading) → IsReading r self.old → Feeds result (read_on self.old.viewer.confirmed self.old.viewer.pictures.size r bytes.now) self.new }
         ensures same { SameViewer self.old.viewer self.new.viewer }

@@ -1,10 +1,12 @@
-//! An update's body ([MS-RDPBCGR] 2.2.9.1.1.3).
+//! An update's body ([MS-RDPBCGR] 2.2.9.1.1.3), or the data of one of the fast path (2.2.9.1.2.1).
 
 ghost use Rattle.std.specs.Prelude.{◌≡◌, ◌+◌, ℕ, drop, OnErr};
+ghost use Rattle.order_means.specs.Updates.{BodyForm as Form, body_at};
 ghost use Rattle.order_means.specs.FrameMarks.{View, view_after_update, view_after_body};
 ghost use Rattle.order_means.specs.FrameMarks.Update.{Orders};
 ghost use Rattle.client_view.specs.Views.{capped, StandsFor, SameViewer};
-ghost use Rattle.client_view.specs.Refusals.{Shows, body_at};
+ghost use Rattle.update_read.specs.Forms.{told_form};
+ghost use Rattle.client_view.specs.Refusals.{Shows};
 ghost use Rattle.client_view.specs.OnTheWay.{Stops, MidUpdate, MidBody};
 
 use crate::ClientFault;
@@ -15,7 +17,7 @@ use crate::tiles::obey_tiles;
 use crate::viewer::Viewer;
 use order_read::{OrderFault, read_orders};
 use std::alloc::Global;
-use update_read::{Update, UpdateFault, read_update};
+use update_read::{BodyForm, Update, UpdateFault, read_update};
 
 /// Obeys so many orders, which stand from an offset on in an update's body that begins at a place. An `Err` leaves the marks and the counts
 /// of those that were obeyed.
@@ -27,8 +29,8 @@ fn obey_orders(
     from: usize,
     count: u16,
 ) -> Result<(), ClientFault>
-    ensures shown { (v : View) (place : ℕ) → StandsFor v viewer.old → at ≡ capped place
-        → Shows result (view_after_update viewer.old.confirmed viewer.old.pictures.size (body_at place body.now) v (Orders count (drop from body.now))) viewer.new }
+    ensures shown { (v : View) (place : ℕ) (form : Form) → StandsFor v viewer.old → at ≡ capped place
+        → Shows result (view_after_update viewer.old.confirmed viewer.old.pictures.size (body_at place form body.now) v (Orders count (drop from body.now))) viewer.new }
     ensures same { SameViewer viewer.old viewer.new }
     ensures stopped { (v : View) → StandsFor v viewer.old → OnErr result (Stops (MidUpdate viewer.old.confirmed viewer.old.pictures.size v (Orders count (drop from body.now))) viewer.new) }
 {
@@ -50,19 +52,20 @@ fn behind_place(at: u64, first: usize, more: usize) -> u64
     at.saturating_add(first as u64).saturating_add(more as u64)
 }
 
-/// Obeys an update whose body begins at a place. An `Err` leaves the marks and the counts of what was obeyed.
+/// Obeys an update that came so, whose body begins at a place. An `Err` leaves the marks and the counts of what was obeyed.
 pub(crate) fn obey_update(
     viewer: &mut Viewer,
     alloc: Global,
     at: u64,
+    form: BodyForm,
     body: &[u8],
 ) -> Result<(), ClientFault>
     ensures shown { (v : View) (place : ℕ) → StandsFor v viewer.old → at ≡ capped place
-        → Shows result (view_after_body viewer.old.confirmed viewer.old.pictures.size v (body_at place body.now)) viewer.new }
+        → Shows result (view_after_body viewer.old.confirmed viewer.old.pictures.size v (body_at place (told_form form) body.now)) viewer.new }
     ensures same { SameViewer viewer.old viewer.new }
-    ensures stopped { (v : View) → StandsFor v viewer.old → OnErr result (Stops (MidBody viewer.old.confirmed viewer.old.pictures.size v body.now) viewer.new) }
+    ensures stopped { (v : View) → StandsFor v viewer.old → OnErr result (Stops (MidBody viewer.old.confirmed viewer.old.pictures.size v (told_form form) body.now) viewer.new) }
 {
-    match read_update(alloc, body) {
+    match read_update(alloc, form, body) {
         Ok(Update::Orders { count, from }) => obey_orders(viewer, alloc, at, body, from, count),
         Ok(Update::Tiles(tiles)) => meant(at, obey_tiles(viewer, alloc, body, &tiles)),
         Ok(Update::Synchronize) => {

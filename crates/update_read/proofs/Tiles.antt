@@ -44,7 +44,7 @@ tile_read c s bs a b more xs e f g =
 
 -- ---- parts of a body
 
-taken_front : (count : ℕ) (bs part more : List ℕ) → bytes_at count bs ≡ Ok (part, more) → (count ≤ length bs) × (part ≡ take count bs) × (more ≡ drop count bs)
+pub taken_front : (count : ℕ) (bs part more : List ℕ) → bytes_at count bs ≡ Ok (part, more) → (count ≤ length bs) × (part ≡ take count bs) × (more ≡ drop count bs)
 taken_front count bs part more e =
     let p = short_ok (nat_lt (length bs) count) bs (take count bs, drop count bs) (part, more) (sym (bytes_at_is count bs) ∙ e) in
     (fits count (length bs) p.0, sym (ap (λ x. x.0) p.1), sym (ap (λ x. x.1) p.1))

@@ -1,4 +1,5 @@
 pub mod Parts
 pub mod Told
 pub mod PacketParts
+pub mod Forms
 pub mod Cutters

@@ -1,10 +1,10 @@
 ghost use Rattle.std.specs.Prelude.{◌≡◌, ◌≤◌, ◌<◌, ◌+◌, ◌++◌, ◌∷◌, [], take, length, IfOk};
-ghost use Rattle.order_means.specs.Updates.{Cutting, cutting, updates_by, updates_from};
+ghost use Rattle.order_means.specs.Updates.{Cutting, cutting, Updates, updates_by, updates_from};
 ghost use Rattle.order_means.specs.Updates.Stage.{Between};
 ghost use Rattle.update_read.specs.declared.state.State.TheVariants.{Open};
-ghost use Rattle.update_read.specs.Cutters.{Stands, Gives, GoesOn, IsMissing, step_of, step_by, body_by, place_after};
+ghost use Rattle.update_read.specs.Cutters.{Stands, Gives, GoesOn, IsMissing, behind_first, pending, step_of, step_by, body_by, place_after};
 
-use crate::judge::{judge, length_of};
+use crate::judge::{judge, judge_behind, length_in};
 use crate::state::State;
 use crate::{OutOfMemory, Step};
 use std::alloc::Global;
@@ -13,11 +13,13 @@ use std::marker::Model;
 /// The bytes of the longest packet.
 const LONGEST: usize = 65_535;
 
-/// Cuts a host's bytes into the updates of its packets, one byte at a time.
+/// Cuts a host's bytes into the updates of its packets, one byte at a time. A packet of the fast path may have several updates: `push` gives
+/// the first one, and `go_on` those behind it, before the next byte.
 ///
 /// Places are counted in bytes from the stream's first one.
 #[derive(Drop)]
 pub struct Cutter {
+    fast: bool,
     start: u64,
     bytes: Vec<u8>,
     count: usize,
@@ -30,18 +32,20 @@ impl Model for Cutter {
 
     ghost Value = { CutterOf };
 
-    ghost view = { λ c. record { start = c.start; packet = take c.count c.bytes.items; state = c.state } };
+    ghost view = { λ c. record { fast = c.fast; start = c.start; packet = take c.count c.bytes.items; state = c.state } };
 
     ghost invariant = { λ c. (length c.bytes.items ≡ 65535) × (c.count ≤ 65535) × IsSoundBy c.state (take c.count c.bytes.items) };
 }
 
 impl Cutter {
-    /// A cutter at the stream's first byte. It takes its memory here.
-    pub fn new(alloc: Global) -> Result<Cutter, OutOfMemory>
-        ensures { IfOk result (λ c. Stands (cutting 0 Between) c) }
+    /// A cutter at the stream's first byte, of a viewer that takes the fast path or not. It takes its memory here.
+    pub fn new(alloc: Global, fast: bool) -> Result<Cutter, OutOfMemory>
+        ensures stands { IfOk result (λ c. Stands (cutting 0 Between) c) }
+        ensures fast { IfOk result (λ c. c.fast ≡ fast) }
     {
         let bytes = vec![in alloc; 0; LONGEST]?;
         Ok(Cutter {
+            fast,
             start: 0,
             bytes,
             count: 0,
@@ -49,10 +53,11 @@ impl Cutter {
         })
     }
 
-    /// Goes on by one byte. A refusal is answered again from then on.
+    /// Goes on by one byte, once all updates of the packet before it were given. A refusal is answered again from then on.
     pub fn push(&mut self, byte: u8) -> Step
         ensures step { result ≡ step_of self.new }
-        ensures cut { (c : Cutting) → Stands c self.old → Gives (updates_by c.place c.stage byte) self.new }
+        ensures cut { (c : Cutting) → Stands c self.old → Gives (updates_by self.old.fast c.place c.stage byte) self.new }
+        ensures fast { self.new.fast ≡ self.old.fast }
     {
         if let State::Refused(at) = self.state {
             return Step::Refused { at };
@@ -61,14 +66,26 @@ impl Cutter {
         self.bytes[count] = byte;
         self.start = start;
         self.count = count + 1;
-        self.state = judge(start, &self.bytes[..count + 1]);
+        self.state = judge(self.fast, start, &self.bytes[..count + 1]);
         step_of(self.state, start)
+    }
+
+    /// Goes on to the next update of the packet, behind the one that was given. Without a further one the answer is `More`, or the packet's refusal.
+    pub fn go_on(&mut self) -> Step
+        ensures step { result ≡ step_of self.new }
+        ensures cut { (u : Updates) → Gives u self.old → Gives (behind_first u) self.new }
+        ensures fast { self.new.fast ≡ self.old.fast }
+        ensures fewer { 0 < pending self.old → pending self.new < pending self.old }
+    {
+        self.state = judge_behind(self.state, self.start, &self.bytes[..self.count]);
+        step_of(self.state, self.start)
     }
 
     /// Takes some of these bytes from the front, maybe none, by which no update ends and nothing is refused, and says how many.
     pub fn take(&mut self, bytes: &[u8]) -> usize
         ensures count { result ≤ length bytes.now }
-        ensures cut { (c : Cutting) → Stands c self.old → GoesOn c (updates_from c (take result bytes.now)) self.new }
+        ensures cut { (c : Cutting) → Stands c self.old → GoesOn c (updates_from self.old.fast c (take result bytes.now)) self.new }
+        ensures fast { self.new.fast ≡ self.old.fast }
     {
         let count = sure(self.state, &self.bytes[..self.count]).min(bytes.len());
         if count == 0 {
@@ -79,12 +96,12 @@ impl Cutter {
         count
     }
 
-    /// The body of the update whose packet the last byte ended; none else.
+    /// The body of the update that was given last; none else.
     pub fn body(&self) -> &[u8]
         ensures { result.now ≡ body_by self.now.state self.now.packet }
     {
         match self.state {
-            State::Whole(part) => &self.bytes[..self.count][part.from..part.to],
+            State::Update(found) => &self.bytes[..self.count][found.body.from..found.body.to],
             _ => &[],
         }
     }
@@ -94,10 +111,8 @@ impl Cutter {
 fn sure(state: State, packet: &[u8]) -> usize
     ensures { 0 < result → (state ≡ Open) × IsMissing packet.now result }
 {
-    match (state, packet) {
-        (State::Open, [_, _, high, low, ..]) => {
-            length_of(*high, *low).saturating_sub(packet.len() + 1)
-        }
+    match state {
+        State::Open => length_in(packet).saturating_sub(packet.len() + 1),
         _ => 0,
     }
 }
@@ -116,19 +131,20 @@ fn place_after(state: State, start: u64, count: usize) -> (u64, usize)
     ensures { result ≡ place_after state start count }
 {
     match state {
-        State::Whole(_) => (start.saturating_add(count as u64), 0),
-        _ => (start, count),
+        State::Update(_) | State::Ended => (start.saturating_add(count as u64), 0),
+        State::Open | State::Refused(_) => (start, count),
     }
 }
 
-/// What the last byte gave.
+/// What a cutter has come to.
 fn step_of(state: State, start: u64) -> Step
     ensures { result ≡ step_by state start }
 {
     match state {
-        State::Open => Step::More,
-        State::Whole(part) => Step::Update {
-            at: start.saturating_add(part.from as u64),
+        State::Open | State::Ended => Step::More,
+        State::Update(found) => Step::Update {
+            at: start.saturating_add(found.body.from as u64),
+            form: found.form,
         },
         State::Refused(at) => Step::Refused { at },
     }

@@ -1,9 +1,11 @@
 //! A host's bytes as a client reads them: cut into updates in whatever pieces they come, and the bodies of updates
-//! ([MS-RDPBCGR] 2.2.9.1.1).
+//! ([MS-RDPBCGR] 2.2.9.1.1 and 2.2.9.1.2).
 #![tactic(auto)]
 
 mod cutter;
+mod fast;
 mod fault;
+mod form;
 mod judge;
 mod packet;
 mod share;
@@ -14,6 +16,7 @@ mod update;
 
 pub use cutter::Cutter;
 pub use fault::UpdateFault;
+pub use form::BodyForm;
 pub use step::Step;
 pub use tile::Tile;
 pub use update::{Update, read_update};

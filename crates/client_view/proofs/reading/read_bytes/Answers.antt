@@ -1,4 +1,4 @@
-use Rattle.std.proofs.Common.{◌∙◌, ◌≡◌, ◌≤◌, ◌+◌, ◌-◌, arith, get_or, drop, take, length, refl}
+use Rattle.std.proofs.Common.{◌∙◌, ◌≡◌, ◌≤◌, ◌+◌, ◌-◌, sym, arith, get_or, drop, take, length, refl}
 use Rattle.std.proofs.lemmas.Result.{err_from_is_err_and}
 use Rattle.std.proofs.lemmas.List.{take_all, length-drop}
 use Rattle.client_view.proofs.Streams.{all_bytes, byte_left, one_byte_less, one_byte_refused, one_byte_stopped, taken_left, taken_behind}
@@ -10,7 +10,7 @@ loop-at-init c =
     record {
       left = λ r s.
           let l = all_bytes m.confirmed m.pictures.size r c.args.bytes.now m c.args.cutter.now s in
-          taken_left m.confirmed m.pictures.size r c.args.bytes.now c.take-at.result c.args.bytes.now m c.args.cutter.now c.take-at.new.self l (c.take-at.ensures.cut l.here.cut l.stand.cut);
+          taken_left m.confirmed m.pictures.size r c.args.bytes.now c.take-at.result c.args.bytes.now m c.args.cutter.now c.take-at.new.self l refl c.take-at.ensures.fast (c.take-at.ensures.cut l.here.cut l.stand.cut);
       same = record { confirmed = refl; size = refl };
       within = c.take-at.ensures.count;
     }
@@ -49,7 +49,7 @@ loop-at-preserved c =
           let l = c.loop-at.invariant.left r s in
           let read = rw (c.loop-at.invariant.same.confirmed, c.loop-at.invariant.same.size) at (c.in_ok-read_byte.ensures.read l.here l.stand) in
           let k = one_byte_less m.confirmed m.pictures.size r bytes (get_or bytes i 0) (drop (i + 1) bytes) (drop i bytes) _ _ _ _ l (byte_left bytes i below) read in
-          taken_behind m.confirmed m.pictures.size r bytes n (i + 1) bytes _ _ _ k (cut k.here.cut k.stand.cut);
+          taken_behind m.confirmed m.pictures.size r bytes n (i + 1) bytes _ _ _ k (sym (c.in_ok-read_byte.ensures.same.confirmed ∙ c.loop-at.invariant.same.confirmed)) c.take-at-in-loop-at.ensures.fast (cut k.here.cut k.stand.cut);
       same = record { confirmed = c.in_ok-read_byte.ensures.same.confirmed ∙ c.loop-at.invariant.same.confirmed; size = c.in_ok-read_byte.ensures.same.size ∙ c.loop-at.invariant.same.size };
       within = omega (arith, count, size, below);
     }

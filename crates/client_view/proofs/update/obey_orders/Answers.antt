@@ -7,7 +7,8 @@ use Rattle.order_read.specs.Told.{told_reads}
 use Rattle.order_means.specs.ClientState.{ClientState}
 use Rattle.order_means.specs.FrameMarks.{View, Refusal, with_registers, view_after_stream}
 use Rattle.client_view.specs.Told.{view_after_all_told}
-use Rattle.client_view.specs.Refusals.{Shows, body_at}
+use Rattle.order_means.specs.Updates.{body_at}
+use Rattle.client_view.specs.Refusals.{Shows}
 use Rattle.client_view.specs.OnTheWay.{AfterFirstTold, WithinStream, MidUpdate}
 use Rattle.order_means.specs.FrameMarks.Update.{Orders}
 use Rattle.client_view.proofs.Streams.{stops_by}
@@ -15,7 +16,7 @@ use Rattle.client_view.proofs.Updated.{stream_shown, registers_stand, within_str
 use Rattle.client_view.proofs.update.obey_orders.Goals as goal
 
 pub returns-in-Ok-clause-shown : goal.returns-in-Ok-clause-shown
-returns-in-Ok-clause-shown c = λ v place s at.
+returns-in-Ok-clause-shown c = λ v place form s at.
     let m = c.args.viewer.now in
     let regs = c.read_orders.new.regs in
     let orders = c.behind-orders.result.now in
@@ -27,10 +28,10 @@ returns-in-Ok-clause-shown c = λ v place s at.
     let meaning = view_after_all_told m.confirmed m.pictures.size (with_registers v regs) ts in
     let here : v.client.registers ≡ m.regs = ap (λ (x : ClientState). x.registers) s.client in
     let deep : v.client.depth ≡ c.depth-depth.result = ap (λ (x : ClientState). x.depth) s.client ∙ sym c.depth-depth.ensures in
-    let shown = stream_shown m.confirmed m.pictures.size place c.args.body.now v stream regs ts read.0 read.2 told in
-    let moved = ap (λ (x : Depth). view_after_stream m.confirmed m.pictures.size (body_at place c.args.body.now) v (orders_in x (drop c.args.from c.args.body.now) c.args.count v.client.registers)) deep
-    ∙ ap (λ (x : Registers). view_after_stream m.confirmed m.pictures.size (body_at place c.args.body.now) v (orders_in c.depth-depth.result (drop c.args.from c.args.body.now) c.args.count x)) here
-    ∙ ap (λ (bs : List ℕ). view_after_stream m.confirmed m.pictures.size (body_at place c.args.body.now) v (orders_in c.depth-depth.result bs c.args.count m.regs)) (sym c.behind-orders.ensures.value) in
+    let shown = stream_shown m.confirmed m.pictures.size place form c.args.body.now v stream regs ts read.0 read.2 told in
+    let moved = ap (λ (x : Depth). view_after_stream m.confirmed m.pictures.size (body_at place form c.args.body.now) v (orders_in x (drop c.args.from c.args.body.now) c.args.count v.client.registers)) deep
+    ∙ ap (λ (x : Registers). view_after_stream m.confirmed m.pictures.size (body_at place form c.args.body.now) v (orders_in c.depth-depth.result (drop c.args.from c.args.body.now) c.args.count x)) here
+    ∙ ap (λ (bs : List ℕ). view_after_stream m.confirmed m.pictures.size (body_at place form c.args.body.now) v (orders_in c.depth-depth.result bs c.args.count m.regs)) (sym c.behind-orders.ensures.value) in
     subst (λ (x : Result View Refusal). Shows c.meant.result x c.obey_all.new.viewer) (sym (moved ∙ shown)) (c.meant.ensures.shown place meaning c.obey_all.new.viewer at obeyed)
 
 pub returns-in-Ok-clause-stopped : goal.returns-in-Ok-clause-stopped

@@ -1,16 +1,8 @@
-use Rattle.std.proofs.Common.{◌≡◌, ◌+◌, ◌*◌, ◌∙◌, sym, arith}
+use Rattle.std.proofs.Common.{refl}
 use Rattle.std.specs.Prelude.{slice_index}
-use Rattle.update_read.proofs.Judged.{goes_on, too_short, capped_more}
+use Rattle.update_read.proofs.Judged.{first_told}
 use Rattle.update_read.proofs.judge.judge.Goals as goal
 
-pub returns-then-length-lt-LEAST_LENGTH : goal.returns-then-length-lt-LEAST_LENGTH
-returns-then-length-lt-LEAST_LENGTH c s front b e fits start =
-    (_, too_short s c.args.packet.now front b e c.if-count-eq-HEADER_SIZE.true (rw c.length_of-length.ensures.value at c.if-length-lt-LEAST_LENGTH.true), rw c.saturating_add.ensures (capped_more s c.args.start 2 start))
-
-pub returns : goal.returns
-returns c s front b e fits start =
-    let value : c.length_of-length.result ≡ 256 * slice_index c.args.packet.now 2 + slice_index c.args.packet.now 3 = c.length_of-length.ensures.value in
-    let most = c.length_of-length.ensures.most in
-    let either = c.else-count-eq-HEADER_SIZE.either in
-    let not_whole = c.if-count-length.false in
-    goes_on s c.args.packet.now front b e fits c.if-count-lt-HEADER_SIZE.false (omega (arith, value, most)) (λ four. grind (arith, either, four, value)) (λ whole. not_whole (whole ∙ sym value))
+pub returns-then-count-eq1 : goal.returns-then-count-eq1
+returns-then-count-eq1 c s front b e fits start =
+    first_told c.judge_first.result c.args.fast s (slice_index c.args.packet.now 0) c.args.packet.now front b e c.if-count-eq1.true refl (c.judge_first.ensures s start)
