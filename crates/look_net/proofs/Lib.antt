@@ -1,3 +1,4 @@
+pub mod HostHeads
 pub mod Refusals
 pub mod Packets
 pub mod Loop

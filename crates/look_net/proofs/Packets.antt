@@ -4,6 +4,7 @@ use Rattle.std.specs.Prelude.{Ok, Err}
 use Rattle.caps_sets.specs.declared.confirmed.Confirmed.{Confirmed}
 use Rattle.wire_num.specs.Field.{Read}
 use Rattle.wire_num.specs.Layout.{fields_at}
+use Rattle.fast_path.specs.Heads.{is_fast}
 use Rattle.share_pdu.specs.declared.finals.Final.{Final}
 use Rattle.share_pdu.specs.declared.finals.Final.TheVariants as final
 use Rattle.viewer_rules.specs.declared.stage.Channel.{Channel}
@@ -11,7 +12,7 @@ use Rattle.viewer_rules.specs.declared.stage.Channel.TheVariants as channel
 use Rattle.viewer_rules.specs.declared.stage.Stage.{Stage}
 use Rattle.viewer_rules.specs.declared.stage.Stage.TheVariants as stage
 use Rattle.viewer_rules.specs.HostAnswers.{connection_confirm, connect_response_answer, attach_answer, join_answer, indication, licence_answer, demand_answer, final_answer}
-use Rattle.viewer_rules.specs.ViewerHandshake.{Answered, by, after_join, after_final, packet_answered, Standing, silent, answered, is_farewell, shown_by, packet_told}
+use Rattle.viewer_rules.specs.ViewerHandshake.{Answered, by, after_join, after_final, packet_answered, Standing, silent, answered, is_farewell, shown_by, slow_answered, packet_told}
 use Rattle.viewer_rules.specs.Shown.{has_ended}
 use Rattle.look_net.specs.Looks.{IsOpen}
 use Rattle.look_net.specs.Watches.{is_shown}
@@ -29,23 +30,23 @@ nothing_shown stage.Shown shown free e g = absurd (let h : ⊥ = cc in h)
 nothing_shown stage.Over shown free e g = absurd (let h : ⊥ = cc in h)
 nothing_shown (stage.Refused at) shown free e g = absurd free
 
-told_by : (name : List ℕ) (c : Confirmed) (here : Stage) (s : Standing) (p shown : List ℕ) → IsOpen here shown → is_shown here ≡ false → has_ended here ≡ false
+told_by : (name : List ℕ) (c : Confirmed) (here : Stage) (s : Standing) (p shown : List ℕ) → IsOpen here shown → is_shown here ≡ false → has_ended here ≡ false → is_fast p ≡ false
     → packet_told name c here s p ≡ answered s p (packet_answered name c here p)
-told_by name c stage.Confirm s p shown free e g = refl
-told_by name c stage.Response s p shown free e g = refl
-told_by name c stage.Attach s p shown free e g = refl
-told_by name c (stage.Joins user which) s p shown free e g = refl
-told_by name c (stage.Licence user) s p shown free e g = refl
-told_by name c (stage.Demand user) s p shown free e g = refl
-told_by name c (stage.Finish user which) s p shown free e g = refl
-told_by name c stage.Shown s p shown free e g = absurd (let h : ⊥ = cc in h)
-told_by name c stage.Over s p shown free e g = absurd (let h : ⊥ = cc in h)
-told_by name c (stage.Refused at) s p shown free e g = absurd free
+told_by name c stage.Confirm s p shown free e g f = ap (λ b. slow_answered b s p (packet_answered name c stage.Confirm p)) f
+told_by name c stage.Response s p shown free e g f = ap (λ b. slow_answered b s p (packet_answered name c stage.Response p)) f
+told_by name c stage.Attach s p shown free e g f = ap (λ b. slow_answered b s p (packet_answered name c stage.Attach p)) f
+told_by name c (stage.Joins user which) s p shown free e g f = ap (λ b. slow_answered b s p (packet_answered name c (stage.Joins user which) p)) f
+told_by name c (stage.Licence user) s p shown free e g f = ap (λ b. slow_answered b s p (packet_answered name c (stage.Licence user) p)) f
+told_by name c (stage.Demand user) s p shown free e g f = ap (λ b. slow_answered b s p (packet_answered name c (stage.Demand user) p)) f
+told_by name c (stage.Finish user which) s p shown free e g f = ap (λ b. slow_answered b s p (packet_answered name c (stage.Finish user which) p)) f
+told_by name c stage.Shown s p shown free e g f = absurd (let h : ⊥ = cc in h)
+told_by name c stage.Over s p shown free e g f = absurd (let h : ⊥ = cc in h)
+told_by name c (stage.Refused at) s p shown free e g f = absurd free
 
 -- a packet of the handshake is answered
-pub answer_is : (name : List ℕ) (c : Confirmed) (s : Standing) (p : List ℕ) → IsOpen s.stage s.shown → is_shown s.stage ≡ false → has_ended s.stage ≡ false
+pub answer_is : (name : List ℕ) (c : Confirmed) (s : Standing) (p : List ℕ) → IsOpen s.stage s.shown → is_shown s.stage ≡ false → has_ended s.stage ≡ false → is_fast p ≡ false
     → packet_told name c s.stage s p ≡ answered s p (packet_answered name c s.stage p)
-answer_is name c s p free e g = told_by name c s.stage s p s.shown free e g
+answer_is name c s p free e g f = told_by name c s.stage s p s.shown free e g f
 
 pub shown_is : (here : Stage) → is_shown here ≡ true → here ≡ stage.Shown
 shown_is stage.Confirm e = absurd (let h : ⊥ = cc in h)

@@ -1,24 +1,27 @@
 -- A refusal stays, whatever comes, and no text is due any more.
-use Rattle.std.proofs.Common.{◌≡◌, ℕ, List, [], ◌∷◌, ◌++◌, length, refl, ap, sym, ◌∙◌, subst, Bool, true, false, ◌⊎◌, inl, inr}
+use Rattle.std.proofs.Common.{◌≡◌, ◌≤◌, ℕ, zero, suc, List, [], ◌∷◌, ◌++◌, length, take, drop, arith, refl, ap, sym, ◌∙◌, subst, Bool, true, false, ◌⊎◌, inl, inr}
 use Rattle.std.specs.Prelude.{Option, Some, None, Result, Ok, Err}
 use Rattle.px_core.specs.declared.surface.Size.{Size}
 use Rattle.caps_sets.specs.declared.confirmed.Confirmed.{Confirmed}
+use Rattle.caps_sets.specs.Confirmed.{takes_fast}
 use Rattle.wire_num.specs.Field.{bind}
 use Rattle.tpkt_x224.specs.declared.tpkt.Packet.{Packet}
-use Rattle.tpkt_x224.specs.declared.tpkt.Packet.TheVariants.{NotTpkt, BadLength}
-use Rattle.tpkt_x224.specs.Tpkt.{packet_at}
-use Rattle.tpkt_x224.specs.Pieces.{Cut, cut_by, cut_from, packets_of}
-use Rattle.tpkt_x224.proofs.Cutting.{once}
-use Rattle.tpkt_x224.proofs.Heads.{version_head, length_head}
+use Rattle.tpkt_x224.specs.declared.tpkt.Packet.TheVariants.{Whole, Part, NotTpkt, BadLength}
+use Rattle.tpkt_x224.specs.Pieces.{Cut, cut_by, cut_with, packets_with, after_packets}
+use Rattle.tpkt_x224.proofs.AnyCutting.{once, whole_is_cut}
+use Rattle.fast_path.specs.Heads.{is_fast}
 use Rattle.order_means.specs.FrameMarks.{ClientReading, Refusal, read_on, read_stream, first_reading}
 use Rattle.order_means.proofs.Pieces.{read_joined}
 use Rattle.client_view.specs.Clients.{ClientOf}
 use Rattle.viewer_rules.specs.declared.stage.Stage.{Stage}
 use Rattle.viewer_rules.specs.declared.stage.Stage.TheVariants as stage
-use Rattle.viewer_rules.specs.ViewerHandshake.{Standing, Told, silent, then_told, is_farewell, shown_by, packet_told, packets_told, Watching, cut_watched, watched, head_refusal, refusal_by, refusal_in}
+use Rattle.viewer_rules.specs.ViewerHandshake.{Standing, Told, silent, then_told, is_farewell, shown_by, slow_answered, place_behind, packet_answered, packet_told, packets_told, Watching, with_rest, cut_watched, watched, awaits_fast, length_place, head_refusal, refusal_by, refusal_in}
+use Rattle.viewer_rules.specs.HostStream.{host_packet_at}
+use Rattle.viewer_rules.proofs.HostStream.{reads_hosts}
 use Rattle.viewer_rules.specs.Shown.{shown_read, shown_refusal, first_refusal, look_refusal, has_ended}
 use Rattle.look_net.specs.Looks.{HasClient, IsOpen}
-use Rattle.look_net.specs.Watches.{RefusesPacket, IsRefusedFrom}
+use Rattle.look_net.specs.Watches.{is_shown, RefusesPacket, IsRefusedFrom}
+use Rattle.look_net.proofs.HostHeads.{awaited_head, neither_stays, bad_stays, early_kind}
 
 -- what a client makes of what a viewer is shown
 abbrev pub Shown : Confirmed → Standing → Option ℕ
@@ -28,6 +31,10 @@ pub client_reads : (c : Confirmed) (size : Option Size) (shown : List ℕ) (clie
 client_reads c None shown client start h = refl
 client_reads c (Some size) shown None start h = absurd h
 client_reads c (Some size) shown (Some client) start h = ap (λ (r : Result ClientReading Refusal). shown_refusal start (Some r)) h.reads
+
+-- a host's bytes, cut into packets for a client
+abbrev pub cut_of : Confirmed → List ℕ → Cut
+cut_of c bytes = packets_with (host_packet_at (takes_fast c)) bytes
 
 -- ---- where nothing changes
 
@@ -51,7 +58,7 @@ by_field c s part at here none = rw (here, none) refl
 field_refused : (name : List ℕ) (c : Confirmed) (w : Watching) (at : ℕ) → w.at.stage ≡ stage.Refused at → Shown c w.at ≡ None → IsRefusedFrom name c w at
 unfolding watched
 field_refused name c w at here none bytes =
-    let cut : Cut = packets_of (w.part ++ bytes) in
+    let cut : Cut = cut_of c (w.part ++ bytes) in
     let told = refused_told name c w.at cut.packets at here in
     (ap (λ (t : Told). t.text) told, ap (λ (t : Told). look_refusal c (record { at = t.after; part = cut.rest })) told ∙ by_field c w.at cut.rest at here none)
 
@@ -69,46 +76,92 @@ open_head stage.Shown shown head free e = refl
 open_head stage.Over shown head free e = absurd (let h : ⊥ = cc in h)
 open_head (stage.Refused at) shown head free e = absurd free
 
-pub uncut_by : (bytes : List ℕ) (p : Packet) → packet_at bytes ≡ p → packets_of bytes ≡ cut_by p bytes (λ after. cut_from (length bytes) after)
-uncut_by bytes p e = once bytes ∙ ap (λ q. cut_by q bytes (λ after. cut_from (length bytes) after)) e
+pub uncut_by : (c : Confirmed) (bytes : List ℕ) (p : Packet) → host_packet_at (takes_fast c) bytes ≡ p → cut_of c bytes ≡ cut_by p bytes (λ after. cut_with (host_packet_at (takes_fast c)) (length bytes) after)
+uncut_by c bytes p e = once (host_packet_at (takes_fast c)) (reads_hosts (takes_fast c)) bytes ∙ ap (λ q. cut_by q bytes (λ after. cut_with (host_packet_at (takes_fast c)) (length bytes) after)) e
 
 abbrev pub uncut : List ℕ → Cut
 uncut bytes = record { packets = []; rest = bytes }
 
--- nothing is cut off bytes whose head is refused
-head_uncut : (bytes : List ℕ) (p : Packet) → packet_at bytes ≡ p → ((on : List ℕ → Cut) → cut_by p bytes on ≡ uncut bytes) → packets_of bytes ≡ uncut bytes
-head_uncut bytes p e h = uncut_by bytes p e ∙ h (λ after. cut_from (length bytes) after)
+-- what is refused from bytes that come where a stream stands so
+abbrev Refuses : List ℕ → Confirmed → Watching → ℕ → List ℕ → Type 0
+Refuses name c w at bytes = ((watched name c w bytes).text ≡ []) × (look_refusal c (watched name c w bytes).after ≡ Some at)
 
-head_refused : (name : List ℕ) (c : Confirmed) (w : Watching) (at : ℕ) (p : Packet) → IsOpen w.at.stage w.at.shown → has_ended w.at.stage ≡ false → Shown c w.at ≡ None
-    → ((more : List ℕ) → packet_at (w.part ++ more) ≡ p) → ((bytes : List ℕ) (on : List ℕ → Cut) → cut_by p bytes on ≡ uncut bytes) → head_refusal w.at.place p ≡ Some at → IsRefusedFrom name c w at
+-- nothing is cut off, and the head is refused
+head_refused : (name : List ℕ) (c : Confirmed) (w : Watching) (at : ℕ) (p : Packet) (bytes : List ℕ) → IsOpen w.at.stage w.at.shown → has_ended w.at.stage ≡ false → Shown c w.at ≡ None
+    → host_packet_at (awaits_fast c w.at.stage) (w.part ++ bytes) ≡ p → cut_of c (w.part ++ bytes) ≡ uncut (w.part ++ bytes) → head_refusal w.at.place (w.part ++ bytes) p ≡ Some at → Refuses name c w at bytes
 unfolding watched
-head_refused name c w at p free goes none stays cuts refused bytes =
-    let cut : packets_of (w.part ++ bytes) ≡ uncut (w.part ++ bytes) = head_uncut (w.part ++ bytes) p (stays bytes) (cuts (w.part ++ bytes)) in (
-      ap (λ (k : Cut). (cut_watched name c w.at k).text) cut,
+head_refused name c w at p bytes free goes none stays cut refused = (
+  ap (λ (k : Cut). (cut_watched name c w.at k).text) cut,
+  ap (λ (k : Cut). look_refusal c (cut_watched name c w.at k).after) cut
+      ∙ ap (λ (o : Option ℕ). first_refusal o (refusal_by w.at.stage (head_refusal w.at.place (w.part ++ bytes) (host_packet_at (awaits_fast c w.at.stage) (w.part ++ bytes))))) none
+      ∙ open_head w.at.stage w.at.shown (head_refusal w.at.place (w.part ++ bytes) (host_packet_at (awaits_fast c w.at.stage) (w.part ++ bytes))) free goes
+      ∙ ap (head_refusal w.at.place (w.part ++ bytes)) stays ∙ refused,
+)
+
+-- a whole packet of the fast path before the Font Map
+early_told : (name : List ℕ) (c : Confirmed) (here : Stage) (s : Standing) (p shown : List ℕ) → IsOpen here shown → has_ended here ≡ false → is_shown here ≡ false → is_fast p ≡ true
+    → packet_told name c here s p ≡ silent (record s { stage = stage.Refused s.place })
+early_told name c stage.Confirm s p shown free goes silence f = ap (λ b. slow_answered b s p (packet_answered name c stage.Confirm p)) f
+early_told name c stage.Response s p shown free goes silence f = ap (λ b. slow_answered b s p (packet_answered name c stage.Response p)) f
+early_told name c stage.Attach s p shown free goes silence f = ap (λ b. slow_answered b s p (packet_answered name c stage.Attach p)) f
+early_told name c (stage.Joins user which) s p shown free goes silence f = ap (λ b. slow_answered b s p (packet_answered name c (stage.Joins user which) p)) f
+early_told name c (stage.Licence user) s p shown free goes silence f = ap (λ b. slow_answered b s p (packet_answered name c (stage.Licence user) p)) f
+early_told name c (stage.Demand user) s p shown free goes silence f = ap (λ b. slow_answered b s p (packet_answered name c (stage.Demand user) p)) f
+early_told name c (stage.Finish user which) s p shown free goes silence f = ap (λ b. slow_answered b s p (packet_answered name c (stage.Finish user which) p)) f
+early_told name c stage.Shown s p shown free goes silence f = absurd (let no : ⊥ = cc in no)
+early_told name c stage.Over s p shown free goes silence f = absurd (let no : ⊥ = cc in no)
+early_told name c (stage.Refused at) s p shown free goes silence f = absurd free
+
+front_fast : (n : ℕ) (bytes : List ℕ) → 1 ≤ n → is_fast bytes ≡ true → is_fast (take n bytes) ≡ true
+front_fast zero bytes some f = absurd (omega (arith, some))
+front_fast (suc n) [] some f = f
+front_fast (suc n) (v ∷ bs) some f = f
+
+early_refused : (name : List ℕ) (c : Confirmed) (w : Watching) (n : ℕ) (bytes : List ℕ) → IsOpen w.at.stage w.at.shown → has_ended w.at.stage ≡ false → Shown c w.at ≡ None
+    → host_packet_at (takes_fast c) (w.part ++ bytes) ≡ Whole n → is_fast (w.part ++ bytes) ≡ true → is_shown w.at.stage ≡ false → Refuses name c w w.at.place bytes
+unfolding watched
+early_refused name c w n bytes free goes none e f silence =
+    let q : List ℕ = w.part ++ bytes in
+    let p : List ℕ = take n q in
+    let others : Cut = cut_of c (drop n q) in
+    let after : Standing = record w.at { stage = stage.Refused w.at.place } in
+    let some = ((reads_hosts (takes_fast c)).bounds q n e).0 in
+    let first : packet_told name c w.at.stage w.at p ≡ silent after = early_told name c w.at.stage w.at p w.at.shown free goes silence (front_fast n q some f) in
+    let told : packets_told name c w.at (p ∷ others.packets) ≡ silent after =
+    ap (λ (t : Told). then_told t (packets_told name c t.after others.packets)) first ∙ ap (then_told (silent after)) (refused_told name c after others.packets w.at.place refl) in
+    let cut : cut_of c q ≡ after_packets (p ∷ []) others = whole_is_cut (host_packet_at (takes_fast c)) (reads_hosts (takes_fast c)) q n e in (
+      ap (λ (k : Cut). (cut_watched name c w.at k).text) cut ∙ ap (λ (t : Told). t.text) told,
       ap (λ (k : Cut). look_refusal c (cut_watched name c w.at k).after) cut
-          ∙ ap (λ (o : Option ℕ). first_refusal o (refusal_by w.at.stage (head_refusal w.at.place (packet_at (w.part ++ bytes))))) none
-          ∙ open_head w.at.stage w.at.shown (head_refusal w.at.place (packet_at (w.part ++ bytes))) free goes
-          ∙ ap (head_refusal w.at.place) (stays bytes) ∙ refused,
+          ∙ ap (λ (t : Told). look_refusal c (record { at = t.after; part = others.rest })) told
+          ∙ by_field c after others.rest w.at.place refl none,
     )
 
-version_stays : (xs ys : List ℕ) → packet_at xs ≡ NotTpkt → packet_at (xs ++ ys) ≡ NotTpkt
-version_stays [] ys e = absurd ((version_head []).0 e)
-version_stays (v ∷ xs) ys e = (version_head (v ∷ (xs ++ ys))).1 ((version_head (v ∷ xs)).0 e)
-
-length_stays : (xs ys : List ℕ) → packet_at xs ≡ BadLength → packet_at (xs ++ ys) ≡ BadLength
-length_stays [] ys e = absurd ((length_head []).0 e)
-length_stays (v ∷ []) ys e = absurd ((length_head (v ∷ [])).0 e)
-length_stays (v ∷ r ∷ []) ys e = absurd ((length_head (v ∷ r ∷ [])).0 e)
-length_stays (v ∷ r ∷ h ∷ []) ys e = absurd ((length_head (v ∷ r ∷ h ∷ [])).0 e)
-length_stays (v ∷ r ∷ h ∷ l ∷ xs) ys e = (length_head (v ∷ r ∷ h ∷ l ∷ (xs ++ ys))).1 ((length_head (v ∷ r ∷ h ∷ l ∷ xs)).0 e)
+-- the first byte is of no packet that is awaited
+neither_by : (r : Packet) (name : List ℕ) (c : Confirmed) (w : Watching) (bytes : List ℕ) → IsOpen w.at.stage w.at.shown → has_ended w.at.stage ≡ false → Shown c w.at ≡ None
+    → host_packet_at (awaits_fast c w.at.stage) (w.part ++ bytes) ≡ NotTpkt → host_packet_at (takes_fast c) (w.part ++ bytes) ≡ r → Refuses name c w w.at.place bytes
+neither_by (Whole n) name c w bytes free goes none stays e =
+    let k = early_kind c w.at.stage (w.part ++ bytes) n stays e in
+    early_refused name c w n bytes free goes none e k.0 k.1
+neither_by Part name c w bytes free goes none stays e = head_refused name c w w.at.place NotTpkt bytes free goes none stays (uncut_by c (w.part ++ bytes) Part e) refl
+neither_by NotTpkt name c w bytes free goes none stays e = head_refused name c w w.at.place NotTpkt bytes free goes none stays (uncut_by c (w.part ++ bytes) NotTpkt e) refl
+neither_by BadLength name c w bytes free goes none stays e = head_refused name c w w.at.place NotTpkt bytes free goes none stays (uncut_by c (w.part ++ bytes) BadLength e) refl
 
 pub version_refused : (name : List ℕ) (c : Confirmed) (w : Watching) (at : ℕ) → IsOpen w.at.stage w.at.shown → has_ended w.at.stage ≡ false → Shown c w.at ≡ None
-    → packet_at w.part ≡ NotTpkt → head_refusal w.at.place NotTpkt ≡ Some at → IsRefusedFrom name c w at
-version_refused name c w at free goes none e refused = head_refused name c w at NotTpkt free goes none (λ more. version_stays w.part more e) (λ bytes on. refl) refused
+    → host_packet_at (awaits_fast c w.at.stage) w.part ≡ NotTpkt → w.at.place ≡ at → IsRefusedFrom name c w at
+version_refused name c w at free goes none e here bytes =
+    subst (λ (k : ℕ). Refuses name c w k bytes) here
+    (neither_by (host_packet_at (takes_fast c) (w.part ++ bytes)) name c w bytes free goes none (neither_stays (awaits_fast c w.at.stage) w.part bytes e) refl)
 
 pub length_refused : (name : List ℕ) (c : Confirmed) (w : Watching) (at : ℕ) → IsOpen w.at.stage w.at.shown → has_ended w.at.stage ≡ false → Shown c w.at ≡ None
-    → packet_at w.part ≡ BadLength → head_refusal w.at.place BadLength ≡ Some at → IsRefusedFrom name c w at
-length_refused name c w at free goes none e refused = head_refused name c w at BadLength free goes none (λ more. length_stays w.part more e) (λ bytes on. refl) refused
+    → host_packet_at (awaits_fast c w.at.stage) w.part ≡ BadLength → place_behind w.at.place (length_place w.part) ≡ at → IsRefusedFrom name c w at
+length_refused name c w at free goes none e here bytes =
+    let stays = bad_stays (awaits_fast c w.at.stage) w.part bytes e in
+    let cut = uncut_by c (w.part ++ bytes) BadLength (awaited_head c w.at.stage (w.part ++ bytes) BadLength stays (λ (f : BadLength ≡ NotTpkt). let no : ⊥ = cc in no)) in
+    head_refused name c w at BadLength bytes free goes none stays cut (length_alike (awaits_fast c w.at.stage) w.part bytes w.at.place e ∙ ap Some here)
+  where
+    length_alike : (b : Bool) (xs ys : List ℕ) (place : ℕ) → host_packet_at b xs ≡ BadLength → Some (place_behind place (length_place (xs ++ ys))) ≡ Some (place_behind place (length_place xs))
+    length_alike b [] ys place e = absurd (let no : ⊥ = cc in no)
+    length_alike b (v ∷ xs) ys place e = refl
 
 -- ---- what is shown
 
@@ -151,10 +204,10 @@ packets_refused name c s (p ∷ ps) at h =
 shown_refused : (name : List ℕ) (c : Confirmed) (w : Watching) (at : ℕ) → w.at.stage ≡ stage.Shown → Shown c w.at ≡ Some at → IsRefusedFrom name c w at
 unfolding watched
 shown_refused name c w at here e bytes =
-    let cut : Cut = packets_of (w.part ++ bytes) in
+    let cut : Cut = cut_of c (w.part ++ bytes) in
     let told = packets_refused name c w.at cut.packets at (record { here = inl here; refused = e }) in
     let after : Standing = (packets_told name c w.at cut.packets).after in
-    (told.silence, ap (λ (o : Option ℕ). first_refusal o (refusal_in (record { at = after; part = cut.rest }))) told.after.refused)
+    (told.silence, ap (λ (o : Option ℕ). first_refusal o (refusal_in c (record { at = after; part = cut.rest }))) told.after.refused)
 
 -- ---- a packet
 

@@ -3,12 +3,12 @@ use Rattle.std.specs.Prelude.{◌≡◌, ℕ, false, List, [], ◌++◌, Option,
 use Rattle.px_core.specs.declared.surface.Size.{Size}
 use Rattle.caps_sets.specs.declared.confirmed.Confirmed.{Confirmed}
 use Rattle.tpkt_x224.specs.declared.tpkt.Packet.TheVariants.{Part}
-use Rattle.tpkt_x224.specs.Tpkt.{packet_at}
 use Rattle.order_means.specs.FrameMarks.{ClientReading, read_stream}
 use Rattle.client_view.specs.Clients.{ClientOf, IsReading}
 use Rattle.viewer_rules.specs.declared.stage.Stage.{Stage}
 use Rattle.viewer_rules.specs.declared.stage.Stage.TheVariants as stage
-use Rattle.viewer_rules.specs.ViewerHandshake.{Standing, Watching, Watched}
+use Rattle.viewer_rules.specs.HostStream.{host_packet_at}
+use Rattle.viewer_rules.specs.ViewerHandshake.{Standing, Watching, Watched, awaits_fast}
 use Rattle.viewer_rules.specs.Shown.{look_refusal, has_ended}
 use Rattle.look_net.specs.declared.look_fault.LookFault.{LookFault}
 use Rattle.look_net.specs.declared.look_fault.LookFault.TheVariants.{Refused, OutOfMemory}
@@ -61,14 +61,14 @@ pub record Follows (s : Standing) (c : Confirmed) (here : Stage) (place start : 
   pub client_is : HasClient c s.size s.shown client
 
 -- what is there of a packet breaks no rule; behind an ultimatum nothing is kept
-pub record Keeps (w : Watching) (part : List ℕ) : Type 0 where
+pub record Keeps (c : Confirmed) (w : Watching) (part : List ℕ) : Type 0 where
   pub same : has_ended w.at.stage ≡ false → part ≡ w.part
-  pub waits : has_ended w.at.stage ≡ false → packet_at w.part ≡ Part
+  pub waits : has_ended w.at.stage ≡ false → host_packet_at (awaits_fast c w.at.stage) w.part ≡ Part
 
 -- a look stands where a host's stream does, which isn't refused
 pub record IsWatching (w : Watching) (look : LookOf) : Type 0 where
   pub follows : Follows w.at look.confirmed look.stage look.place look.start look.client
-  pub keeps : Keeps w look.part
+  pub keeps : Keeps look.confirmed w look.part
   pub goes_on : look.end ≡ None
 
 -- where a stream stands after these bytes; a refusal, and from then on; or no memory was left, and from then on

@@ -57,7 +57,7 @@ IsRefusedFrom name c w at = (bytes : List ℕ) → ((watched name c w bytes).tex
 -- bytes lead there, and their texts were appended
 pub record Goes (x : Watched) (c : Confirmed) (new : Watcher) (part out new_out : List ℕ) : Type 0 where
   pub follows : Stays x.after.at c new
-  pub keeps : Keeps x.after part
+  pub keeps : Keeps c x.after part
   pub written : new_out ≡ out ++ x.text
 
 -- bytes up to the end of a packet, or a part of one, from a place between two packets on

@@ -54,9 +54,9 @@ impl Model for Look {
 
     ghost use Rattle.std.specs.Prelude.{◌≡◌};
     ghost use Rattle.tpkt_x224.specs.declared.tpkt.Packet.TheVariants.{Part};
-    ghost use Rattle.tpkt_x224.specs.Tpkt.{packet_at};
+    ghost use Rattle.fast_path.specs.Heads.{stream_packet_at};
 
-    ghost invariant = { λ l. packet_at l.part.items ≡ Part };
+    ghost invariant = { λ l. stream_packet_at l.part.items ≡ Part };
 }
 
 impl Look {

@@ -3,6 +3,7 @@
 ghost use Rattle.std.specs.Prelude.{◌≡◌, ℕ, true, false, List, [], ◌++◌, Option, Ok, OnOk};
 ghost use Rattle.px_core.specs.declared.surface.Size.{Size};
 ghost use Rattle.caps_sets.specs.declared.confirmed.Confirmed.{Confirmed};
+ghost use Rattle.fast_path.specs.Heads.{is_fast};
 ghost use Rattle.viewer_rules.specs.Shown.{has_ended};
 ghost use Rattle.viewer_rules.specs.ViewerHandshake.{Standing, size_or, start_by, silent, answered, shown_by, packet_told, packet_answered, is_farewell};
 ghost use Rattle.viewer_wire.specs.Reads.{with_text};
@@ -39,13 +40,14 @@ pub struct Watcher {
     pub text: Vec<u8>,
 }
 
-/// Goes through a whole packet: what it is answered with is appended to `out`, whole, or nothing is.
+/// Goes through a whole packet, of the fast path only behind the Font Map: what it is answered with is appended to `out`, whole, or nothing is.
 pub(crate) fn watch_packet(
     viewer: &Viewer,
     watcher: &mut Watcher,
     packet: &[u8],
     out: &mut Vec<u8>,
 ) -> Result<(), LookFault>
+    requires { is_shown watcher.old.stage ≡ false → is_fast packet.now ≡ false }
     ensures { (s : Standing) → Stays s viewer.now.confirmed watcher.old → has_ended s.stage ≡ false
         → WatchesPacket result (packet_told viewer.now.name viewer.now.confirmed s.stage s packet.now) viewer.now.confirmed watcher.new out.old.items out.new.items }
 {
@@ -57,7 +59,7 @@ pub(crate) fn watch_packet(
 }
 
 /// Whether updates are awaited.
-fn is_shown(stage: Stage) -> bool
+pub(crate) fn is_shown(stage: Stage) -> bool
     ensures { result ≡ is_shown stage }
 {
     match stage {

@@ -1,5 +1,5 @@
 -- Turn by turn, both halves come to the end of what they send.
-use Rattle.std.proofs.Common.{◌≡◌, ℕ, zero, suc, List, [], ◌∷◌, ◌++◌, take, refl, ap, ◌∙◌}
+use Rattle.std.proofs.Common.{◌≡◌, ℕ, zero, suc, List, [], ◌∷◌, ◌++◌, take, map, get_or, refl, ap, ◌∙◌}
 use Rattle.std.specs.Prelude.{IsTrue}
 use Rattle.std.specs.List.{AllByRecursion}
 use Rattle.px_core.specs.declared.depth.Depth.{Depth}
@@ -24,7 +24,7 @@ use Rattle.gcc_per.specs.ClientNetwork.{channel_count_at, channels_at}
 use Rattle.gcc_per.specs.ServerData.{create_response}
 use Rattle.info_lic.specs.Name.{IsName}
 use Rattle.caps_sets.specs.declared.confirmed.Confirmed.{Confirmed}
-use Rattle.caps_sets.specs.Confirmed.{depth_of}
+use Rattle.caps_sets.specs.Confirmed.{depth_of, takes_fast}
 use Rattle.caps_sets.specs.DemandActive.{demand_active, before_bitmap, after_bitmap}
 use Rattle.conn_rules.specs.Headers.{mcs_headers}
 use Rattle.conn_rules.specs.Hearing.{Heard, packets_heard, cut_heard, heard, first_hearing, host_handshake}
@@ -49,7 +49,7 @@ Text name c ps = connection_request ++ (packets_told name c first_watching.at ps
 
 viewer_text : (name : List ℕ) (c : Confirmed) (ps : List (List ℕ)) → AllByRecursion IsPacket ps → (viewer_handshake name c (joined ps)).text ≡ Text name c ps
 unfolding watched
-viewer_text name c ps h = ap (λ (cut : Cut). connection_request ++ (cut_watched name c first_watching.at cut).text) (cut_again ps h)
+viewer_text name c ps h = ap (λ (cut : Cut). connection_request ++ (cut_watched name c first_watching.at cut).text) (cut_again (takes_fast c) ps h)
 
 abbrev ViewerGoes : Size → List ℕ → Confirmed → ℕ → ℕ → Type 0
 ViewerGoes size name c k m = (viewer_handshake name c (joined (take k (answers size (depth_of c))))).text ≡ joined (take m (greeting name c))
@@ -58,30 +58,10 @@ goes : (size : Size) (name : List ℕ) (c : Confirmed) (k m : ℕ) → Text name
 goes size name c k m e = viewer_text name c (take k (answers size (depth_of c))) (all_take k (answers size (depth_of c)) (each_answer size (depth_of c))) ∙ e
 
 -- what is sent after as many answers, before Demand Active
-pub record ViewerBegins (size : Size) (name : List ℕ) (c : Confirmed) : Type 0 where
-  at_once : Text name c (take 0 (answers size (depth_of c))) ≡ joined (take 1 (greeting name c))
-  confirmed : Text name c (take 1 (answers size (depth_of c))) ≡ joined (take 2 (greeting name c))
-  responded : Text name c (take 2 (answers size (depth_of c))) ≡ joined (take 4 (greeting name c))
-  attached : Text name c (take 3 (answers size (depth_of c))) ≡ joined (take 5 (greeting name c))
-  user : Text name c (take 4 (answers size (depth_of c))) ≡ joined (take 6 (greeting name c))
-  io : Text name c (take 5 (answers size (depth_of c))) ≡ joined (take 7 (greeting name c))
-  first : Text name c (take 6 (answers size (depth_of c))) ≡ joined (take 8 (greeting name c))
-  second : Text name c (take 7 (answers size (depth_of c))) ≡ joined (take 9 (greeting name c))
-  third : Text name c (take 8 (answers size (depth_of c))) ≡ joined (take 10 (greeting name c))
-
-viewer_begins : (size : Size) (name : List ℕ) (c : Confirmed) → ViewerBegins size name c
+viewer_begins : (size : Size) (name : List ℕ) (c : Confirmed)
+    → map (λ k. Text name c (take k (answers size (depth_of c)))) (0 ∷ 1 ∷ 2 ∷ 3 ∷ 4 ∷ 5 ∷ 6 ∷ 7 ∷ 8 ∷ []) ≡ map (λ m. joined (take m (greeting name c))) (1 ∷ 2 ∷ 4 ∷ 5 ∷ 6 ∷ 7 ∷ 8 ∷ 9 ∷ 10 ∷ [])
 unfolding passing_at exactly_at connection_confirm server_blocks_answer conference_answer user_data_answer response_answer connect_response_answer attach_answer join_answer connect_response create_response
-viewer_begins size name c = record {
-  at_once = refl;
-  confirmed = refl;
-  responded = refl;
-  attached = refl;
-  user = refl;
-  io = refl;
-  first = refl;
-  second = refl;
-  third = refl;
-}
+viewer_begins size name c = refl
 
 demanded : (size : Size) (name : List ℕ) (c : Confirmed) → HasSides size → Text name c (take 10 (answers size (depth_of c))) ≡ joined (take 15 (greeting name c))
 demanded size name c s = ap (λ (t : Told). connection_request ++ t.text) (ten_told size name c s)
@@ -108,38 +88,12 @@ asking depth name c =
     ∷ channel_join the_user 1007 ∷ channel_join the_user 1003 ∷ channel_join the_user 1004 ∷ channel_join the_user 1005 ∷ channel_join the_user 1006
     ∷ client_info the_user name ∷ last_five the_user c
 
-pub record HostBegins (size : Size) (depth : Depth) (name : List ℕ) (c : Confirmed) : Type 0 where
-  requested : Replies size (take 1 (asking depth name c)) ≡ joined (take 1 (answers size depth))
-  initial : Replies size (take 2 (asking depth name c)) ≡ joined (take 2 (answers size depth))
-  attached : Replies size (take 4 (asking depth name c)) ≡ joined (take 3 (answers size depth))
-  user : Replies size (take 5 (asking depth name c)) ≡ joined (take 4 (answers size depth))
-  io : Replies size (take 6 (asking depth name c)) ≡ joined (take 5 (answers size depth))
-  first : Replies size (take 7 (asking depth name c)) ≡ joined (take 6 (answers size depth))
-  second : Replies size (take 8 (asking depth name c)) ≡ joined (take 7 (answers size depth))
-  third : Replies size (take 9 (asking depth name c)) ≡ joined (take 8 (answers size depth))
-
-host_begins : (size : Size) (depth : Depth) (name : List ℕ) (c : Confirmed) → HostBegins size depth name c
+-- what is replied to as many packets, before Client Info
+host_begins : (size : Size) (depth : Depth) (name : List ℕ) (c : Confirmed)
+    → map (λ m. Replies size (take m (asking depth name c))) (1 ∷ 2 ∷ 4 ∷ 5 ∷ 6 ∷ 7 ∷ 8 ∷ 9 ∷ []) ≡ map (λ k. joined (take k (answers size depth))) (1 ∷ 2 ∷ 3 ∷ 4 ∷ 5 ∷ 6 ∷ 7 ∷ 8 ∷ [])
 unfolding passing_at at_least rest_count_at exactly_at references request_header after_cookie asked_protocols user_data three_parameters upward_flag initial_fields connect_initial connect_response attach_user_request channel_join_request erect_domain_request kind_at length_at block_at blocks_at desktop_of create_request client_blocks_at user_data_at client_data_at channel_count_at channels_at create_response mcs_headers
-host_begins size Bits24 name c = record {
-  requested = refl;
-  initial = refl;
-  attached = refl;
-  user = refl;
-  io = refl;
-  first = refl;
-  second = refl;
-  third = refl;
-}
-host_begins size Bits16 name c = record {
-  requested = refl;
-  initial = refl;
-  attached = refl;
-  user = refl;
-  io = refl;
-  first = refl;
-  second = refl;
-  third = refl;
-}
+host_begins size Bits24 name c = refl
+host_begins size Bits16 name c = refl
 
 named : (size : Size) (name : List ℕ) (c : Confirmed) → IsName name → Replies size (take 10 (greeting name c)) ≡ joined (take 10 (answers size (depth_of c)))
 unfolding connect_response create_response demand_active before_bitmap after_bitmap
@@ -161,18 +115,21 @@ one_turn size name c n k m j e v h =
 host_is : {x : Exchange} {viewer host : List ℕ} → x ≡ exchange viewer host → x.host ≡ host
 host_is e = ap (λ (x : Exchange). x.host) e
 
+abbrev nth : ℕ → List (List ℕ) → List ℕ
+nth i texts = get_or texts i []
+
 pub ten_turns : (size : Size) (name : List ℕ) (c : Confirmed) → IsTrue (is_session_size size.w size.h) → IsName name → IsConfirmable c
     → after_turns 10 size name c ≡ exchange (joined (greeting name c)) (joined (answers size (depth_of c)))
 ten_turns size name c sided n h =
     let v = viewer_begins size name c in
     let r = host_begins size (depth_of c) name c in
-    let one = one_turn size name c 0 0 1 1 refl (goes size name c 0 1 v.at_once) (replies size name c 1 1 n h r.requested) in
-    let two = one_turn size name c 1 1 2 2 (host_is one) (goes size name c 1 2 v.confirmed) (replies size name c 2 2 n h r.initial) in
-    let three = one_turn size name c 2 2 4 3 (host_is two) (goes size name c 2 4 v.responded) (replies size name c 4 3 n h r.attached) in
-    let four = one_turn size name c 3 3 5 4 (host_is three) (goes size name c 3 5 v.attached) (replies size name c 5 4 n h r.user) in
-    let five = one_turn size name c 4 4 6 5 (host_is four) (goes size name c 4 6 v.user) (replies size name c 6 5 n h r.io) in
-    let six = one_turn size name c 5 5 7 6 (host_is five) (goes size name c 5 7 v.io) (replies size name c 7 6 n h r.first) in
-    let seven = one_turn size name c 6 6 8 7 (host_is six) (goes size name c 6 8 v.first) (replies size name c 8 7 n h r.second) in
-    let eight = one_turn size name c 7 7 9 8 (host_is seven) (goes size name c 7 9 v.second) (replies size name c 9 8 n h r.third) in
-    let nine = one_turn size name c 8 8 10 10 (host_is eight) (goes size name c 8 10 v.third) (replies size name c 10 10 n h (named size name c n)) in
+    let one = one_turn size name c 0 0 1 1 refl (goes size name c 0 1 (ap (nth 0) v)) (replies size name c 1 1 n h (ap (nth 0) r)) in
+    let two = one_turn size name c 1 1 2 2 (host_is one) (goes size name c 1 2 (ap (nth 1) v)) (replies size name c 2 2 n h (ap (nth 1) r)) in
+    let three = one_turn size name c 2 2 4 3 (host_is two) (goes size name c 2 4 (ap (nth 2) v)) (replies size name c 4 3 n h (ap (nth 2) r)) in
+    let four = one_turn size name c 3 3 5 4 (host_is three) (goes size name c 3 5 (ap (nth 3) v)) (replies size name c 5 4 n h (ap (nth 3) r)) in
+    let five = one_turn size name c 4 4 6 5 (host_is four) (goes size name c 4 6 (ap (nth 4) v)) (replies size name c 6 5 n h (ap (nth 4) r)) in
+    let six = one_turn size name c 5 5 7 6 (host_is five) (goes size name c 5 7 (ap (nth 5) v)) (replies size name c 7 6 n h (ap (nth 5) r)) in
+    let seven = one_turn size name c 6 6 8 7 (host_is six) (goes size name c 6 8 (ap (nth 6) v)) (replies size name c 8 7 n h (ap (nth 6) r)) in
+    let eight = one_turn size name c 7 7 9 8 (host_is seven) (goes size name c 7 9 (ap (nth 7) v)) (replies size name c 9 8 n h (ap (nth 7) r)) in
+    let nine = one_turn size name c 8 8 10 10 (host_is eight) (goes size name c 8 10 (ap (nth 8) v)) (replies size name c 10 10 n h (named size name c n)) in
     one_turn size name c 9 10 15 14 (host_is nine) (goes size name c 10 15 (demanded size name c (sides size sided))) (all_heard size name c n h)

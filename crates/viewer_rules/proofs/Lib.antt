@@ -1,3 +1,4 @@
+pub mod HostStream
 pub mod Pieces
 pub mod ConfirmedBack
 pub mod Presets

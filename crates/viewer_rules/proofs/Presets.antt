@@ -53,7 +53,6 @@ bitmap_set k s c h fits = record {
   level = h.level;
   bitmap_sizes = All-set IsSized c.bitmaps k s fits h.bitmap_sizes;
   glyph_sizes = h.glyph_sizes;
-  slow = h.slow;
   pointers = h.pointers;
 }
 
@@ -64,7 +63,6 @@ glyph_set k s c h fits = record {
   level = h.level;
   bitmap_sizes = h.bitmap_sizes;
   glyph_sizes = All-set IsSized c.glyphs k s fits h.glyph_sizes;
-  slow = h.slow;
   pointers = h.pointers;
 }
 
@@ -88,19 +86,24 @@ override_found c (a ∷ b ∷ k ∷ sign ∷ rest) h = by (is_ascii_digit k && (
     by false = tt
 
 cautious_too : (c : Confirmed) → IsConfirmable c → IsConfirmable (record c { cautious = true })
-cautious_too c h = record { bitmaps = h.bitmaps; glyphs = h.glyphs; level = h.level; bitmap_sizes = h.bitmap_sizes; glyph_sizes = h.glyph_sizes; slow = h.slow; pointers = h.pointers }
+cautious_too c h = record { bitmaps = h.bitmaps; glyphs = h.glyphs; level = h.level; bitmap_sizes = h.bitmap_sizes; glyph_sizes = h.glyph_sizes; pointers = h.pointers }
 
 sixteen_too : (c : Confirmed) → IsConfirmable c → IsConfirmable (record c { depth = Bits16 })
-sixteen_too c h = record { bitmaps = h.bitmaps; glyphs = h.glyphs; level = h.level; bitmap_sizes = h.bitmap_sizes; glyph_sizes = h.glyph_sizes; slow = h.slow; pointers = h.pointers }
+sixteen_too c h = record { bitmaps = h.bitmaps; glyphs = h.glyphs; level = h.level; bitmap_sizes = h.bitmap_sizes; glyph_sizes = h.glyph_sizes; pointers = h.pointers }
+
+fast_too : (c : Confirmed) → IsConfirmable c → IsConfirmable (record c { fast = true })
+fast_too c h = record { bitmaps = h.bitmaps; glyphs = h.glyphs; level = h.level; bitmap_sizes = h.bitmap_sizes; glyph_sizes = h.glyph_sizes; pointers = h.pointers }
 
 word_found : (c : Confirmed) (word : List ℕ) → IsConfirmable c → IfSome (overridden_word c word) IsConfirmable
-word_found c word h = by (is_same_word word (codes "cautious")) (is_same_word word (codes "bpp=16"))
+word_found c word h = by (is_same_word word (codes "cautious")) (is_same_word word (codes "fast")) (is_same_word word (codes "bpp=16"))
   where
-    by : (cautious sixteen : Bool)
-        → IfSome (if cautious then Some (record c { cautious = true }) else (if sixteen then Some (record c { depth = Bits16 }) else overridden c word)) IsConfirmable
-    by true sixteen = cautious_too c h
-    by false true = sixteen_too c h
-    by false false = override_found c word h
+    by : (cautious fast sixteen : Bool)
+        → IfSome (if cautious then Some (record c { cautious = true })
+        else (if fast then Some (record c { fast = true }) else (if sixteen then Some (record c { depth = Bits16 }) else overridden c word))) IsConfirmable
+    by true fast sixteen = cautious_too c h
+    by false true sixteen = fast_too c h
+    by false false true = sixteen_too c h
+    by false false false = override_found c word h
 
 words_found : (c : Confirmed) (words : List (List ℕ)) → IsConfirmable c → IfSome (overridden_by c words) IsConfirmable
 words_found c [] h = h
@@ -115,10 +118,10 @@ none_fit : (n : ℕ) → Fits (replicate n (sized 0 0))
 none_fit n = All-replicate IsSized n (sized 0 0) (omega arith, omega arith)
 
 plain_too : IsConfirmable plain
-plain_too = record { bitmaps = refl; glyphs = refl; level = omega arith; bitmap_sizes = none_fit 3; glyph_sizes = none_fit 10; slow = refl; pointers = refl }
+plain_too = record { bitmaps = refl; glyphs = refl; level = omega arith; bitmap_sizes = none_fit 3; glyph_sizes = none_fit 10; pointers = refl }
 
 bare_too : IsConfirmable bare
-bare_too = record { bitmaps = refl; glyphs = refl; level = omega arith; bitmap_sizes = none_fit 3; glyph_sizes = none_fit 10; slow = refl; pointers = refl }
+bare_too = record { bitmaps = refl; glyphs = refl; level = omega arith; bitmap_sizes = none_fit 3; glyph_sizes = none_fit 10; pointers = refl }
 
 full_bitmaps : Fits full.bitmaps
 full_bitmaps = All-from_recursion IsSized full.bitmaps ((omega arith, omega arith), ((omega arith, omega arith), ((omega arith, omega arith), tt)))
@@ -145,10 +148,10 @@ full_glyphs = All-from_recursion IsSized full.glyphs (
 )
 
 full_too : IsConfirmable full
-full_too = record { bitmaps = refl; glyphs = refl; level = omega arith; bitmap_sizes = full_bitmaps; glyph_sizes = full_glyphs; slow = refl; pointers = refl }
+full_too = record { bitmaps = refl; glyphs = refl; level = omega arith; bitmap_sizes = full_bitmaps; glyph_sizes = full_glyphs; pointers = refl }
 
 marked_too : IsConfirmable marked
-marked_too = record { bitmaps = refl; glyphs = refl; level = omega arith; bitmap_sizes = full_bitmaps; glyph_sizes = full_glyphs; slow = refl; pointers = refl }
+marked_too = record { bitmaps = refl; glyphs = refl; level = omega arith; bitmap_sizes = full_bitmaps; glyph_sizes = full_glyphs; pointers = refl }
 
 preset_found : (word : List ℕ) → IfSome (preset_named presets word) IsConfirmable
 preset_found word = by (is_same_word word (codes "plain")) (is_same_word word (codes "full")) (is_same_word word (codes "marked")) (is_same_word word (codes "bare"))

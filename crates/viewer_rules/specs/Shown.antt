@@ -26,7 +26,7 @@ first_refusal (Some at) later = Some at
 
 -- where a stream is refused, if it is: by the client that is shown its updates, or else by the handshake, or at the head of the packet that comes
 abbrev pub look_refusal : Confirmed → Watching → Option ℕ
-look_refusal c w = first_refusal (shown_refusal w.at.start (shown_read c w.at.size w.at.shown)) (refusal_in w)
+look_refusal c w = first_refusal (shown_refusal w.at.start (shown_read c w.at.size w.at.shown)) (refusal_in c w)
 
 -- the host has ended the connection
 abbrev pub has_ended : Stage → Bool
@@ -50,7 +50,7 @@ standing_at s = record { at = s; part = [] }
 -- nothing is refused, the connection goes on, and the packets so far come to the view of this reading
 pub record IsShown (c : Confirmed) (size : Size) (w : Watching) (r : ClientReading) : Type 0 where
   pub goes_on : w.at.stage ≡ stage.Shown
-  pub unrefused : refusal_in w ≡ None
+  pub unrefused : refusal_in c w ≡ None
   pub reading : ClientReading
   pub reads : read_stream c size w.at.shown ≡ Ok reading
   pub view : reading.view ≡ r.view

@@ -41,7 +41,7 @@ pub fn client_is_answered()
     ensures size { (size : Size) (name : List ℕ) (c : Confirmed) → IsTrue (is_session_size size.w size.h)
         → (viewer_handshake name c (joined (answers size (depth_of c)))).after.at.size ≡ Some size }
     ensures unrefused { (size : Size) (name : List ℕ) (c : Confirmed) → IsTrue (is_session_size size.w size.h)
-        → refusal_in (viewer_handshake name c (joined (answers size (depth_of c)))).after ≡ None }
+        → refusal_in c (viewer_handshake name c (joined (answers size (depth_of c)))).after ≡ None }
 {}
 
 /// Bytes behind the Font Map that a client reads are neither refused nor an end, and the packets in them come to the client's view.

@@ -6,7 +6,7 @@
 //! | Channel Join Confirm | `3E 00`, initiator (2), requested (2), channelId (2) |
 //! | Disconnect Provider Ultimatum | `20 80` or `21 80` |
 
-ghost use Rattle.std.specs.Prelude.{◌≡◌, [], ◌∷◌, IfOk, ◌≤◌};
+ghost use Rattle.std.specs.Prelude.{◌≡◌, [], ◌∷◌, IfOk, ◌≤◌, is_ok};
 ghost use Rattle.wire_num.specs.Cursor.{ReadsField, ReadsFieldsAs};
 ghost use Rattle.wire_num.specs.Number.{big_at};
 ghost use Rattle.wire_num.specs.FieldValue.{passing_at};
@@ -16,6 +16,7 @@ ghost use Rattle.viewer_rules.specs.ViewerHandshake.{is_farewell};
 ghost use Rattle.viewer_wire.specs.Reads.{ReadsPacket};
 
 use crate::headers::{TPKT_SIZE, X224_DATA};
+use fast_path::is_fast;
 use wire_num::{Cursor, Short};
 
 /// The lowest user channel (T.125, 7, UserId).
@@ -73,9 +74,16 @@ fn read_join_packet(cursor: &mut Cursor<'_>, user: u16, channel: u16) -> Result<
     cursor.end()
 }
 
-/// Whether a packet is the host's Disconnect Provider Ultimatum.
+/// Whether a packet is the host's Disconnect Provider Ultimatum, which is no packet of the fast path.
 pub fn is_farewell(packet: &[u8]) -> bool
     ensures { result ≡ is_farewell packet.now }
+{
+    !is_fast(packet) && is_ultimatum(packet)
+}
+
+/// Whether a packet has the fields of an ultimatum.
+fn is_ultimatum(packet: &[u8]) -> bool
+    ensures { result ≡ is_ok (fields_at farewell packet.now) }
 {
     let mut cursor = Cursor::new(packet);
     read_farewell(&mut cursor).is_ok()

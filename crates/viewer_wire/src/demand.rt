@@ -25,7 +25,7 @@ use wire_num::{Cursor, Short};
 
 /// The General set.
 const GENERAL: [u8; 24] = [
-    1, 0, 24, 0, 1, 0, 3, 0, 0, 2, 0, 0, 0, 0, 0, 4, 0, 0, 0, 0, 0, 0, 1, 1,
+    1, 0, 24, 0, 1, 0, 3, 0, 0, 2, 0, 0, 0, 0, 1, 4, 0, 0, 0, 0, 0, 0, 1, 1,
 ];
 
 /// The Bitmap set from bitmapCompressionFlag on; the Order set; Pointer; Input; Virtual Channel; Share; Font; sessionId.
@@ -41,7 +41,7 @@ const LATER_SETS: [&[u8]; 14] = [
     &[0, 0, 4, 0, 0, 0, 0, 0, 0, 132, 3, 0],
     &[0; 8],
     &[8, 0, 10, 0, 1, 0, 25, 0, 25, 0],
-    &[13, 0, 88, 0, 21, 0, 0, 0],
+    &[13, 0, 88, 0, 61, 0, 0, 0],
     &[0; 80],
     &[20, 0, 8, 0, 0, 0, 0, 0],
     &[9, 0, 8, 0, 0xEA, 3, 0, 0],

@@ -2,16 +2,16 @@
 //!
 //! | set | length | fields |
 //! |---|---|---|
-//! | General | 24 | protocolVersion (2 at 8): 512 for a cautious client; extraFlags (2 at 14): NO_BITMAP_COMPRESSION_HDR |
+//! | General | 24 | protocolVersion (2 at 8): 512 for a cautious client; extraFlags (2 at 14): NO_BITMAP_COMPRESSION_HDR, FASTPATH_OUTPUT_SUPPORTED |
 //! | Order | 88 | orderFlags (2 at 34): NEGOTIATEORDERSUPPORT, ORDERFLAGS_EXTRA_FLAGS, ZEROBOUNDSDELTASSUPPORT; orderSupport (32 at 36); orderSupportExFlags (2 at 70) |
 //! | Bitmap Cache | 40 | three times entries and cell (12 at 28) |
 //! | Brush | 8 | brushSupportLevel (4 at 4) |
 //! | Glyph Cache | 52 | ten times entries and cell (40 at 4); GlyphSupportLevel (2 at 48) |
 //! | Pointer | 10 | |
 
-ghost use Rattle.std.specs.Prelude.{◌≡◌, ◌++◌, ◌<◌, length, OnOk};
+ghost use Rattle.std.specs.Prelude.{◌≡◌, ◌++◌, ◌<◌, ◌≤◌, length, OnOk};
 ghost use Rattle.caps_sets.specs.DemandActive.{flag};
-ghost use Rattle.viewer_rules.specs.ClientPackets.{number_if, general_of, order_flags, order_of, sizes_bytes, bitmap_caches_of, level_by, brush_of, glyph_caches_of, sets_of};
+ghost use Rattle.viewer_rules.specs.ClientPackets.{number_if, general_flags, general_of, order_flags, order_of, sizes_bytes, bitmap_caches_of, level_by, brush_of, glyph_caches_of, sets_of};
 ghost use Rattle.viewer_wire.specs.Writes.{order_start, order_end};
 
 use caps_sets::{CacheSize, Confirmed};
@@ -19,6 +19,11 @@ use wire_num::OutOfMemory;
 
 /// The set's header, and its fields up to protocolVersion.
 const GENERAL_START: [u8; 8] = [1, 0, 24, 0, 0, 0, 0, 0];
+
+/// NO_BITMAP_COMPRESSION_HDR and FASTPATH_OUTPUT_SUPPORTED ([MS-RDPBCGR] 2.2.7.1.1).
+const NO_HEADER: u16 = 0x400;
+
+const FAST: u16 = 1;
 
 /// The set's header, and its fields up to orderFlags.
 const ORDER_START: [u8; 34] = [
@@ -59,7 +64,8 @@ pub(crate) fn put_sets(body: &mut Vec<u8>, c: &Confirmed) -> Result<(), OutOfMem
 
 /// A number where it is confirmed, else 0.
 fn number_if(is: bool, n: u16) -> u16
-    ensures { result ≡ number_if is n }
+    ensures value { result ≡ number_if is n }
+    ensures most { result ≤ n }
 {
     if is { n } else { 0 }
 }
@@ -77,9 +83,16 @@ fn put_general(body: &mut Vec<u8>, c: &Confirmed) -> Result<(), OutOfMemory>
     body.extend_from_slice(&GENERAL_START)?;
     body.extend_from_slice(&number_if(c.cautious, 512).to_le_bytes())?;
     body.extend_from_slice(&[0; 4])?;
-    body.extend_from_slice(&number_if(c.no_header, 1024).to_le_bytes())?;
+    body.extend_from_slice(&general_flags(c).to_le_bytes())?;
     body.extend_from_slice(&[0; 8])?;
     Ok(())
+}
+
+/// extraFlags.
+fn general_flags(c: &Confirmed) -> u16
+    ensures { result ≡ general_flags c.now }
+{
+    number_if(c.no_header, NO_HEADER) + number_if(c.fast, FAST)
 }
 
 fn put_order(body: &mut Vec<u8>, c: &Confirmed) -> Result<(), OutOfMemory>
