@@ -11,7 +11,7 @@ use Rattle.frame_rules.specs.Frame.{Walk, Sent, walk_after, sent_from, jumped, m
 use Rattle.session_core.specs.SessionModel.{SessionModel, asked_by, is_suppressed}
 use Rattle.frame_plan.specs.Takes.{DeskModel}
 use Rattle.frame_plan.specs.Plans.{is_work, frame_at}
-use Rattle.frame_plan.specs.Orders.{drawings_in, caches_in, caches_of, AreChosen}
+use Rattle.frame_plan.specs.Orders.{drawings_in, cached_in, all_cached, AreChosen}
 use Rattle.frame_plan.specs.declared.orders.Planned.{Planned}
 use Rattle.frame_plan.specs.Planning.{pending_at, begun_at, walk_if, sent_in, HasPlanned}
 use Rattle.frame_plan.specs.Walks.{walk_of, HasWalkedAll, HasJumped, IsBegun}
@@ -44,10 +44,10 @@ planned_walk s d begun w orders h less k =
           ∙ ap (λ b. sent_in b s.head.size d.confirmed (begun_at s d) (pending_at s d)) (sym test));
     }
 
--- the caches that were chosen are those of what the frame sends
-pub caches_are : (s : SessionModel) (d : DeskModel) (w : Walker) (orders : List Planned) → HasPlanned s d w (drawings_in orders) → AreChosen d.confirmed orders
-    → caches_in orders ≡ caches_of d.confirmed (frame_at s d).sent
-caches_are s d w orders h k = k ∙ ap (caches_of d.confirmed) (h.sent ∙ by (nat_lt most_orders (length (pending_at s d))))
+-- what the orders take is what those of the frame take
+pub cached_are : (s : SessionModel) (d : DeskModel) (w : Walker) (orders : List Planned) → HasPlanned s d w (drawings_in orders) → AreChosen d.confirmed orders
+    → cached_in orders ≡ all_cached d.confirmed (frame_at s d).sent
+cached_are s d w orders h k = k ∙ ap (all_cached d.confirmed) (h.sent ∙ by (nat_lt most_orders (length (pending_at s d))))
   where
     by : (b : Bool) → sent_in b s.head.size d.confirmed (begun_at s d) (pending_at s d)
         ≡ (framed_by b s.head.size d.confirmed (d.number == 0) (begun_at s d) (asked_by s d.v) (state_after s.head.size s.journal (length s.journal)).surface.picture (pending_at s d)).sent

@@ -7,9 +7,8 @@ use Rattle.caps_sets.specs.declared.confirmed.Confirmed.{Confirmed}
 use Rattle.session_rules.specs.Pending.{Pending}
 use Rattle.frame_rules.specs.Cautious.{area_of, is_cut, cut, cut_if, cut_by}
 use Rattle.frame_rules.specs.Frame.{Walk, Walked, Sent, walked, walked_as, walked_pending, walk_after, sent_from}
-use Rattle.frame_rules.specs.FrameOrders.{or_0}
 use Rattle.frame_plan.specs.declared.walk.Walker.{Walker}
-use Rattle.frame_plan.specs.Orders.{sent_as, drawings_in, cache_in, cache_for, cache_of, caches_of, AreChosen}
+use Rattle.frame_plan.specs.Orders.{sent_as, drawings_in, cache_for, cached_with, cached_of, all_cached, AreChosen}
 use Rattle.frame_plan.specs.declared.orders.Planned.{Planned}
 use Rattle.frame_plan.specs.Walks.{walk_of, HasDecided, HasGone, HasGoneOver, HasWalkedAll}
 use Rattle.frame_plan.specs.Cuts.{AllCuttable, IsCuttable}
@@ -36,20 +35,21 @@ map_last : {A B : Type 0} (f : A → B) (xs : List A) (x : A) → map f (xs ++ x
 map_last f [] x = refl
 map_last f (y ∷ ys) x = ap (λ zs. f y ∷ zs) (map_last f ys x)
 
--- no drawing, and a drawing more, with the cache that serves
+-- no drawing, and a drawing more, with what it takes of the cache that serves
 pub none_chosen : (c : Confirmed) (ps : List Planned) → ps ≡ [] → AreChosen c ps
 none_chosen c ps e = subst (AreChosen c) (sym e) refl
 
-pub chosen_more : (c : Confirmed) (ps qs : List Planned) (p : Pending) (q : Planned) (cache : Option ℕ) → cache ≡ cache_for c p p.drawing.shape → q.pending ≡ p → q.cache ≡ or_0 cache
-    → qs ≡ ps ++ q ∷ [] → AreChosen c ps → AreChosen c qs
+pub chosen_more : (c : Confirmed) (ps qs : List Planned) (p : Pending) (q : Planned) (cache : Option ℕ) → cache ≡ cache_for c p p.drawing.shape → q.pending ≡ p
+    → q.cached ≡ cached_with cache q.pending.image q.pending.brush → qs ≡ ps ++ q ∷ [] → AreChosen c ps → AreChosen c qs
 chosen_more c ps qs p q cache is same e more h =
-    let one : q.cache ≡ cache_of c (sent_as q) =
-    e ∙ (ap or_0 is ∙ ap (λ (x : Pending). or_0 (cache_for c x x.drawing.shape)) (sym same)) in
+    let one : q.cached ≡ cached_of c (sent_as q) =
+    e ∙ (ap (λ (k : Option ℕ). cached_with k q.pending.image q.pending.brush) is
+    ∙ ap (λ (x : Pending). cached_with (cache_for c x x.drawing.shape) q.pending.image q.pending.brush) (sym same)) in
     subst (AreChosen c) (sym more)
-    (map_last cache_in ps q
-    ∙ (ap (λ ns. ns ++ q.cache ∷ []) h
-    ∙ (ap (λ n. caches_of c (drawings_in ps) ++ n ∷ []) one
-    ∙ sym (ap (caches_of c) (map_last sent_as ps q) ∙ map_last (cache_of c) (drawings_in ps) (sent_as q)))))
+    (map_last (λ (x : Planned). x.cached) ps q
+    ∙ (ap (λ xs. xs ++ q.cached ∷ []) h
+    ∙ (ap (λ x. all_cached c (drawings_in ps) ++ x ∷ []) one
+    ∙ sym (ap (all_cached c) (map_last sent_as ps q) ∙ map_last (cached_of c) (drawings_in ps) (sent_as q)))))
 
 -- ---- one drawing
 

@@ -2,12 +2,15 @@
 use Rattle.std.specs.Prelude.{◌≡◌, ℕ, List, [], ◌∷◌, map, Option, Some, None}
 use Rattle.draw_ops.specs.declared.shape.Shape.{Shape}
 use Rattle.draw_ops.specs.declared.shape.Shape.TheVariants.{Fill, Dst, Pat, Copy, Blit, Blit3, Text, Line, Save, Restore, LoadImage, LoadBrush, LoadGlyph}
+use Rattle.draw_ops.specs.Content.{ImageOf}
+use Rattle.draw_ops.specs.Slots.{Loaded}
 use Rattle.caps_sets.specs.declared.confirmed.Confirmed.{Confirmed}
 use Rattle.session_rules.specs.Pending.{Pending}
 use Rattle.frame_rules.specs.Frame.{Sent}
-use Rattle.frame_rules.specs.FrameOrders.{or_0}
 use Rattle.frame_rules.specs.Support.{image_cache, run_cache}
 use Rattle.frame_plan.specs.declared.orders.Planned.{Planned}
+use Rattle.frame_plan.specs.declared.cached.Cached.{Cached}
+use Rattle.frame_plan.specs.declared.cached.Cached.TheVariants.{Nothing, Brush, Image, ImageAndBrush, Glyphs}
 
 -- a drawing goes as an order where it has a position
 abbrev pub sent_to : Pending → Option ℕ → List Sent
@@ -30,26 +33,31 @@ cache_for c p (LoadImage slot image) = None
 cache_for c p (LoadBrush slot brush) = None
 cache_for c p (LoadGlyph font code glyph) = None
 
--- the number of the cache that a drawing's order names, and 0 where it names none
-abbrev pub cache_of : Confirmed → Sent → ℕ
-cache_of c s = or_0 (cache_for c s.pending s.pending.drawing.shape)
+-- what a drawing takes from caches, with the image and the brush of its slots, and the cache that its image goes to, or its glyphs where it has no image
+abbrev pub cached_with : Option ℕ → Option (Loaded ImageOf) → Option (Loaded (List ℕ)) → Cached
+cached_with (Some cache) (Some image) (Some brush) = ImageAndBrush cache image brush
+cached_with (Some cache) (Some image) None = Image cache image
+cached_with (Some cache) None brush = Glyphs cache
+cached_with None image (Some brush) = Brush brush
+cached_with None image None = Nothing
 
-abbrev pub caches_of : Confirmed → List Sent → List ℕ
-caches_of c ss = map (cache_of c) ss
+-- what a drawing that goes as an order takes, of the cache that serves it
+abbrev pub cached_of : Confirmed → Sent → Cached
+cached_of c s = cached_with (cache_for c s.pending s.pending.drawing.shape) s.pending.image s.pending.brush
 
--- what was decided, as a drawing that goes as an order, and as the cache that its order names
+abbrev pub all_cached : Confirmed → List Sent → List Cached
+all_cached c ss = map (cached_of c) ss
+
+-- what was decided, as a drawing that goes as an order, and as what it takes
 abbrev pub sent_as : Planned → Sent
 sent_as p = record { pending = p.pending; position = p.position }
-
-abbrev pub cache_in : Planned → ℕ
-cache_in p = p.cache
 
 abbrev pub drawings_in : List Planned → List Sent
 drawings_in ps = map sent_as ps
 
-abbrev pub caches_in : List Planned → List ℕ
-caches_in ps = map cache_in ps
+abbrev pub cached_in : List Planned → List Cached
+cached_in ps = map (λ p. p.cached) ps
 
--- the caches are those that serve
+-- they take what the drawings' slots held, of the caches that serve
 abbrev pub AreChosen : Confirmed → List Planned → Type 0
-AreChosen c ps = caches_in ps ≡ caches_of c (drawings_in ps)
+AreChosen c ps = cached_in ps ≡ all_cached c (drawings_in ps)

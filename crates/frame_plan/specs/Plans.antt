@@ -5,7 +5,7 @@ use Rattle.session_rules.specs.Steps.{TakeOf, Play, PerViewer, replaced_for}
 use Rattle.frame_rules.specs.Frame.{FrameOf, frame_of}
 use Rattle.session_core.specs.SessionModel.{SessionModel, asked_by, is_suppressed}
 use Rattle.frame_plan.specs.Takes.{DeskModel, TakeModel, taken_as}
-use Rattle.frame_plan.specs.Orders.{caches_of}
+use Rattle.frame_plan.specs.Orders.{all_cached}
 use Rattle.frame_plan.specs.declared.taken.Taken.{Taken}
 use Rattle.frame_plan.specs.declared.taken.Taken.TheVariants.{Frame, Nothing}
 
@@ -30,7 +30,7 @@ taken_at s d = record {
   number = length s.journal;
   held_before = d.held;
   frame = taken_as s.head.size (frame_at s d);
-  caches = caches_of d.confirmed (frame_at s d).sent;
+  cached = all_cached d.confirmed (frame_at s d).sent;
 }
 
 -- what it gives

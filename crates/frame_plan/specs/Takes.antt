@@ -6,6 +6,7 @@ use Rattle.px_core.specs.Tiles.{tile_on}
 use Rattle.caps_sets.specs.declared.confirmed.Confirmed.{Confirmed}
 use Rattle.save_plan.specs.Blocks.{Held}
 use Rattle.frame_rules.specs.Frame.{Sent, FrameOf}
+use Rattle.frame_plan.specs.declared.cached.Cached.{Cached}
 
 -- a viewer and what it confirmed; the number of its last frame, the blocks that it holds, and how many frames it was given
 pub record DeskModel : Type 0 where
@@ -34,8 +35,8 @@ tile_taken size picture tile = (tile, cut_out size picture 0 (tile_on size tile)
 abbrev pub taken_as : Size → FrameOf → TakenFrame
 taken_as size f = record { first = f.first; sent = f.sent; tiles = map (tile_taken size f.picture) f.tiles; held = f.held }
 
--- a take: the session's size, how many frames the viewer was given before, the numbers before and after, the blocks held before, the frame, and the caches
--- that its orders name
+-- a take: the session's size, how many frames the viewer was given before, the numbers before and after, the blocks held before, the frame, and what its
+-- orders take from the viewer's caches
 pub record TakeModel : Type 0 where
   pub size : Size
   pub serial : ℕ
@@ -43,4 +44,4 @@ pub record TakeModel : Type 0 where
   pub number : ℕ
   pub held_before : Held
   pub frame : TakenFrame
-  pub caches : List ℕ
+  pub cached : List Cached

@@ -7,7 +7,7 @@ ghost use Rattle.session_rules.specs.Pending.{pending_between};
 ghost use Rattle.session_core.specs.SessionModel.{is_here, asked_by};
 ghost use Rattle.frame_plan.specs.Takes.{taken_as};
 ghost use Rattle.frame_plan.specs.Plans.{is_work, frame_at, taken_if, desk_if, asked_if};
-ghost use Rattle.frame_plan.specs.Orders.{caches_in, caches_of, drawings_in, AreChosen};
+ghost use Rattle.frame_plan.specs.Orders.{cached_in, all_cached, drawings_in, AreChosen};
 ghost use Rattle.frame_plan.specs.Walks.{HasGoneOver, HasWalkedAll};
 ghost use Rattle.frame_plan.specs.Planning.{planned_as, HasPlanned};
 ghost use Rattle.frame_plan.specs.declared.taken.Taken.TheVariants.{Nothing};
@@ -100,7 +100,7 @@ fn plan_frame(
     requires present { IsTrue (is_here session.old desk.now.v) }
     requires seen { desk.now.number ≤ length session.old.journal }
     ensures planned { IfOk result (λ planned. planned_as planned ≡ taken_as session.old.head.size (frame_at session.old desk.now)) }
-    ensures caches { IfOk result (λ planned. caches_in planned.sent ≡ caches_of desk.now.confirmed (frame_at session.old desk.now).sent) }
+    ensures cached { IfOk result (λ planned. cached_in planned.sent ≡ all_cached desk.now.confirmed (frame_at session.old desk.now).sent) }
     ensures unchanged { session.new ≡ session.old }
 {
     session.recall_legal();

@@ -1,6 +1,7 @@
 //! The plan of a frame: which pending drawings of a session go to a viewer as orders, and which tiles go as bitmaps (profile).
 #![tactic(auto)]
 
+mod cached;
 mod cut;
 mod desk;
 mod frame;
@@ -15,6 +16,7 @@ mod tile;
 mod tiles;
 mod walk;
 
+pub use cached::Cached;
 pub use desk::Desk;
 pub use frame::plan;
 pub use orders::{Orders, Planned};

@@ -1,4 +1,4 @@
-use crate::{OutOfMemory, Pending};
+use crate::{Cached, OutOfMemory, Pending};
 use std::alloc::Global;
 use std::marker::Model;
 
@@ -9,8 +9,8 @@ pub struct Planned {
     pub pending: Pending,
     /// The position of its block, or 0 where it has none.
     pub position: u32,
-    /// The number of the cache that its image or its glyphs go to, or 0 where it has neither.
-    pub cache: u8,
+    /// What it takes from the viewer's caches.
+    pub cached: Cached,
 }
 
 /// Drawings that go as orders, in their order.

@@ -20,7 +20,7 @@ pub struct Take {
 
 impl Model for Take {
     ghost use Rattle.frame_plan.specs.Takes.{TakeModel};
-    ghost use Rattle.frame_plan.specs.Orders.{drawings_in, caches_in};
+    ghost use Rattle.frame_plan.specs.Orders.{drawings_in, cached_in};
 
     ghost Value = { TakeModel };
 
@@ -31,13 +31,13 @@ impl Model for Take {
       number = s.number;
       held_before = s.held_before;
       frame = record { first = s.first; sent = drawings_in s.sent; tiles = s.tiles.items; held = s.held };
-      caches = caches_in s.sent;
+      cached = cached_in s.sent;
     } };
 }
 
 impl Take {
     ghost use Rattle.std.specs.Prelude.{◌≡◌};
-    ghost use Rattle.frame_plan.specs.Orders.{drawings_in, caches_in};
+    ghost use Rattle.frame_plan.specs.Orders.{drawings_in, cached_in};
 
     /// The size of the session's picture.
     pub fn size(&self) -> Size
@@ -74,10 +74,10 @@ impl Take {
         self.number
     }
 
-    /// The drawings that go as orders, in order, each with the cache that its order names.
+    /// The drawings that go as orders, in order, each with what it takes from the viewer's caches.
     pub fn sent(&self) -> &Orders
         ensures orders { drawings_in result.now ≡ self.now.frame.sent }
-        ensures caches { caches_in result.now ≡ self.now.caches }
+        ensures cached { cached_in result.now ≡ self.now.cached }
     {
         &self.sent
     }

@@ -10,6 +10,7 @@ ghost use Rattle.frame_plan.specs.Cuts.{IsWalkable, IsCuttable, AllCuttable};
 ghost use Rattle.frame_plan.specs.Orders.{cache_for, drawings_in, AreChosen};
 ghost use Rattle.frame_plan.specs.Walks.{walk_of, HasDecided, HasGone, HasGoneOver, HasJumped, IsBegun};
 
+use crate::cached::cached_for;
 use crate::cut::{cut, is_cut};
 use crate::support::{cache_for, supports_text};
 use crate::{Orders, OutOfMemory, Planned};
@@ -112,11 +113,11 @@ impl Walker {
         let position = self.walk(size, confirmed, pending, cache)?;
         if let Some(position) = position {
             let pending = pending.share(alloc)?;
-            let cache = cache.unwrap_or(0);
+            let cached = cached_for(&pending, cache)?;
             orders.push(Planned {
                 pending,
                 position,
-                cache,
+                cached,
             })?;
         }
         Ok(())

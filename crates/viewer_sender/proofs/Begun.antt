@@ -1,21 +1,48 @@
--- The user data of the update that is begun, its orders, and the order behind them.
+-- The update that is begun: its room, its orders, and the order behind them.
 use Rattle.std.proofs.Common.{◌≡◌, ℕ, zero, suc, ◌+◌, ◌<◌, ◌≤◌, List, [], ◌∷◌, ◌++◌, length, take, drop, refl, ap, sym, ◌∙◌, arith, length-drop}
 use Rattle.std.specs.Prelude.{Bool, true, false, ◌&&◌, ◌==◌, not}
 use Rattle.std.proofs.lemmas.Bool.Decides.{nat_tests}
 use Rattle.std.proofs.lemmas.List.{length-take-le, take_at, drop_at, take_all, drop-drop, take-append-drop}
 use borrow.Rule.Slice.PartMut.{put_mid, post_of}
+use Rattle.order_means.specs.UpdateBodies.{orders_size}
 use Rattle.frame_rules.specs.FrameBytes.{joins_update}
-use Rattle.viewer_sender.specs.Gathering.{Gathering, gathering, packets_if, packets_of, goes_into, closed, with_order, after_order, after_order_by, orders_in, IsBegun}
+use Rattle.viewer_sender.specs.Gathering.{Gathering, gathering, packets_if, packets_of, goes_into, closed, with_order, after_order, after_order_by, orders_in, most_room, IsBegun}
 
 -- ---- how many bytes
 
+-- the room alone is within either limit
+room_least : (fast : Bool) → 26 ≤ most_room fast
+room_least false = omega arith
+room_least true = omega arith
+
+-- the limits of room and orders, and of what is counted of a packet, are the same
+pub within_packet : (fast : Bool) (n : ℕ) → 26 + n ≤ most_room fast → orders_size fast n ≤ 16383
+within_packet false n h = h
+within_packet true n h = omega (arith, h)
+
+pub past_packet : (fast : Bool) (n : ℕ) → most_room fast < 26 + n → 16383 < orders_size fast n
+past_packet false n h = h
+past_packet true n h = omega (arith, h)
+
+-- an order of an update of its own is within either
+pub short_enough : (fast : Bool) (n : ℕ) → n ≤ 16357 → 26 + n ≤ most_room fast
+short_enough false n h = omega (arith, h)
+short_enough true n h = omega (arith, h)
+
 -- no update is begun
-pub begun_none : (room : ℕ) → 26 ≤ room → IsBegun room 26 0
-begun_none room h = record { begins = omega arith; there = h; few = omega arith; each = omega arith; none = λ e. refl }
+pub begun_none : (fast : Bool) (room : ℕ) → 26 ≤ room → IsBegun fast room 26 0
+begun_none fast room h = record { begins = omega arith; there = h; few = room_least fast; each = omega arith; none = λ e. refl }
+
+-- and where none is, the next one may be of either kind
+pub begun_of_kind : (old new : Bool) (room end count : ℕ) → IsBegun old room end count → count ≡ 0 → IsBegun new room end count
+begun_of_kind old new room end count b none =
+    let is = b.none none in
+    let least = room_least new in
+    record { begins = b.begins; there = b.there; few = omega (arith, is, least); each = b.each; none = b.none }
 
 -- an order joined the update
-pub begun_more : (room end count more : ℕ) → IsBegun room end count → end + more ≡ room → 1 ≤ more → room ≤ 16383 → IsBegun room room (count + 1)
-begun_more room end count more b e some few =
+pub begun_more : (fast : Bool) (room end count more : ℕ) → IsBegun fast room end count → end + more ≡ room → 1 ≤ more → room ≤ most_room fast → IsBegun fast room room (count + 1)
+begun_more fast room end count more b e some few =
     let a = b.begins in
     let d = b.each in
     record { begins = omega (arith, a, e); there = omega arith; few = few; each = omega (arith, d, e, some); none = λ z. absurd (omega (arith, z)) }
@@ -58,27 +85,27 @@ begun_is user order end h = ap (drop 26) (take_at (take end user) order end (len
 -- ---- whether an order joins
 
 module _ (g : Gathering) (order : List ℕ) where
-  pub joins : ((g.count == 0) ≡ true → g.begun ≡ []) → 26 + (length g.begun + length order) ≤ 16383 → with_order g order ≡ after_order g order
+  pub joins : ((g.count == 0) ≡ true → g.begun ≡ []) → orders_size g.fast (length g.begun + length order) ≤ 16383 → with_order g order ≡ after_order g order
   joins none few = by (g.count == 0) refl
     where
-      fits : joins_update (length g.begun) (length order) ≡ true
+      fits : joins_update g.fast (length g.begun) (length order) ≡ true
       fits = grind (arith, nat_tests, few)
 
       by : (b : Bool) → (g.count == 0) ≡ b → with_order g order ≡ after_order g order
       by true e =
-          let goes : goes_into g order ≡ false = ap (λ t. not t && joins_update (length g.begun) (length order)) e in
+          let goes : goes_into g order ≡ false = ap (λ t. not t && joins_update g.fast (length g.begun) (length order)) e in
           let zero_ : g.count ≡ 0 = grind (arith, nat_tests, e) in
-          let packets : packets_of g ≡ g.packets = ap (λ t. packets_if t g.packets g.begun g.count) e in
-          ap (λ bs. gathering g.packets (bs ++ order) (g.count + 1) []) (none e)
-          ∙ (ap (λ n. gathering g.packets order (n + 1) []) zero_
-          ∙ (ap (λ ps. gathering ps order 1 []) (sym packets) ∙ ap (λ t. after_order_by t g order) (sym goes)))
+          let packets : packets_of g ≡ g.packets = ap (λ t. packets_if t g.fast g.packets g.begun g.count) e in
+          ap (λ bs. gathering g.fast g.packets (bs ++ order) (g.count + 1) []) (none e)
+          ∙ (ap (λ n. gathering g.fast g.packets order (n + 1) []) zero_
+          ∙ (ap (λ ps. gathering g.fast ps order 1 []) (sym packets) ∙ ap (λ t. after_order_by t g order) (sym goes)))
       by false e =
-          let goes : goes_into g order ≡ true = ap (λ t. not t && joins_update (length g.begun) (length order)) e ∙ fits in
+          let goes : goes_into g order ≡ true = ap (λ t. not t && joins_update g.fast (length g.begun) (length order)) e ∙ fits in
           ap (λ t. after_order_by t g order) (sym goes)
 
-  pub begins : 16383 < 26 + (length g.begun + length order) → with_order (closed g) order ≡ after_order g order
+  pub begins : 16383 < orders_size g.fast (length g.begun + length order) → with_order (closed g) order ≡ after_order g order
   begins many =
-      let over : joins_update (length g.begun) (length order) ≡ false = grind (arith, nat_tests, many) in
+      let over : joins_update g.fast (length g.begun) (length order) ≡ false = grind (arith, nat_tests, many) in
       let goes : goes_into g order ≡ false = ap (λ t. not (g.count == 0) && t) over ∙ never (not (g.count == 0)) in
       ap (λ t. after_order_by t g order) (sym goes)
     where
@@ -96,6 +123,9 @@ room_left user now e h = let n = length-take-le 26 user h in let m = ap length e
 pub head_put : (user head : List ℕ) → 26 ≤ length user → length head ≡ 8 → drop 18 (put_mid 18 8 user head) ≡ head ++ drop 26 user
 head_put user head h n = drop_at (take 18 user) (head ++ post_of 18 8 user) 18 (length-take-le 18 user (omega (arith, h))) ∙ ap (λ t. head ++ t) (drop-drop 8 18 user)
 
+pub count_put : (user count : List ℕ) → 26 ≤ length user → length count ≡ 2 → drop 24 (put_mid 24 2 user count) ≡ count ++ drop 26 user
+count_put user count h n = drop_at (take 24 user) (count ++ post_of 24 2 user) 24 (length-take-le 24 user (omega (arith, h))) ∙ ap (λ t. count ++ t) (drop-drop 2 24 user)
+
 -- what stands between a place and itself
 pub drop-take-all : (n : ℕ) (xs : List ℕ) → drop n (take n xs) ≡ []
 drop-take-all zero xs = refl
@@ -103,7 +133,7 @@ drop-take-all (suc n) [] = refl
 drop-take-all (suc n) (x ∷ xs) = drop-take-all n xs
 
 -- an update without orders has none
-pub none_begun : (user : List ℕ) (end count : ℕ) → IsBegun (length user) end count → (count == 0) ≡ true → orders_in user end ≡ []
-none_begun user end count b e =
+pub none_begun : (fast : Bool) (user : List ℕ) (end count : ℕ) → IsBegun fast (length user) end count → (count == 0) ≡ true → orders_in user end ≡ []
+none_begun fast user end count b e =
     let zero_ : count ≡ 0 = grind (arith, nat_tests, e) in
     ap (orders_in user) (b.none zero_) ∙ drop-take-all 26 user

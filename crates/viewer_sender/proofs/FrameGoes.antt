@@ -11,7 +11,6 @@ use Rattle.draw_ops.specs.declared.shape.Drawing.{Drawing}
 use Rattle.draw_ops.specs.Slots.{SurfaceState}
 use Rattle.draw_ops.specs.Drawing.{state_after_drawing}
 use Rattle.caps_sets.specs.declared.confirmed.Confirmed.{Confirmed}
-use Rattle.caps_sets.specs.Confirmed.{depth_of}
 use Rattle.session_rules.specs.declared.entry.Entry.{Entry}
 use Rattle.session_rules.specs.Journal.{Head, state_after, IsLegalJournal}
 use Rattle.session_rules.specs.Steps.{TakeOf}
@@ -46,28 +45,28 @@ use Rattle.viewer_sender.proofs.ShapeGoes.{sent_goes}
 
 module _ (size : Size) (sides : Sides size.w size.h) (c : Confirmed) (all : HasAllCaches c) (j : List Entry) where
   abbrev Goes : SurfaceState → Walk → Drawing → Sent → Type 0
-  Goes st w d s = (walked_pending size c w (pending_of size st d)).sent ≡ s ∷ [] → SentGoes (depth_of c) s
+  Goes st w d s = (walked_pending size c w (pending_of size st d)).sent ≡ s ∷ [] → SentGoes c s
 
   -- a drawing itself, or its cut
   drawing_goes : (st : SurfaceState) (w : Walk) (d : Drawing) (s : Sent) → IsSound size j st → Suits size st d → AreApart w.held
-      → (walked_pending size c w (pending_of size st d)).sent ≡ s ∷ [] → SentGoes (depth_of c) s
+      → (walked_pending size c w (pending_of size st d)).sent ≡ s ∷ [] → SentGoes c s
   drawing_goes st w d s h suits apart e = by_caution c.cautious e
     where
-      goes : (d' : Drawing) → Suits size st d' → (walked size c w (pending_of size st d') d'.shape).sent ≡ s ∷ [] → SentGoes (depth_of c) s
+      goes : (d' : Drawing) → Suits size st d' → (walked size c w (pending_of size st d') d'.shape).sent ≡ s ∷ [] → SentGoes c s
       goes d' suits' e' = sent_goes size c j st w d'.clip d'.shape s h (rules_kept size st d' suits'.fits) (good_of size j st d' h suits')
           (sent_or_cut_fits size c j sides.not_wider all sides st w [] d s (record { sound = h; suits = suits }) apart e).whole e'
 
-      by_cut : (o : Option Pending) → cut size (pending_of size st d) ≡ o → (walked_as size c w o).sent ≡ s ∷ [] → SentGoes (depth_of c) s
+      by_cut : (o : Option Pending) → cut size (pending_of size st d) ≡ o → (walked_as size c w o).sent ≡ s ∷ [] → SentGoes c s
       by_cut None is k = absurd (cc k)
       by_cut (Some q) is k =
           let does = cut_does size st h.sized.pixels d.shape d.clip q is in
           goes q.drawing (cut_suits size sides st d q suits is) (ap (λ p. (walked size c w p q.drawing.shape).sent) (sym does.pending) ∙ k)
 
-      by_caution : (b : Bool) → (walked_as size c w (cut_if b size (pending_of size st d))).sent ≡ s ∷ [] → SentGoes (depth_of c) s
+      by_caution : (b : Bool) → (walked_as size c w (cut_if b size (pending_of size st d))).sent ≡ s ∷ [] → SentGoes c s
       by_caution true k = by_cut (cut size (pending_of size st d)) refl k
       by_caution false k = goes d suits k
 
-  walk_goes : (ds : List Drawing) (st : SurfaceState) (w : Walk) → AllSound size j st ds → AreApart w.held → AllGo (depth_of c) (sent_from size c w (pending_drawings size st ds))
+  walk_goes : (ds : List Drawing) (st : SurfaceState) (w : Walk) → AllSound size j st ds → AreApart w.held → AllGo c (sent_from size c w (pending_drawings size st ds))
   walk_goes [] st w h apart = tt
   walk_goes (d ∷ ds) st w h apart =
       by (none_or_one_pending size c w (pending_of size st d))
@@ -76,15 +75,15 @@ module _ (size : Size) (sides : Sides size.w size.h) (c : Confirmed) (all : HasA
       more : List Sent
       more = sent_from size c (walked_pending size c w (pending_of size st d)).walk (pending_drawings size (state_after_drawing size st d) ds)
 
-      by : NoneOrOne (walked_pending size c w (pending_of size st d)).sent → AllGo (depth_of c) more → AllGo (depth_of c) ((walked_pending size c w (pending_of size st d)).sent ++ more)
-      by (inl none) rest = subst (λ (ss : List Sent). AllGo (depth_of c) (ss ++ more)) (sym none) rest
-      by (inr one) rest = subst (λ (ss : List Sent). AllGo (depth_of c) (ss ++ more)) (sym one.1) (drawing_goes st w d one.0 h.0 h.1 apart one.1, rest)
+      by : NoneOrOne (walked_pending size c w (pending_of size st d)).sent → AllGo c more → AllGo c ((walked_pending size c w (pending_of size st d)).sent ++ more)
+      by (inl none) rest = subst (λ (ss : List Sent). AllGo c (ss ++ more)) (sym none) rest
+      by (inr one) rest = subst (λ (ss : List Sent). AllGo c (ss ++ more)) (sym one.1) (drawing_goes st w d one.0 h.0 h.1 apart one.1, rest)
 
   over_goes : (ds : List Drawing) (st : SurfaceState) (held : Held) → AllSound size j st ds → AreApart held → (first : Bool) (asked : Tiles) (picture : List ℕ)
-      → AllGo (depth_of c) (frame_over size c first held asked picture (pending_drawings size st ds)).sent
+      → AllGo c (frame_over size c first held asked picture (pending_drawings size st ds)).sent
   over_goes ds st held h apart first asked picture = by (nat_lt most_orders (length (pending_drawings size st ds)))
     where
-      by : (b : Bool) → AllGo (depth_of c) (framed_by b size c first (record { dirty = first_dirty size first c; held = held }) asked picture (pending_drawings size st ds)).sent
+      by : (b : Bool) → AllGo c (framed_by b size c first (record { dirty = first_dirty size first c; held = held }) asked picture (pending_drawings size st ds)).sent
       by true = tt
       by false = walk_goes ds st (record { dirty = first_dirty size first c; held = held }) h apart
 
@@ -133,11 +132,11 @@ framed_picture false size c first w asked picture ps = refl
 
 module _ (head : Head) (c : Confirmed) (all : HasAllCaches c) (j : List Entry) (held : Held) (t : TakeOf) (sized : is_session_size head.size.w head.size.h ≡ true)
     (legal : IsLegalJournal head j) (up : t.before ≤ t.number) (apart : AreApart held) where
-  pub frame_goes : AllGo (depth_of c) (frame_of head.size c j held t).sent
+  pub frame_goes : AllGo c (frame_of head.size c j held t).sent
   frame_goes =
       let size = head.size in
       let picture = (state_after size j t.number).surface.picture in
-      subst (λ (ps : List Pending). AllGo (depth_of c) (frame_over size c (is_first t) held t.asked picture ps).sent) (sym (pending_between_is size j t.before t.number))
+      subst (λ (ps : List Pending). AllGo c (frame_over size c (is_first t) held t.asked picture ps).sent) (sym (pending_between_is size j t.before t.number))
       (over_goes size (sides_of size.w size.h sized) c all j (drawings_between size j t.before t.number) (state_after size j t.before).surface held
       (between_sound head j sized legal t.before t.number up) apart (is_first t) t.asked picture)
 

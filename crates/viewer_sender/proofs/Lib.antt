@@ -3,6 +3,7 @@ pub mod Sources
 pub mod ShapeGoes
 pub mod FrameGoes
 pub mod Loops
+pub mod CachedGoes
 pub mod Sends
 pub mod Gathered
 pub mod Begun
@@ -10,5 +11,6 @@ pub mod CacheSteps
 pub mod NewCaches
 pub mod UseSteps
 pub mod TileShort
+pub mod FastShort
 pub mod TilePacket
 pub mod Styles

@@ -3,7 +3,6 @@ use Rattle.std.proofs.Common.{◌≡◌, ℕ, zero, suc, ◌+◌, ◌-◌, ◌<�
 use Rattle.std.specs.Prelude.{Bool, true, false, nat_lt}
 use Rattle.std.proofs.lemmas.Bool.Decides.{nat_tests}
 use Rattle.std.proofs.Math.Seq.{drop-cons}
-use Rattle.px_core.specs.declared.depth.Depth.{Depth}
 use Rattle.px_core.specs.declared.surface.Size.{Size}
 use Rattle.px_core.specs.declared.rectangle.Rect.{Rect}
 use Rattle.px_core.specs.Tiles.{tile_on}
@@ -20,15 +19,16 @@ use Rattle.draw_ops.specs.declared.shape.Drawing.{Drawing}
 use Rattle.draw_ops.specs.declared.shape.Shape.{Shape}
 use Rattle.session_rules.specs.Pending.{Pending}
 use Rattle.frame_rules.specs.Frame.{Sent}
-use Rattle.frame_rules.specs.FrameOrders.{or_0, SentOrder, Use, Uses, sending, use_by, sending_by, sending_of, orders_from, uses_after, glyph_use, run_use, run_pairs, entries_of}
+use Rattle.frame_rules.specs.FrameOrders.{SentOrder, Use, Uses, sending, use_by, sending_by, sending_of, orders_from, uses_after, glyph_use, run_use, run_pairs, entries_of}
 use Rattle.frame_rules.specs.FrameOrders.SentOrder.{CacheGlyph}
 use Rattle.viewer_sender.specs.declared.writer.FrameWriter.{FrameWriter}
 use Rattle.viewer_sender.specs.Stands.{CachesStand}
 use Rattle.viewer_sender.specs.Writes.{Writes, used}
 use Rattle.viewer_sender.proofs.CacheSteps.{use_of_none}
 use Rattle.viewer_sender.proofs.UseSteps.{use_missed, writes_then, writes_as}
-use Rattle.frame_plan.specs.Orders.{cache_for, cache_of, caches_of, sent_as, drawings_in, caches_in, AreChosen}
+use Rattle.frame_plan.specs.Orders.{cached_of, all_cached, sent_as, drawings_in, cached_in, AreChosen}
 use Rattle.frame_plan.specs.declared.orders.Planned.{Planned}
+use Rattle.frame_plan.specs.declared.cached.Cached.{Cached}
 use Rattle.viewer_sender.specs.Goes.{SentGoes, AllGo}
 use Rattle.viewer_sender.specs.Runs.{run_sending, drawings_sending}
 
@@ -58,21 +58,21 @@ drawings_last ps i d h = ap drawings_in (take_next ps i d h) ∙ by (take i ps)
     by [] = refl
     by (q ∷ qs) = ap (λ ss. sent_as q ∷ ss) (by qs)
 
--- the next drawing and those behind it can be written, and each names the cache that serves it
-pub next_goes : (depth : Depth) (ps : List Planned) (i : ℕ) (d : Planned) → i < length ps → AllGo depth (drawings_in (drop i ps))
-    → SentGoes depth (sent_as (get_or ps i d)) × AllGo depth (drawings_in (drop (i + 1) ps))
-next_goes depth ps i d h k = subst (λ (qs : List Planned). AllGo depth (drawings_in qs)) (drop_next ps i d h) k
+-- the next drawing and those behind it can be written, and each takes what serves it
+pub next_goes : (c : Confirmed) (ps : List Planned) (i : ℕ) (d : Planned) → i < length ps → AllGo c (drawings_in (drop i ps))
+    → SentGoes c (sent_as (get_or ps i d)) × AllGo c (drawings_in (drop (i + 1) ps))
+next_goes c ps i d h k = subst (λ (qs : List Planned). AllGo c (drawings_in qs)) (drop_next ps i d h) k
 
 pub next_chosen : (c : Confirmed) (ps : List Planned) (i : ℕ) (d : Planned) → i < length ps → AreChosen c (drop i ps)
-    → ((get_or ps i d).cache ≡ cache_of c (sent_as (get_or ps i d))) × AreChosen c (drop (i + 1) ps)
+    → ((get_or ps i d).cached ≡ cached_of c (sent_as (get_or ps i d))) × AreChosen c (drop (i + 1) ps)
 next_chosen c ps i d h k = by (subst (AreChosen c) (drop_next ps i d h) k)
   where
-    by : {x y : ℕ} {xs ys : List ℕ} → x ∷ xs ≡ y ∷ ys → (x ≡ y) × (xs ≡ ys)
+    by : {x y : Cached} {xs ys : List Cached} → x ∷ xs ≡ y ∷ ys → (x ≡ y) × (xs ≡ ys)
     by e = (cc e, cc e)
 
--- the caches of what a take sends are those that serve
-pub chosen_all : (c : Confirmed) (ps qs : List Planned) (caches : List ℕ) (ss : List Sent) → ps ≡ qs → caches_in qs ≡ caches → drawings_in qs ≡ ss → caches ≡ caches_of c ss → AreChosen c ps
-chosen_all c ps qs caches ss same a b e = subst (AreChosen c) (sym same) (a ∙ (e ∙ ap (caches_of c) (sym b)))
+-- what a take's orders take is what serves them
+pub chosen_all : (c : Confirmed) (ps qs : List Planned) (cached : List Cached) (ss : List Sent) → ps ≡ qs → cached_in qs ≡ cached → drawings_in qs ≡ ss → cached ≡ all_cached c ss → AreChosen c ps
+chosen_all c ps qs cached ss same a b e = subst (AreChosen c) (sym same) (a ∙ (e ∙ ap (all_cached c) (sym b)))
 
 -- drawings, and more of them
 module _ (c : Confirmed) where
@@ -188,8 +188,8 @@ module _ (c : Confirmed) (cache : ℕ) (g : Loaded GlyphOf) where
 
 -- ---- tiles
 
-abbrev pub tile_bytes_of : Confirmed → Size → ℕ × List ℕ → List ℕ
-tile_bytes_of c size tile = tile_packet (depth_of c) c.no_header (tile_on size tile.0) tile.1
+abbrev pub tile_bytes_of : Confirmed → Bool → Size → ℕ × List ℕ → List ℕ
+tile_bytes_of c fast size tile = tile_packet (depth_of c) fast c.no_header (tile_on size tile.0) tile.1
 
 flat_map-last : {A : Type 0} (f : A → List ℕ) (xs : List A) (x : A) → flat_map f (xs ++ x ∷ []) ≡ flat_map f xs ++ f x
 flat_map-last f [] x = append-nil (f x)
@@ -197,26 +197,22 @@ flat_map-last f (y ∷ ys) x = ap (λ bs. f y ++ bs) (flat_map-last f ys x) ∙ 
 
 -- the writer after the packets of tiles
 abbrev pub with_tiles : FrameWriter → Size → List (ℕ × List ℕ) → FrameWriter
-with_tiles w size ts = record w { updates = record w.updates { packets = w.updates.packets ++ flat_map (tile_bytes_of w.confirmed size) ts } }
+with_tiles w size ts = record w { updates = record w.updates { packets = w.updates.packets ++ flat_map (tile_bytes_of w.confirmed w.updates.fast size) ts } }
 
 pub tiles_more : (a b : FrameWriter) (u : Gathering) (size : Size) (ts : List (ℕ × List ℕ)) (t : ℕ × List ℕ) (r : Rect) (pixels : List ℕ) → b ≡ with_tiles a size ts
-    → u ≡ with_packet b.updates (tile_packet (depth_of b.confirmed) b.confirmed.no_header r pixels) → r ≡ tile_on size t.0 → pixels ≡ t.1 → record b { updates = u } ≡ with_tiles a size (ts ++ t ∷ [])
+    → u ≡ with_packet b.updates (tile_packet (depth_of b.confirmed) b.updates.fast b.confirmed.no_header r pixels) → r ≡ tile_on size t.0 → pixels ≡ t.1 → record b { updates = u } ≡ with_tiles a size (ts ++ t ∷ [])
 tiles_more a b u size ts t r pixels wrote is place cut =
-    let f = tile_bytes_of a.confirmed size in
+    let f = tile_bytes_of a.confirmed a.updates.fast size in
     let bytes : (a.updates.packets ++ flat_map f ts) ++ f t ≡ a.updates.packets ++ flat_map f (ts ++ t ∷ []) =
     append_assoc a.updates.packets (flat_map f ts) (f t) ∙ ap (λ bs. a.updates.packets ++ bs) (sym (flat_map-last f ts t)) in
     let after : FrameWriter → Gathering → FrameWriter = λ w g. record w { updates = g } in
+    let one : FrameWriter → Rect → List ℕ → List ℕ = λ w q ps. tile_packet (depth_of w.confirmed) w.updates.fast w.confirmed.no_header q ps in
     let made : List ℕ → FrameWriter = λ ps. record a { updates = record a.updates { packets = ps } } in
-    ap (λ g. after b g) (is ∙ (ap (λ q. with_packet b.updates (tile_packet (depth_of b.confirmed) b.confirmed.no_header q pixels)) place ∙ ap (λ ps. with_packet b.updates (tile_packet (depth_of b.confirmed) b.confirmed.no_header (tile_on size t.0) ps)) cut))
-    ∙ (ap (λ w. after w (with_packet w.updates (tile_packet (depth_of w.confirmed) w.confirmed.no_header (tile_on size t.0) t.1))) wrote
+    ap (λ g. after b g) (is ∙ (ap (λ q. with_packet b.updates (one b q pixels)) place ∙ ap (λ ps. with_packet b.updates (one b (tile_on size t.0) ps)) cut))
+    ∙ (ap (λ w. after w (with_packet w.updates (one w (tile_on size t.0) t.1))) wrote
     ∙ ap made bytes)
 
 -- ---- a drawing by its shape
-
--- the cache that was chosen for a drawing is the one for its shape
-pub chosen_as : (c : Confirmed) (p : Pending) (d : Drawing) (shape : Shape) (n : ℕ) → n ≡ or_0 (cache_for c p p.drawing.shape) → d ≡ p.drawing → d.shape ≡ shape
-    → n ≡ or_0 (cache_for c p shape)
-chosen_as c p d shape n h e is = h ∙ (ap (λ (x : Drawing). or_0 (cache_for c p x.shape)) (sym e) ∙ ap (λ (s : Shape). or_0 (cache_for c p s)) is)
 
 -- what was written for a shape is what its drawing sends
 pub arm : (a b : FrameWriter) (sent : Sent) (p : Pending) (d : Drawing) (shape : Shape) → p ≡ sent.pending → d ≡ p.drawing → d.shape ≡ shape

@@ -3,7 +3,7 @@ use Rattle.std.proofs.Common.{◌≡◌, ℕ, ◌+◌, ◌≤◌, List, [], ◌�
 use Rattle.std.specs.Prelude.{Bool, true, false, Option, Ok}
 use Rattle.px_core.specs.Rectangle.{is_session_size}
 use Rattle.caps_sets.specs.declared.confirmed.Confirmed.{Confirmed}
-use Rattle.caps_sets.specs.Confirmed.{depth_of}
+use Rattle.caps_sets.specs.Confirmed.{depth_of, takes_fast}
 use Rattle.session_rules.specs.declared.entry.Entry.{Entry}
 use Rattle.session_rules.specs.Journal.{Head, IsLegalJournal}
 use Rattle.session_rules.specs.Steps.{TakeOf}
@@ -17,8 +17,9 @@ use Rattle.frame_rules.specs.FrameBytes.{frame_bytes, bytes_of_orders, updates_o
 use Rattle.frame_rules.specs.Encoder.{Encoder, encoder_frame, take_bytes, encoder_after_frame}
 use Rattle.frame_rules.specs.Describes.{DescribesClient, HasAllCaches, ShowsFrame}
 use Rattle.frame_rules.specs.OrdersOfBytes.{orders_of_bytes}
+use Rattle.frame_rules.specs.PacketKinds.{HasPacketsOfKind}
 use Rattle.frame_shows.proofs.JournalShown.{frame_shows_journal}
-use Rattle.frame_shows.proofs.FrameReads.{frames_read}
+use Rattle.frame_shows.proofs.FrameReads.{frames_read, frames_go}
 use Rattle.session_core.specs.SessionModel.{SessionModel}
 use Rattle.frame_plan.specs.Takes.{DeskModel, TakenFrame, TakeModel, tile_taken, taken_as}
 use Rattle.frame_plan.specs.Plans.{taken_if, take_at}
@@ -28,7 +29,7 @@ use Rattle.viewer_sender.specs.declared.writer.FrameWriter.{FrameWriter}
 use Rattle.viewer_sender.specs.Gathering.{Gathering, gathering, nothing_gathered, packets_of, closed, after_orders}
 use Rattle.viewer_sender.specs.Stands.{CachesStand}
 use Rattle.viewer_sender.specs.Writes.{Wrote}
-use Rattle.viewer_sender.proofs.Gathered.{gathered_is}
+use Rattle.viewer_sender.proofs.Gathered.{gathered_is, kind_left}
 use Rattle.viewer_sender.specs.Runs.{frame_sending}
 use Rattle.viewer_sender.proofs.Loops.{tile_bytes_of, with_tiles}
 use Rattle.viewer_sender.specs.Senders.{SenderModel, StandsFor}
@@ -54,7 +55,7 @@ own_taken true s d sized all legal seen apart = record {
   apart = apart;
   size_is = refl;
   frame_is = refl;
-  caches_are = refl;
+  cached_are = refl;
 }
 own_taken false s d sized all legal seen apart = tt
 
@@ -62,8 +63,8 @@ module _ (c : Confirmed) (take : TakeModel) (own : IsOwnTake c take) where
   pub own_size : is_session_size take.size.w take.size.h ≡ true
   own_size = ap (λ s. is_session_size s.w s.h) own.size_is ∙ own.sized
 
-  pub own_drawings : AllGo (depth_of c) take.frame.sent
-  own_drawings = subst (AllGo (depth_of c)) (ap (λ f. f.sent) (sym own.frame_is)) (frame_goes own.head c own.all own.journal own.held own.found own.sized own.legal own.up own.apart)
+  pub own_drawings : AllGo c take.frame.sent
+  own_drawings = subst (AllGo c) (ap (λ f. f.sent) (sym own.frame_is)) (frame_goes own.head c own.all own.journal own.held own.found own.sized own.legal own.up own.apart)
 
   pub own_tiles : TilesGo take.size take.frame.tiles
   own_tiles =
@@ -87,7 +88,8 @@ module _ (s new : SenderModel) (take : TakeModel) (out : List ℕ) (all : HasAll
       record {
         after = x.after;
         reads = subst (λ (bs : List ℕ). read_on c head.size (reading view (cutting place Between)) bs ≡ Ok (reading x.after (cutting (place + length bs) Between))) is x.reads;
-        orders = ap (orders_of_bytes (depth_of c) e.registers) (sym is) ∙ frames_read head c j e t sized all legal up within describes.are_registers describes.apart;
+        orders = ap (orders_of_bytes c e.registers) (sym is) ∙ frames_read head c j e t sized all legal up within describes.are_registers describes.apart;
+        kind = subst (HasPacketsOfKind (takes_fast c)) is (frames_go head c j e t sized all legal up within describes.are_registers describes.apart);
         mark = x.mark;
         describes = x.describes;
         stands = subst (λ size. StandsFor new (encoder_after_frame size c e f)) same (after e f stands frame);
@@ -107,7 +109,7 @@ flat_map-map f g (x ∷ xs) = ap (λ bs. g (f x) ++ bs) (flat_map-map f g xs)
 module _ (size : Size) (w w1 w3 w4 : FrameWriter) (u2 : Gathering) (t : TakenFrame) (uses : Uses) (f : FrameOf)
     (wrote : Wrote w w1 (frame_sending size w.confirmed t.first uses t.sent)) (same : w1.confirmed ≡ w.confirmed)
     (tiles : w3 ≡ with_tiles (record w1 { updates = u2 }) size t.tiles)
-    (mark : w4 ≡ record w3 { updates = gathering (w3.updates.packets ++ mark_bytes w3.confirmed.marker) [] 0 [] })
+    (mark : w4 ≡ record w3 { updates = gathering w3.updates.fast (w3.updates.packets ++ mark_bytes w3.updates.fast w3.confirmed.marker) [] 0 [] })
     (is : t ≡ taken_as size f) where
   abbrev orders : List SentOrder
   orders = (frame_sending size w.confirmed t.first uses t.sent).orders
@@ -115,21 +117,25 @@ module _ (size : Size) (w w1 w3 w4 : FrameWriter) (u2 : Gathering) (t : TakenFra
   orders_are : orders ≡ orders_before_tiles size w.confirmed uses f
   orders_are = ap (λ (x : TakenFrame). (frame_sending size w.confirmed x.first uses x.sent).orders) is
 
-  pub frame_bytes_are : (out : List ℕ) → w.updates ≡ nothing_gathered → u2 ≡ closed w1.updates → out ≡ w4.updates.packets → out ≡ frame_bytes size w.confirmed w.registers uses f
+  pub frame_bytes_are : (out : List ℕ) → w.updates ≡ nothing_gathered (takes_fast w.confirmed) → u2 ≡ closed w1.updates → out ≡ w4.updates.packets → out ≡ frame_bytes size w.confirmed w.registers uses f
   frame_bytes_are out empty shut taken =
       let c = w.confirmed in
-      let front : u2.packets ≡ updates_of (bytes_of_orders c w.registers orders) =
-      ap (λ (g : Gathering). g.packets) shut ∙ (ap packets_of (wrote.gathered ∙ ap (λ g. after_orders g (bytes_of_orders c w.registers orders)) empty) ∙ gathered_is (bytes_of_orders c w.registers orders)) in
-      let cut : flat_map (tile_bytes_of c size) t.tiles ≡ flat_map (tile_bytes size c f.picture) f.tiles =
-      ap (λ (x : TakenFrame). flat_map (tile_bytes_of c size) x.tiles) is ∙ flat_map-map (tile_taken size f.picture) (tile_bytes_of c size) f.tiles in
+      let fast = takes_fast c in
+      let os = bytes_of_orders c w.registers orders in
+      let joined : w1.updates ≡ after_orders (nothing_gathered fast) os = wrote.gathered ∙ ap (λ g. after_orders g os) empty in
+      let kind : u2.fast ≡ fast = ap (λ (g : Gathering). g.fast) shut ∙ (ap (λ (g : Gathering). g.fast) joined ∙ kind_left os (nothing_gathered fast)) in
+      let front : u2.packets ≡ updates_of fast os = ap (λ (g : Gathering). g.packets) shut ∙ (ap packets_of joined ∙ gathered_is fast os) in
+      let cut : flat_map (tile_bytes_of c fast size) t.tiles ≡ flat_map (tile_bytes size c f.picture) f.tiles =
+      ap (λ (x : TakenFrame). flat_map (tile_bytes_of c fast size) x.tiles) is ∙ flat_map-map (tile_taken size f.picture) (tile_bytes_of c fast size) f.tiles in
       taken
       ∙ (ap (λ (x : FrameWriter). x.updates.packets) mark
-      ∙ (ap (λ (x : FrameWriter). x.updates.packets ++ mark_bytes x.confirmed.marker) tiles
-      ∙ (ap (λ (k : Confirmed). (u2.packets ++ flat_map (tile_bytes_of k size) t.tiles) ++ mark_bytes k.marker) same
-      ∙ (append_assoc u2.packets (flat_map (tile_bytes_of c size) t.tiles) (mark_bytes c.marker)
-      ∙ (ap (λ bs. bs ++ (flat_map (tile_bytes_of c size) t.tiles ++ mark_bytes c.marker)) front
-      ∙ (ap (λ bs. updates_of (bytes_of_orders c w.registers orders) ++ (bs ++ mark_bytes c.marker)) cut
-      ∙ ap (λ os. updates_of (bytes_of_orders c w.registers os) ++ (flat_map (tile_bytes size c f.picture) f.tiles ++ mark_bytes c.marker)) orders_are))))))
+      ∙ (ap (λ (x : FrameWriter). x.updates.packets ++ mark_bytes x.updates.fast x.confirmed.marker) tiles
+      ∙ (ap (λ (k : Confirmed). (u2.packets ++ flat_map (tile_bytes_of k u2.fast size) t.tiles) ++ mark_bytes u2.fast k.marker) same
+      ∙ (ap (λ (b : Bool). (u2.packets ++ flat_map (tile_bytes_of c b size) t.tiles) ++ mark_bytes b c.marker) kind
+      ∙ (append_assoc u2.packets (flat_map (tile_bytes_of c fast size) t.tiles) (mark_bytes fast c.marker)
+      ∙ (ap (λ bs. bs ++ (flat_map (tile_bytes_of c fast size) t.tiles ++ mark_bytes fast c.marker)) front
+      ∙ (ap (λ bs. updates_of fast os ++ (bs ++ mark_bytes fast c.marker)) cut
+      ∙ ap (λ xs. updates_of fast (bytes_of_orders c w.registers xs) ++ (flat_map (tile_bytes size c f.picture) f.tiles ++ mark_bytes fast c.marker)) orders_are)))))))
 
   pub frame_caches_stand : CachesStand w.confirmed w4.caches (uses_after w.confirmed uses f.sent)
   frame_caches_stand =

@@ -8,6 +8,8 @@ use Rattle.draw_ops.specs.declared.shape.Shape.{Shape}
 use Rattle.draw_ops.specs.declared.shape.Shape.TheVariants.{Fill, Dst, Pat, Copy, Blit, Blit3, Text, Line, Save, Restore, LoadImage, LoadBrush, LoadGlyph}
 use Rattle.draw_ops.specs.Content.{ImageOf, GlyphOf}
 use Rattle.draw_ops.specs.Slots.{Loaded}
+use Rattle.caps_sets.specs.declared.confirmed.Confirmed.{Confirmed}
+use Rattle.caps_sets.specs.Confirmed.{depth_of}
 use Rattle.px_core.specs.declared.depth.Depth.{Depth}
 use Rattle.order_fields.specs.OrderTable.{IsFieldList, FitBounds}
 use Rattle.order_fields.specs.OrderDelta.{edges_of_optional}
@@ -18,6 +20,9 @@ use Rattle.frame_laws.specs.Sound.{AreColors, IsSoundImage}
 use Rattle.frame_laws.specs.SoundState.{IsSoundGlyph}
 use Rattle.frame_rules.specs.Frame.{Sent}
 use Rattle.frame_rules.specs.FrameOrders.{bounds_of}
+use Rattle.frame_plan.specs.declared.cached.Cached.{Cached}
+use Rattle.frame_plan.specs.declared.cached.Cached.TheVariants.{Brush, Image, ImageAndBrush, Glyphs}
+use Rattle.frame_plan.specs.Orders.{cached_of}
 
 -- an order whose fields hold its values, in a clip
 pub record FitsDrawn (depth : Depth) (area : Rect) (d : NamedDrawing) (clip : Option Rect) : Type 0 where
@@ -55,16 +60,30 @@ abbrev pub GlyphsGo : List (Loaded GlyphOf) → Type 0
 GlyphsGo [] = ⊤
 GlyphsGo (g ∷ gs) = IsSoundGlyph g.content × GlyphsGo gs
 
--- a drawing that can be written
-pub record SentGoes (depth : Depth) (s : Sent) : Type 0 where
-  pub shape : ShapeGoes depth s s.pending.drawing.clip s.pending.drawing.shape
+-- a shape that goes as an order, with all that its order takes from caches
+abbrev pub GoesWith : Shape → Cached → Type 0
+GoesWith (Fill r color) cached = ⊤
+GoesWith (Dst r code) cached = ⊤
+GoesWith (Pat r code brush) (Brush b) = ⊤
+GoesWith (Copy r code sx sy) cached = ⊤
+GoesWith (Blit r code image sx sy) (Image cache i) = ⊤
+GoesWith (Blit3 r code image sx sy brush) (ImageAndBrush cache i b) = ⊤
+GoesWith (Text x y color font run) (Glyphs cache) = ⊤
+GoesWith (Save slot r) cached = ⊤
+GoesWith (Restore slot x y) cached = ⊤
+GoesWith shape cached = ⊥
+
+-- a drawing that can be written to a viewer who confirmed this
+pub record SentGoes (c : Confirmed) (s : Sent) : Type 0 where
+  pub shape : ShapeGoes (depth_of c) s s.pending.drawing.clip s.pending.drawing.shape
+  pub cached : GoesWith s.pending.drawing.shape (cached_of c s)
   pub image : ImageGoes s.pending.image
   pub brush : BrushGoes s.pending.brush
   pub glyphs : GlyphsGo s.pending.glyphs
 
-abbrev pub AllGo : Depth → List Sent → Type 0
-AllGo depth [] = ⊤
-AllGo depth (s ∷ ss) = SentGoes depth s × AllGo depth ss
+abbrev pub AllGo : Confirmed → List Sent → Type 0
+AllGo c [] = ⊤
+AllGo c (s ∷ ss) = SentGoes c s × AllGo c ss
 
 -- a tile that can be written
 pub record TileGoes (size : Size) (tile : ℕ × List ℕ) : Type 0 where

@@ -6,3 +6,4 @@ pub mod Runs
 pub mod Gathering
 pub mod Stands
 pub mod Writes
+pub mod Framings

@@ -9,7 +9,7 @@ use Rattle.save_plan.specs.Blocks.{Held, AreApart}
 use Rattle.frame_rules.specs.Frame.{frame_of}
 use Rattle.frame_rules.specs.Describes.{HasAllCaches}
 use Rattle.frame_plan.specs.Takes.{TakeModel, taken_as}
-use Rattle.frame_plan.specs.Orders.{caches_of}
+use Rattle.frame_plan.specs.Orders.{all_cached}
 use Rattle.frame_plan.specs.declared.taken.Taken.{Taken}
 use Rattle.frame_plan.specs.declared.taken.Taken.TheVariants.{Frame, Nothing}
 
@@ -26,7 +26,7 @@ pub record IsOwnTake (c : Confirmed) (take : TakeModel) : Type 0 where
   pub apart : AreApart held
   pub size_is : take.size ≡ head.size
   pub frame_is : take.frame ≡ taken_as head.size (frame_of head.size c journal held found)
-  pub caches_are : take.caches ≡ caches_of c take.frame.sent
+  pub cached_are : take.cached ≡ all_cached c take.frame.sent
 
 -- what a take gives: a frame is one of the viewer's own
 abbrev pub IsOwn : Confirmed → Taken → Type 0

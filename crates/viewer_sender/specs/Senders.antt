@@ -40,7 +40,7 @@ with_encoded s registers caches = record s { encoded = s.encoded + 1; registers 
 pub record IsSender (c : Confirmed) (writer : FrameWriter) (spent : Bool) : Type 0 where
   pub same : spent ≡ false → writer.confirmed ≡ c
   pub all : HasAllCaches c
-  pub empty : spent ≡ false → writer.updates ≡ nothing_gathered
+  pub empty : spent ≡ false → writer.updates ≡ nothing_gathered writer.updates.fast
 
 -- the sender's registers are the encoder's, and its caches stand for the encoder's uses
 pub record StandsFor (s : SenderModel) (e : Encoder) : Type 0 where

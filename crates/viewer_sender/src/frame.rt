@@ -11,7 +11,7 @@ ghost use Rattle.frame_rules.specs.FrameOrders.{Uses, sending, start_orders, bla
 ghost use Rattle.frame_rules.specs.FrameBytes.{mark_bytes, frame_bytes, registers_after_orders};
 ghost use Rattle.frame_rules.specs.Describes.{HasAllCaches};
 ghost use Rattle.frame_plan.specs.Takes.{taken_as};
-ghost use Rattle.frame_plan.specs.Orders.{caches_of};
+ghost use Rattle.frame_plan.specs.Orders.{all_cached};
 ghost use Rattle.viewer_sender.specs.Gathering.{nothing_gathered, gathering, packets_of, closed, with_packet};
 ghost use Rattle.viewer_sender.specs.Stands.{CachesStand};
 ghost use Rattle.viewer_sender.specs.Writes.{Writes};
@@ -20,6 +20,7 @@ ghost use Rattle.viewer_sender.specs.Runs.{frame_sending};
 
 use crate::OutOfMemory;
 use crate::drawing::put_drawings;
+use crate::framing::Framing;
 use crate::plain::put_fill;
 use crate::updates::Updates;
 use crate::writer::FrameWriter;
@@ -35,10 +36,10 @@ pub(crate) fn write_frame(
 ) -> Result<Vec<u8>, OutOfMemory>
     requires size { IsTrue (is_session_size take.now.size.w take.now.size.h) }
     requires all { HasAllCaches writer.old.confirmed }
-    requires drawings { AllGo (depth_of writer.old.confirmed) take.now.frame.sent }
-    requires caches { take.now.caches ≡ caches_of writer.old.confirmed take.now.frame.sent }
+    requires drawings { AllGo writer.old.confirmed take.now.frame.sent }
+    requires cached { take.now.cached ≡ all_cached writer.old.confirmed take.now.frame.sent }
     requires tiles { TilesGo take.now.size take.now.frame.tiles }
-    requires empty { writer.old.updates ≡ nothing_gathered }
+    requires empty { writer.old.updates ≡ nothing_gathered writer.old.updates.fast }
     ensures bytes { IfOk result (λ out. (uses : Uses) (f : FrameOf) → CachesStand writer.old.confirmed writer.old.caches uses → take.now.frame ≡ taken_as take.now.size f
         → out.items ≡ frame_bytes take.now.size writer.old.confirmed writer.old.registers uses f) }
     ensures registers { OnOk result ((uses : Uses) (f : FrameOf) → CachesStand writer.old.confirmed writer.old.caches uses → take.now.frame ≡ taken_as take.now.size f
@@ -46,8 +47,10 @@ pub(crate) fn write_frame(
     ensures caches { OnOk result ((uses : Uses) (f : FrameOf) → CachesStand writer.old.confirmed writer.old.caches uses → take.now.frame ≡ taken_as take.now.size f
         → CachesStand writer.old.confirmed writer.new.caches (uses_after writer.old.confirmed uses f.sent)) }
     ensures confirmed { OnOk result (writer.new.confirmed ≡ writer.old.confirmed) }
-    ensures empty { OnOk result (writer.new.updates ≡ nothing_gathered) }
+    ensures empty { OnOk result (writer.new.updates ≡ nothing_gathered writer.new.updates.fast) }
 {
+    let framing = Framing::of(writer.confirmed.fast);
+    writer.updates.begin(framing);
     put_orders(alloc, writer, take)?;
     writer.updates.close()?;
     put_tiles(alloc, writer, take.size(), take.tiles())?;
@@ -59,8 +62,8 @@ pub(crate) fn write_frame(
 fn put_orders(alloc: Global, writer: &mut FrameWriter, take: &Take) -> Result<(), OutOfMemory>
     requires size { IsTrue (is_session_size take.now.size.w take.now.size.h) }
     requires all { HasAllCaches writer.old.confirmed }
-    requires drawings { AllGo (depth_of writer.old.confirmed) take.now.frame.sent }
-    requires caches { take.now.caches ≡ caches_of writer.old.confirmed take.now.frame.sent }
+    requires drawings { AllGo writer.old.confirmed take.now.frame.sent }
+    requires cached { take.now.cached ≡ all_cached writer.old.confirmed take.now.frame.sent }
     ensures { OnOk result (Writes writer.old writer.new (λ uses. frame_sending take.now.size writer.old.confirmed take.now.frame.first uses take.now.frame.sent)) }
 {
     put_start(writer)?;
@@ -102,7 +105,7 @@ fn put_tiles(
     requires tiles { TilesGo size tiles.now }
     ensures { OnOk result (writer.new ≡ record writer.old {
       updates = record writer.old.updates {
-        packets = writer.old.updates.packets ++ flat_map (λ tile. tile_packet (depth_of writer.old.confirmed) writer.old.confirmed.no_header (tile_on size tile.0) tile.1) tiles.now;
+        packets = writer.old.updates.packets ++ flat_map (λ tile. tile_packet (depth_of writer.old.confirmed) writer.old.updates.fast writer.old.confirmed.no_header (tile_on size tile.0) tile.1) tiles.now;
       };
     }) }
 {
@@ -127,7 +130,7 @@ fn put_tile(
     requires place { IsUpdated r }
     requires number { length tile.now.1 ≡ r.w * r.h }
     requires colors { IsTrue (are_colors tile.now.1) }
-    ensures { OnOk result (updates.new ≡ with_packet updates.old (tile_packet depth no_header r tile.now.1)) }
+    ensures { OnOk result (updates.new ≡ with_packet updates.old (tile_packet depth updates.old.fast no_header r tile.now.1)) }
 {
     match tile.pixels_in_place() {
         Some(pixels) => updates.put_tile(alloc, r, pixels, no_header, depth),
@@ -140,8 +143,8 @@ fn put_tile(
 
 /// Writes the mark's own update behind the packets that are whole; no update is begun.
 fn put_mark(writer: &mut FrameWriter) -> Result<(), OutOfMemory>
-    requires { writer.old.updates ≡ gathering writer.old.updates.packets [] 0 [] }
-    ensures { OnOk result (writer.new ≡ record writer.old { updates = gathering (writer.old.updates.packets ++ mark_bytes writer.old.confirmed.marker) [] 0 [] }) }
+    requires { writer.old.updates ≡ gathering writer.old.updates.fast writer.old.updates.packets [] 0 [] }
+    ensures { OnOk result (writer.new ≡ record writer.old { updates = gathering writer.old.updates.fast (writer.old.updates.packets ++ mark_bytes writer.old.updates.fast writer.old.confirmed.marker) [] 0 [] }) }
 {
     if writer.confirmed.marker {
         writer.updates.put_marker(true)?;

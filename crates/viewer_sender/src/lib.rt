@@ -1,4 +1,4 @@
-//! What one viewer is sent: takes of its frames, and their bytes, from which its client shows the session's picture ([MS-RDPEGDI] 2.2.2.2 and [MS-RDPBCGR] 2.2.9.1.1).
+//! What one viewer is sent: takes of its frames, and their bytes, from which its client shows the session's picture ([MS-RDPEGDI] 2.2.2.2, and [MS-RDPBCGR] 2.2.9.1.1 and 2.2.9.1.2).
 #![tactic(auto)]
 
 mod bounds;
@@ -7,6 +7,7 @@ mod caches;
 mod drawing;
 mod fault;
 mod frame;
+mod framing;
 mod orders;
 mod plain;
 mod sender;

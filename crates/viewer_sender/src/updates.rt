@@ -1,59 +1,34 @@
-//! Orders gathered into Orders updates, and the packets round them ([MS-RDPBCGR] 2.2.9.1.1.3 and [MS-RDPEGDI] 2.2.2.2).
-//!
-//! | offset | size | field | value |
-//! |---|---|---|---|
-//! | 0 | 18 | the headers of a share data PDU | |
-//! | 18 | 2 | updateType | `00 00`, orders |
-//! | 20 | 2 | pad2Octets | `00 00` |
-//! | 22 | 2 | numberOrders | the lowest byte first |
-//! | 24 | 2 | pad2Octets | `00 00` |
-//! | 26 | | the orders | to the end |
+//! Orders gathered into Orders updates ([MS-RDPBCGR] 2.2.9.1.1.3 and 2.2.9.1.2, and [MS-RDPEGDI] 2.2.2.2).
 //!
 //! An order is written where it stays: behind the orders of the update that is begun. Only where it doesn't fit there is it moved, to the front of
 //! the next one.
 
-ghost use Rattle.std.specs.Prelude.{◌≡◌, ◌==◌, ◌+◌, ◌*◌, ◌≤◌, ◌++◌, [], length, drop, OnOk, IfOk, IsTrue, None};
+ghost use Rattle.std.specs.Prelude.{◌≡◌, ◌==◌, ◌+◌, ◌*◌, ◌≤◌, [], false, length, drop, OnOk, IfOk, IsTrue, None};
 ghost use Rattle.px_core.specs.Colors.{are_colors};
 ghost use Rattle.draw_ops.specs.Fits.{image_rule, glyph_rule};
 ghost use Rattle.order_fields.specs.OrderTable.{FitBounds, registers_after};
 ghost use Rattle.order_fields.specs.OrderDelta.{order_bytes, edges_of_optional};
-ghost use Rattle.share_pdu.specs.Share.{data_headers, share_bytes};
-ghost use Rattle.share_pdu.specs.Packet.{update_packet};
-ghost use Rattle.order_means.specs.UpdateBodies.{orders_head, orders_body, orders_packet, tile_body, tile_packet, synchronize_packet};
+ghost use Rattle.order_means.specs.UpdateBodies.{tile_packet, synchronize_packet};
 ghost use Rattle.order_means.specs.CacheOrders.{cache_bitmap_bytes, cache_glyph_bytes, cache_brush_bytes, frame_marker_bytes};
 ghost use Rattle.bitmap_upd.specs.Place.{IsUpdated};
-ghost use Rattle.viewer_sender.specs.Gathering.{Gathering, gathering, nothing_gathered, closed, packets_if, packets_of, with_order, after_order, with_packet, orders_in};
+ghost use Rattle.viewer_sender.specs.Gathering.{Gathering, gathering, nothing_gathered, closed, packets_if, packets_of, with_order, after_order, with_packet, orders_in, most_room};
+ghost use Rattle.viewer_sender.specs.Framings.{is_fast};
 
 use crate::OutOfMemory;
+use crate::framing::{BEFORE_ORDERS, Framing};
 use bitmap_upd::TileBody;
 use draw_ops::{Brush, Glyph, Image};
-use mcs_dom::write_indication;
 use order_fields::{Fields, Regs, write_order};
 use order_second::{cache_bitmap_at, cache_brush_at, cache_glyph, frame_marker};
 use px_core::{Depth, Rect};
-use share_pdu::{data_headers, put_packet_headers};
 use std::alloc::Global;
 use std::marker::Model;
 use std::mem;
 
-/// How many bytes of an update's user data stand before its orders.
-const BEFORE_ORDERS: usize = 26;
-
-/// How many of them stand before its body.
-const BEFORE_BODY: usize = 18;
-
-/// The most bytes of user data in one packet (profile).
-const MOST_USER_DATA: usize = 16_383;
-
-/// PDUTYPE2_UPDATE, the pduType2 of an update.
-const UPDATE: u8 = 2;
-
-/// SYNCHRONIZE, the updateType of an update that is only a mark.
-const SYNCHRONIZE: u8 = 3;
-
 /// The updates of a frame: the packets that are whole, and the update that is begun.
 #[derive(Drop)]
 pub(crate) struct Updates {
+    framing: Framing,
     packets: Vec<u8>,
     user: Vec<u8>,
     next: Vec<u8>,
@@ -64,27 +39,37 @@ pub(crate) struct Updates {
 impl Model for Updates {
     ghost use Rattle.std.specs.Prelude.{length, drop};
     ghost use Rattle.viewer_sender.specs.Gathering.{Gathering, gathering, orders_in, IsBegun};
+    ghost use Rattle.viewer_sender.specs.Framings.{is_fast};
 
     ghost Value = { Gathering };
 
-    ghost view = { λ u. gathering u.packets.items (orders_in u.user.items u.end) u.count (drop u.end u.user.items) };
+    ghost view = { λ u. gathering (is_fast u.framing) u.packets.items (orders_in u.user.items u.end) u.count (drop u.end u.user.items) };
 
-    ghost invariant = { λ u. IsBegun (length u.user.items) u.end u.count };
+    ghost invariant = { λ u. IsBegun (is_fast u.framing) (length u.user.items) u.end u.count };
 }
 
 impl Updates {
     /// No packet, and no update that is begun.
     pub fn new(alloc: Global) -> Result<Updates, OutOfMemory>
-        ensures { IfOk result (λ u. u ≡ nothing_gathered) }
+        ensures { IfOk result (λ u. u ≡ nothing_gathered false) }
     {
         let user = Vec::from_slice(alloc, &[0; BEFORE_ORDERS])?;
         Ok(Updates {
+            framing: Framing::Indications,
             packets: Vec::new(alloc),
             user,
             next: Vec::new(alloc),
             end: BEFORE_ORDERS,
             count: 0,
         })
+    }
+
+    /// Begins a frame in packets of a kind.
+    pub fn begin(&mut self, framing: Framing)
+        requires { self.old ≡ nothing_gathered self.old.fast }
+        ensures { self.new ≡ nothing_gathered (is_fast framing) }
+    {
+        self.framing = framing;
     }
 
     /// Adds a drawing's order, against the registers, which are then those after it.
@@ -184,28 +169,32 @@ impl Updates {
         requires place { IsUpdated r }
         requires number { length pixels.now ≡ r.w * r.h }
         requires colors { IsTrue (are_colors pixels.now) }
-        ensures { OnOk result (self.new ≡ with_packet self.old (tile_packet depth no_header r pixels.now)) }
+        ensures { OnOk result (self.new ≡ with_packet self.old (tile_packet depth self.old.fast no_header r pixels.now)) }
     {
         let body = TileBody::new(alloc, r, pixels, no_header, depth)?;
         let size = body.size();
-        put_packet_headers(&mut self.packets, UPDATE, size)?;
+        self.framing.put_tile_headers(&mut self.packets, size)?;
         body.put(&mut self.packets)
     }
 
     /// Writes the packet of a Synchronize update behind the packets that are whole.
     pub fn put_synchronize(&mut self) -> Result<(), OutOfMemory>
-        ensures { OnOk result (self.new ≡ with_packet self.old synchronize_packet) }
+        ensures { OnOk result (self.new ≡ with_packet self.old (synchronize_packet self.old.fast)) }
     {
-        let mut user = [0; 22];
-        user[BEFORE_BODY] = SYNCHRONIZE;
-        write_user_data(&mut self.packets, &mut user)
+        self.framing.write_synchronize(&mut self.packets)
     }
 
     /// Ends the update that is begun, if one is.
     pub fn close(&mut self) -> Result<(), OutOfMemory>
         ensures { OnOk result (self.new ≡ closed self.old) }
     {
-        end_update(&mut self.packets, &mut self.user, self.end, self.count)?;
+        end_update(
+            &mut self.packets,
+            &mut self.user,
+            self.end,
+            self.count,
+            self.framing,
+        )?;
         self.user.truncate(BEFORE_ORDERS);
         self.end = BEFORE_ORDERS;
         self.count = 0;
@@ -226,7 +215,7 @@ impl Updates {
         requires short { length self.old.tail ≤ 16357 }
         ensures { OnOk result (self.new ≡ after_order self.old self.old.tail) }
     {
-        if self.user.len() > MOST_USER_DATA {
+        if self.user.len() > self.framing.most_room() {
             self.begin_next()?;
         }
         self.join();
@@ -236,7 +225,7 @@ impl Updates {
     /// Has the bytes behind the update join it as an order.
     fn join(&mut self)
         requires some { 1 ≤ length self.old.tail }
-        requires short { 26 + (length self.old.begun + length self.old.tail) ≤ 16383 }
+        requires short { 26 + (length self.old.begun + length self.old.tail) ≤ most_room self.old.fast }
         ensures { self.new ≡ with_order self.old self.old.tail }
     {
         self.end = self.user.len();
@@ -246,12 +235,18 @@ impl Updates {
     /// Ends the update that is begun, and moves the bytes behind it to the room of the next one's orders. That is rare, so it stands apart.
     #[inline(never)]
     fn begin_next(&mut self) -> Result<(), OutOfMemory>
-        ensures { OnOk result (self.new ≡ gathering (packets_of self.old) [] 0 self.old.tail) }
+        ensures { OnOk result (self.new ≡ gathering self.old.fast (packets_of self.old) [] 0 self.old.tail) }
     {
         self.next.clear();
         self.next.extend_from_slice(&[0; BEFORE_ORDERS])?;
         self.next.extend_from_slice(&self.user[self.end..])?;
-        end_update(&mut self.packets, &mut self.user, self.end, self.count)?;
+        end_update(
+            &mut self.packets,
+            &mut self.user,
+            self.end,
+            self.count,
+            self.framing,
+        )?;
         mem::swap(&mut self.user, &mut self.next);
         self.end = BEFORE_ORDERS;
         self.count = 0;
@@ -259,71 +254,23 @@ impl Updates {
     }
 }
 
-/// What stands before so many orders of an update.
-fn orders_head(count: u16) -> [u8; 8]
-    ensures { result ≡ orders_head count }
-{
-    let [low, high] = count.to_le_bytes();
-    [0, 0, 0, 0, low, high, 0, 0]
-}
-
-/// Fills the room before the body of an update's user data.
-fn put_headers(user: &mut [u8])
-    requires room { 18 ≤ length user.old }
-    requires few { length user.old ≤ 16383 }
-    ensures { user.new ≡ share_bytes 2 (drop 18 user.old) }
-{
-    let headers = data_headers(UPDATE, (user.len() - BEFORE_BODY) as u16);
-    user[..BEFORE_BODY].copy_from_slice(&headers);
-}
-
-/// Writes the packet of an update at the end, of user data whose body stands behind the room for what goes before it.
-fn write_user_data(packets: &mut Vec<u8>, user: &mut [u8]) -> Result<(), OutOfMemory>
-    requires room { 18 ≤ length user.old }
-    requires few { length user.old ≤ 16383 }
-    ensures { OnOk result (packets.new.items ≡ packets.old.items ++ update_packet (drop 18 user.old)) }
-{
-    put_headers(user);
-    write_indication(packets, user)
-}
-
-/// Fills the room before the orders of an Orders update's user data, which are so many.
-fn put_orders_head(user: &mut [u8], count: u16)
-    requires room { 26 ≤ length user.old }
-    requires few { length user.old ≤ 16383 }
-    ensures { user.new ≡ share_bytes 2 (orders_body count (drop 26 user.old)) }
-{
-    let head = orders_head(count);
-    user[BEFORE_BODY..BEFORE_ORDERS].copy_from_slice(&head);
-    put_headers(user);
-}
-
-/// Writes the packet of an Orders update at the end, of which so many bytes of user data are, with so many orders; nothing where there are none.
+/// Writes the packet of an Orders update at the end, of which so many bytes of room and orders are, with so many orders; nothing where there are none.
 fn end_update(
     packets: &mut Vec<u8>,
     user: &mut Vec<u8>,
     end: usize,
     count: u16,
+    framing: Framing,
 ) -> Result<(), OutOfMemory>
     requires room { 26 ≤ end }
     requires there { end ≤ length user.old.items }
-    requires few { end ≤ 16383 }
-    ensures ok { OnOk result (packets.new.items ≡ packets_if (count == 0) packets.old.items (orders_in user.old.items end) count) }
+    requires few { end ≤ most_room (is_fast framing) }
+    ensures ok { OnOk result (packets.new.items ≡ packets_if (count == 0) (is_fast framing) packets.old.items (orders_in user.old.items end) count) }
     ensures same { length user.new.items ≡ length user.old.items }
 {
-    if count > 0 {
-        write_update(packets, &mut user[..end], count)
-    } else {
+    if count == 0 {
         Ok(())
+    } else {
+        framing.write_orders(packets, &mut user[..end], count)
     }
-}
-
-/// Writes the packet of an Orders update at the end, of user data with so many orders.
-fn write_update(packets: &mut Vec<u8>, user: &mut [u8], count: u16) -> Result<(), OutOfMemory>
-    requires room { 26 ≤ length user.old }
-    requires few { length user.old ≤ 16383 }
-    ensures { OnOk result (packets.new.items ≡ packets.old.items ++ orders_packet count (drop 26 user.old)) }
-{
-    put_orders_head(user, count);
-    write_indication(packets, user)
 }

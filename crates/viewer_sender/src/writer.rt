@@ -50,7 +50,7 @@ impl FrameWriter {
         ensures confirmed { IfOk result (λ w. w.confirmed ≡ confirmed) }
         ensures registers { IfOk result (λ w. w.registers ≡ first_registers) }
         ensures caches { IfOk result (λ w. CachesStand confirmed w.caches []) }
-        ensures updates { IfOk result (λ w. w.updates ≡ nothing_gathered) }
+        ensures updates { IfOk result (λ w. w.updates ≡ nothing_gathered w.updates.fast) }
     {
         let caches = Caches::new(alloc, &confirmed)?;
         let updates = Updates::new(alloc)?;

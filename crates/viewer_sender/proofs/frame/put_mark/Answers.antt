@@ -13,4 +13,4 @@ returns-in_ok-put_marker c =
     let made : Gathering → FrameWriter = λ u. record w { updates = u } in
     on_ok_as _ _ c.close.result c.close.ensures (λ e.
     ap made (e ∙ (ap closed (c.in_ok-put_marker.ensures ∙ ap (λ g. after_order g (frame_marker_bytes true)) c.requires)
-    ∙ ap (λ b. gathering (w.updates.packets ++ mark_bytes b) [] 0 []) (sym c.if-writer.true))))
+    ∙ ap (λ b. gathering w.updates.fast (w.updates.packets ++ mark_bytes w.updates.fast b) [] 0 []) (sym c.if-writer.true))))

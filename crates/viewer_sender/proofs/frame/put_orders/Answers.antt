@@ -3,7 +3,6 @@ use Rattle.std.specs.Prelude.{Bool, ◌&&◌}
 use Rattle.rle_enc.proofs.Pending.{on_ok_as}
 use Rattle.px_core.specs.declared.surface.Size.{Size}
 use Rattle.caps_sets.specs.declared.confirmed.Confirmed.{Confirmed}
-use Rattle.caps_sets.specs.Confirmed.{depth_of}
 use Rattle.frame_rules.specs.Frame.{Sent}
 use Rattle.frame_rules.specs.FrameOrders.{sending, start_orders, black_orders, orders_from, uses_after}
 use Rattle.frame_rules.specs.Describes.{HasAllCaches}
@@ -20,14 +19,14 @@ put_drawings-requires-clause-all c = subst HasAllCaches (sym (c.in_ok-put_black.
 pub put_drawings-requires-clause-go : goal.put_drawings-requires-clause-go
 put_drawings-requires-clause-go c =
     let conf = c.args.writer.now.confirmed in
-    subst (λ (k : Confirmed). AllGo (depth_of k) (drawings_in c.planned.result.now)) (sym (c.in_ok-put_black.ensures.0 ∙ c.in_ok-put_start.ensures.0))
-    (subst (λ (ss : List Sent). AllGo (depth_of conf) ss) (sym (ap drawings_in c.planned.ensures ∙ c.sent.ensures.orders)) c.requires.drawings)
+    subst (λ (k : Confirmed). AllGo k (drawings_in c.planned.result.now)) (sym (c.in_ok-put_black.ensures.0 ∙ c.in_ok-put_start.ensures.0))
+    (subst (λ (ss : List Sent). AllGo conf ss) (sym (ap drawings_in c.planned.ensures ∙ c.sent.ensures.orders)) c.requires.drawings)
 
 pub put_drawings-requires-clause-chosen : goal.put_drawings-requires-clause-chosen
 put_drawings-requires-clause-chosen c =
     let take = c.args.take.now in
     subst (λ (k : Confirmed). AreChosen k c.planned.result.now) (sym (c.in_ok-put_black.ensures.0 ∙ c.in_ok-put_start.ensures.0))
-    (chosen_all c.args.writer.now.confirmed c.planned.result.now c.sent.result.now take.caches take.frame.sent c.planned.ensures c.sent.ensures.caches c.sent.ensures.orders c.requires.caches)
+    (chosen_all c.args.writer.now.confirmed c.planned.result.now c.sent.result.now take.cached take.frame.sent c.planned.ensures c.sent.ensures.cached c.sent.ensures.orders c.requires.cached)
 
 pub returns : goal.returns
 returns c =

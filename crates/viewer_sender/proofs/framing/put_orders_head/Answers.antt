@@ -1,7 +1,7 @@
 use Rattle.std.proofs.Common.{◌∙◌, ◌++◌, length, drop, ap}
 use Rattle.share_pdu.specs.Share.{share_bytes}
 use Rattle.viewer_sender.proofs.Begun.{head_put}
-use Rattle.viewer_sender.proofs.updates.put_orders_head.Goals as goal
+use Rattle.viewer_sender.proofs.framing.put_orders_head.Goals as goal
 
 pub returns : goal.returns
 returns c =
