@@ -6,7 +6,7 @@ use Rattle.session_rules.specs.declared.entry.Entry.TheVariants.{Leave, Input}
 use Rattle.session_core.specs.Typing.{last_typed}
 use Rattle.pointer_share.specs.Pointers.{pointer_color, wide_colors, key_shape}
 use Rattle.pointer_share.specs.Messages.{message_6, message_7, pointer_packet}
-use Rattle.pointer_share.specs.Messages.Cause.{Broken, Missing}
+use Rattle.pointer_share.specs.declared.fault.Cause.TheVariants.{Broken, Missing}
 use Rattle.pointer_share.specs.Views.{opening_view, view_after}
 use Rattle.pointer_share.specs.Told.{told_packet}
 

@@ -1,8 +1,7 @@
 -- Each take shows its pointer.
-use Rattle.std.proofs.Common.{◌≡◌, ℕ, zero, suc, ◌+◌, ◌*◌, ◌/◌, ◌%◌, ◌<◌, ◌^◌, List, [], ◌∷◌, ◌++◌, length, refl, ap, sym, ◌∙◌, subst, arith, Some}
+use Rattle.std.proofs.Common.{◌≡◌, ℕ, zero, suc, ◌+◌, ◌*◌, ◌/◌, ◌%◌, ◌<◌, ◌^◌, List, [], ◌∷◌, ◌++◌, length, refl, ap, sym, ◌∙◌, subst, arith, Some, None}
 use Rattle.std.specs.Prelude.{Bool, true, false, ◌==◌, Option, Ok, is_some, if◌then◌else◌}
 use Rattle.std.proofs.lemmas.Bool.Decides.{nat_tests}
-use Rattle.byteorder.specs.Endian.{little_bytes}
 use Rattle.wire_num.specs.Field.{bytes_at}
 use Rattle.wire_num.proofs.Numbers.{little_back}
 use Rattle.wire_num.proofs.Bytes.{taken_back, taken_all}
@@ -10,13 +9,14 @@ use Rattle.draw_ops.specs.Slots.{Slots, lookup, filled_slot}
 use Rattle.cache_plan.specs.CacheUse.{misses, cache_index}
 use Rattle.cache_plan.proofs.Indices.{cache_index_below, index_of_use, held_after_use}
 use Rattle.frame_laws.proofs.CacheHeld.{holds_hit, holds_miss}
-use Rattle.session_rules.specs.Board.{sign_of}
-use Rattle.pointer_share.specs.Pointers.{Shape, Pointer, arrow, pointer_color, colors_up, masks_up, key_shape, pointer_key, pointer_of_key}
-use Rattle.pointer_share.specs.Messages.{xor_size, message_6, message_7, is_entry, is_filled, message_at}
+use Rattle.pointer_share.specs.Pointers.{Shape, Pointer, key_shape, pointer_key, pointer_of_key}
+use Rattle.pointer_share.specs.Messages.{xor_size, message_6, message_7, pointer_packet, is_entry, is_filled, message_at}
 use Rattle.pointer_share.specs.Messages.Message.{Brings, Points}
-use Rattle.pointer_share.specs.Told.{is_told, message_by_miss}
+use Rattle.pointer_share.specs.Told.{is_told, message_by_miss, message_of, told_packet}
 use Rattle.pointer_share.specs.Views.{View, view_after, view_by}
-use Rattle.pointer_share.specs.Shows.{DescribesPointers, ShowsPointer}
+use Rattle.pointer_share.specs.Shows.{DescribesPointers, view_told, its_view, ShowsPointer}
+use Rattle.pointer_share.proofs.Sizes.{xor_long, mask_long, message_short}
+use Rattle.pointer_share.proofs.Sent.{view_back}
 
 pub key_tells : (p : Pointer) → p.code < 256 → pointer_of_key (pointer_key p) ≡ p
 key_tells p small =
@@ -31,22 +31,6 @@ bytes_back xs rest n e = subst (λ k. bytes_at k (xs ++ rest) ≡ Ok (xs, rest))
 
 last_back : (xs : List ℕ) (n : ℕ) → length xs ≡ n → bytes_at n xs ≡ Ok (xs, [])
 last_back xs n e = subst (λ k. bytes_at k xs ≡ Ok (xs, [])) e (taken_all xs xs)
-
-colors_long : (wide arrows : Bool) (color code : ℕ) → length (colors_up wide (little_bytes 3 color) (if arrows then arrow else sign_of code)) ≡ xor_size wide
-colors_long true true color code = refl
-colors_long true false color code = refl
-colors_long false true color code = refl
-colors_long false false color code = refl
-
-masks_long : (wide arrows : Bool) (code : ℕ) → length (masks_up wide (if arrows then arrow else sign_of code)) ≡ 16
-masks_long wide true code = refl
-masks_long wide false code = refl
-
-pub xor_long : (wide : Bool) (key : ℕ) → length (key_shape wide key).xor ≡ xor_size wide
-xor_long wide key = colors_long wide (key % 256 == 0) (pointer_color (key / 256)) (key % 256)
-
-pub mask_long : (wide : Bool) (key : ℕ) → length (key_shape wide key).mask ≡ 16
-mask_long wide key = masks_long wide (key % 256 == 0) (key % 256)
 
 brings_back : (wide : Bool) (cells : Slots Shape) (index : ℕ) (s : Shape) → index < 65536 → length s.xor ≡ xor_size wide → length s.mask ≡ 16 → is_entry cells index ≡ true
     → message_at wide cells (message_6 wide index s) ≡ Ok (Brings index s, [])
@@ -86,6 +70,12 @@ module _ (wide : Bool) (cells : ℕ) (some : 0 < cells) (few : cells < 65536) (k
   index_test : (keys : List ℕ) → length v.cells ≡ cells → is_entry v.cells (index keys) ≡ true
   index_test keys all = let below = cache_index_below cells keys key some in grind (arith, nat_tests, below, all)
 
+  -- a message that is read comes in its packet
+  packet_read : (keys : List ℕ) (after : View) → is_told keys key ≡ false → view_after wide v (message_of wide cells keys key) ≡ Ok after → view_told wide v (told_packet wide cells keys key) ≡ Ok after
+  packet_read keys after new e =
+      ap (λ b. view_told wide v (if b then None else Some (pointer_packet (message_of wide cells keys key)))) new
+      ∙ ap its_view (view_back wide v after (message_of wide cells keys key) (message_short wide cells key keys) e)
+
   -- a shape that is brought
   brought : (keys : List ℕ) → DescribesPointers wide cells keys v → misses cells keys key ≡ true → is_told keys key ≡ false → ShowsPointer wide cells keys key v
   brought keys d miss new =
@@ -93,9 +83,8 @@ module _ (wide : Bool) (cells : ℕ) (some : 0 < cells) (few : cells < 65536) (k
       let after : View = record { cells = filled_slot (index keys) (key_shape wide key) v.cells; shown = Some (key_shape wide key) } in
       record {
         after = after;
-        reads = ap (λ b. if b then Ok v else view_after wide v (message_by_miss wide (misses cells keys key) (index keys) (key_shape wide key))) new
-            ∙ ap (λ b. view_after wide v (message_by_miss wide b (index keys) (key_shape wide key))) miss
-            ∙ ap (view_by v (message_6 wide (index keys) (key_shape wide key))) (brings_back wide v.cells (index keys) (key_shape wide key) (index_small keys) (xor_long wide key) (mask_long wide key) (index_test keys d.entries));
+        reads = packet_read keys after new (ap (λ b. view_after wide v (message_by_miss wide b (index keys) (key_shape wide key))) miss
+            ∙ ap (view_by v (message_6 wide (index keys) (key_shape wide key))) (brings_back wide v.cells (index keys) (key_shape wide key) (index_small keys) (xor_long wide key) (mask_long wide key) (index_test keys d.entries)));
         shows = refl;
         describes = subst (λ ks. DescribesPointers wide cells ks after) (sym (ap (λ b. if b then keys else key ∷ keys) new)) (record {
           entries = length-filled v.cells (index keys) (key_shape wide key) ∙ d.entries;
@@ -114,10 +103,9 @@ module _ (wide : Bool) (cells : ℕ) (some : 0 < cells) (few : cells < 65536) (k
       let after : View = record v { shown = Some (key_shape wide key) } in
       record {
         after = after;
-        reads = ap (λ b. if b then Ok v else view_after wide v (message_by_miss wide (misses cells keys key) (index keys) (key_shape wide key))) new
-            ∙ ap (λ b. view_after wide v (message_by_miss wide b (index keys) (key_shape wide key))) hit
+        reads = packet_read keys after new (ap (λ b. view_after wide v (message_by_miss wide b (index keys) (key_shape wide key))) hit
             ∙ ap (view_by v (message_7 (index keys))) (points_back wide v.cells (index keys) (index_small keys) (ap is_some there))
-            ∙ ap (λ (o : Option Shape). Ok (record v { shown = o })) there;
+            ∙ ap (λ (o : Option Shape). Ok (record v { shown = o })) there);
         shows = refl;
         describes = subst (λ ks. DescribesPointers wide cells ks after) (sym (ap (λ b. if b then keys else key ∷ keys) new)) (record { entries = d.entries; holds = all; last = refl });
       }
@@ -127,7 +115,7 @@ module _ (wide : Bool) (cells : ℕ) (some : 0 < cells) (few : cells < 65536) (k
   kept [] d told = absurd (cc told)
   kept (k ∷ keys) d told = record {
     after = v;
-    reads = ap (λ b. if b then Ok v else view_after wide v (message_by_miss wide (misses cells (k ∷ keys) key) (index (k ∷ keys)) (key_shape wide key))) told;
+    reads = ap (λ b. view_told wide v (if b then None else Some (pointer_packet (message_of wide cells (k ∷ keys) key)))) told;
     shows = d.last ∙ ap (λ n. Some (key_shape wide n)) (same_key k key told);
     describes = subst (λ ks. DescribesPointers wide cells ks v) (sym (ap (λ b. if b then k ∷ keys else key ∷ k ∷ keys) told)) d;
   }

@@ -1,26 +1,16 @@
 -- The packets of messages, as their parts are written.
-use Rattle.std.proofs.Common.{◌≡◌, ℕ, ◌+◌, List, [], ◌++◌, length, refl, ap, sym, ◌∙◌, append_assoc, length-append}
-use Rattle.std.specs.Prelude.{Bool, true, false, if◌then◌else◌}
+use Rattle.std.proofs.Common.{◌≡◌, ℕ, List, [], ◌++◌, length, ap, sym, ◌∙◌, append_assoc}
+use Rattle.std.specs.Prelude.{Bool, if◌then◌else◌}
 use Rattle.share_pdu.specs.Packet.{packet_headers}
 use Rattle.share_pdu.proofs.PacketHeaders.{packet_whole}
 use Rattle.pointer_share.specs.Pointers.{key_shape}
-use Rattle.pointer_share.specs.Messages.{message_head, message_6, message_7, pointer_packet, xor_size}
-use Rattle.pointer_share.proofs.Shown.{xor_long, mask_long}
+use Rattle.pointer_share.specs.Messages.{message_head, message_6, message_7, pointer_packet}
+use Rattle.pointer_share.proofs.Sizes.{size_is}
 
 pub entry_whole : (index : ℕ) (bytes start headers out : List ℕ) → start ≡ [] → headers ≡ start ++ packet_headers 0x1B 6 → out ≡ headers ++ bytes → bytes ≡ message_7 index
     → out ≡ pointer_packet (message_7 index)
 entry_whole index bytes start headers out none before more is =
     more ∙ ap (λ h. h ++ bytes) (before ∙ ap (λ s. s ++ packet_headers 0x1B 6) none) ∙ ap (λ b. packet_headers 0x1B 6 ++ b) is ∙ packet_whole 0x1B (message_7 index)
-
-size_by : (wide : Bool) (index xor mask : ℕ) → xor ≡ xor_size wide → mask ≡ 16 → length (message_head wide index) + (xor + mask) ≡ (if wide then 418 else 226)
-size_by true index xor mask x m = rw (x, m) refl
-size_by false index xor mask x m = rw (x, m) refl
-
-size_is : (wide : Bool) (index key : ℕ) → length (message_6 wide index (key_shape wide key)) ≡ (if wide then 418 else 226)
-size_is wide index key =
-    length-append (message_head wide index) ((key_shape wide key).xor ++ (key_shape wide key).mask)
-    ∙ ap (λ n. length (message_head wide index) + n) (length-append (key_shape wide key).xor (key_shape wide key).mask)
-    ∙ size_by wide index (length (key_shape wide key).xor) (length (key_shape wide key).mask) (xor_long wide key) (mask_long wide key)
 
 pub shape_whole : (wide : Bool) (index key size : ℕ) (start headers head colors out : List ℕ) → start ≡ [] → headers ≡ start ++ packet_headers 0x1B size → size ≡ (if wide then 418 else 226)
     → head ≡ headers ++ message_head wide index → colors ≡ head ++ (key_shape wide key).xor → out ≡ colors ++ (key_shape wide key).mask

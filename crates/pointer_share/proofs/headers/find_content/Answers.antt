@@ -1,0 +1,20 @@
+use Rattle.std.proofs.Common.{◌≡◌, ◌∙◌, ap, sym}
+use Rattle.wire_num.specs.Cursor.{CursorOf, rest}
+use Rattle.pointer_share.specs.Messages.{pointer_kind}
+use Rattle.pointer_share.specs.Packets.{indicated_at, pointer_content}
+use Rattle.pointer_share.proofs.Found.{packet_bounds, not_packet, is_packet, found_as}
+use Rattle.pointer_share.proofs.headers.find_content.Goals as goal
+
+pub go_to-requires : goal.go_to-requires
+go_to-requires c = rw c.new-cursor.ensures (packet_bounds c.args.packet.now (sym c.is_packet.ensures ∙ c.if-is_packet.true))
+
+pub returns-then-is_packet : goal.returns-then-is_packet
+returns-then-is_packet c =
+    found_as c.read_indication.result c.go_to.new.self.bytes c.args.packet.now (indicated_at pointer_kind (rest c.go_to.new.self)) (pointer_content c.args.packet.now)
+    (ap (λ (k : CursorOf). k.bytes) c.go_to.ensures ∙ ap (λ (k : CursorOf). k.bytes) c.new-cursor.ensures)
+    (ap (λ (k : CursorOf). indicated_at pointer_kind (rest k)) (c.go_to.ensures ∙ ap (λ (k : CursorOf). record { bytes = k.bytes; at = 4 }) c.new-cursor.ensures)
+    ∙ is_packet c.args.packet.now (sym c.is_packet.ensures ∙ c.if-is_packet.true))
+    c.read_indication.ensures
+
+pub returns : goal.returns
+returns c = (c.args.packet.now, not_packet c.args.packet.now (sym c.is_packet.ensures ∙ c.if-is_packet.false))
