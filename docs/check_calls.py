@@ -1,5 +1,6 @@
 #!/usr/bin/env python3
-"""Checks that docs/index.md is up to date, and that what other pages of docs/ cite is there. Its reader of contracts is that of index.py, too.
+"""Checks that docs/index.md is up to date, that what other pages of docs/ cite is there, and that each wrong meaning stands above an example.
+Its reader of contracts is that of index.py, too.
 
 Public calls are the functions that a crate exports, the methods of the types and the calls of the traits that it exports, and of what
 those types have of the standard's traits `clone` alone, since nothing else of it may refuse. A function that does nothing and has a
@@ -7,7 +8,7 @@ contract is a law.
 
 Names stand in backticks: `crate::call` or `crate::Type::call`. Each that a page cites must be a public call, and labels behind it those of
 its clauses. What docs/faults.md cites is of a crate that one of the programs stands on, and a law is called so. The laws that docs/claims.md
-names by crates must be theirs. A field of a record that docs/index.md has, `Record.field`, must be one of that record.
+names by crates must be theirs. A field of a record to which clauses of links come, `Record.field`, must be one of that record.
 
 python3 docs/check_calls.py
 """
@@ -236,8 +237,8 @@ def laws_named(calls):
 
 
 def fields_named(found):
-    """What is wrong with the fields that the pages of docs/ name, of records that docs/index.md has."""
-    fields = {name: [field for _, group in record.fields for field in group] for (_, _, name), record in found.items()}
+    """What is wrong with the fields that the pages of docs/ name, of records to which clauses of links come."""
+    fields = {name: record.fields for (_, _, name), record in found.items()}
     for page in sorted((TOP / 'docs').glob('*.md')):
         for number, line in enumerate(page.read_text().splitlines(), 1):
             for name, field in OF_RECORD.findall(line):
@@ -254,11 +255,13 @@ def listed_crates():
 def main():
     import index
     import records
+    import wrong_meanings
     crates = listed_crates()
     calls = {crate: public_calls(crate) for crate in crates}
     run = stood_on(crates)
     faults = [fault for page in CITING for fault in citations(page, calls, run)] + list(laws_named(calls))
     faults.extend(fields_named(records.records_of(calls)))
+    faults.extend(wrong_meanings.misplaced())
     if not index.is_written():
         faults.append("docs/index.md isn't up to date: python3 docs/index.py")
     for fault in faults:

@@ -1,6 +1,6 @@
 -- A cautious viewer's drawings are cut to the pixels that they may change: the bytes of takes.
 use Rattle.std.proofs.Common.{◌≡◌, ℕ, List, [], ◌∷◌, ◌++◌, refl}
-use Rattle.std.specs.Prelude.{true, pos, negsuc}
+use Rattle.std.specs.Prelude.{true, false, pos, negsuc}
 use Rattle.px_core.specs.declared.depth.Depth.TheVariants.{Bits24}
 use Rattle.px_core.specs.Rectangle.{boxed, cut_out}
 use Rattle.draw_ops.specs.declared.shape.Shape.TheVariants.{Fill, Dst, Copy, Text, LoadGlyph}
@@ -35,7 +35,7 @@ text_steps = take ∷ draw (LoadGlyph 0 65 (record { x = pos 0; y = pos 0; cx = 
     (Text (pos 4) (pos 5) 0xFFFFFF 0 ((65, 0) ∷ [])) ∷ take ∷ []
 
 text_as_a_tile : last_of (bytes_of_run 64 48 careful text_steps)
-    ≡ tile_packet Bits24 true (boxed (pos 0) (pos 0) 64 48)
+    ≡ tile_packet Bits24 false true (boxed (pos 0) (pos 0) 64 48)
     (cut_out (alone 64 48).size (picture_after_entries (alone 64 48).size (journal_of_steps (alone 64 48) (join ∷ text_steps)) 3) 0
-    (boxed (pos 0) (pos 0) 64 48)) ++ synchronize_packet
+    (boxed (pos 0) (pos 0) 64 48)) ++ synchronize_packet false
 text_as_a_tile = refl

@@ -15,6 +15,7 @@ use Rattle.script_rules.specs.CaptureText.{capture_of, encoder_frames}
 use Rattle.headline.specs.Headline.{confirmed_in, pictures_after, steps_of}
 
 -- the black fill of a first frame, and FF0000 as F800: of its three bytes 00 F8 00 the second alone differs from what was said last
+-- wrong: all drawings go as tiles at 16 bits
 a_viewer_at_16_bits_is_sent_cut_colors : capture_of encoder_frames (ended (codes "size 64 48")
     ++ ended (codes "invite ann owner")
     ++ ended (codes "invite bob view")
@@ -55,6 +56,8 @@ two_depths = ended (codes "size 8 2")
     ++ ended (codes "take")
     ++ ended (codes "@2 take")
 
+-- wrong: the session's picture is cut, or its slots are
+-- wrong: the depth of one viewer is that of all, or of all that join later
 each_is_shown_its_depth_1 : Shows 1 Bits24 two_depths
 unfolding digits ternary_raster cut_color two_depths
 each_is_shown_its_depth_1 = refl

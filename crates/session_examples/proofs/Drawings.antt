@@ -32,6 +32,7 @@ abbrev after : List Drawing → List ℕ
 after ds = (state_after_drawings size numbered ds).picture
 
 -- source and destination overlap, and every pixel comes from the old picture
+-- wrong: a copy works row by row on the picture that it changes
 a_copy_reads_the_old_picture : after (clipped (Copy (boxed (pos 0) (pos 1) 8 5) 0xCC (pos 0) (pos 0)) (boxed (pos 2) (pos 2) 3 3) ∷ [])
     ≡ (0 ∷ 1 ∷ 2 ∷ 3 ∷ 4 ∷ 5 ∷ 6 ∷ 7
     ∷ 8 ∷ 9 ∷ 10 ∷ 11 ∷ 12 ∷ 13 ∷ 14 ∷ 15
@@ -74,6 +75,7 @@ unfolding ternary_raster
 an_image_from_its_second_column = refl
 
 -- a brush stands by the picture's columns and rows, wherever the rectangle is
+-- wrong: a brush begins at the rectangle's corner
 a_brush_is_not_moved_by_the_rectangle : (state_after_drawings small (opening_surface small) (plain (LoadBrush 2 (listed 64 0 (λ i. i))) ∷ plain (Pat (boxed (pos 3) (pos 1) 3 1) 0xF0 2) ∷ [])).picture
     ≡ (0 ∷ 0 ∷ 0 ∷ 0 ∷ 0 ∷ 0 ∷ 0 ∷ 0
     ∷ 0 ∷ 0 ∷ 0 ∷ 11 ∷ 12 ∷ 13 ∷ 0 ∷ 0
@@ -94,6 +96,7 @@ abbrev low : GlyphOf
 low = record { x = negsuc 0; y = pos 1; cx = 4; cy = 2; bits = 0x90 ∷ 0xF0 ∷ [] }
 
 -- the delta of 5 moves the pen before the second glyph, whose cell begins a pixel further left and a row lower
+-- wrong: a glyph is drawn before its delta is added
 two_glyphs_of_a_run : (state_after_drawings small (opening_surface small) (plain (LoadGlyph 0 65 flat) ∷ plain (LoadGlyph 0 66 low) ∷ plain (Text (pos 0) (pos 0) 7 0 ((65, 0) ∷ (66, 5) ∷ [])) ∷ [])).picture
     ≡ (7 ∷ 7 ∷ 7 ∷ 7 ∷ 7 ∷ 7 ∷ 7 ∷ 7
     ∷ 0 ∷ 0 ∷ 0 ∷ 0 ∷ 7 ∷ 0 ∷ 0 ∷ 7
@@ -101,6 +104,7 @@ two_glyphs_of_a_run : (state_after_drawings small (opening_surface small) (plain
 two_glyphs_of_a_run = refl
 
 -- loads are drawings too: the third drawing is the second load
+-- wrong: only drawings that paint are numbered
 a_load_takes_the_number_of_its_drawing : (state_after_drawings small (opening_surface small) (plain (LoadGlyph 0 65 flat) ∷ plain (Fill (boxed (pos 0) (pos 0) 1 1) 5) ∷ plain (LoadGlyph 3 65 low) ∷ [])).glyphs
     ≡ (replicate 65 None ++ Some (record { number = 1; content = flat }) ∷ replicate 767 None ++ Some (record { number = 3; content = low }) ∷ replicate 190 None)
 a_load_takes_the_number_of_its_drawing = refl
@@ -170,6 +174,7 @@ the_least_rule_is_named : misfit (plain (Save 16 (boxed (pos 0) (pos 0) 0 5))) �
 the_least_rule_is_named = refl
 
 -- a slot that is named must be filled, also where the code doesn't read it: code 0 is black
+-- wrong: a slot that the code doesn't need may be empty
 a_slot_that_is_not_needed_is_empty : misfit (plain (Pat (boxed (pos 0) (pos 0) 4 4) 0 9)) ≡ Some (Empty 9)
 a_slot_that_is_not_needed_is_empty = refl
 

@@ -23,6 +23,7 @@ one_fill : capture_of encoder_frames (ended (codes "size 64 48")
 unfolding digits ternary_raster
 one_fill = refl
 
+-- wrong: a take finds refused fills, or all fills since the first
 same_fill_again : capture_of encoder_frames (ended (codes "size 64 48")
     ++ ended (codes "take")
     ++ ended (codes "fill 10 20 5 5 FF0000")

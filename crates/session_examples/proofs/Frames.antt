@@ -56,6 +56,7 @@ image_past_the_cell : capture_of encoder_frames (ended (codes "size 64 64")
 unfolding digits ternary_raster
 image_past_the_cell = refl
 
+-- wrong: a copy reads a dirty tile as an order
 copy_from_a_dirty_tile : capture_of encoder_frames (ended (codes "size 192 64")
     ++ ended (codes "invite ann owner")
     ++ ended (codes "join ann full")

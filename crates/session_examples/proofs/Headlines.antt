@@ -25,13 +25,13 @@ abbrev Shows : ℕ → List ℕ → Type 0
 Shows v script = ShowsOpening v (capture_of encoder_frames script) (opening_of script)
 
 -- the same of a viewer who confirmed this, so that it is computed once
-abbrev ShowsOpeningTo : Confirmed → ℕ → List ℕ → Opening → Type 0
+abbrev pub ShowsOpeningTo : Confirmed → ℕ → List ℕ → Opening → Type 0
 ShowsOpeningTo c v capture NoSize = ⊥
 ShowsOpeningTo c v capture Unended = ⊥
 ShowsOpeningTo c v capture (Opened s) = (confirmed_in s.head s.asked v ≡ c) × (pictures_at_marks c s.head.size (viewer_bytes v capture)
     ≡ Ok (pictures_after Bits24 s.head.size (journal_of_steps s.head (steps_of s.asked)) (frame_numbers s.head (steps_of s.asked) v)))
 
-abbrev ShowsTo : Confirmed → ℕ → List ℕ → Type 0
+abbrev pub ShowsTo : Confirmed → ℕ → List ℕ → Type 0
 ShowsTo c v script = ShowsOpeningTo c v (capture_of encoder_frames script) (opening_of script)
 
 one_fill_shows_1 : Shows 1 (ended (codes "size 64 48")

@@ -12,6 +12,7 @@ pub mod Rooms
 pub mod Caches
 pub mod CautiousScripts
 pub mod DepthScripts
+pub mod FastScripts
 pub mod ManyFills
 pub mod Largest
 pub mod Headlines
@@ -24,6 +25,7 @@ pub mod CacheRows
 pub mod TileRows
 pub mod OrderRows
 pub mod CautiousRows
+pub mod FastRows
 mod MeaningsOfFrames
 mod PendingRows
 mod Depths

@@ -6,6 +6,7 @@ use Rattle.rop3_core.specs.Rop3.{ternary_raster}
 use Rattle.script_rules.specs.Capture.{ended}
 use Rattle.script_rules.specs.CaptureText.{capture_of, encoder_frames}
 
+-- wrong: 256 pending drawings are already too many, or a jump sends orders
 two_hundred_and_fifty_six_fills : capture_of encoder_frames (ended (codes "size 64 48")
     ++ ended (codes "take")
     ++ ended (codes "fill 0 0 1 1 000001")

@@ -50,6 +50,7 @@ popup_and_a_holder_who_leaves : capture_of encoder_frames (ended (codes "size 64
 unfolding digits ternary_raster
 popup_and_a_holder_who_leaves = refl
 
+-- wrong: a tile that was asked for goes at each take
 suppress_allow_refresh : capture_of encoder_frames (ended (codes "size 64 64")
     ++ ended (codes "invite ann owner")
     ++ ended (codes "join ann full")

@@ -36,6 +36,7 @@ click x y = Mouse 0x9000 x y
 -- ---- control
 
 -- the viewer of role View is passed over, and the owner who gave control away takes it back
+-- wrong: control goes to a viewer of role View, or back to who had it before
 control_goes_round_and_is_taken_back : journal_of_steps three (all_join ++ InputStep 1 (Scan 0x58 false) ∷ InputStep 1 (Scan 0x58 true) ∷ InputStep 1 (Scan 0x58 false) ∷ [])
     ≡ three_joins ++ Give 1 3 ∷ Give 1 1 ∷ []
 control_goes_round_and_is_taken_back = refl
@@ -54,6 +55,7 @@ without_an_owner_control_goes_to_the_least_who_may = refl
 a_session_of_viewers_has_no_holder : holder_at size (Join 1 View ∷ []) 1 ≡ 0
 a_session_of_viewers_has_no_holder = refl
 
+-- wrong: a departed holder still draws
 a_departed_holder_draws_no_more : are_legal_after three (reached_at_first size) (three_joins ++ Leave 1 ∷ Input 1 (click 20 20) ∷ []) ≡ false
 a_departed_holder_draws_no_more = refl
 
@@ -69,6 +71,7 @@ f12_is_no_input : refusal_of three (reached_at size three_joins 3) (Input 1 (Sca
 f12_is_no_input = refl
 
 -- the rules come before the board's own slots: a bad image in slot 255 is refused by rule 6, a good one by rule 5
+-- wrong: the board's slots are tested first
 a_bad_image_in_the_boards_slot : refusal_of three (reached_at size three_joins 3) (Draw 1 (unclipped (LoadImage 255 (record { w = 0; h = 0; pixels = [] })))) ≡ Some (BadDrawing 6)
 a_bad_image_in_the_boards_slot = refl
 
@@ -123,6 +126,7 @@ a_click_in_the_popup_takes_an_ink : board_reaction size with_popup (click 40 3)
     ≡ record { board = record opening_board { last = at 40 3; ink = 2 }; drawings = unclipped (Restore 15 (pos 0) (pos 0)) ∷ [] }
 a_click_in_the_popup_takes_an_ink = refl
 
+-- wrong: a click outside the popup also draws a dot
 a_click_outside_the_popup_closes_it : board_reaction size with_popup (click 60 40)
     ≡ record { board = record opening_board { last = at 60 40 }; drawings = unclipped (Restore 15 (pos 0) (pos 0)) ∷ [] }
 a_click_outside_the_popup_closes_it = refl
@@ -145,6 +149,7 @@ fill = DrawStep 1 (unclipped (Fill (whole size) 255))
 abbrev tiles_asked : TakeOf → List ℕ
 tiles_asked take = tiles_in size take.asked
 
+-- wrong: a suppressed viewer's take counts as taken
 frames_have_the_numbers_of_the_journal : frame_numbers three (JoinStep (codes "ann") ∷ TakeStep 1 ∷ TakeStep 1 ∷ fill ∷ fill ∷ TakeStep 1 ∷ SuppressStep 1 true ∷ fill ∷ TakeStep 1 ∷ SuppressStep 1 false ∷ TakeStep 1 ∷ []) 1
     ≡ 1 ∷ 3 ∷ 4 ∷ []
 frames_have_the_numbers_of_the_journal = refl

@@ -40,19 +40,24 @@ at n = record { event = click; at = n }
 a_click_stands_where_its_turn_found_the_end : HappenFrom ann 1 clicked 1 (at 1 ∷ []) 2
 a_click_stands_where_its_turn_found_the_end = (omega arith, refl, omega arith)
 
+-- wrong: a place is counted from 1
 its_place_is_reported : places_of ann 1 clicked (at 1 ∷ []) ≡ 1 ∷ []
 its_place_is_reported = refl
 
+-- wrong: an event may be dropped
 a_click_that_was_dropped_stands_nowhere : HappenFrom ann 1 unclicked 1 (at 1 ∷ []) 2 → ⊥
 a_click_that_was_dropped_stands_nowhere h = absurd (cc h.1)
 
 -- two clicks aren't one entry
+-- wrong: a later turn may find the length at which an entry was appended
 one_entry_is_of_one_click : HappenFrom ann 1 clicked 1 (at 1 ∷ at 1 ∷ []) 2 → ⊥
 one_entry_is_of_one_click h = omega (arith, h.2.0)
 
+-- wrong: events are handled in any order, and before the Join
 an_event_before_the_join_is_none_of_it : HappenFrom ann 1 clicked 1 (at 0 ∷ []) 2 → ⊥
 an_event_before_the_join_is_none_of_it h = omega (arith, h.0)
 
+-- wrong: one turn serves for several events
 each_event_has_a_turn_of_its_own : IsWithin (1 ∷ 1 ∷ []) (1 ∷ []) → ⊥
 each_event_has_a_turn_of_its_own h = ⊎_elim (λ (a : (1 ≡ 1) × ⊥). a.1) (λ (b : ⊥). b) h
 
@@ -63,29 +68,35 @@ turns_stay_in_order : IsWithin (2 ∷ 1 ∷ []) (1 ∷ 2 ∷ []) → ⊥
 turns_stay_in_order h = ⊎_elim (λ (a : (2 ≡ 1) × IsWithin (1 ∷ []) (2 ∷ [])). absurd (cc a.0))
     (λ (b : ((2 ≡ 2) × ⊥) ⊎ ⊥). ⊎_elim (λ (c : (2 ≡ 2) × ⊥). c.1) (λ (d : ⊥). d) b) h
 
+-- wrong: a place may stand twice
 no_place_stands_twice : Ascend 0 (1 ∷ 1 ∷ []) 2 → ⊥
 no_place_stands_twice h = omega (arith, h.1.0)
 
 -- a place where another viewer's click stands isn't hers
+-- wrong: another viewer's entry may stand at a place (by reading)
 another_ones_click_is_none_of_hers : AreOfEvents 2 clicked (1 ∷ []) → ⊥
 another_ones_click_is_none_of_hers h = let is : Input 1 click ≡ h.0.0 = cc h.0.1 in let same : 1 ≡ 2 = subst (IsOfEvent 2) (sym is) h.0.2 in omega (arith, same)
 
 abbrev nothing : Notice
 nothing = record { bye = false; shutdown = false; quiet = false }
 
+-- wrong: what a client enters isn't among its events
 events_among_steps : events_in (step.Packet ∷ step.Event click ∷ step.Event (Scan 0x3B false) ∷ step.Suppress true ∷ step.Bye ∷ [])
     ≡ click ∷ Scan 0x3B false ∷ []
 events_among_steps = refl
 
+-- wrong: who ever stopped output stays quiet
 the_last_suppress_counts : notice_after_all nothing (step.Suppress true ∷ step.Suppress false ∷ []) ≡ nothing
 the_last_suppress_counts = refl
 
 a_stop_after_it_counts : notice_after_all nothing (step.Suppress false ∷ step.Suppress true ∷ step.Packet ∷ []) ≡ record nothing { quiet = true }
 a_stop_after_it_counts = refl
 
+-- wrong: a Shutdown Request is a Bye
 a_shutdown_is_no_bye : notice_after_all nothing (step.Shutdown ∷ []) ≡ record nothing { shutdown = true }
 a_shutdown_is_no_bye = refl
 
+-- wrong: a Bye is a Shutdown Request
 a_bye_is_no_shutdown : notice_after_all nothing (step.Bye ∷ []) ≡ record nothing { bye = true }
 a_bye_is_no_shutdown = refl
 
@@ -100,18 +111,23 @@ holds bytes = record { left = left.Some bytes; faults = 0 }
 abbrev failed : ℕ → edge.Input
 failed n = record { left = left.None; faults = n }
 
+-- wrong: a client has left within a packet too
 nobody_leaves_within_a_packet : ReadEnd false (3 ∷ []) (with_part (3 ∷ [])) nothing (holds (3 ∷ [])) (holds []) (Done end.Left) → ⊥
 nobody_leaves_within_a_packet e = absurd (cc (e (λ over. cc over)).1)
 
+-- wrong: a client has left with bytes that weren't read
 nobody_leaves_with_bytes_ahead : ReadEnd false [] (with_part []) nothing (holds (3 ∷ [])) (holds (3 ∷ [])) (Done end.Left) → ⊥
 nobody_leaves_with_bytes_ahead e = absurd (cc (e (λ over. cc over)).0)
 
 a_bye_leaves_whatever_is_ahead : ReadEnd false [] (with_part []) (record nothing { bye = true }) (holds (3 ∷ [])) (holds (3 ∷ [])) (Done end.Left)
 a_bye_leaves_whatever_is_ahead unended = absurd (unended refl)
 
+-- wrong: a stream is truncated between packets too
 nothing_is_truncated_between_packets : ReadEnd false [] (with_part []) nothing (holds []) (holds []) (Done end.Truncated) → ⊥
 nothing_is_truncated_between_packets e = e.2
 
+-- wrong: a Shutdown Request doesn't end the stream
+-- wrong: a stream may be truncated behind a Bye
 nothing_is_truncated_behind_a_shutdown : ReadEnd false [] (with_part (3 ∷ [])) (record nothing { shutdown = true }) (holds []) (holds []) (Done end.Truncated) → ⊥
 nothing_is_truncated_behind_a_shutdown e = e.0 refl
 
@@ -119,12 +135,14 @@ nothing_is_truncated_behind_a_shutdown e = e.0 refl
 abbrev refused : Hearing
 refused = record (with_part []) { stage = stage.Refused 1 0 }
 
+-- wrong: who is refused may be told as truncated
 who_is_refused_is_not_truncated : ReadEnd false [] refused nothing (holds []) (holds []) (Done end.Truncated) → ⊥
 who_is_refused_is_not_truncated e = e.2
 
 who_is_refused_has_not_left : ReadEnd false [] refused nothing (holds []) (holds []) (Done end.Left) → ⊥
 who_is_refused_has_not_left e = absurd (cc (e (λ over. cc over)).1)
 
+-- wrong: a read may fail while the count of faults stands
 nothing_fails_while_the_count_stands : ReadEnd false [] (with_part []) nothing (failed 4) (failed 4) (Done end.ReadFault) → ⊥
 nothing_fails_while_the_count_stands e = omega (arith, e.1)
 
@@ -141,6 +159,7 @@ bye_stays (step.Bye ∷ xs) n e = bye_stays xs (record n { bye = true }) refl
 bye_stays (step.Packet ∷ xs) n e = bye_stays xs n e
 
 -- a Bye was there, and a byte was read
+-- wrong: more may be read behind a Bye
 nothing_is_read_behind_a_bye : StopsReading (step.Bye ∷ []) (with_part []) nothing (3 ∷ []) → ⊥
 nothing_is_read_behind_a_bye (inl none) = absurd (cc none)
 nothing_is_read_behind_a_bye (inr more) = more.4 (ap (λ (b : Bool). b || (notice_after_all nothing (step.Bye ∷ (heard (with_part []) more.0).steps)).shutdown)

@@ -11,17 +11,22 @@ use Rattle.serve_rules.specs.declared.ends.ConnEnd.TheVariants as end
 abbrev all_ends : List ConnEnd
 all_ends = end.Left ∷ end.Refused 1 0 ∷ end.Truncated ∷ end.NotInvited ∷ end.RoomFull ∷ end.JoinsSpent ∷ end.ReadFault ∷ end.WriteFault ∷ end.OutOfMemory ∷ []
 
+-- wrong: at `Left` events and frames may be missing
+-- wrong: after a failed read events and frames may be missing
 a_failed_write_and_want_of_memory_cut : map is_cut all_ends ≡ false ∷ false ∷ false ∷ false ∷ false ∷ false ∷ false ∷ true ∷ true ∷ []
 a_failed_write_and_want_of_memory_cut = refl
 
 -- an ultimatum that isn't due isn't written
+-- wrong: an ultimatum that isn't due may be written
 who_leaves_is_told_no_refusal : IsLastWord end.Left false (0x03 ∷ 0x00 ∷ 0x00 ∷ 0x09 ∷ 0x02 ∷ 0xF0 ∷ 0x80 ∷ 0x20 ∷ 0x80 ∷ []) → ⊥
 who_leaves_is_told_no_refusal e = absurd (cc e)
 
+-- wrong: a last word that fails is no end
 a_word_that_fails_is_the_end : end_after end.Left (Err end.WriteFault) ≡ end.WriteFault
 a_word_that_fails_is_the_end = refl
 
 -- a viewer whose Leave stands nowhere hasn't left
+-- wrong: a viewer needn't leave
 nobody_stays : IsLeave 1 (Join 1 Owner ∷ []) (0 ∷ []) [] → ⊥
 nobody_stays h = nowhere h.0 h.1
   where
@@ -30,8 +35,10 @@ nobody_stays h = nowhere h.0 h.1
     nowhere (suc n) e = absurd (cc e)
 
 -- nor does that of another one
+-- wrong: another viewer's Leave is its own
 nobody_leaves_for_another : IsLeave 1 (Join 1 Owner ∷ Join 2 View ∷ Leave 2 ∷ []) (0 ∷ []) (2 ∷ []) → ⊥
 nobody_leaves_for_another h = absurd (cc h)
 
+-- wrong: no first frame need come
 without_a_frame_memory_was_wanted : BeginsWith 1 end.Left [] → ⊥
 without_a_frame_memory_was_wanted e = absurd (cc e)

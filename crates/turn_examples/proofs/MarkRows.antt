@@ -29,6 +29,7 @@ a_fill_up_to_an_edge_touches_one : tiles_of_six (pending_of (Fill (boxed (pos 0)
     ≡ true ∷ false ∷ false ∷ false ∷ false ∷ false ∷ []
 a_fill_up_to_an_edge_touches_one = refl
 
+-- wrong: a clip isn't looked at
 a_clip_leaves_the_tiles_within_it : tiles_of_six (pending_of (Fill (boxed (pos 0) (pos 0) 192 128) 0) (Some (boxed (pos 64) (pos 64) 1 1)) (boxed (pos 0) (pos 0) 192 128) ∷ [])
     ≡ false ∷ false ∷ false ∷ false ∷ true ∷ false ∷ []
 a_clip_leaves_the_tiles_within_it = refl
@@ -43,30 +44,38 @@ what_lies_outside_touches_nothing : tiles_of_six (pending_of (Fill (boxed (negsu
 what_lies_outside_touches_nothing = refl
 
 -- a picture of 100 by 20 ends within its second tile
+-- wrong: what lies past the picture within its last tile touches it
 past_the_last_column_it_touches_nothing : touched_by (record { w = 100; h = 20 }) (pending_of (Fill (boxed (pos 100) (pos 0) 10 10) 0) None (boxed (pos 100) (pos 0) 10 10) ∷ []) 1 ≡ false
 past_the_last_column_it_touches_nothing = refl
 
+-- wrong: the first drawing alone touches
 what_two_touch_is_touched : tiles_of_six (pending_of (Fill (boxed (pos 0) (pos 0) 1 1) 0) None (boxed (pos 0) (pos 0) 1 1)
     ∷ pending_of (Fill (boxed (pos 190) (pos 100) 1 1) 0) None (boxed (pos 190) (pos 100) 1 1) ∷ [])
     ≡ true ∷ false ∷ false ∷ false ∷ false ∷ true ∷ []
 what_two_touch_is_touched = refl
 
+-- wrong: a restore saves into its slot
 a_restore_saves_into_no_slot : saves_into (Restore 3 (pos 0) (pos 0)) 3 ≡ false
 a_restore_saves_into_no_slot = refl
 
+-- wrong: a save goes into every slot
 a_save_goes_into_its_slot_alone : map (saves_into (Save 3 (boxed (pos 0) (pos 0) 1 1))) (2 ∷ 3 ∷ 4 ∷ []) ≡ false ∷ true ∷ false ∷ []
 a_save_goes_into_its_slot_alone = refl
 
 -- entry 5 is behind the first four, and not behind the first five
+-- wrong: the last of the entries before counts too
 a_mark_is_past_the_entries_before_it : map (λ (before : ℕ). past before (0 ∷ 5 ∷ []) 1) (0 ∷ 4 ∷ 5 ∷ 6 ∷ []) ≡ true ∷ true ∷ false ∷ false ∷ []
 a_mark_is_past_the_entries_before_it = refl
 
 what_was_never_touched_is_past_nothing : past 0 (0 ∷ 5 ∷ []) 0 ≡ false
 what_was_never_touched_is_past_nothing = refl
 
+-- wrong: what was never touched is marked
 there_is_no_mark_past_the_last : past 0 (1 ∷ 1 ∷ []) 2 ≡ false
 there_is_no_mark_past_the_last = refl
 
 -- of two tiles with the marks 3 and 4 the second is touched by entry 9
+-- wrong: a mark stays as it was set first
+-- wrong: an entry marks what it doesn't touch
 a_later_entry_replaces_the_mark_of_what_it_touches : map (noted (λ (k : ℕ). k == 1) 9 (marks_in (3 ∷ 4 ∷ []))) (0 ∷ 1 ∷ []) ≡ 3 ∷ 9 ∷ []
 a_later_entry_replaces_the_mark_of_what_it_touches = refl

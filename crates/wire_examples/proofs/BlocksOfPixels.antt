@@ -8,6 +8,10 @@ use Rattle.wire_examples.proofs.Viewer.{size_of}
 use Rattle.wire_examples.proofs.Streams.{viewer, orders, mark, filled_with, Made, made, makes, picture, refused}
 
 -- it is kept when it is restored, and goes to another place the first time
+-- wrong: one set of registers for all types
+-- wrong: an order without a type byte is of type 0
+-- wrong: a restore drops its block
+-- wrong: operation 1 saves and 0 restores
 pub block_restored_twice : makes (orders 6 (filled_with 0x01 0x02 0x03 ++ (
     -- OpaqueRect: left +1, top +1, width -6, height -2, red C8, green 00, blue 00
     0x11 ∷ 0x7F ∷
@@ -31,6 +35,8 @@ pub block_restored_twice : makes (orders 6 (filled_with 0x01 0x02 0x03 ++ (
 block_restored_twice = refl
 
 -- the block is whole although the bounds are one pixel
+-- wrong: a save saves only what is within its bounds
+-- wrong: a restored rectangle up to the last column or row of the surface is refused
 pub bounds_of_a_save_are_not_heeded : makes (orders 4 (
     -- OpaqueRect: width +5, height +4, red 01, green 63, blue 03
     0x19 ∷ 0x0A ∷ 0x7C ∷
@@ -51,6 +57,8 @@ pub bounds_of_a_save_are_not_heeded : makes (orders 4 (
 bounds_of_a_save_are_not_heeded = refl
 
 -- a block of 1 by 4 takes twenty positions, so one at 20 leaves one at 0
+-- wrong: a save drops all blocks
+-- wrong: a block that begins where another ends shares a position with it
 pub blocks_side_by_side : makes (orders 6 (filled_with 0x01 0x02 0x03 ++ (
     -- SaveBitmap: bottom +3
     0x19 ∷ 0x0B ∷ 0x10 ∷ 0x03 ∷
@@ -73,6 +81,9 @@ pub blocks_side_by_side : makes (orders 6 (filled_with 0x01 0x02 0x03 ++ (
 blocks_side_by_side = refl
 
 -- a block at 19 drops the one at 0
+-- wrong: a save drops no block
+-- wrong: a save drops only the block at its own position
+-- wrong: a save drops no block that begins before it
 pub block_that_shares_a_position : makes (orders 4 (filled_with 0x01 0x02 0x03 ++ (
     -- SaveBitmap: bottom +3
     0x19 ∷ 0x0B ∷ 0x10 ∷ 0x03 ∷
@@ -85,6 +96,8 @@ pub block_that_shares_a_position : makes (orders 4 (filled_with 0x01 0x02 0x03 +
 block_that_shares_a_position = refl
 
 -- 20 positions from 57,580 on
+-- wrong: a save up to the last position is refused
+-- wrong: a block's width is rounded up, and not its height
 pub block_up_to_the_last_position : makes (orders 2 (filled_with 0x01 0x02 0x03 ++ (
     -- SaveBitmap: position 57580, bottom +3
     0x19 ∷ 0x0B ∷ 0x11 ∷
@@ -92,6 +105,9 @@ pub block_up_to_the_last_position : makes (orders 2 (filled_with 0x01 0x02 0x03 
 block_up_to_the_last_position = refl
 
 -- 20 positions from 57,581 on
+-- wrong: a save one position further is accepted
+-- wrong: only a save's first position is tested
+-- wrong: a block takes its width times its height
 pub block_past_the_last_position : makes (orders 2 (filled_with 0x01 0x02 0x03 ++ (
     -- SaveBitmap: position 57581, bottom +3
     0x19 ∷ 0x0B ∷ 0x11 ∷
@@ -99,6 +115,9 @@ pub block_past_the_last_position : makes (orders 2 (filled_with 0x01 0x02 0x03 +
 block_past_the_last_position = refl
 
 -- an unknown pixel is saved, and is unknown where it is restored
+-- wrong: right and bottom of a SaveBitmap are exclusive
+-- wrong: an unknown pixel is saved as black
+-- wrong: an unknown pixel of a block leaves what is there
 pub block_of_unknown_pixels : makes (orders 4 (
     -- OpaqueRect: width +2, height +4, red 01, green 02, blue 03
     0x19 ∷ 0x0A ∷ 0x7C ∷
@@ -117,6 +136,8 @@ pub block_of_unknown_pixels : makes (orders 4 (
     Some 0x070707 ∷ Some 0x070707 ∷ Some 0x070707 ∷ Some 0x070707 ∷ Some 0x070707 ∷ Some 0x070707 ∷ Some 0x070707 ∷ Some 0x070707 ∷ [])
 block_of_unknown_pixels = refl
 
+-- wrong: a restore takes a block of any height
+-- wrong: a SaveBitmap's position has two bytes
 pub block_of_another_height : makes (orders 3 (filled_with 0x01 0x02 0x03 ++ (
     -- SaveBitmap: position 40, left +1, right +2, bottom +2
     0x19 ∷ 0x0B ∷ 0x1B ∷
@@ -126,6 +147,7 @@ pub block_of_another_height : makes (orders 3 (filled_with 0x01 0x02 0x03 ++ (
     0xFF ∷ 0x01 ∷ [])) ++ mark) ≡ refused 32 Broken
 block_of_another_height = refl
 
+-- wrong: a restore takes a block of any position
 pub block_of_another_position : makes (orders 3 (filled_with 0x01 0x02 0x03 ++ (
     -- SaveBitmap: position 40, left +1, right +2, bottom +2
     0x19 ∷ 0x0B ∷ 0x1B ∷
@@ -136,6 +158,7 @@ pub block_of_another_position : makes (orders 3 (filled_with 0x01 0x02 0x03 ++ (
 block_of_another_position = refl
 
 -- right is left of left
+-- wrong: a width or a height below 1 is accepted of SaveBitmap
 pub save_of_no_column : makes (orders 2 (filled_with 0x01 0x02 0x03 ++ (
     -- SaveBitmap: left +2, right +1
     0x19 ∷ 0x0B ∷ 0x0A ∷
@@ -155,6 +178,8 @@ pub save_of_no_row : makes (orders 2 (filled_with 0x01 0x02 0x03 ++ (
     0x02 ∷ 0x01 ∷ [])) ++ mark) ≡ refused 32 Broken
 save_of_no_row = refl
 
+-- wrong: a saved rectangle that goes past one side of the surface is accepted
+-- wrong: a saved rectangle partly inside the surface is enough
 pub save_left_of_the_surface : makes (orders 2 (filled_with 0x01 0x02 0x03 ++ (
     -- SaveBitmap: left -1
     0x19 ∷ 0x0B ∷ 0x02 ∷ 0xFF ∷ [])) ++ mark) ≡ refused 32 Broken
@@ -178,6 +203,7 @@ pub save_of_the_widest_rectangle : makes (orders 2 (filled_with 0x01 0x02 0x03 +
 save_of_the_widest_rectangle = refl
 
 -- up to the last column and row, painted over and restored
+-- wrong: a saved rectangle up to the last column or row of the surface is refused
 pub block_of_the_whole_surface : makes (orders 4 (filled_with 0x01 0x02 0x03 ++ (
     -- SaveBitmap: right +7, bottom +3
     0x19 ∷ 0x0B ∷ 0x18 ∷
@@ -190,6 +216,7 @@ pub block_of_the_whole_surface : makes (orders 4 (filled_with 0x01 0x02 0x03 ++ 
 block_of_the_whole_surface = refl
 
 -- a block of one pixel, of which the later one is restored
+-- wrong: a block that is saved again at its position keeps its first pixels
 pub block_saved_again_at_its_position : makes (orders 6 (filled_with 0x01 0x02 0x03 ++ (
     -- SaveBitmap of one pixel
     0x09 ∷ 0x0B ∷ 0x00 ∷
@@ -210,6 +237,8 @@ pub block_saved_again_at_its_position : makes (orders 6 (filled_with 0x01 0x02 0
 block_saved_again_at_its_position = refl
 
 -- two columns, of which the surface has the second one
+-- wrong: a restored rectangle that goes past one side of the surface is accepted
+-- wrong: a restored rectangle partly inside the surface is enough
 pub restore_partly_left_of_the_surface : makes (orders 2 (
     -- SaveBitmap: right +1
     0x19 ∷ 0x0B ∷ 0x08 ∷ 0x01 ∷
@@ -251,6 +280,7 @@ pub save_above_the_surface : makes (orders 1 (
 save_above_the_surface = refl
 
 -- a block at 0 drops the one at 19
+-- wrong: a save drops no block that begins behind it
 pub block_behind_that_shares_a_position : makes (orders 4 (filled_with 0x01 0x02 0x03 ++ (
     -- SaveBitmap: position 19, bottom +3
     0x19 ∷ 0x0B ∷ 0x11 ∷
@@ -271,6 +301,7 @@ pub two_columns_up_to_the_last_position : makes (orders 2 (filled_with 0x01 0x02
 two_columns_up_to_the_last_position = refl
 
 -- from 57,561 on
+-- wrong: a block's count of pixels is rounded up, and not its height
 pub two_columns_past_the_last_position : makes (orders 2 (filled_with 0x01 0x02 0x03 ++ (
     -- SaveBitmap: position 57,561, right +1, bottom +3
     0x19 ∷ 0x0B ∷ 0x19 ∷
@@ -279,9 +310,10 @@ two_columns_past_the_last_position = refl
 
 -- what a viewer makes of a stream on a surface of 4 by 21
 abbrev makes_on_a_high_surface : List ℕ → Result Made Refusal
-makes_on_a_high_surface bytes = bind (read_stream (viewer false true) (size_of 4 21) bytes) (λ r. Ok (made bytes r))
+makes_on_a_high_surface bytes = bind (read_stream (viewer false true) (size_of 4 21) bytes) (λ r. Ok (made false bytes r))
 
 -- a block of 1 by 20 takes 20 positions, here from 57,580 on
+-- wrong: a height of twenty is rounded up to forty
 pub twenty_rows_up_to_the_last_position : makes_on_a_high_surface (orders 1 (
     -- SaveBitmap: position 57,580, bottom +19
     0x19 ∷ 0x0B ∷ 0x11 ∷

@@ -4,6 +4,16 @@ use Rattle.rop3_core.specs.Rop3.{ternary_raster}
 use Rattle.wire_examples.proofs.Streams.{orders, mark, makes, picture}
 
 -- the first edges are 1, 0, 7, 1, the second ones 3, 1, 6, 3
+-- wrong: a delta is taken for the coordinate
+-- wrong: a delta is unsigned
+-- wrong: OpaqueRect has no bounds
+-- wrong: an edge's delta is added to the edge before it
+-- wrong: the right edge's delta is added to the left edge
+-- wrong: the right edge's delta is added to the last left edge
+-- wrong: the top edge's delta is added to the last left edge
+-- wrong: the bottom edge's delta is added to the last top edge
+-- wrong: the left edge's delta is added to the last right edge
+-- wrong: an OpaqueRect's colour stands as blue, green, red
 pub each_edge_moves_from_its_own_last_one : makes (orders 2 (
     -- OpaqueRect: left edge +1, right edge +7, bottom edge +1, width +8, height +4, red 01, green 02, blue 03
     0x1D ∷ 0x0A ∷ 0x7C ∷
@@ -18,6 +28,8 @@ pub each_edge_moves_from_its_own_last_one : makes (orders 2 (
 each_edge_moves_from_its_own_last_one = refl
 
 -- the second order is of another type and has the last bounds
+-- wrong: the bit of the last bounds gives bounds of zero
+-- wrong: bounds are not kept for the next order
 pub bounds_are_shared_by_types : makes (orders 2 (
     -- OpaqueRect: left edge +1, top edge +1, right edge +3, bottom edge +2, width +8, height +4, red 01, green 02, blue 03
     0x1D ∷ 0x0A ∷ 0x7C ∷
@@ -33,6 +45,8 @@ unfolding ternary_raster
 bounds_are_shared_by_types = refl
 
 -- right is left of left, and bottom above top
+-- wrong: edges in the wrong order are swapped
+-- wrong: bounds without a pixel are none
 pub bounds_without_a_pixel : makes (orders 2 (
     -- OpaqueRect: left edge +3, right edge +1, bottom edge +3, width +8, height +4, red 01, green 02, blue 03
     0x1D ∷ 0x0A ∷ 0x7C ∷
@@ -43,6 +57,7 @@ pub bounds_without_a_pixel : makes (orders 2 (
 bounds_without_a_pixel = refl
 
 -- the third order has the bounds of the first one, and the second has none
+-- wrong: an order without bounds drops the last ones
 pub bounds_stay_over_an_order_without_any : makes (orders 3 (
     -- OpaqueRect: left edge +1, top edge +1, right edge +3, bottom edge +2, width +8, height +4, red 01, green 02, blue 03
     0x1D ∷ 0x0A ∷ 0x7C ∷

@@ -5,6 +5,12 @@ use Rattle.order_means.specs.ClientState.Fault.{Broken, Empty}
 use Rattle.wire_examples.proofs.Streams.{orders, mark, filled_with, cached_image, small_image, cached_brush, cached_brush_of, makes, picture, refused}
 
 -- code B8 takes the picture where the image has a 1, and the brush where it has a 0; the image is read from its third column on
+-- wrong: flag bytes stand with the highest first
+-- wrong: omitted flag bytes are the first ones
+-- wrong: Mem3Blt has no brush
+-- wrong: Mem3Blt has no source
+-- wrong: Mem3Blt takes the brush for the source
+-- wrong: a Mem3Blt's brush begins at the rectangle's corner
 pub brush_image_and_picture_are_mixed : makes (orders 4 (filled_with 0x5A 0xC3 0x0F ++ (cached_image 0 ++ (cached_brush 2 ++ (
     -- Mem3Blt: left +1, width +6, height +4, rop B8, xSrc +2, style 85, hatch 2
     0x59 ∷ 0x0E ∷ 0x7A ∷ 0x30 ∷
@@ -17,6 +23,7 @@ unfolding ternary_raster
 brush_image_and_picture_are_mixed = refl
 
 -- code CA: the image where the brush has a 1, and the picture where it has a 0, within the columns 2 to 3 and the rows 1 to 2
+-- wrong: Mem3Blt has no bounds
 pub brush_image_and_picture_in_bounds : makes (orders 4 (filled_with 0x01 0x02 0x03 ++ (cached_image 0 ++ (cached_brush 2 ++ (
     -- Mem3Blt: left edge +2, top edge +1, right edge +3, bottom edge +2, left +1, width +6, height +4, rop CA, style 85, hatch 2
     0x5D ∷ 0x0E ∷ 0x3A ∷ 0x30 ∷
@@ -29,6 +36,8 @@ unfolding ternary_raster
 brush_image_and_picture_in_bounds = refl
 
 -- the brush's extra bytes, back and fore are anything
+-- wrong: a Mem3Blt with back is refused
+-- wrong: a Mem3Blt with fore is refused
 pub extra_and_colors_of_a_mem3_are_not_read : makes (orders 4 (filled_with 0x01 0x02 0x03 ++ (cached_image 0 ++ (cached_brush 2 ++ (
     -- Mem3Blt: left +1, width +4, height +4, rop B8, back 000005, fore 000006, style 85, hatch 2, extra
     0x59 ∷ 0x0E ∷ 0x3A ∷ 0x73 ∷
@@ -48,12 +57,16 @@ pub source_of_a_mem3_past_its_image : makes (orders 4 (filled_with 0x01 0x02 0x0
     0x01 ∷ 0x04 ∷ 0x04 ∷ 0xB8 ∷ 0x05 ∷ 0x85 ∷ 0x02 ∷ [])))) ++ mark) ≡ refused 33 Broken
 source_of_a_mem3_past_its_image = refl
 
+-- wrong: a brush with orgX is accepted
+-- wrong: a Mem3Blt with orgX is accepted
 pub column_origin_of_a_mem3 : makes (orders 4 (filled_with 0x01 0x02 0x03 ++ (cached_image 0 ++ (cached_brush 2 ++ (
     -- Mem3Blt: left +1, width +4, height +4, rop B8, orgX 1, style 85, hatch 2
     0x59 ∷ 0x0E ∷ 0x3A ∷ 0x34 ∷
     0x01 ∷ 0x04 ∷ 0x04 ∷ 0xB8 ∷ 0x01 ∷ 0x85 ∷ 0x02 ∷ [])))) ++ mark) ≡ refused 33 Broken
 column_origin_of_a_mem3 = refl
 
+-- wrong: a brush with orgY is accepted
+-- wrong: a Mem3Blt with orgY is accepted
 pub row_origin_of_a_mem3 : makes (orders 4 (filled_with 0x01 0x02 0x03 ++ (cached_image 0 ++ (cached_brush 2 ++ (
     -- Mem3Blt: left +1, width +4, height +4, rop B8, orgY 1, style 85, hatch 2
     0x59 ∷ 0x0E ∷ 0x3A ∷ 0x38 ∷
@@ -61,6 +74,8 @@ pub row_origin_of_a_mem3 : makes (orders 4 (filled_with 0x01 0x02 0x03 ++ (cache
 row_origin_of_a_mem3 = refl
 
 -- a brush of another style, and an image that isn't there
+-- wrong: a brush of another style is accepted
+-- wrong: a Mem3Blt of another style is accepted
 pub style_is_tested_before_the_image : makes (orders 2 (filled_with 0x01 0x02 0x03 ++ (
     -- Mem3Blt: width +1, height +1, rop CC, style 84, index 1
     0x59 ∷ 0x0E ∷ 0x38 ∷ 0x90 ∷
@@ -68,6 +83,7 @@ pub style_is_tested_before_the_image : makes (orders 2 (filled_with 0x01 0x02 0x
 style_is_tested_before_the_image = refl
 
 -- a source that is wider than its image, and a brush that isn't there
+-- wrong: a Mem3Blt's brush is looked up before its image
 pub source_is_tested_before_the_brush : makes (orders 3 (small_image ++ (
     -- OpaqueRect: width +8, height +4, red 01, green 02, blue 03
     0x19 ∷ 0x0A ∷ 0x7C ∷
@@ -78,6 +94,7 @@ pub source_is_tested_before_the_brush : makes (orders 3 (small_image ++ (
 source_is_tested_before_the_brush = refl
 
 -- the source is whole, and so the brush is what is missed
+-- wrong: an empty entry is past its cache
 pub brush_of_a_mem3_is_empty : makes (orders 3 (small_image ++ (
     -- OpaqueRect: width +8, height +4, red 01, green 02, blue 03
     0x19 ∷ 0x0A ∷ 0x7C ∷
@@ -88,6 +105,9 @@ pub brush_of_a_mem3_is_empty : makes (orders 3 (small_image ++ (
 brush_of_a_mem3_is_empty = refl
 
 -- a brush's pixel goes by its place on the surface, and not in the rectangle
+-- wrong: left and top of a rectangle are swapped
+-- wrong: width and height of a rectangle are swapped
+-- wrong: a brush begins at the rectangle's corner
 pub brush_is_not_moved_by_an_odd_corner : makes (orders 2 (cached_brush 0 ++ (
     -- PatBlt: left +3, top +1, width +5, height +3, rop F0, style 85
     0x11 ∷ 0x1F ∷ 0x02 ∷
@@ -100,6 +120,7 @@ unfolding ternary_raster
 brush_is_not_moved_by_an_odd_corner = refl
 
 -- code 5A is brush xor picture, within the columns 1 to 5 and the rows 1 to 2
+-- wrong: PatBlt has no bounds
 pub brush_over_a_picture_in_bounds : makes (orders 3 (filled_with 0x09 0x63 0xC7 ++ (cached_brush 0 ++ (
     -- PatBlt: left edge +1, top edge +1, right edge +5, bottom edge +2, width +8, height +4, rop 5A, style 85
     0x1D ∷ 0x01 ∷ 0x1C ∷ 0x02 ∷
@@ -127,6 +148,12 @@ unfolding ternary_raster
 brush_over_unknown_pixels = refl
 
 -- entry 63; the last row of the bytes is the top one
+-- wrong: the last type is DstBlt at first
+-- wrong: the last type is OpaqueRect at first
+-- wrong: a brush's rows go from the top
+-- wrong: PatBlt has no brush
+-- wrong: the brush cache has 63 entries
+-- wrong: a brush's pixels go column by column
 pub rows_of_a_brush : makes (orders 2 (cached_brush 63 ++ (
     -- PatBlt: width +8, height +4, rop F0, style 85, hatch 63
     0x11 ∷ 0x1C ∷ 0x06 ∷
@@ -139,6 +166,7 @@ unfolding ternary_raster
 rows_of_a_brush = refl
 
 -- code 55 inverts the picture, and an empty entry is refused all the same
+-- wrong: a brush that the code does not need is not looked up
 pub brush_that_the_code_does_not_need : makes (orders 1 (
     -- PatBlt: width +8, height +4, rop 55, style 85, hatch 5
     0x11 ∷ 0x1C ∷ 0x06 ∷
@@ -153,6 +181,10 @@ pub image_that_the_code_does_not_need : makes (orders 1 (
 image_that_the_code_does_not_need = refl
 
 -- the brush's extra bytes, back and fore are anything
+-- wrong: a brush with extra bytes is refused
+-- wrong: a PatBlt with back is refused
+-- wrong: a PatBlt with fore is refused
+-- wrong: a PatBlt with extra is refused
 pub extra_and_colors_of_a_brush_are_not_read : makes (orders 2 (cached_brush_of 2 (replicate 192 0x2A) ++ (
     -- PatBlt: width +8, height +4, rop F0, back 000005, fore 000006, style 85, hatch 2, extra
     0x11 ∷ 0x7C ∷ 0x0E ∷
@@ -162,6 +194,9 @@ unfolding ternary_raster
 extra_and_colors_of_a_brush_are_not_read = refl
 
 -- two of its columns, from column 2 and row 1 on
+-- wrong: a MemBlt's xSrc is ignored
+-- wrong: a MemBlt's ySrc is ignored
+-- wrong: xSrc and ySrc of a MemBlt are swapped
 pub lower_row_of_an_image : makes (orders 3 (filled_with 0x01 0x02 0x03 ++ (small_image ++ (
     -- MemBlt: width +2, height +1, rop CC, xSrc +2, ySrc +1
     0x59 ∷ 0x0D ∷ 0xF8 ∷
@@ -174,6 +209,9 @@ unfolding ternary_raster
 lower_row_of_an_image = refl
 
 -- the same by a Mem3Blt, whose code takes the image alone
+-- wrong: a Mem3Blt's xSrc is ignored
+-- wrong: a Mem3Blt's ySrc is ignored
+-- wrong: xSrc and ySrc of a Mem3Blt are swapped
 pub lower_row_of_an_image_with_a_brush : makes (orders 4 (filled_with 0x01 0x02 0x03 ++ (small_image ++ (cached_brush 2 ++ (
     -- Mem3Blt: width +2, height +1, rop CC, xSrc +2, ySrc +1, style 85, hatch 2
     0x59 ∷ 0x0E ∷ 0xF8 ∷ 0x30 ∷
@@ -186,6 +224,7 @@ unfolding ternary_raster
 lower_row_of_an_image_with_a_brush = refl
 
 -- the entry is there
+-- wrong: a PatBlt with orgX is accepted
 pub column_origin_of_a_brush : makes (orders 2 (cached_brush 2 ++ (
     -- PatBlt: width +8, height +4, rop F0, orgX 1, style 85, hatch 2
     0x11 ∷ 0x9C ∷ 0x06 ∷
@@ -193,6 +232,7 @@ pub column_origin_of_a_brush : makes (orders 2 (cached_brush 2 ++ (
 column_origin_of_a_brush = refl
 
 -- the entry is there
+-- wrong: a PatBlt with orgY is accepted
 pub row_origin_of_a_brush : makes (orders 2 (cached_brush 2 ++ (
     -- PatBlt: width +8, height +4, rop F0, orgY 1, style 85, hatch 2
     0x11 ∷ 0x1C ∷ 0x07 ∷

@@ -40,11 +40,14 @@ abbrev after_black : Registers
 after_black = after first_registers (fill 0 0 64 48 0)
 
 -- red is F800, its low byte first; the third byte stays 0, so it isn't written
+-- wrong: a colour is written with its high byte first
+-- wrong: a colour stands in the last two bytes of its field
 pub a_red_fill_at_16_bits : written after_black (fill 10 20 5 5 0xFF0000) ≡ 0x11 ∷ 0x2F ∷ 0x0A ∷ 0x14 ∷ 0xC5 ∷ 0xD5 ∷ 0xF8 ∷ []
 unfolding cut_color
 a_red_fill_at_16_bits = refl
 
 -- 123456 and 113355 are both cut to 11AA, so no colour is written anew
+-- wrong: a colour of an order isn't cut
 pub a_color_that_is_cut_to_the_last_one : written (after first_registers (fill 0 0 4 4 0x123456)) (fill 8 0 4 4 0x113355) ≡ 0x11 ∷ 0x11 ∷ 0x08 ∷ 0x8A ∷ []
 unfolding cut_color
 a_color_that_is_cut_to_the_last_one = refl
@@ -58,24 +61,30 @@ pub a_pattern_at_16_bits : written after_black (Pat (rect 0 0 64 48) 0xF0 3) ≡
 a_pattern_at_16_bits = refl
 
 -- format 04, 80 (hexadecimal) bytes
+-- wrong: a cached brush's pixels aren't cut
 pub a_cached_brush_at_16_bits : cache_brush_bytes Bits16 3 (replicate 64 0xFF0000) ≡ 0x03 ∷ 0x7F ∷ 0x00 ∷ 0x00 ∷ 0x00 ∷ 0x07 ∷ 0x03 ∷ 0x04 ∷ 0x08 ∷ 0x08 ∷ 0x00 ∷ 0x80 ∷ 0x00 ∷ 0xF8 ∷ 0x00 ∷ 0xF8 ∷ 0x00 ∷ 0xF8 ∷ 0x00 ∷ 0xF8 ∷ 0x00 ∷ 0xF8 ∷ 0x00 ∷ 0xF8 ∷ 0x00 ∷ 0xF8 ∷ 0x00 ∷ 0xF8 ∷ 0x00 ∷ 0xF8 ∷ 0x00 ∷ 0xF8 ∷ 0x00 ∷ 0xF8 ∷ 0x00 ∷ 0xF8 ∷ 0x00 ∷ 0xF8 ∷ 0x00 ∷ 0xF8 ∷ 0x00 ∷ 0xF8 ∷ 0x00 ∷ 0xF8 ∷ 0x00 ∷ 0xF8 ∷ 0x00 ∷ 0xF8 ∷ 0x00 ∷ 0xF8 ∷ 0x00 ∷ 0xF8 ∷ 0x00 ∷ 0xF8 ∷ 0x00 ∷ 0xF8 ∷ 0x00 ∷ 0xF8 ∷ 0x00 ∷ 0xF8 ∷ 0x00 ∷ 0xF8 ∷ 0x00 ∷ 0xF8 ∷ 0x00 ∷ 0xF8 ∷ 0x00 ∷ 0xF8 ∷ 0x00 ∷ 0xF8 ∷ 0x00 ∷ 0xF8 ∷ 0x00 ∷ 0xF8 ∷ 0x00 ∷ 0xF8 ∷ 0x00 ∷ 0xF8 ∷ 0x00 ∷ 0xF8 ∷ 0x00 ∷ 0xF8 ∷ 0x00 ∷ 0xF8 ∷ 0x00 ∷ 0xF8 ∷ 0x00 ∷ 0xF8 ∷ 0x00 ∷ 0xF8 ∷ 0x00 ∷ 0xF8 ∷ 0x00 ∷ 0xF8 ∷ 0x00 ∷ 0xF8 ∷ 0x00 ∷ 0xF8 ∷ 0x00 ∷ 0xF8 ∷ 0x00 ∷ 0xF8 ∷ 0x00 ∷ 0xF8 ∷ 0x00 ∷ 0xF8 ∷ 0x00 ∷ 0xF8 ∷ 0x00 ∷ 0xF8 ∷ 0x00 ∷ 0xF8 ∷ 0x00 ∷ 0xF8 ∷ 0x00 ∷ 0xF8 ∷ 0x00 ∷ 0xF8 ∷ 0x00 ∷ 0xF8 ∷ 0x00 ∷ 0xF8 ∷ 0x00 ∷ 0xF8 ∷ 0x00 ∷ 0xF8 ∷ 0x00 ∷ 0xF8 ∷ 0x00 ∷ 0xF8 ∷ 0x00 ∷ 0xF8 ∷ 0x00 ∷ 0xF8 ∷ 0x00 ∷ 0xF8 ∷ 0x00 ∷ 0xF8 ∷ 0x00 ∷ 0xF8 ∷ []
 unfolding cut_color
 a_cached_brush_at_16_bits = refl
 
+-- wrong: a cached image's pixels aren't cut
 pub a_raw_image_of_three_columns_at_16_bits : cache_bitmap_bytes Bits16 false 0 1 (record { w = 3; h = 2; pixels = 0xF80000 ∷ 0x00FC00 ∷ 0x0000F8 ∷ 0x123456 ∷ 0x113355 ∷ 0x070307 ∷ [] }) ≡ 0x03 ∷ 0x12 ∷ 0x00 ∷ 0x00 ∷ 0x00 ∷ 0x00 ∷ 0x00 ∷ 0x00 ∷ 0x04 ∷ 0x02 ∷ 0x10 ∷ 0x10 ∷ 0x00 ∷ 0x01 ∷ 0x00 ∷ 0xAA ∷ 0x11 ∷ 0x8A ∷ 0x11 ∷ 0x00 ∷ 0x00 ∷ 0x00 ∷ 0x00 ∷ 0x00 ∷ 0xF8 ∷ 0xE0 ∷ 0x07 ∷ 0x1F ∷ 0x00 ∷ 0x1F ∷ 0x00 ∷ []
 unfolding cut_color
 a_raw_image_of_three_columns_at_16_bits = refl
 
+-- wrong: a cached bitmap says 24 bits for each pixel at both depths
 pub a_packed_image_at_16_bits : cache_bitmap_bytes Bits16 true 2 0 (record { w = 64; h = 64; pixels = replicate 4096 0xFF0000 }) ≡ 0x03 ∷ 0x09 ∷ 0x00 ∷ 0x00 ∷ 0x04 ∷ 0x02 ∷ 0x02 ∷ 0x00 ∷ 0x40 ∷ 0x40 ∷ 0x10 ∷ 0x07 ∷ 0x00 ∷ 0x00 ∷ 0x00 ∷ 0x60 ∷ 0x20 ∷ 0x00 ∷ 0xF8 ∷ 0xF0 ∷ 0xC0 ∷ 0x0F ∷ []
 unfolding cut_color
 a_packed_image_at_16_bits = refl
 
 -- four colours pack to nine bytes: more than the eight of 16 bits, and fewer than twelve
+-- wrong: pixels go packed where that is fewer than three bytes a pixel
 pub four_colors_go_raw_at_16_bits : cache_bitmap_bytes Bits16 true 0 0 (record { w = 4; h = 1; pixels = 0x123456 ∷ 0xFF0000 ∷ 0x00FF00 ∷ 0x0000FF ∷ [] }) ≡ 0x03 ∷ 0x0A ∷ 0x00 ∷ 0x00 ∷ 0x00 ∷ 0x00 ∷ 0x00 ∷ 0x00 ∷ 0x04 ∷ 0x01 ∷ 0x10 ∷ 0x08 ∷ 0x00 ∷ 0x00 ∷ 0x00 ∷ 0xAA ∷ 0x11 ∷ 0x00 ∷ 0xF8 ∷ 0xE0 ∷ 0x07 ∷ 0x1F ∷ 0x00 ∷ []
 unfolding cut_color
 four_colors_go_raw_at_16_bits = refl
 
-pub a_packed_tile_at_16_bits : tile_packet Bits16 true (rect 0 0 64 64) (replicate 4096 0xFF0000) ≡ 0x03 ∷ 0x00 ∷ 0x00 ∷ 0x3D ∷ 0x02 ∷ 0xF0 ∷ 0x80 ∷ 0x68 ∷ 0x00 ∷ 0x01 ∷ 0x03 ∷ 0xEB ∷ 0x70 ∷ 0x2F ∷ 0x2F ∷ 0x00 ∷ 0x17 ∷ 0x00 ∷ 0xEA ∷ 0x03 ∷ 0xEA ∷ 0x03 ∷ 0x01 ∷ 0x00 ∷ 0x00 ∷ 0x01 ∷ 0x21 ∷ 0x00 ∷ 0x02 ∷ 0x00 ∷ 0x00 ∷ 0x00 ∷ 0x01 ∷ 0x00 ∷ 0x01 ∷ 0x00 ∷ 0x00 ∷ 0x00 ∷ 0x00 ∷ 0x00 ∷ 0x3F ∷ 0x00 ∷ 0x3F ∷ 0x00 ∷ 0x40 ∷ 0x00 ∷ 0x40 ∷ 0x00 ∷ 0x10 ∷ 0x00 ∷ 0x01 ∷ 0x04 ∷ 0x07 ∷ 0x00 ∷ 0x60 ∷ 0x20 ∷ 0x00 ∷ 0xF8 ∷ 0xF0 ∷ 0xC0 ∷ 0x0F ∷ []
+-- wrong: a tile's pixels aren't cut
+-- wrong: a rectangle says 24 bits for each pixel at both depths
+pub a_packed_tile_at_16_bits : tile_packet Bits16 false true (rect 0 0 64 64) (replicate 4096 0xFF0000) ≡ 0x03 ∷ 0x00 ∷ 0x00 ∷ 0x3D ∷ 0x02 ∷ 0xF0 ∷ 0x80 ∷ 0x68 ∷ 0x00 ∷ 0x01 ∷ 0x03 ∷ 0xEB ∷ 0x70 ∷ 0x2F ∷ 0x2F ∷ 0x00 ∷ 0x17 ∷ 0x00 ∷ 0xEA ∷ 0x03 ∷ 0xEA ∷ 0x03 ∷ 0x01 ∷ 0x00 ∷ 0x00 ∷ 0x01 ∷ 0x21 ∷ 0x00 ∷ 0x02 ∷ 0x00 ∷ 0x00 ∷ 0x00 ∷ 0x01 ∷ 0x00 ∷ 0x01 ∷ 0x00 ∷ 0x00 ∷ 0x00 ∷ 0x00 ∷ 0x00 ∷ 0x3F ∷ 0x00 ∷ 0x3F ∷ 0x00 ∷ 0x40 ∷ 0x00 ∷ 0x40 ∷ 0x00 ∷ 0x10 ∷ 0x00 ∷ 0x01 ∷ 0x04 ∷ 0x07 ∷ 0x00 ∷ 0x60 ∷ 0x20 ∷ 0x00 ∷ 0xF8 ∷ 0xF0 ∷ 0xC0 ∷ 0x0F ∷ []
 unfolding cut_color
 a_packed_tile_at_16_bits = refl
 
@@ -87,10 +96,12 @@ narrow = record (viewer false true) { depth = Bits16 }
 abbrev makes_at_16 : List ℕ → Result Made Refusal
 makes_at_16 bytes = made_by narrow bytes
 
+-- wrong: a colour is read with its high byte first
 pub fill_at_16_bits : makes_at_16 (orders 1 (filled_with 0x00 0xF8 0x00) ++ mark) ≡ picture 1 0 (replicate 32 (Some 0xF800))
 fill_at_16_bits = refl
 
 -- the third byte of a colour may be anything
+-- wrong: the third byte of a colour is compared, or is part of it
 pub third_byte_of_a_color_is_not_looked_at : makes_at_16 (orders 1 (filled_with 0x00 0xF8 0x7F) ++ mark) ≡ picture 1 0 (replicate 32 (Some 0xF800))
 third_byte_of_a_color_is_not_looked_at = refl
 
@@ -99,10 +110,13 @@ pub third_byte_of_a_color_must_be_there : makes_at_16 (orders 1 (0x19 ∷ 0x0A �
 third_byte_of_a_color_must_be_there = refl
 
 -- registers keep all three: blue +80 alone is the same colour
+-- wrong: a new client has 24 bits
 pub third_byte_of_a_color_is_kept : makes_at_16 (orders 2 (filled_with 0x00 0xF8 0x7F ++ 0x01 ∷ 0x40 ∷ 0x80 ∷ []) ++ mark) ≡ picture 2 0 (replicate 32 (Some 0xF800))
 third_byte_of_a_color_is_kept = refl
 
 -- DstBlt: width +8, height +4, rop 55
+-- wrong: a raster operation is on 24 bits at both depths
+-- wrong: a client at 16 bits inverts 24 bits
 pub black_inverted_at_16_bits : makes_at_16 (orders 2 (filled_with 0x00 0x00 0x00 ++ 0x19 ∷ 0x00 ∷ 0x1C ∷ 0x08 ∷ 0x04 ∷ 0x55 ∷ []) ++ mark) ≡ picture 2 0 (replicate 32 (Some 0xFFFF))
 unfolding ternary_raster
 black_inverted_at_16_bits = refl
@@ -119,6 +133,9 @@ brush_of length_ format count pixels = 0x03 ∷ length_ ∷ 0x00 ∷ 0x00 ∷ 0x
 abbrev pattern_of : ℕ → List ℕ
 pattern_of style = 0x19 ∷ 0x01 ∷ 0x1C ∷ 0x02 ∷ 0x08 ∷ 0x04 ∷ 0xF0 ∷ style ∷ []
 
+-- wrong: a pattern has the style 85 at both depths
+-- wrong: pixels of a cached brush are read in three bytes
+-- wrong: every client's orders are read at 24 bits
 pub brush_at_16_bits : makes_at_16 (orders 2 (brush_of 0x7F 0x04 0x80 small_pixels ++ pattern_of 0x84) ++ mark) ≡ picture 1 0 (
     Some 0x3838 ∷ Some 0x3939 ∷ Some 0x3A3A ∷ Some 0x3B3B ∷ Some 0x3C3C ∷ Some 0x3D3D ∷ Some 0x3E3E ∷ Some 0x3F3F ∷
     Some 0x3030 ∷ Some 0x3131 ∷ Some 0x3232 ∷ Some 0x3333 ∷ Some 0x3434 ∷ Some 0x3535 ∷ Some 0x3636 ∷ Some 0x3737 ∷
@@ -133,12 +150,14 @@ style_of_24_bits_at_16 = refl
 pub style_of_16_bits_at_24 : makes (orders 2 (cached_brush 0 ++ pattern_of 0x84) ++ mark) ≡ refused 33 Broken
 style_of_16_bits_at_24 = refl
 
+-- wrong: a cached brush has the format 05 at both depths
 pub brush_of_24_bits_at_16 : makes_at_16 (orders 1 (cached_brush 0)) ≡ refused 48 Broken
 brush_of_24_bits_at_16 = refl
 
 pub brush_of_16_bits_at_24 : makes (orders 1 (brush_of 0x7F 0x04 0x80 small_pixels)) ≡ refused 48 Broken
 brush_of_16_bits_at_24 = refl
 
+-- wrong: a cached brush has 192 bytes at both depths
 pub brush_of_192_bytes_at_16 : makes_at_16 (orders 1 (brush_of 0xBF 0x04 0xC0 (small_pixels ++ replicate 64 0))) ≡ refused 52 Broken
 brush_of_192_bytes_at_16 = refl
 
@@ -147,9 +166,12 @@ abbrev image_of : ℕ → ℕ → ℕ → ℕ → List ℕ
 image_of total h bits n = 0x03 ∷ total ∷ 0x00 ∷ 0x00 ∷ 0x00 ∷ 0x00 ∷ 0x02 ∷ 0x00 ∷ 0x08 ∷ h ∷ bits ∷ n ∷ 0x00 ∷ 0x00 ∷ 0x00 ∷ replicate n 0
 
 -- 8 by 6 pixels are 96 bytes at 16 bits, and 144 at 24
+-- wrong: a client's cell counts three bytes a pixel at 16 bits
+-- wrong: raw pixels are three bytes each at 16 bits
 pub image_that_fills_its_cell_at_16_bits : makes_at_16 (orders 1 (image_of 98 6 16 96) ++ mark) ≡ picture 0 0 (replicate 32 None)
 image_that_fills_its_cell_at_16_bits = refl
 
+-- wrong: a client's cell counts two bytes a pixel at 24 bits
 pub same_image_past_its_cell_at_24_bits : makes (orders 1 (image_of 146 6 24 144) ++ mark) ≡ refused 33 (Oversized 2 0)
 same_image_past_its_cell_at_24_bits = refl
 
@@ -157,12 +179,14 @@ pub image_a_row_past_its_cell_at_16_bits : makes_at_16 (orders 1 (image_of 114 7
 image_a_row_past_its_cell_at_16_bits = refl
 
 -- whatever its bytes are
+-- wrong: a client at 16 bits takes bitmaps of 24
 pub image_of_24_bits_at_16 : makes_at_16 (orders 1 (image_of 98 6 24 96) ++ mark) ≡ refused 33 Broken
 image_of_24_bits_at_16 = refl
 
 -- each code of a packed rectangle of 8 by 4: from the bottom, a foreground pixel FFFF, black, white, two of a dithered run, black, two of one colour;
 -- one of a new foreground over the row below, as below, and behind that one of the foreground, two that are given, three as below;
 -- two of the foreground by the mask 03; eight of a new one by the mask AA
+-- wrong: packed pixels are read at 24 bits
 pub codes_of_a_packed_rectangle_at_16_bits : makes_at_16 (packet (0x01 ∷ 0x00 ∷ 0x01 ∷ 0x00 ∷ 0x00 ∷ 0x00 ∷ 0x00 ∷ 0x00 ∷ 0x07 ∷ 0x00 ∷ 0x03 ∷ 0x00 ∷ 0x08 ∷ 0x00 ∷ 0x04 ∷ 0x00 ∷ 0x10 ∷ 0x00 ∷ 0x01 ∷ 0x04 ∷ 0x1C ∷ 0x00 ∷ 0x21 ∷ 0xFE ∷ 0xFD ∷ 0xE1 ∷ 0x34 ∷ 0x12 ∷ 0x78 ∷ 0x56 ∷ 0x01 ∷ 0x62 ∷ 0xCD ∷ 0xAB ∷ 0xC1 ∷ 0x0F ∷ 0x0F ∷ 0x01 ∷ 0x01 ∷ 0x82 ∷ 0x11 ∷ 0x11 ∷ 0x22 ∷ 0x22 ∷ 0x03 ∷ 0xF9 ∷ 0xD1 ∷ 0xF0 ∷ 0xF0 ∷ 0xAA ∷ []) ++ mark) ≡ picture 0 1 (
     Some 0xFFFF ∷ Some 0xFFFF ∷ Some 0xF0F0 ∷ Some 0xE1E1 ∷ Some 0x2222 ∷ Some 0xF0F0 ∷ Some 0xABCD ∷ Some 0x5B3D ∷
     Some 0xFFFF ∷ Some 0x0F0F ∷ Some 0xF0F0 ∷ Some 0x1111 ∷ Some 0x2222 ∷ Some 0x0000 ∷ Some 0xABCD ∷ Some 0xABCD ∷
@@ -179,6 +203,7 @@ abbrev run_over : ℕ → ℕ → List ℕ
 run_over second third = 0x09 ∷ 0x1B ∷ 0x3A ∷ 0x00 ∷ 0x20 ∷ 0x03 ∷ 0x01 ∷ 0x00 ∷ 0xF8 ∷ 0x00 ∷ 0x00 ∷ second ∷ third ∷ 0x02 ∷ 0x00 ∷ 0x00 ∷ []
 
 -- of a ForeColor the third byte isn't looked at
+-- wrong: the third byte of a ForeColor is compared
 pub third_byte_of_a_fore_color_is_not_looked_at : makes_at_16 (orders 3 (filled_with 0x00 0x00 0x00 ++ (glyph_of_a_row ++ run_over 0x00 0x05)) ++ mark)
     ≡ picture 2 0 (replicate 8 (Some 0xF800) ++ replicate 24 (Some 0x0000))
 third_byte_of_a_fore_color_is_not_looked_at = refl

@@ -5,6 +5,11 @@ use Rattle.order_means.specs.ClientState.Fault.{Broken}
 use Rattle.wire_examples.proofs.Streams.{orders, mark, filled_with, cached_image, small_image, makes, picture, refused}
 
 -- rows of the image's bytes go from the bottom up
+-- wrong: a source up to the last column or row of its image is refused
+-- wrong: MemBlt has no source
+-- wrong: rows of a bitmap go from the top
+-- wrong: pixels stand as red, green, blue
+-- wrong: a raw bitmap has flags 0400
 pub image_of_the_whole_surface : makes (orders 3 (filled_with 0x01 0x02 0x03 ++ (cached_image 0 ++ (
     -- MemBlt: width +8, height +4, rop CC
     0x59 ∷ 0x0D ∷ 0x38 ∷
@@ -17,6 +22,8 @@ unfolding ternary_raster
 image_of_the_whole_surface = refl
 
 -- the source begins left of its image
+-- wrong: a source that goes past one side of its image is accepted
+-- wrong: a source partly inside its image is enough
 pub image_a_column_left : makes (orders 3 (filled_with 0x01 0x02 0x03 ++ (cached_image 0 ++ (
     -- MemBlt: width +8, height +4, rop CC, xSrc -1
     0x59 ∷ 0x0D ∷ 0x78 ∷
@@ -45,6 +52,7 @@ pub image_a_row_below : makes (orders 3 (filled_with 0x01 0x02 0x03 ++ (cached_i
 image_a_row_below = refl
 
 -- code CA takes the image where the pattern has a 1; there is no pattern, which counts as 0
+-- wrong: MemBlt has its image for the pattern too
 pub image_with_a_code_of_a_pattern : makes (orders 3 (filled_with 0x5A 0xC3 0x0F ++ (cached_image 0 ++ (
     -- MemBlt: left edge +1, top edge +1, right edge +6, bottom edge +3, width +8, height +4, rop CA
     0x5D ∷ 0x0D ∷ 0x38 ∷
@@ -52,6 +60,7 @@ pub image_with_a_code_of_a_pattern : makes (orders 3 (filled_with 0x5A 0xC3 0x0F
 unfolding ternary_raster
 image_with_a_code_of_a_pattern = refl
 
+-- wrong: MemBlt has no bounds
 pub image_in_bounds : makes (orders 3 (filled_with 0x01 0x02 0x03 ++ (cached_image 0 ++ (
     -- MemBlt: left edge +2, top edge +1, right edge +4, bottom edge +3, width +8, height +4, rop CC
     0x5D ∷ 0x0D ∷ 0x38 ∷
@@ -64,6 +73,7 @@ unfolding ternary_raster
 image_in_bounds = refl
 
 -- the rectangle lies partly outside the surface, its source is all four columns
+-- wrong: a source may not lie in the columns that were added
 pub whole_width_of_a_padded_image : makes (orders 3 (small_image ++ (
     -- OpaqueRect: width +8, height +4, red 01, green 02, blue 03
     0x19 ∷ 0x0A ∷ 0x7C ∷
@@ -79,6 +89,7 @@ unfolding ternary_raster
 whole_width_of_a_padded_image = refl
 
 -- there are bitmap caches 0 to 2
+-- wrong: there is a bitmap cache 3
 pub image_of_cache_three : makes (orders 2 (filled_with 0x01 0x02 0x03 ++ (
     -- MemBlt: cacheId 3, width +1, height +1, rop CC, index 9
     0x19 ∷ 0x0D ∷ 0x39 ∷ 0x01 ∷
@@ -86,6 +97,9 @@ pub image_of_cache_three : makes (orders 2 (filled_with 0x01 0x02 0x03 ++ (
 image_of_cache_three = refl
 
 -- to two columns right and a row down
+-- wrong: a source up to the last column or row of the surface is refused
+-- wrong: a copy works on the picture that it changes, row by row
+-- wrong: a copy is drawn row by row from the top, each from what is there then
 pub copy_of_the_whole_surface : makes (orders 3 (
     -- OpaqueRect: width +5, height +4, red 01, green 02, blue 03
     0x19 ∷ 0x0A ∷ 0x7C ∷
@@ -103,6 +117,8 @@ pub copy_of_the_whole_surface : makes (orders 3 (
 unfolding ternary_raster
 copy_of_the_whole_surface = refl
 
+-- wrong: a source that goes past one side of the surface is accepted
+-- wrong: a source partly inside the surface is enough
 pub copy_a_column_left : makes (orders 3 (
     -- OpaqueRect: width +5, height +4, red 01, green 02, blue 03
     0x19 ∷ 0x0A ∷ 0x7C ∷
@@ -152,6 +168,7 @@ pub copy_a_row_below : makes (orders 3 (
 copy_a_row_below = refl
 
 -- codes B8 and 66 without pattern and source, which count as 0; the second one has bounds
+-- wrong: an operand that an order does not have counts as white
 pub operation_with_a_code_of_three_operands : makes (orders 3 (filled_with 0x5A 0xC3 0x0F ++ (
     -- DstBlt: width +4, height +4, rop B8
     0x19 ∷ 0x00 ∷ 0x1C ∷
@@ -166,6 +183,10 @@ pub operation_with_a_code_of_three_operands : makes (orders 3 (filled_with 0x5A 
 unfolding ternary_raster
 operation_with_a_code_of_three_operands = refl
 
+-- wrong: DstBlt has no bounds
+-- wrong: the bottom edge's delta is added to the top edge
+-- wrong: the right edge is exclusive
+-- wrong: the bottom edge is exclusive
 pub operation_in_bounds : makes (orders 2 (filled_with 0x01 0x02 0x03 ++ (
     -- DstBlt: left edge +1, top edge +1, right edge +4, bottom edge +2, width +8, height +4, rop 55
     0x1D ∷ 0x00 ∷ 0x1C ∷
@@ -178,6 +199,9 @@ unfolding ternary_raster
 operation_in_bounds = refl
 
 -- codes 0, F0 and 0F don't depend on the picture and give known pixels; AA, the picture itself, leaves them unknown
+-- wrong: an unknown pixel is black where the code needs it
+-- wrong: what is drawn over an unknown pixel stays unknown whatever the code
+-- wrong: an unknown destination counts as known
 pub code_that_reads_nothing_makes_pixels_known : makes (orders 4 (
     -- DstBlt: width +2, height +1
     0x19 ∷ 0x00 ∷ 0x0C ∷
@@ -199,6 +223,7 @@ unfolding ternary_raster
 code_that_reads_nothing_makes_pixels_known = refl
 
 -- code 55 inverts the picture, and a source outside the surface is refused all the same
+-- wrong: a source that the code does not need is not tested
 pub source_that_the_code_does_not_need : makes (orders 2 (filled_with 0x01 0x02 0x03 ++ (
     -- ScrBlt: width +8, height +4, rop 55, xSrc +1
     0x19 ∷ 0x02 ∷ 0x3C ∷

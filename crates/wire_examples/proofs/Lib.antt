@@ -20,6 +20,8 @@ pub mod Cells
 pub mod BoundsOfOrders
 pub mod EdgesOfUpdates
 pub mod DepthsOnTheWire
+pub mod FastPath
+pub mod FastInput
 mod Sample
 mod Handshake
 mod Clients

@@ -1,5 +1,5 @@
 -- Fills: the pictures at the marks.
-use Rattle.std.proofs.Common.{◌≡◌, ℕ, List, [], ◌∷◌, refl, replicate, pos}
+use Rattle.std.proofs.Common.{◌≡◌, ℕ, List, [], ◌∷◌, refl, replicate, pos, false}
 use Rattle.std.specs.Prelude.{Ok}
 use Rattle.caps_sets.specs.Confirmed.{plain}
 use Rattle.order_means.specs.FrameMarks.{pictures_at_marks, EndsBetween}
@@ -16,7 +16,7 @@ squared = filled (size_of 64 48) (pos 10) (pos 20) 5 5 0xFF0000 black
 pub one_fill_shows : pictures_at_marks plain (size_of 64 48) one_fill ≡ Ok (known black ∷ known squared ∷ [])
 one_fill_shows = refl
 
-pub one_fill_ends : EndsBetween one_fill
+pub one_fill_ends : EndsBetween false one_fill
 one_fill_ends = refl
 
 pub same_fill_again_shows : pictures_at_marks plain (size_of 64 48) same_fill_again ≡ Ok (known black ∷ known squared ∷ known squared ∷ [])

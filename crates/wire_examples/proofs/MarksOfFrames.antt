@@ -22,6 +22,7 @@ pub marker_support_shows : pictures_at_marks marked (size_of 64 48) marker_suppo
 marker_support_shows = refl
 
 -- without them the same bytes have no mark
+-- wrong: a frame marker is a mark for every viewer
 pub markers_that_were_not_confirmed : pictures_at_marks full (size_of 64 48) marker_support ≡ Ok []
 markers_that_were_not_confirmed = refl
 

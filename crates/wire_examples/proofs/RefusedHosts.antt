@@ -1,5 +1,5 @@
 -- Where a host's stream is refused, on the sample host's 706 bytes; and what isn't refused.
-use Rattle.std.proofs.Common.{◌≡◌, ℕ, List, [], ◌∷◌, ◌++◌, take, refl}
+use Rattle.std.proofs.Common.{◌≡◌, ℕ, true, List, [], ◌∷◌, ◌++◌, take, refl}
 use Rattle.std.specs.Prelude.{Option, Some, None, slice_set}
 use Rattle.wire_num.specs.FieldValue.{passing_at}
 use Rattle.wire_num.specs.Layout.{exactly_at}
@@ -17,7 +17,7 @@ unfolding passing_at exactly_at connection_confirm server_blocks_answer conferen
 heard bytes = viewer_handshake (97 ∷ 110 ∷ 110 ∷ []) plain bytes
 
 abbrev refused : List ℕ → Option ℕ
-refused bytes = refusal_in (heard bytes).after
+refused bytes = refusal_in plain (heard bytes).after
 
 -- one byte changed
 abbrev changed : ℕ → ℕ → List ℕ
@@ -32,6 +32,7 @@ unfolding heard
 another_version = refl
 
 -- a length below 7, once it is there
+-- wrong: a length below 7 isn't refused
 a_length_of_six : refused (3 ∷ 0 ∷ 0 ∷ 6 ∷ []) ≡ Some 2
 unfolding heard
 a_length_of_six = refl
@@ -97,16 +98,19 @@ unfolding heard
 another_height = refl
 
 -- another user channel than is usual is followed: its join is asked for
+-- wrong: the user's channel is 1007, whatever the host says
 another_user : (heard (slice_set (take 138 answers) 137 9)).after.at.stage ≡ Joins 1010 channel.User
 unfolding heard
 another_user = refl
 
 -- an ultimatum before the Font Map is a packet like another
+-- wrong: an ultimatum ends the connection before the Font Map too
 an_early_end : refused (take 127 answers ++ ultimatum) ≡ Some 134
 unfolding heard
 an_early_end = refl
 
 -- behind it, it is the end, and what follows isn't looked at
+-- wrong: an ultimatum is passed over
 an_end : (heard (answers ++ (ultimatum ++ (4 ∷ [])))).after.at.stage ≡ Over
 unfolding heard
 an_end = refl
@@ -116,6 +120,8 @@ unfolding heard
 nothing_behind = refl
 
 -- neither it nor an update behind it is shown
+-- wrong: an ultimatum is shown
+-- wrong: an update behind an ultimatum is shown
 nothing_more_is_shown : (heard (answers ++ (ultimatum ++ (3 ∷ 0 ∷ 0 ∷ 7 ∷ 1 ∷ 2 ∷ 3 ∷ [])))).after.at.shown ≡ []
 unfolding heard
 nothing_more_is_shown = refl
@@ -144,3 +150,53 @@ a_bad_update_first = refl
 a_bad_version : look_refusal plain (heard (answers ++ (4 ∷ []))).after ≡ Some 706
 unfolding heard
 a_bad_version = refl
+
+-- ---- packets of the fast path
+
+-- what the viewer `ann` makes of a stream that takes them
+heard_fast : List ℕ → Watched
+unfolding passing_at exactly_at connection_confirm server_blocks_answer conference_answer user_data_answer response_answer connect_response_answer attach_answer join_answer indication licence_answer behind_height later_answer height_and_later width_and_later demand_answer share_data_answer final_answer farewell watched
+heard_fast bytes = viewer_handshake (97 ∷ 110 ∷ 110 ∷ []) (record plain { fast = true }) bytes
+
+abbrev refused_fast : List ℕ → Option ℕ
+refused_fast bytes = look_refusal (record plain { fast = true }) (heard_fast bytes).after
+
+-- by a viewer that doesn't take them, at once
+-- wrong: behind it each viewer takes them
+not_taken : refused (answers ++ (0 ∷ [])) ≡ Some 706
+unfolding heard
+not_taken = refl
+
+-- and before the Font Map by one that does, the packet whole or not
+-- wrong: before it they are refused once they are whole
+too_early : refused_fast (0 ∷ []) ≡ Some 0
+unfolding heard_fast
+too_early = refl
+
+-- wrong: packets of the fast path are passed over before the Font Map
+-- wrong: before it they are refused behind them
+whole_too_early : refused_fast (0 ∷ 5 ∷ 3 ∷ 0 ∷ 0 ∷ []) ≡ Some 0
+unfolding heard_fast
+whole_too_early = refl
+
+-- then it is read
+a_mark : refused_fast (answers ++ (0 ∷ 5 ∷ 3 ∷ 0 ∷ 0 ∷ [])) ≡ None
+unfolding heard_fast
+a_mark = refl
+
+-- flags, and a length below its own bytes, at once
+-- wrong: their flags are ignored
+flagged : refused_fast (answers ++ (0x80 ∷ [])) ≡ Some 706
+unfolding heard_fast
+flagged = refl
+
+-- wrong: behind it no viewer does
+-- wrong: their short length is refused at the third byte
+a_length_of_one : refused_fast (answers ++ (0 ∷ 1 ∷ [])) ≡ Some 707
+unfolding heard_fast
+a_length_of_one = refl
+
+-- bytes of an ultimatum in such a packet are none
+no_ultimatum : refused_fast (answers ++ (0 ∷ 9 ∷ 0 ∷ 0 ∷ 2 ∷ 0xF0 ∷ 0x80 ∷ 0x21 ∷ 0x80 ∷ [])) ≡ Some 711
+unfolding heard_fast
+no_ultimatum = refl

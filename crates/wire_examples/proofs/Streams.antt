@@ -2,7 +2,7 @@
 use Rattle.std.proofs.Common.{◌≡◌, refl}
 use Rattle.std.specs.Prelude.{ℕ, ◌+◌, ◌-◌, ◌/◌, ◌%◌, nat_lt, Bool, true, false, List, [], ◌∷◌, ◌++◌, length, replicate, Option, Result, Ok, Err}
 use Rattle.caps_sets.specs.declared.confirmed.Confirmed.{Confirmed}
-use Rattle.caps_sets.specs.Confirmed.{sized, full}
+use Rattle.caps_sets.specs.Confirmed.{sized, full, takes_fast}
 use Rattle.wire_num.specs.Field.{bind}
 use Rattle.order_means.specs.ClientState.{Fault}
 use Rattle.order_means.specs.FrameMarks.{ClientReading, Refusal, read_stream, unread}
@@ -127,12 +127,12 @@ pub record Made : Type 0 where
   pub tiles : ℕ
   pub rest : List ℕ
 
-abbrev pub made : List ℕ → ClientReading → Made
-made bytes r = record { pictures = r.view.pictures; orders = r.view.orders; tiles = r.view.tiles; rest = unread bytes }
+abbrev pub made : Bool → List ℕ → ClientReading → Made
+made fast bytes r = record { pictures = r.view.pictures; orders = r.view.orders; tiles = r.view.tiles; rest = unread fast bytes }
 
 -- what a viewer makes of a stream on a surface of 8 by 4
 abbrev pub made_by : Confirmed → List ℕ → Result Made Refusal
-made_by confirmed bytes = bind (read_stream confirmed (size_of 8 4) bytes) (λ r. Ok (made bytes r))
+made_by confirmed bytes = bind (read_stream confirmed (size_of 8 4) bytes) (λ r. Ok (made (takes_fast confirmed) bytes r))
 
 -- what a viewer with brushes and without frame markers makes of it
 abbrev pub makes : List ℕ → Result Made Refusal

@@ -27,6 +27,7 @@ size = record { w = 64; h = 48 }
 the_request : connection_request ≡ sample_request
 the_request = refl
 
+-- wrong: the depth isn't asked for
 the_initial : connect_initial 24 ≡ initial
 the_initial = refl
 
@@ -35,6 +36,7 @@ the_initial_at_sixteen_bits : connect_initial 16 ≡ slice_set initial 276 16
 the_initial_at_sixteen_bits = refl
 
 -- Confirm Active begins so
+-- wrong: a bitmap cache fewer is confirmed (a law refuses it too)
 the_confirm : take 38 (confirm_active 1007 plain)
     ≡ 3 ∷ 0 ∷ 1 ∷ 5 ∷ 2 ∷ 0xF0 ∷ 0x80 ∷ 0x64 ∷ 0 ∷ 6 ∷ 3 ∷ 0xEB ∷ 0x70 ∷ 0x80 ∷ 0xF6 ∷ 0xF6 ∷ 0 ∷ 0x13 ∷ 0 ∷ 0xEF ∷ 3 ∷ 0xEA ∷ 3 ∷ 1 ∷ 0 ∷ 0xEA ∷ 3 ∷ 4 ∷ 0 ∷ 0xE2 ∷ 0 ∷ 0x52 ∷ 0x44 ∷ 0x50 ∷ 0 ∷ 6 ∷ 0 ∷ 0 ∷ []
 the_confirm = refl
@@ -63,6 +65,7 @@ its_request : (heard []).text ≡ sample_request
 unfolding heard
 its_request = refl
 
+-- wrong: Client Info goes before the last join (a law refuses it too)
 all_is_sent : (heard answers).text ≡ stream
 unfolding heard
 all_is_sent = refl
@@ -76,6 +79,7 @@ unfolding heard
 knows_the_size = refl
 
 -- one join at a time: the first behind the user's channel, each other one behind the confirm of the one before; and Client Info behind the confirm of the last
+-- wrong: all joins go at once, behind the confirm of the user's channel
 first_join : (heard (take 138 answers)).text ≡ take 387 stream
 unfolding heard
 first_join = refl
@@ -84,6 +88,7 @@ second_join : (heard (take 153 answers)).text ≡ take 399 stream
 unfolding heard
 second_join = refl
 
+-- wrong: Client Info goes with the last join, before its confirm
 last_join : (heard (take 198 answers)).text ≡ take 435 stream
 unfolding heard
 last_join = refl
@@ -110,6 +115,7 @@ name_of_64 : take 16 (client_info 1007 (replicate 64 97)) ≡ 3 ∷ 0 ∷ 0 ∷ 
 name_of_64 = refl
 
 -- a name of one letter: its count, 2, at 28
+-- wrong: a name's count is one of letters, and not of bytes (a law refuses it too)
 name_of_1 : drop 28 (client_info 1007 (98 ∷ [])) ≡ 2 ∷ 0 ∷ (replicate 8 0 ++ (98 ∷ 0 ∷ replicate 8 0))
 name_of_1 = refl
 
@@ -121,6 +127,7 @@ markers : take 2 (drop 70 (order_of marked)) ≡ 4 ∷ 0 ∷ []
 markers = refl
 
 -- brushes by level 1, and by level 2 of a cautious client, which states a protocol version
+-- wrong: all take brushes by level 2
 brushes : brush_of full ≡ 15 ∷ 0 ∷ 8 ∷ 0 ∷ 1 ∷ 0 ∷ 0 ∷ 0 ∷ []
 brushes = refl
 
@@ -132,3 +139,12 @@ no_brushes = refl
 
 cautious_version : take 16 (general_of (record full { cautious = true })) ≡ 1 ∷ 0 ∷ 24 ∷ 0 ∷ 0 ∷ 0 ∷ 0 ∷ 0 ∷ 0 ∷ 2 ∷ 0 ∷ 0 ∷ 0 ∷ 0 ∷ 0 ∷ 4 ∷ []
 cautious_version = refl
+
+-- the fast path, beside bitmaps without a header and alone
+-- wrong: the fast path is confirmed by another bit, or by none
+fast_flags : take 16 (general_of (record full { fast = true })) ≡ 1 ∷ 0 ∷ 24 ∷ 0 ∷ 0 ∷ 0 ∷ 0 ∷ 0 ∷ 0 ∷ 0 ∷ 0 ∷ 0 ∷ 0 ∷ 0 ∷ 1 ∷ 4 ∷ []
+fast_flags = refl
+
+-- wrong: it is confirmed beside bitmaps without a header alone
+fast_alone : take 16 (general_of (record plain { fast = true })) ≡ 1 ∷ 0 ∷ 24 ∷ 0 ∷ 0 ∷ 0 ∷ 0 ∷ 0 ∷ 0 ∷ 0 ∷ 0 ∷ 0 ∷ 0 ∷ 0 ∷ 1 ∷ 0 ∷ []
+fast_alone = refl
