@@ -1,6 +1,7 @@
 #!/usr/bin/env python3
-"""A model of scripts and of what their viewers are sent at 24 and at 16 bits, apart from the crates: it was written from the rules that
-docs/session.md, docs/frames.md and docs/protocol.md tell, and shares nothing with their code or definitions.
+"""A model of scripts and of what their viewers are sent at 24 and at 16 bits, on the slow path and by the fast one, apart from the crates:
+it was written from the rules that docs/session.md, docs/frames.md and docs/protocol.md tell, and shares nothing with their code or
+definitions.
 
 python3 bench/script_model.py capture SCRIPT     writes the capture
 python3 bench/script_model.py looks SCRIPT NAME  writes for each viewer the row `look` that its bytes must give, under this name
@@ -87,11 +88,19 @@ def bitmap_data(rows, no_header, depth):
 def le(n, size): return (n % (1 << 8 * size)).to_bytes(size, 'little')
 
 def packet(body):
+    """A slow update, by its body."""
     total = 18 + len(body)
     share = le(total, 2) + bytes.fromhex('1700ea03ea0301000001') + le(total - 14, 2) + bytes([2, 0, 0, 0]) + body
     count = bytes([total]) if total < 128 else (0x8000 | total).to_bytes(2, 'big')
     mcs = bytes.fromhex('02f08068000103eb70') + count + share
     return bytes([3, 0]) + (len(mcs) + 4).to_bytes(2, 'big') + mcs
+
+def fast_packet(code, data):
+    """An update of the fast path, alone in its packet: a length of one byte where that is below 128."""
+    behind = bytes([code]) + le(len(data), 2) + data
+    total = 2 + len(behind)
+    head = bytes([total]) if total < 128 else (0x8000 | total + 1).to_bytes(2, 'big')
+    return bytes([0]) + head + behind
 
 # ---- orders: names of the fields' kinds
 
@@ -376,9 +385,10 @@ class Viewer:
     def __init__(self, words):
         p = PRESETS[words[0]]
         self.__dict__.update(p)
-        self.bc, self.gc, self.cautious, self.depth = list(p['bc']), list(p['gc']), False, Depth(24)
+        self.bc, self.gc, self.cautious, self.fast, self.depth = list(p['bc']), list(p['gc']), False, False, Depth(24)
         for word in words[1:]:
             if word == 'cautious': self.cautious = True
+            elif word == 'fast': self.fast = True
             elif word == 'bpp=16': self.depth = Depth(16)
             else:
                 pair = tuple(int(n) for n in word[4:].split(','))
@@ -390,6 +400,20 @@ class Viewer:
         self.asked, self.stopped = set(), False
         self.marks = self.orders_sent = self.tiles_sent = 0
         self.shown = None
+
+    def update(self, count, some):
+        """An update of so many orders, on the path that the viewer takes."""
+        if self.fast: return fast_packet(0, le(count, 2) + some)
+        return packet(bytes(4) + le(count, 2) + bytes(2) + some)
+
+    def bitmap(self, body): return fast_packet(1, body) if self.fast else packet(body)
+
+    def synchronize(self): return fast_packet(3, b'') if self.fast else packet(bytes([3, 0, 0, 0]))
+
+    def has_room(self, some):
+        """Whether these orders go in one update: the user data of a slow one, or the whole packet of a fast one, has at most 16,383 bytes."""
+        counted = len(fast_packet(0, bytes(2) + some)) if self.fast else 18 + 8 + len(some)
+        return counted <= 16383
 
     def image_cache(self, image):
         w, h, _ = image
@@ -457,21 +481,20 @@ class Viewer:
                 if not self.sent(d, surface, dirty, say, orders): dirty |= self.touched(d, surface)
         out, gathered = b'', b''
         count = 0
-        def update(): return packet(bytes(4) + le(count, 2) + bytes(2) + gathered)
         for o in orders:
-            if gathered and 26 + len(gathered) + len(o) > 16383:
-                out, gathered, count = out + update(), b'', 0
+            if gathered and not self.has_room(gathered + o):
+                out, gathered, count = out + self.update(count, gathered), b'', 0
             gathered, count = gathered + o, count + 1
-        if count: out += update()
+        if count: out += self.update(count, gathered)
         across = (surface.w + 63) // 64
         for n in sorted(dirty | self.asked):
             x, y = n % across * 64, n // across * 64
             w, h = min(64, surface.w - x), min(64, surface.h - y)
             is_packed, data = bitmap_data([row[x:x + w] for row in surface.rows[y:y + h]], self.header, depth)
             body = bytes([1, 0, 1, 0]) + b''.join(le(v, 2) for v in (x, y, x + w - 1, y + h - 1, w, h, depth.bits, 0x401 if is_packed else 0, len(data)))
-            out += packet(body + data)
+            out += self.bitmap(body + data)
             self.tiles_sent += 1
-        out += packet(bytes(4) + bytes([1, 0, 0, 0, 0x36, 1, 0, 0, 0])) if self.marker else packet(bytes([3, 0, 0, 0]))
+        out += self.update(1, bytes([0x36, 1, 0, 0, 0])) if self.marker else self.synchronize()
         self.number, self.asked = length, set()
         self.marks += 1
         self.orders_sent += sum(1 for o in orders if o[0] & 3 == 1)

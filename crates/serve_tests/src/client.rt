@@ -1,5 +1,5 @@
 //! The clients of these tests: what a viewer of `look_net` says in its connection sequence, which confirms opaque rectangles alone, at 24 bits
-//! or at 16, and what a client may send behind that.
+//! or at 16, or the fast path besides, and what a client may send behind that.
 
 use crate::checks::SIZE;
 use caps_sets::preset;
@@ -16,6 +16,9 @@ pub const ANSWER: usize = 706;
 pub const PLAIN: &[u8] = b"plain";
 
 pub const PLAIN_AT_16_BITS: &[u8] = b"plain bpp=16";
+
+/// What a viewer confirms that takes the fast path.
+pub const FAST: &[u8] = b"plain fast";
 
 /// More turns than a connection sequence takes.
 const MOST_TURNS: u32 = 100;

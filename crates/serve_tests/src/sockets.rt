@@ -1,7 +1,7 @@
 //! Two clients over the loopback interface.
 
 use crate::checks::{SIZE, WHITE, X, Y, must_have_left, new_session, owner, viewer};
-use crate::client::{ANSWER, PLAIN, PLAIN_AT_16_BITS, PRESS, packets, whole_of};
+use crate::client::{ANSWER, FAST, PLAIN, PLAIN_AT_16_BITS, PRESS, packets, whole_of};
 use caps_sets::preset;
 use client_view::Client;
 use gate_run::{OutOfMemory, Served, serve_gate};
@@ -252,5 +252,14 @@ fn two_clients_are_shown_what_the_owner_draws(rt: HostRuntime) -> Result<(), Fai
 fn a_client_at_16_bits_is_shown_what_one_at_24_draws(rt: HostRuntime) -> Result<(), Fail> {
     let (one, other) = two_clients(&rt, PLAIN_AT_16_BITS, WHITE_AT_16_BITS)?;
     must_show_what_is_cut(&rt, &one, &other);
+    Ok(())
+}
+
+#[test]
+fn a_client_of_the_fast_path_is_shown_what_one_of_the_slow_path_draws(
+    rt: HostRuntime,
+) -> Result<(), Fail> {
+    let (one, other) = two_clients(&rt, FAST, WHITE)?;
+    must_show_the_same(&rt, &one, &other);
     Ok(())
 }

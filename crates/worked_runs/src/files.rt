@@ -99,7 +99,7 @@ fn append_line(alloc: Global, bytes: &mut Vec<u8>, line: &str) -> Result<(), Tro
 }
 
 /// Appends the bytes of a word of hexadecimal digits.
-fn append_word(alloc: Global, bytes: &mut Vec<u8>, word: &str) -> Result<(), Trouble> {
+pub fn append_word(alloc: Global, bytes: &mut Vec<u8>, word: &str) -> Result<(), Trouble> {
     match read_hexadecimals(alloc, word.as_bytes(), DIGITS) {
         Ok(Some(numbers)) => append_numbers(bytes, &numbers),
         Ok(None) => Err(Trouble::NoForm),

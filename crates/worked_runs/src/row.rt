@@ -28,6 +28,7 @@ pub fn run<R: Files + AllocGlobal + Threads + Wait + Sync>(
         "tail" => streams::run_row(rt, words, Known::Tail),
         "lengths" => streams::run_lengths(rt, words),
         "change" => streams::run_change(rt, words),
+        "behind" => streams::run_behind(rt, words),
         "changes" => handshake::run_row(rt, words),
         "serve" => serves::run_row(rt, words),
         "view" => views::run_row(rt, words),

@@ -5,7 +5,7 @@ use crate::expected::Expected;
 use crate::files;
 use crate::job::Job;
 use crate::row::number;
-use crate::turns::{Task, must_be_front, try_task, try_whole};
+use crate::turns::{Task, must_be_front, try_pieces, try_task, try_whole};
 use crate::verdict::{Trouble, Way};
 use px_core::Size;
 use std::rt::Files;
@@ -20,6 +20,9 @@ const OWNER: &str = "ann";
 
 /// Disconnect Provider Ultimatum of a client that is refused.
 const REFUSED: [u8; 9] = [3, 0, 0, 9, 2, 0xF0, 0x80, 0x20, 0x80];
+
+/// What stands between the words of a case: some bytes, and the number and the place of the refusal.
+const BETWEEN: char = '/';
 
 /// The ending of files with streams, and of files with answers.
 pub const STREAM: &str = "stream";
@@ -128,4 +131,46 @@ pub fn run_change<R: Files + AllocGlobal + Wait>(rt: &R, words: &[&str]) -> Resu
         ending: refused(k, at)?,
     };
     try_task(rt, rt.alloc(), &task, &Expected::Whole(answer))
+}
+
+/// Serves a front of the sample client, of so many bytes, with those of one case after the other behind it. Each is refused, and what is
+/// written is a front of the client's answer, of so many bytes, with an ultimatum behind.
+pub fn run_behind<R: Files + AllocGlobal + Wait>(rt: &R, words: &[&str]) -> Result<(), Trouble> {
+    let [place, front, cases @ ..] = words else {
+        return Err(Trouble::NoForm);
+    };
+    let mut stream = files::read_hex(rt, SAMPLE, STREAM)?;
+    let mut answer = files::read_hex(rt, SAMPLE, ANSWER)?;
+    stream.truncate(number(place, u32::MAX.into())? as usize);
+    answer.truncate(number(front, u32::MAX.into())? as usize);
+    answer.extend_from_slice(&REFUSED)?;
+    let expected = Expected::Whole(answer);
+    for case in cases {
+        run_case(rt, &stream, case, &expected)?;
+    }
+    Ok(())
+}
+
+/// Serves a client that sends the bytes of a case behind these, and is then refused.
+fn run_case<R: AllocGlobal + Wait>(
+    rt: &R,
+    front: &[u8],
+    case: &str,
+    expected: &Expected,
+) -> Result<(), Trouble> {
+    let words = case.split(BETWEEN).collect::<Vec<&str>>(rt.alloc())?;
+    let [bytes, k, at] = words.as_slice() else {
+        return Err(Trouble::NoForm);
+    };
+    let mut stream = Vec::from_slice(rt.alloc(), front)?;
+    files::append_word(rt.alloc(), &mut stream, bytes)?;
+    let task = Task {
+        job: Job::Stream {
+            size: SIZE,
+            owner: OWNER,
+        },
+        input: &stream,
+        ending: refused(k, at)?,
+    };
+    try_pieces(rt, rt.alloc(), &task, expected)
 }

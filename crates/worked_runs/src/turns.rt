@@ -63,6 +63,18 @@ pub fn try_task<R: Wait>(
     try_writes(rt, alloc, task, &told)
 }
 
+/// Does a task whole, byte by byte, and cut in two at a few places.
+pub fn try_pieces<R: Wait>(
+    rt: &R,
+    alloc: Global,
+    task: &Task<'_>,
+    expected: &Expected,
+) -> Result<(), Trouble> {
+    let told = try_whole(rt, alloc, task, expected)?;
+    try_bytes(rt, alloc, task, &told)?;
+    try_cuts(rt, alloc, task, &told, task.input.len() / MOST_CUTS + 1)
+}
+
 /// Does a task whole; what it wrote.
 pub fn try_whole<R: Wait>(
     rt: &R,
