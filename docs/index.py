@@ -1,7 +1,6 @@
 #!/usr/bin/env python3
 """Writes docs/index.md: each public call of each crate of crates.txt, what it may answer and the labels of its clauses, each type of answer
-with what its own comment says of it, and the records to which clauses of links come. Everything in it comes from the sources, by the
-reader of contracts in check_calls.py and that of specs/ in records.py.
+with what its own comment says of it. Everything in it comes from the sources, by the reader of contracts in check_calls.py.
 
 python3 docs/index.py            writes it
 python3 docs/index.py --check    says whether the written one is up to date, and ends with 1 where it isn't
@@ -10,31 +9,27 @@ import re
 import sys
 
 import check_calls
-import records
 from check_calls import TOP, blanked, closing
 
 WRITTEN = TOP / 'docs' / 'index.md'
 
-HEAD = '''# Index of public calls and records
+HEAD = '''# Index of public calls
 
 Every call that can be reached from outside of its crate: functions that a crate exports, methods of types and calls of traits that it exports (a type that has the trait answers by the same clauses), and the copies (`clone`) of `edge_io`. `python3 docs/index.py` writes this page from the sources; `--check` says whether it is up to date.
 
 ## Answers
 
-What calls may answer instead of what was asked for, and other answers of at most four kinds, in the words of the source. Where `OutOfMemory` stands behind a type, that is one of its answers: no memory was left.
+What calls may answer instead of what was asked for, and other answers of at most four kinds, in the words of the source. `OutOfMemory` behind a type is one of its answers: no memory was left. Where nothing stands behind an answer with `at`, a field breaks its rule or doesn't fit, and `at` is the place of its first byte.
+
 '''
 
 BELOW = '''
 ## Calls
 
-By crates, the lowest first, with what runs them. A line has calls of one type that may answer the same (`→`; `None` is that of an `Option`) and have clauses of the same labels. The clauses stand in a call's contract in the source; *one* is an only clause, which has no label, and a dash is none. What follows the labels is the call's own comment on what stands after a refusal or want of memory. Where nothing follows, the call only borrows what it is given, or makes a value, which an `Err` doesn't have, or its clauses say it. `docs/errors.md` says what a place is, and lists what no clause tells.
+By crates, the lowest first, with what runs them. A line has calls that may answer the same (`→`; `None` is that of an `Option`) and have clauses of the same labels. The clauses stand in a call's contract in the source; *one* is an only clause, which has no label, and a dash is none. *Plain* calls refuse nothing and have one clause.
 
-'''
+Behind the labels stands the call's own comment on what is left after a refusal or want of memory: *front* is "An `Err` leaves a front of it there", *same* is "An `Err` leaves what it was called on as it was". Where nothing follows, the call only borrows what it is given, or makes a value, which an `Err` doesn't have, or its clauses say it. `errors.md` says what a place is, and lists what no clause tells; `threads.md` says what the records of links hold that clauses there name.
 
-RECORDS = '''
-## Records
-
-What clauses of links come to: the records in `specs/` of these crates that a clause of a public call there names, and those of which these are made. A record stands behind its module, with what the source says of it and the fields of which it says no more; the rows below have what it says of the others. `docs/threads.md` says what they come to together.
 '''
 
 ENUM = re.compile(r'\bpub\s+enum\s+(\w+)[^{;]*\{')
@@ -44,7 +39,10 @@ FIELD = re.compile(r'\b(\w+):(?!:)')
 LEAVES = re.compile(r'`Err`|`ReadFault`|want of memory|A refusal leaves|the refusal is at')
 MOST_KINDS = 4
 ONE = '*one*'
-NO_MEMORY = 'No memory was left.'
+FRONT = re.compile(r'(An|After an) `Err`( is want of memory and)? (leaves )?a front of (it|them|the order|the body|the bytes|the line|the text)( was appended| there)\.')
+SAME = re.compile(r'An `Err` leaves (the (vector|board|surface|blocks|caches|cache) as (it was|they were))\.|An `Err` changes nothing\.|After an `Err` the (cache is|blocks are) as before\.')
+NO_MEMORY = re.compile(r'No memory was left( for [\w ]*)?\.|There is no memory for [\w ]*\.')
+OF_A_FIELD = re.compile(r"A field (breaks its rule or doesn't fit|doesn't fit in what is left|breaks its rule or doesn't fit in what is left)(; `at` is the (place|offset in bytes) of its first byte(, from the (body|slice)'s start)?)?\.")
 
 
 class Type:
@@ -153,14 +151,16 @@ def type_named(name, crate, types, below):
     return None
 
 
-def cell(text):
-    return text.replace('|', '\\|')
-
-
 def leaves(call):
     """What the call's comment says of what stands after a refusal."""
     comment = comment_above(call.file.read_text(), call.place)
     return ' '.join(sentence for sentence in re.split(r'(?<=[.])\s+', comment) if LEAVES.search(sentence))
+
+
+def short(left):
+    """The comment with the page's words for its two commonest sentences."""
+    left = SAME.sub('*same*.', FRONT.sub('*front*.', left))
+    return left.removesuffix('.') if left in ('*front*.', '*same*.') else left
 
 
 def labels_of(call):
@@ -169,37 +169,25 @@ def labels_of(call):
 
 def names_of(owner, names):
     """The names of calls of one type, the first with the type."""
-    return ', '.join(f'`{owner}::{name}`' if owner and place == 0 else f'`{name}`' for place, name in enumerate(names))
+    return '`' + (f'{owner}::' if owner else '') + ', '.join(names) + '`'
 
 
-def lists_of(calls, answers):
-    """A crate's calls: a line for those of one type with the same answers and labels, and one for all that refuse nothing and have one
-    clause."""
-    rows, plain = {}, {}
+def lists_of(crate, calls, answers, before):
+    """A crate's calls: a line for those with the same answers, labels and comment, and one for all that refuse nothing and have one clause.
+    A long comment that a call before has too is named by that call."""
+    rows = {}
     for call in calls:
-        owner, answer, labels = call.owner or '', answers[call.path()], labels_of(call)
+        answer, labels = answers[call.path()], labels_of(call)
+        kind = ('', ONE, '') if not answer and labels == ONE else (answer, labels, leaves(call) if answer else '')
+        rows.setdefault(kind, {}).setdefault(call.owner or '', []).append(call.name)
+    for (answer, labels, left), owners in sorted(rows.items(), key=lambda row: row[0] == ('', ONE, '')):
+        names = '; '.join(names_of(owner, names) for owner, names in owners.items())
         if not answer and labels == ONE:
-            plain.setdefault(owner, []).append(call.name)
-        else:
-            rows.setdefault((owner, answer, labels, leaves(call) if answer else ''), []).append(call.name)
-    if rows:
-        yield ''.join(f'- {names_of(owner, names)}{f" → {answer}" if answer else ""}: {labels}{f". {left}" if left else ""}\n'
-                      for (owner, answer, labels, left), names in rows.items())
-    if plain:
-        yield 'One clause each, and no refusal: ' + '; '.join(names_of(owner, names) for owner, names in plain.items()) + '.\n'
-
-
-def tables_of(found):
-    """A table for the records of each crate: a row for a record, and one for each remark among its fields."""
-    crate_before = None
-    for (crate, module, name), record in found.items():
-        if crate != crate_before:
-            yield f'\n### Records of `{crate}`\n\n| record | fields | in the words of the source |\n|---|---|---|\n'
-            crate_before = crate
-        groups = record.fields if not record.fields[0][0] else [('', [])] + record.fields
-        for place, (remark, fields) in enumerate(groups):
-            head, said = (f'`{module}.{name}`', record.remark) if place == 0 else ('', remark)
-            yield f'| {head} | {", ".join(f"`{field}`" for field in fields)} | {cell(said)} |\n'
+            yield f'- Plain: {names}\n'
+            continue
+        said = f'As `{before[left]}`' if len(left) > 90 and left in before else short(left)
+        before.setdefault(left, f'{crate}::' + names_of(*next(iter(owners.items()))).strip('`').split(',')[0])
+        yield f'- {names}{f" → {answer}" if answer else ""}: {labels}{f". {said}" if said else ""}\n'
 
 
 def where(crate, runs):
@@ -219,13 +207,13 @@ def page():
     types = types_of(crates)
     calls_of = {crate: check_calls.public_calls(crate) for crate in order}
     errors = {type_named(name, crate, types, below) for crate, calls in calls_of.items() for call in calls.values() for name in errors_in(call.gives)}
-    used, parts = {}, []
+    used, parts, before = {}, [], {}
     for crate, calls in calls_of.items():
         if not calls:
             continue
         laws = [call for call in calls.values() if call.is_law]
         others = sorted((call for call in calls.values() if not call.is_law), key=lambda call: (call.owner is not None, call.owner or ''))
-        parts.append(f'### `{crate}` ({where(crate, runs) if others else "laws alone"})\n')
+        parts.append(f'### `{crate}` ({where(crate, runs) if others else "laws alone"})\n\n')
         answers = {}
         for call in others:
             found, none = answers_in(call.gives, crate, types, below, errors)
@@ -234,20 +222,19 @@ def page():
                     used[kind.crate, kind.name] = kind
             names = list(dict.fromkeys(name for _, name in found)) + ['None'] * none
             answers[call.path()] = ', '.join(names)
-        parts.extend(lists_of(others, answers))
+        parts.extend(lists_of(crate, others, answers, before))
         if laws:
             told = {law: labels_of(law) for law in laws}
-            parts.append('Laws: ' + '; '.join(f'`{law.name}`' + (f' ({told[law]})' if told[law] != ONE else '') for law in laws) + '.\n')
-    lines = ['| type | answer | where |', '|---|---|---|']
+            parts.append('- Laws: `' + '; '.join(law.name + (f' ({told[law]})' if told[law] != ONE else '') for law in laws) + '`\n')
+        parts.append('\n')
+    lines = []
     for key in sorted(used, key=lambda key: (order.index(key[0]), key[1])):
         kind = used[key]
-        if kind.variants is None:
-            lines.append(f'| `{kind.crate}::{kind.name}` | | {cell(kind.comment)} |')
-        told = [(name, comment) for name, comment in kind.variants or [] if comment != NO_MEMORY]
-        for place, (name, comment) in enumerate(told):
-            also = ', `OutOfMemory`' if place == 0 and len(told) < len(kind.variants) else ''
-            lines.append(f'| {f"`{kind.crate}::{kind.name}`{also}" if place == 0 else ""} | `{name}` | {cell(comment)} |')
-    return HEAD + '\n' + '\n'.join(lines) + '\n' + BELOW + '\n'.join(parts) + RECORDS + ''.join(tables_of(records.records_of(calls_of)))
+        told = [(name, OF_A_FIELD.sub('', comment)) for name, comment in kind.variants or [] if name != 'OutOfMemory' or not NO_MEMORY.fullmatch(comment)]
+        also = ', `OutOfMemory`' if kind.variants and len(told) < len(kind.variants) else ''
+        said = ' '.join(f'`{name}`{":" if comment else "."} {comment}'.strip() for name, comment in told) if kind.variants else kind.comment
+        lines.append(f'- **`{kind.crate}::{kind.name}`**{also}. {said}')
+    return HEAD + '\n'.join(lines) + '\n' + BELOW + ''.join(parts).rstrip('\n') + '\n'
 
 
 def is_written():

@@ -1,6 +1,4 @@
-"""Reads the records of specs/ for docs/index.py, which has a table of those that clauses of links come to.
-
-A record's remark stands right above it. A remark among its fields is of the fields that follow, up to the next remark.
+"""Reads the records of specs/ that clauses of links come to, for docs/check_calls.py, which looks for the fields that pages name.
 """
 import re
 
@@ -16,9 +14,9 @@ REMARK = '-- '
 
 
 class Definition:
-    """A definition of specs/: the names that stand in it, and of a record its remark and its fields by their remarks."""
-    def __init__(self, remark, fields, names):
-        self.remark, self.fields, self.names = remark, fields, names
+    """A definition of specs/: the names that stand in it, and of a record its fields."""
+    def __init__(self, fields, names):
+        self.fields, self.names = fields, names
 
 
 def names_used(text):
@@ -28,29 +26,6 @@ def names_used(text):
         for name in filter(None, map(str.strip, names.split(','))):
             found[name.split(' as ')[-1]] = (crate, module, name.split(' as ')[0])
     return found
-
-
-def remark_above(lines, place):
-    """The remark right above a line, as one line."""
-    first = place
-    while first > 0 and lines[first - 1].lstrip().startswith(REMARK):
-        first -= 1
-    return ' '.join(line.strip()[len(REMARK):] for line in lines[first:place])
-
-
-def fields_in(lines, indent):
-    """The fields of a record's lines: a remark, empty where there is none, and the names of the fields that it is of."""
-    groups, remark = [], []
-    for line in lines:
-        field = FIELD.match(line) if len(line) - len(line.lstrip()) == indent else None
-        if line.lstrip().startswith(REMARK):
-            remark.append(line.strip()[len(REMARK):])
-        elif field:
-            if remark or not groups:
-                groups.append((' '.join(remark), []))
-                remark = []
-            groups[-1][1].append(field.group(1))
-    return groups
 
 
 def definitions_of(crate):
@@ -63,9 +38,9 @@ def definitions_of(crate):
         for (place, head), end in zip(starts, [place for place, _ in starts[1:]] + [len(lines)]):
             body = lines[place:end]
             words = {word for line in body if not line.lstrip().startswith(REMARK) for word in WORD.findall(line)} - {head.group(3)}
-            fields = fields_in(body[1:], len(head.group(1)) + 2) if head.group(2) else None
-            found[crate, path.stem, head.group(3)] = Definition(
-                remark_above(lines, place), fields, [used.get(word, (crate, path.stem, word)) for word in sorted(words)])
+            of_record = [FIELD.match(line) for line in body[1:] if len(line) - len(line.lstrip()) == len(head.group(1)) + 2]
+            fields = [field.group(1) for field in of_record if field] if head.group(2) else None
+            found[crate, path.stem, head.group(3)] = Definition(fields, [used.get(word, (crate, path.stem, word)) for word in sorted(words)])
     return found
 
 
