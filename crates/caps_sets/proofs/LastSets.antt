@@ -5,8 +5,8 @@ use Rattle.px_core.specs.declared.depth.Depth.{Depth}
 use Rattle.caps_sets.specs.declared.confirmed.Confirmed.{Confirmed}
 use Rattle.caps_sets.specs.declared.sets_so_far.SetsSoFar.{SetsSoFar}
 use Rattle.caps_sets.specs.declared.set_kind.SetKind.{SetKind}
-use Rattle.caps_sets.specs.declared.set_kind.SetKind.TheVariants.{General, Bitmap, Order, BitmapCache, Brush, GlyphCache, Other}
-use Rattle.caps_sets.specs.CapabilitySets.{says_cautious, says_no_header, says_fast, says_support, says_zero_bounds, says_marker, says_bitmaps, says_brush_level, says_glyphs, says_glyph_level, with_set, before_sets, confirmed_together}
+use Rattle.caps_sets.specs.declared.set_kind.SetKind.TheVariants.{General, Bitmap, Order, BitmapCache, Pointer, Brush, GlyphCache, Other}
+use Rattle.caps_sets.specs.CapabilitySets.{says_cautious, says_no_header, says_fast, says_support, says_zero_bounds, says_marker, says_bitmaps, says_pointers, says_brush_level, says_glyphs, says_glyph_level, with_set, before_sets, confirmed_together}
 use Rattle.caps_sets.specs.Grammar.{Set, kind_in, is_same_kind, last_or, last_says, said_by}
 
 -- one set after the other
@@ -34,7 +34,7 @@ confirmed_over c sets = record {
   cautious = last_says General says_cautious c.cautious sets;
   depth = c.depth;
   fast = last_says General says_fast c.fast sets;
-  pointers = c.pointers;
+  pointers = last_says Pointer says_pointers c.pointers sets;
 }
 
 abbrev over : SetsSoFar → List Set → SetsSoFar
@@ -64,7 +64,7 @@ confirmed_first first c set sets = record {
   cautious = says_first first General says_cautious c.cautious set sets;
   depth = c.depth;
   fast = says_first first General says_fast c.fast set sets;
-  pointers = c.pointers;
+  pointers = says_first first Pointer says_pointers c.pointers set sets;
 }
 
 abbrev over_first : SetKind → SetsSoFar → Set → List Set → SetsSoFar
@@ -75,6 +75,7 @@ one_more General s set sets = refl
 one_more Bitmap s set sets = refl
 one_more Order s set sets = refl
 one_more BitmapCache s set sets = refl
+one_more Pointer s set sets = refl
 one_more Brush s set sets = refl
 one_more GlyphCache s set sets = refl
 one_more Other s set sets = refl

@@ -62,6 +62,52 @@ a_value_of_fast = refl
 fast_before_the_preset : confirmed_by presets (words_of (codes "fast plain")) ≡ None
 fast_before_the_preset = refl
 
+-- so many shapes of pointers, by a number without a leading zero, up to 25
+two_pointers : confirmed_by presets (words_of (codes "plain pointer=2")) ≡ Some (record plain { pointers = 2 })
+two_pointers = refl
+
+twenty_five_pointers : confirmed_by presets (words_of (codes "plain pointer=25")) ≡ Some (record plain { pointers = 25 })
+twenty_five_pointers = refl
+
+twenty_six_pointers : confirmed_by presets (words_of (codes "full pointer=26")) ≡ None
+twenty_six_pointers = refl
+
+no_pointers : confirmed_by presets (words_of (codes "plain pointer=0")) ≡ Some plain
+no_pointers = refl
+
+no_pointers_at_last : confirmed_by presets (words_of (codes "full pointer=25 fast pointer=0")) ≡ Some (record full { fast = true })
+no_pointers_at_last = refl
+
+later_pointers_count : confirmed_by presets (words_of (codes "plain pointer=3 pointer=7")) ≡ Some (record plain { pointers = 7 })
+later_pointers_count = refl
+
+an_earlier_word_is_wrong : confirmed_by presets (words_of (codes "plain pointer=26 pointer=7")) ≡ None
+an_earlier_word_is_wrong = refl
+
+a_leading_zero : confirmed_by presets (words_of (codes "plain pointer=025")) ≡ None
+a_leading_zero = refl
+
+two_zeros : confirmed_by presets (words_of (codes "plain pointer=00")) ≡ None
+two_zeros = refl
+
+no_number : confirmed_by presets (words_of (codes "plain pointer=")) ≡ None
+no_number = refl
+
+a_sign : confirmed_by presets (words_of (codes "plain pointer=+2")) ≡ None
+a_sign = refl
+
+a_letter_behind : confirmed_by presets (words_of (codes "plain pointer=2x")) ≡ None
+a_letter_behind = refl
+
+pointers_alone : confirmed_by presets (words_of (codes "plain pointer")) ≡ None
+pointers_alone = refl
+
+pointers_in_the_plural : confirmed_by presets (words_of (codes "plain pointers=2")) ≡ None
+pointers_in_the_plural = refl
+
+pointers_before_the_preset : confirmed_by presets (words_of (codes "pointer=2 plain")) ≡ None
+pointers_before_the_preset = refl
+
 -- no other number of bits is such a word, nor is one more letter
 twenty_four_bits_said : confirmed_by presets (words_of (codes "plain bpp=24")) ≡ None
 twenty_four_bits_said = refl

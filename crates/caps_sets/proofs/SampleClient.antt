@@ -45,6 +45,10 @@ glyph_caches size sizes level = set 16 size (sizes ++ (replicate 4 0 ++ (level �
 abbrev pointer : ℕ → List ℕ
 pointer size = set 8 size (replicate 6 0)
 
+-- a Pointer set of eight bytes with this colorPointerCacheSize
+abbrev pointers : ℕ → ℕ → List ℕ
+pointers low high = set 8 8 (1 ∷ 0 ∷ low ∷ high ∷ [])
+
 -- the sample client's Order set
 abbrev rectangles : List ℕ
 rectangles = order 130 (0 ∷ 1 ∷ 0 ∷ 0 ∷ 0 ∷ []) 0 0 0
@@ -120,6 +124,47 @@ no_longer_fast : confirmed_of Bits24 (start 2 ++ (flagged 1 0 ++ flagged 0 4)) �
 unfolding confirm_at confirm_lengths confirm_counts set_at set_header with_content_of passing_at
 no_longer_fast = refl
 
+-- ---- how many shapes of pointers are kept
+
+twenty_pointers : confirmed_of Bits24 (start 1 ++ pointers 20 0) ≡ Ok (record (nothing Bits24) { pointers = 20 })
+unfolding confirm_at confirm_lengths confirm_counts set_at set_header with_content_of passing_at
+twenty_pointers = refl
+
+-- 25 are the most
+twenty_five_pointers : confirmed_of Bits24 (start 1 ++ pointers 25 0) ≡ Ok (record (nothing Bits24) { pointers = 25 })
+unfolding confirm_at confirm_lengths confirm_counts set_at set_header with_content_of passing_at
+twenty_five_pointers = refl
+
+twenty_six_pointers : confirmed_of Bits24 (start 1 ++ pointers 26 0) ≡ Ok (record (nothing Bits24) { pointers = 25 })
+unfolding confirm_at confirm_lengths confirm_counts set_at set_header with_content_of passing_at
+twenty_six_pointers = refl
+
+a_hundred_pointers : confirmed_of Bits24 (start 1 ++ pointers 100 0) ≡ Ok (record (nothing Bits24) { pointers = 25 })
+unfolding confirm_at confirm_lengths confirm_counts set_at set_header with_content_of passing_at
+a_hundred_pointers = refl
+
+pointers_of_the_high_byte : confirmed_of Bits24 (start 1 ++ pointers 0 1) ≡ Ok (record (nothing Bits24) { pointers = 25 })
+unfolding confirm_at confirm_lengths confirm_counts set_at set_header with_content_of passing_at
+pointers_of_the_high_byte = refl
+
+-- neither colorPointerFlag nor pointerCacheSize is the number
+the_flag_is_no_number : confirmed_of Bits24 (start 1 ++ set 8 8 (3 ∷ 0 ∷ 0 ∷ 0 ∷ [])) ≡ Ok (nothing Bits24)
+unfolding confirm_at confirm_lengths confirm_counts set_at set_header with_content_of passing_at
+the_flag_is_no_number = refl
+
+a_longer_pointer_set : confirmed_of Bits24 (start 1 ++ set 8 10 (1 ∷ 0 ∷ 20 ∷ 0 ∷ 7 ∷ 0 ∷ [])) ≡ Ok (record (nothing Bits24) { pointers = 20 })
+unfolding confirm_at confirm_lengths confirm_counts set_at set_header with_content_of passing_at
+a_longer_pointer_set = refl
+
+-- the last Pointer set counts
+fewer_pointers_at_last : confirmed_of Bits24 (start 3 ++ (pointers 20 0 ++ (brush 1 ++ pointers 3 0))) ≡ Ok (record (nothing Bits24) { brush = true; pointers = 3 })
+unfolding confirm_at confirm_lengths confirm_counts set_at set_header with_content_of passing_at
+fewer_pointers_at_last = refl
+
+more_pointers_at_last : confirmed_of Bits24 (start 2 ++ (pointers 0 0 ++ pointers 64 0)) ≡ Ok (record (nothing Bits24) { pointers = 25 })
+unfolding confirm_at confirm_lengths confirm_counts set_at set_header with_content_of passing_at
+more_pointers_at_last = refl
+
 -- no set, and bytes that aren't counted
 none_counted : confirmed_of Bits24 (start 0 ++ general 4) ≡ Ok (nothing Bits24)
 unfolding confirm_at confirm_lengths confirm_counts passing_at
@@ -143,6 +188,19 @@ short_glyph_cache = refl
 short_bitmap : confirmed_of Bits24 (start 1 ++ set 2 27 (replicate 24 0)) ≡ Err (BadCaps 18)
 unfolding confirm_at confirm_lengths confirm_counts set_at set_header with_content_of passing_at
 short_bitmap = refl
+
+-- a byte too short, alone and before a whole one
+short_pointer : confirmed_of Bits24 (start 1 ++ set 8 7 (1 ∷ 0 ∷ 20 ∷ [])) ≡ Err (BadCaps 18)
+unfolding confirm_at confirm_lengths confirm_counts set_at set_header with_content_of passing_at
+short_pointer = refl
+
+short_pointer_first : confirmed_of Bits24 (start 2 ++ (set 8 7 (1 ∷ 0 ∷ 20 ∷ []) ++ pointers 20 0)) ≡ Err (BadCaps 18)
+unfolding confirm_at confirm_lengths confirm_counts set_at set_header with_content_of passing_at
+short_pointer_first = refl
+
+short_pointer_behind : confirmed_of Bits24 (start 2 ++ (pointers 20 0 ++ set 8 7 (1 ∷ 0 ∷ 20 ∷ []))) ≡ Err (BadCaps 26)
+unfolding confirm_at confirm_lengths confirm_counts set_at set_header with_content_of passing_at
+short_pointer_behind = refl
 
 no_header : confirmed_of Bits24 (start 6 ++ (five_sets 24 52 ++ pointer 3)) ≡ Err (BadCaps 230)
 unfolding confirm_at confirm_lengths confirm_counts set_at set_header with_content_of passing_at says_bitmaps says_glyphs

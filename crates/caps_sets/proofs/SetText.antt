@@ -14,7 +14,7 @@ use Rattle.wire_num.proofs.Refused.{refused}
 use Rattle.wire_num.proofs.RefusalIsRead.{refusal_is_read}
 use Rattle.caps_sets.specs.declared.sets_so_far.SetsSoFar.{SetsSoFar}
 use Rattle.caps_sets.specs.declared.set_kind.SetKind.{SetKind}
-use Rattle.caps_sets.specs.declared.set_kind.SetKind.TheVariants.{General, Bitmap, Order, BitmapCache, Brush, GlyphCache, Other}
+use Rattle.caps_sets.specs.declared.set_kind.SetKind.TheVariants.{General, Bitmap, Order, BitmapCache, Pointer, Brush, GlyphCache, Other}
 use Rattle.caps_sets.specs.CapabilitySets.{kind_of, least_length, with_set}
 use Rattle.caps_sets.specs.ConfirmActive.{set_header, with_content_of, set_at}
 use Rattle.caps_sets.specs.Grammar.{Set, kind_in, IsSet}
@@ -45,6 +45,7 @@ header_fits General = omega arith
 header_fits Bitmap = omega arith
 header_fits Order = omega arith
 header_fits BitmapCache = omega arith
+header_fits Pointer = omega arith
 header_fits Brush = omega arith
 header_fits GlyphCache = omega arith
 header_fits Other = omega arith

@@ -1,6 +1,6 @@
 -- The capability sets that are read ([MS-RDPBCGR] 2.2.7.1): their types, their least lengths, and what each says. Offsets count from a set's first byte, as
 -- in its table there.
-use Rattle.std.specs.Prelude.{ℕ, zero, suc, ◌+◌, ◌-◌, ◌==◌, Bool, false, ◌&&◌, ◌||◌, not, List, [], ◌∷◌, drop, replicate, if◌then◌else◌}
+use Rattle.std.specs.Prelude.{ℕ, zero, suc, ◌+◌, ◌-◌, ◌==◌, Bool, false, ◌&&◌, ◌||◌, not, List, [], ◌∷◌, drop, replicate, min, if◌then◌else◌}
 use Rattle.byteorder.specs.Endian.{little_number}
 use Rattle.wire_num.specs.FieldValue.{has_bits}
 use Rattle.px_core.specs.declared.depth.Depth.{Depth}
@@ -8,8 +8,8 @@ use Rattle.caps_sets.specs.declared.cache_size.CacheSize.{CacheSize}
 use Rattle.caps_sets.specs.declared.confirmed.Confirmed.{Confirmed}
 use Rattle.caps_sets.specs.declared.sets_so_far.SetsSoFar.{SetsSoFar}
 use Rattle.caps_sets.specs.declared.set_kind.SetKind.{SetKind}
-use Rattle.caps_sets.specs.declared.set_kind.SetKind.TheVariants.{General, Bitmap, Order, BitmapCache, Brush, GlyphCache, Other}
-use Rattle.caps_sets.specs.Confirmed.{sized}
+use Rattle.caps_sets.specs.declared.set_kind.SetKind.TheVariants.{General, Bitmap, Order, BitmapCache, Pointer, Brush, GlyphCache, Other}
+use Rattle.caps_sets.specs.Confirmed.{sized, most_pointers}
 
 -- what a set is, by its type
 abbrev pub kind_of : ℕ → SetKind
@@ -18,9 +18,10 @@ kind_of type =
     else (if type == 2 then Bitmap
     else (if type == 3 then Order
     else (if type == 4 then BitmapCache
+    else (if type == 8 then Pointer
     else (if type == 15 then Brush
     else (if type == 16 then GlyphCache
-    else Other)))))
+    else Other))))))
 
 -- the least length of a set: its header, and where it is read all its fields
 abbrev pub least_length : SetKind → ℕ
@@ -28,6 +29,7 @@ least_length General = 24
 least_length Bitmap = 28
 least_length Order = 88
 least_length BitmapCache = 40
+least_length Pointer = 8
 least_length Brush = 8
 least_length GlyphCache = 52
 least_length Other = 4
@@ -70,6 +72,10 @@ caches_in (suc n) offset content = sized (number_in 2 offset content) (number_in
 -- Cache0Entries to Cache2MaximumCellSize ([MS-RDPBCGR] 2.2.7.1.4.1)
 unfoldable pub says_bitmaps : List ℕ → List CacheSize
 says_bitmaps content = caches_in 3 28 content
+
+-- colorPointerCacheSize ([MS-RDPBCGR] 2.2.7.1.5); a number above the most counts as that (profile)
+abbrev pub says_pointers : List ℕ → ℕ
+says_pointers content = min most_pointers (number_in 2 6 content)
 
 -- brushSupportLevel ([MS-RDPBCGR] 2.2.7.1.7)
 abbrev pub says_brush_level : List ℕ → ℕ
@@ -140,6 +146,7 @@ with_set General content s = record s { confirmed = with_general content s.confi
 with_set Bitmap content s = s
 with_set Order content s = record s { confirmed = with_orders content s.confirmed }
 with_set BitmapCache content s = record s { confirmed = record s.confirmed { bitmaps = says_bitmaps content } }
+with_set Pointer content s = record s { confirmed = record s.confirmed { pointers = says_pointers content } }
 with_set Brush content s = record s { brush_level = says_brush_level content }
 with_set GlyphCache content s = record s { confirmed = record s.confirmed { glyphs = says_glyphs content; glyph_level = says_glyph_level content } }
 with_set Other content s = s

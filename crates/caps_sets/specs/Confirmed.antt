@@ -1,5 +1,5 @@
 -- What the presets confirm, all of them at 24 bits, one cache of another size, and the cache that serves (all of it profile).
-use Rattle.std.specs.Prelude.{ℕ, zero, suc, ◌+◌, Bool, true, false, List, [], ◌∷◌, replicate, slice_set, Option, Some, None, if◌then◌else◌}
+use Rattle.std.specs.Prelude.{ℕ, zero, suc, ◌+◌, min, Bool, true, false, List, [], ◌∷◌, replicate, slice_set, Option, Some, None, if◌then◌else◌}
 use Rattle.caps_sets.specs.declared.cache_size.CacheSize.{CacheSize}
 use Rattle.caps_sets.specs.declared.confirmed.Confirmed.{Confirmed}
 use Rattle.px_core.specs.declared.depth.Depth.{Depth}
@@ -76,9 +76,13 @@ depth_of c = c.depth
 abbrev pub takes_fast : Confirmed → Bool
 takes_fast c = c.fast
 
--- how many pointers a viewer is told to hold: none so far
-unfoldable pub pointer_cells : Confirmed → ℕ
-pointer_cells c = 0
+-- the most shapes of pointers that a viewer is told to keep; more count as so many
+abbrev pub most_pointers : ℕ
+most_pointers = 25
+
+-- how many shapes of pointers a viewer keeps; one that keeps none is told no pointer
+abbrev pub pointer_cells : Confirmed → ℕ
+pointer_cells c = min most_pointers c.pointers
 
 -- ---- caches of other sizes
 

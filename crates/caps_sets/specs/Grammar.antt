@@ -4,9 +4,9 @@ use Rattle.wire_num.specs.Grammar.{IsText}
 use Rattle.px_core.specs.declared.depth.Depth.{Depth}
 use Rattle.caps_sets.specs.declared.confirmed.Confirmed.{Confirmed}
 use Rattle.caps_sets.specs.declared.set_kind.SetKind.{SetKind}
-use Rattle.caps_sets.specs.declared.set_kind.SetKind.TheVariants.{General, Bitmap, Order, BitmapCache, Brush, GlyphCache, Other}
+use Rattle.caps_sets.specs.declared.set_kind.SetKind.TheVariants.{General, Bitmap, Order, BitmapCache, Pointer, Brush, GlyphCache, Other}
 use Rattle.caps_sets.specs.Confirmed.{sized}
-use Rattle.caps_sets.specs.CapabilitySets.{kind_of, least_length, says_cautious, says_no_header, says_fast, says_support, says_zero_bounds, says_marker, says_bitmaps, says_brush_level, takes_brushes, says_glyphs, says_glyph_level}
+use Rattle.caps_sets.specs.CapabilitySets.{kind_of, least_length, says_cautious, says_no_header, says_fast, says_support, says_zero_bounds, says_marker, says_bitmaps, says_pointers, says_brush_level, takes_brushes, says_glyphs, says_glyph_level}
 use Rattle.caps_sets.specs.ConfirmActive.{confirm_lengths, confirm_counts, set_header}
 
 -- a capability set: its type, and its content behind the header
@@ -37,6 +37,7 @@ is_same_kind General General = true
 is_same_kind Bitmap Bitmap = true
 is_same_kind Order Order = true
 is_same_kind BitmapCache BitmapCache = true
+is_same_kind Pointer Pointer = true
 is_same_kind Brush Brush = true
 is_same_kind GlyphCache GlyphCache = true
 is_same_kind Other Other = true
@@ -71,7 +72,7 @@ said_by depth sets = record {
   cautious = last_says General says_cautious false sets;
   depth = depth;
   fast = last_says General says_fast false sets;
-  pointers = 0;
+  pointers = last_says Pointer says_pointers 0 sets;
 }
 
 -- the bytes are a Confirm Active PDU: the fields before the sets, and as many sets as these count; any bytes may follow

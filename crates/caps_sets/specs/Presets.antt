@@ -1,13 +1,14 @@
 -- The words that say what a script's viewer confirmed: a preset, and then overrides (profile).
-use Rattle.std.specs.Prelude.{ℕ, ◌-◌, ◌==◌, nat_le, ◌&&◌, List, [], ◌∷◌, true, if◌then◌else◌, codes}
+use Rattle.std.specs.Prelude.{ℕ, ◌-◌, ◌==◌, nat_eq, nat_le, ◌&&◌, Bool, true, List, [], ◌∷◌, drop, if◌then◌else◌, codes}
 use Rattle.std.specs.declared.option.Option.{Option}
 use Rattle.std.specs.declared.option.Option.TheVariants.{Some, None}
 use Rattle.std.specs.Option.{option_map, option_and_then}
+use Rattle.std.specs.List.{starts_with}
 use Rattle.std.specs.Char.{is_ascii_digit}
 use Rattle.px_core.specs.declared.depth.Depth.TheVariants.{Bits16}
 use Rattle.caps_sets.specs.declared.cache_size.CacheSize.{CacheSize}
 use Rattle.caps_sets.specs.declared.confirmed.Confirmed.{Confirmed}
-use Rattle.caps_sets.specs.Confirmed.{sized, plain, full, marked, bare, with_bitmap_cache, with_glyph_cache}
+use Rattle.caps_sets.specs.Confirmed.{most_pointers, sized, plain, full, marked, bare, with_bitmap_cache, with_glyph_cache}
 use Rattle.line_text.specs.Words.{parts_at, is_same_word}
 use Rattle.line_text.specs.Numbers.{number_up_to}
 
@@ -47,12 +48,21 @@ overridden c (a ∷ b ∷ k ∷ sign ∷ rest) = if is_ascii_digit k && (sign ==
     then option_and_then (with_cache c (a ∷ b ∷ []) (k - 48)) (size_by (parts_at 44 rest)) else None
 overridden c word = None
 
--- `cautious`, `fast`, `bpp=16`, or a cache of another size; a preset's own depth, 24 bits, has no word
+-- a word that begins as `pointer=N` does, whatever stands behind that
+abbrev pub is_pointer_word : List ℕ → Bool
+is_pointer_word word = starts_with nat_eq word (codes "pointer=")
+
+-- the same with another number of pointers, by its digits
+abbrev pub with_pointers : Confirmed → List ℕ → Option Confirmed
+with_pointers c digits = option_map (λ n. record c { pointers = n }) (number_up_to most_pointers digits)
+
+-- `cautious`, `fast`, `bpp=16`, `pointer=N`, or a cache of another size; a preset's own depth, 24 bits, has no word
 abbrev pub overridden_word : Confirmed → List ℕ → Option Confirmed
 overridden_word c word =
     if is_same_word word (codes "cautious") then Some (record c { cautious = true })
     else (if is_same_word word (codes "fast") then Some (record c { fast = true })
-    else (if is_same_word word (codes "bpp=16") then Some (record c { depth = Bits16 }) else overridden c word))
+    else (if is_same_word word (codes "bpp=16") then Some (record c { depth = Bits16 })
+    else (if is_pointer_word word then with_pointers c (drop 8 word) else overridden c word)))
 
 -- the overrides one after the other; later ones count
 abbrev pub overridden_by : Confirmed → List (List ℕ) → Option Confirmed

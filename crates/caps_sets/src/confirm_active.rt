@@ -28,6 +28,7 @@ use crate::caps_fault::CapsFault;
 use crate::general_set::{says_cautious, says_fast, says_no_header};
 use crate::glyph_cache_set::{says_glyph_level, says_glyphs};
 use crate::order_set::with_orders;
+use crate::pointer_set::says_pointers;
 use crate::set_kind::{HEADER_SIZE, SetKind, kind_of, least_length};
 use crate::sets_so_far::SetsSoFar;
 use crate::{BITMAP_CACHES, CacheSize, Caches, Confirmed, GLYPH_CACHES};
@@ -154,6 +155,13 @@ fn with_set(sets: SetsSoFar, kind: SetKind, content: &[u8]) -> SetsSoFar
         SetKind::BitmapCache => SetsSoFar {
             confirmed: Confirmed {
                 bitmaps: says_bitmaps(content),
+                ..confirmed
+            },
+            ..sets
+        },
+        SetKind::Pointer => SetsSoFar {
+            confirmed: Confirmed {
+                pointers: says_pointers(content),
                 ..confirmed
             },
             ..sets

@@ -1,6 +1,10 @@
 //! What a viewer confirmed, as far as frames depend on it ([MS-RDPBCGR] 2.2.7).
 #![tactic(auto)]
 
+ghost use Rattle.std.specs.Prelude.{◌≡◌};
+ghost use Rattle.caps_sets.specs.Confirmed.{pointer_cells};
+
+use crate::pointer_set::MOST_POINTERS;
 use crate::{Caches3, Caches10};
 use px_core::Depth;
 
@@ -42,6 +46,15 @@ pub struct Confirmed {
     pub depth: Depth,
     /// Whether its updates go in packets of the fast path ([MS-RDPBCGR] 2.2.9.1.2).
     pub fast: bool,
-    /// How many pointers it holds ([MS-RDPBCGR] 2.2.7.1.5).
+    /// How many shapes of pointers it keeps, at most 25 ([MS-RDPBCGR] 2.2.7.1.5).
     pub pointers: u16,
+}
+
+impl Confirmed {
+    /// How many shapes of pointers the viewer is told to keep; one that keeps none is told no pointer.
+    pub fn pointer_cells(&self) -> u16
+        ensures { result ≡ pointer_cells self.now }
+    {
+        MOST_POINTERS.min(self.pointers)
+    }
 }

@@ -14,12 +14,14 @@
 //! | `cautious` | drawings are cut before they are sent |
 //! | `fast` | updates go in packets of the fast path |
 //! | `bpp=16` | pixels are shown at 16 bits; a preset's own 24 have no word |
+//! | `pointer=N` | N shapes of pointers are kept, 0 to 25; a preset itself keeps none |
 
 ghost use Rattle.std.specs.Prelude.{◌≡◌};
 ghost use Rattle.line_text.specs.Words.{parts_at, words_of};
 ghost use Rattle.caps_sets.specs.Confirmed.{sized, plain, bare, full, marked, with_bitmap_cache, with_glyph_cache};
-ghost use Rattle.caps_sets.specs.Presets.{presets, preset_named, size_by, with_cache, overridden, overridden_word, confirmed_by};
+ghost use Rattle.caps_sets.specs.Presets.{presets, preset_named, size_by, with_cache, overridden, is_pointer_word, with_pointers, overridden_word, confirmed_by};
 
+use crate::pointer_set::MOST_POINTERS;
 use crate::{BITMAP_CACHES, CacheSize, Caches, Confirmed, GLYPH_CACHES};
 use line_text::{Parts, is_same_word, read_number};
 use px_core::Depth;
@@ -29,6 +31,9 @@ const COMMA: u8 = b',';
 
 /// The greatest number of entries, and the greatest cell in bytes.
 const CACHE_LIMIT: u64 = 65_535;
+
+/// What an override of the number of pointers begins with.
+const POINTER: &[u8] = b"pointer=";
 
 /// The glyphs' support level of a viewer that takes them whole ([MS-RDPBCGR] 2.2.7.1.8).
 const GLYPH_SUPPORT_FULL: u16 = 2;
@@ -87,9 +92,28 @@ fn overridden_word(confirmed: Confirmed, word: &[u8]) -> Option<Confirmed>
             depth: Depth::Bits16,
             ..confirmed
         })
+    } else if is_pointer_word(word) {
+        with_pointers(confirmed, &word[POINTER.len()..])
     } else {
         overridden(confirmed, word)
     }
+}
+
+/// Whether a word begins as one that says how many shapes of pointers are kept, whatever stands behind that.
+pub fn is_pointer_word(word: &[u8]) -> bool
+    ensures { result ≡ is_pointer_word word.now }
+{
+    word.starts_with(POINTER)
+}
+
+/// The same with another number of pointers, by its digits.
+fn with_pointers(confirmed: Confirmed, number: &[u8]) -> Option<Confirmed>
+    ensures { result ≡ with_pointers confirmed number.now }
+{
+    Some(Confirmed {
+        pointers: read_number(number, u64::from(MOST_POINTERS))? as u16,
+        ..confirmed
+    })
 }
 
 /// The same with a cache of another size: two letters, the cache, an equals sign, and the size.

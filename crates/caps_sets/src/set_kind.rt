@@ -2,7 +2,7 @@
 //!
 //! | offset | size | field | value |
 //! |---|---|---|---|
-//! | 0 | 2 | capabilitySetType | 1 General, 2 Bitmap, 3 Order, 4 Bitmap Cache, 15 Brush, 16 Glyph Cache; others are skipped |
+//! | 0 | 2 | capabilitySetType | 1 General, 2 Bitmap, 3 Order, 4 Bitmap Cache, 8 Pointer, 15 Brush, 16 Glyph Cache; others are skipped |
 //! | 2 | 2 | lengthCapability | of the set, this header included |
 //! | 4 | | capabilityData | by the type |
 
@@ -21,6 +21,8 @@ const CAPSTYPE_ORDER: u16 = 3;
 
 const CAPSTYPE_BITMAPCACHE: u16 = 4;
 
+const CAPSTYPE_POINTER: u16 = 8;
+
 const CAPSTYPE_BRUSH: u16 = 15;
 
 const CAPSTYPE_GLYPHCACHE: u16 = 16;
@@ -33,6 +35,7 @@ pub enum SetKind {
     Bitmap,
     Order,
     BitmapCache,
+    Pointer,
     Brush,
     GlyphCache,
     /// A set that isn't read.
@@ -48,6 +51,7 @@ pub fn kind_of(set_type: u16) -> SetKind
         CAPSTYPE_BITMAP => SetKind::Bitmap,
         CAPSTYPE_ORDER => SetKind::Order,
         CAPSTYPE_BITMAPCACHE => SetKind::BitmapCache,
+        CAPSTYPE_POINTER => SetKind::Pointer,
         CAPSTYPE_BRUSH => SetKind::Brush,
         CAPSTYPE_GLYPHCACHE => SetKind::GlyphCache,
         _ => SetKind::Other,
@@ -64,6 +68,7 @@ pub fn least_length(kind: SetKind) -> u16
         SetKind::Bitmap => 28,
         SetKind::Order => 88,
         SetKind::BitmapCache => 40,
+        SetKind::Pointer => 8,
         SetKind::Brush => 8,
         SetKind::GlyphCache => 52,
         SetKind::Other => HEADER_SIZE,

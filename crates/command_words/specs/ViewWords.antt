@@ -7,7 +7,7 @@ use Rattle.clap.specs.Words.{App, Rule, new_app, new_rule, with_rule, first_of, 
 use Rattle.clap.specs.Lexer.{usize_max}
 use Rattle.clap.specs.declared.builder.action.ArgAction.TheVariants.{Set}
 use Rattle.caps_sets.specs.declared.confirmed.Confirmed.{Confirmed}
-use Rattle.caps_sets.specs.Presets.{presets, confirmed_by}
+use Rattle.caps_sets.specs.Presets.{presets, is_pointer_word, confirmed_by}
 use Rattle.script_rules.specs.Script.{is_name}
 use Rattle.script_rules.specs.Capture.{number_between}
 use Rattle.command_words.specs.Reading.{read_by}
@@ -37,9 +37,9 @@ viewing port name marks confirmed = record { port = port; name = name; marks = m
 abbrev pub has_space : List ℕ → Bool
 has_space word = list_any (λ b. b == 32) word
 
--- what preset words confirm, each of them one word of the command
+-- what preset words confirm, each of them one word of the command; a viewer of this program keeps no pointers, so no word says how many
 abbrev pub preset_of : List (List ℕ) → Option Confirmed
-preset_of words = if list_any has_space words then None else confirmed_by presets words
+preset_of words = if list_any is_pointer_word words then None else (if list_any has_space words then None else confirmed_by presets words)
 
 -- a port and a number of marks are 1 to 65,535
 abbrev pub count_of_word : List ℕ → Option ℕ

@@ -7,7 +7,7 @@ use Rattle.px_core.specs.declared.depth.Depth.{Depth}
 use Rattle.caps_sets.specs.declared.confirmed.Confirmed.{Confirmed}
 use Rattle.caps_sets.specs.declared.sets_so_far.SetsSoFar.{SetsSoFar}
 use Rattle.caps_sets.specs.declared.set_kind.SetKind.{SetKind}
-use Rattle.caps_sets.specs.declared.set_kind.SetKind.TheVariants.{General, Bitmap, Order, BitmapCache, Brush, GlyphCache, Other}
+use Rattle.caps_sets.specs.declared.set_kind.SetKind.TheVariants.{General, Bitmap, Order, BitmapCache, Pointer, Brush, GlyphCache, Other}
 use Rattle.caps_sets.specs.declared.caps_fault.CapsFault.{CapsFault}
 use Rattle.caps_sets.specs.declared.caps_fault.CapsFault.TheVariants.{BadCaps}
 use Rattle.caps_sets.specs.CapabilitySets.{kind_of, least_length, caches_in, says_bitmaps, says_glyphs, with_set, before_sets, confirmed_together}
@@ -39,6 +39,7 @@ set_caches General content s h = record { bitmaps = h.bitmaps; glyphs = h.glyphs
 set_caches Bitmap content s h = h
 set_caches Order content s h = record { bitmaps = h.bitmaps; glyphs = h.glyphs }
 set_caches BitmapCache content s h = record { bitmaps = three content; glyphs = h.glyphs }
+set_caches Pointer content s h = record { bitmaps = h.bitmaps; glyphs = h.glyphs }
 set_caches Brush content s h = h
 set_caches GlyphCache content s h = record { bitmaps = h.bitmaps; glyphs = ten content }
 set_caches Other content s h = h

@@ -1,6 +1,6 @@
 -- What preset words confirm can be confirmed.
-use Rattle.std.proofs.Common.{◌≡◌, ℕ, ◌<◌, List, [], ◌∷◌, replicate, refl, ◌∙◌, arith, Bool, true, false, Some, None}
-use Rattle.std.specs.Prelude.{Option, IfSome, All, nat_le, ◌&&◌, ◌==◌, ◌-◌, option_map, if◌then◌else◌, codes}
+use Rattle.std.proofs.Common.{◌≡◌, ℕ, ◌<◌, ◌≤◌, List, [], ◌∷◌, replicate, refl, ◌∙◌, arith, Bool, true, false, Some, None}
+use Rattle.std.specs.Prelude.{Option, IfSome, All, nat_le, ◌&&◌, ◌==◌, ◌-◌, drop, option_map, if◌then◌else◌, codes}
 use Rattle.std.specs.Option.{option_and_then}
 use Rattle.std.specs.Bool.{then_some}
 use Rattle.std.specs.Char.{is_ascii_digit}
@@ -12,8 +12,8 @@ use Rattle.line_text.specs.Words.{parts_at, is_same_word}
 use Rattle.line_text.specs.Numbers.{number_of, at_most, number_up_to}
 use Rattle.caps_sets.specs.declared.cache_size.CacheSize.{CacheSize}
 use Rattle.caps_sets.specs.declared.confirmed.Confirmed.{Confirmed}
-use Rattle.caps_sets.specs.Confirmed.{sized, plain, full, marked, bare, with_bitmap_cache, with_glyph_cache}
-use Rattle.caps_sets.specs.Presets.{presets, preset_named, cache_limit, size_by, with_cache, overridden, overridden_word, overridden_by, confirmed_by}
+use Rattle.caps_sets.specs.Confirmed.{most_pointers, sized, plain, full, marked, bare, with_bitmap_cache, with_glyph_cache}
+use Rattle.caps_sets.specs.Presets.{presets, preset_named, cache_limit, size_by, with_cache, overridden, is_pointer_word, with_pointers, overridden_word, overridden_by, confirmed_by}
 use Rattle.viewer_rules.specs.Rounds.{IsSized, IsConfirmable}
 
 and_found : {A B : Type 0} (P : A → Type 0) (Q : B → Type 0) (f : A → Option B) (o : Option A) → IfSome o P → ((a : A) → P a → IfSome (f a) Q) → IfSome (option_and_then f o) Q
@@ -94,16 +94,36 @@ sixteen_too c h = record { bitmaps = h.bitmaps; glyphs = h.glyphs; level = h.lev
 fast_too : (c : Confirmed) → IsConfirmable c → IsConfirmable (record c { fast = true })
 fast_too c h = record { bitmaps = h.bitmaps; glyphs = h.glyphs; level = h.level; bitmap_sizes = h.bitmap_sizes; glyph_sizes = h.glyph_sizes; pointers = h.pointers }
 
-word_found : (c : Confirmed) (word : List ℕ) → IsConfirmable c → IfSome (overridden_word c word) IsConfirmable
-word_found c word h = by (is_same_word word (codes "cautious")) (is_same_word word (codes "fast")) (is_same_word word (codes "bpp=16"))
+abbrev IsFew : ℕ → Type 0
+IsFew n = n ≤ most_pointers
+
+few_by : (o : Option ℕ) → IfSome (at_most most_pointers o) IsFew
+few_by None = tt
+few_by (Some n) = by (nat_le n most_pointers) refl
   where
-    by : (cautious fast sixteen : Bool)
+    by : (b : Bool) → nat_le n most_pointers ≡ b → IfSome (then_some b n) IsFew
+    by true e = grind (arith, nat_tests, e)
+    by false e = tt
+
+pointers_too : (c : Confirmed) (n : ℕ) → IsConfirmable c → n ≤ most_pointers → IsConfirmable (record c { pointers = n })
+pointers_too c n h few = record { bitmaps = h.bitmaps; glyphs = h.glyphs; level = h.level; bitmap_sizes = h.bitmap_sizes; glyph_sizes = h.glyph_sizes; pointers = few }
+
+pointers_found : (c : Confirmed) (digits : List ℕ) → IsConfirmable c → IfSome (with_pointers c digits) IsConfirmable
+pointers_found c digits h =
+    map_found IsFew IsConfirmable (λ n. record c { pointers = n }) (number_up_to most_pointers digits) (few_by (number_of digits)) (λ n few. pointers_too c n h few)
+
+word_found : (c : Confirmed) (word : List ℕ) → IsConfirmable c → IfSome (overridden_word c word) IsConfirmable
+word_found c word h = by (is_same_word word (codes "cautious")) (is_same_word word (codes "fast")) (is_same_word word (codes "bpp=16")) (is_pointer_word word)
+  where
+    by : (cautious fast sixteen pointer : Bool)
         → IfSome (if cautious then Some (record c { cautious = true })
-        else (if fast then Some (record c { fast = true }) else (if sixteen then Some (record c { depth = Bits16 }) else overridden c word))) IsConfirmable
-    by true fast sixteen = cautious_too c h
-    by false true sixteen = fast_too c h
-    by false false true = sixteen_too c h
-    by false false false = override_found c word h
+        else (if fast then Some (record c { fast = true }) else (if sixteen then Some (record c { depth = Bits16 })
+        else (if pointer then with_pointers c (drop 8 word) else overridden c word)))) IsConfirmable
+    by true fast sixteen pointer = cautious_too c h
+    by false true sixteen pointer = fast_too c h
+    by false false true pointer = sixteen_too c h
+    by false false false true = pointers_found c (drop 8 word) h
+    by false false false false = override_found c word h
 
 words_found : (c : Confirmed) (words : List (List ℕ)) → IsConfirmable c → IfSome (overridden_by c words) IsConfirmable
 words_found c [] h = h
@@ -118,10 +138,10 @@ none_fit : (n : ℕ) → Fits (replicate n (sized 0 0))
 none_fit n = All-replicate IsSized n (sized 0 0) (omega arith, omega arith)
 
 plain_too : IsConfirmable plain
-plain_too = record { bitmaps = refl; glyphs = refl; level = omega arith; bitmap_sizes = none_fit 3; glyph_sizes = none_fit 10; pointers = refl }
+plain_too = record { bitmaps = refl; glyphs = refl; level = omega arith; bitmap_sizes = none_fit 3; glyph_sizes = none_fit 10; pointers = omega arith }
 
 bare_too : IsConfirmable bare
-bare_too = record { bitmaps = refl; glyphs = refl; level = omega arith; bitmap_sizes = none_fit 3; glyph_sizes = none_fit 10; pointers = refl }
+bare_too = record { bitmaps = refl; glyphs = refl; level = omega arith; bitmap_sizes = none_fit 3; glyph_sizes = none_fit 10; pointers = omega arith }
 
 full_bitmaps : Fits full.bitmaps
 full_bitmaps = All-from_recursion IsSized full.bitmaps ((omega arith, omega arith), ((omega arith, omega arith), ((omega arith, omega arith), tt)))
@@ -148,10 +168,10 @@ full_glyphs = All-from_recursion IsSized full.glyphs (
 )
 
 full_too : IsConfirmable full
-full_too = record { bitmaps = refl; glyphs = refl; level = omega arith; bitmap_sizes = full_bitmaps; glyph_sizes = full_glyphs; pointers = refl }
+full_too = record { bitmaps = refl; glyphs = refl; level = omega arith; bitmap_sizes = full_bitmaps; glyph_sizes = full_glyphs; pointers = omega arith }
 
 marked_too : IsConfirmable marked
-marked_too = record { bitmaps = refl; glyphs = refl; level = omega arith; bitmap_sizes = full_bitmaps; glyph_sizes = full_glyphs; pointers = refl }
+marked_too = record { bitmaps = refl; glyphs = refl; level = omega arith; bitmap_sizes = full_bitmaps; glyph_sizes = full_glyphs; pointers = omega arith }
 
 preset_found : (word : List ℕ) → IfSome (preset_named presets word) IsConfirmable
 preset_found word = by (is_same_word word (codes "plain")) (is_same_word word (codes "full")) (is_same_word word (codes "marked")) (is_same_word word (codes "bare"))
