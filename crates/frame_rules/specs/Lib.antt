@@ -10,3 +10,5 @@ pub mod Describes
 pub mod OrdersOfBytes
 pub mod PacketKinds
 pub mod Cautious
+pub mod Pointers
+pub mod Told

@@ -6,3 +6,5 @@ pub mod CacheOrders
 pub mod UpdateBodies
 pub mod Indication
 pub mod FastHeader
+pub mod PointerPackets
+pub mod Packets

@@ -4,7 +4,7 @@ use Rattle.std.specs.Prelude.{Option}
 use Rattle.session_rules.specs.declared.entry.Entry.{Entry}
 use Rattle.session_core.specs.declared.kept.Kept.{Kept}
 use Rattle.session_core.specs.Keeping.{journal_of}
-use Rattle.session_core.specs.Typing.{typed_after, typed_by_entries, last_typed}
+use Rattle.session_rules.specs.Typing.{typed_after, typed_by_entries, last_typed}
 use Rattle.session_core.proofs.Sessions.{journal_push}
 
 typed_push : (before : Option ℕ) (j : List Entry) (e : Entry) → typed_by_entries before (j ++ e ∷ []) ≡ typed_after (typed_by_entries before j) e

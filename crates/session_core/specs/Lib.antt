@@ -5,7 +5,6 @@ pub mod Outcomes
 pub mod Faults
 pub mod Members
 pub mod Keeping
-pub mod Typing
 pub mod Standing
 pub mod LetIn
 pub mod Refusing

@@ -10,7 +10,7 @@ use Rattle.session_core.specs.declared.kept.Kept.{Kept}
 use Rattle.session_core.specs.Members.{viewers_of}
 use Rattle.session_core.specs.SessionModel.{AreInvited}
 use Rattle.session_core.specs.Keeping.{journal_of, AllKept}
-use Rattle.session_core.specs.Typing.{last_typed}
+use Rattle.session_rules.specs.Typing.{last_typed}
 
 -- what is reached after so many entries
 abbrev pub reached_of : Standing → ℕ → Reached

@@ -14,7 +14,7 @@ ghost use Rattle.session_rules.specs.Entering.{entry_of_step, answer_at};
 ghost use Rattle.session_rules.specs.Pending.{pending_between};
 ghost use Rattle.pending_core.specs.Touching.{touched_by, saved_by};
 ghost use Rattle.session_core.specs.Heads.{rows_of};
-ghost use Rattle.session_core.specs.Typing.{last_typed};
+ghost use Rattle.session_rules.specs.Typing.{last_typed};
 ghost use Rattle.session_core.specs.SessionModel.{new_session, reached_by, is_here, asked_by, is_suppressed, AreInvited};
 ghost use Rattle.session_core.specs.Outcomes.{IsAnswered, GoesOn};
 ghost use Rattle.session_core.specs.Entered.{answer_of_entry, entry_entered};

@@ -1,7 +1,7 @@
 //! The code that was typed last.
 
 ghost use Rattle.std.specs.Prelude.{◌≡◌};
-ghost use Rattle.session_core.specs.Typing.{typed_by_event};
+ghost use Rattle.session_rules.specs.Typing.{typed_by_event};
 
 use input_pdu::Event;
 

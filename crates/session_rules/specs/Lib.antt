@@ -5,3 +5,4 @@ pub mod Agreement
 pub mod Entering
 pub mod Reaching
 pub mod Pending
+pub mod Typing

@@ -14,7 +14,8 @@ use Rattle.save_plan.specs.Blocks.{AreApart}
 use Rattle.frame_rules.specs.Frame.{Sent, FrameOf, frame_of}
 use Rattle.frame_rules.specs.FrameOrders.{SentOrder, Uses, uses_after, orders_before_tiles}
 use Rattle.frame_rules.specs.FrameBytes.{frame_bytes, bytes_of_orders, updates_of, tile_bytes, mark_bytes}
-use Rattle.frame_rules.specs.Encoder.{Encoder, encoder_frame, take_bytes, encoder_after_frame}
+use Rattle.frame_rules.specs.Told.{key_at}
+use Rattle.frame_rules.specs.Encoder.{Encoder, encoder_frame, take_bytes, encoder_after_frame, with_told}
 use Rattle.frame_rules.specs.Describes.{DescribesClient, HasAllCaches, ShowsFrame}
 use Rattle.frame_rules.specs.OrdersOfBytes.{orders_of_bytes}
 use Rattle.frame_rules.specs.PacketKinds.{HasPacketsOfKind}
@@ -73,6 +74,10 @@ module _ (c : Confirmed) (take : TakeModel) (own : IsOwnTake c take) where
 
 -- ---- the law of one frame, of these bytes
 
+-- what was told of a pointer says nothing of a sender
+pub stands_told : (s : SenderModel) (e : Encoder) (key : ℕ) → StandsFor s e → StandsFor s (with_told key e)
+stands_told s e key h = record { registers = h.registers; caches = h.caches }
+
 module _ (s new : SenderModel) (take : TakeModel) (out : List ℕ) (all : HasAllCaches s.confirmed)
     (bytes : (e : Encoder) (f : FrameOf) → StandsFor s e → take.frame ≡ taken_as take.size f → out ≡ frame_bytes take.size s.confirmed e.registers e.uses f)
     (after : (e : Encoder) (f : FrameOf) → StandsFor s e → take.frame ≡ taken_as take.size f → StandsFor new (encoder_after_frame take.size s.confirmed e f)) where
@@ -92,7 +97,8 @@ module _ (s new : SenderModel) (take : TakeModel) (out : List ℕ) (all : HasAll
         kind = subst (HasPacketsOfKind (takes_fast c)) is (frames_go head c j e t sized all legal up within describes.are_registers describes.apart);
         mark = x.mark;
         describes = x.describes;
-        stands = subst (λ size. StandsFor new (encoder_after_frame size c e f)) same (after e f stands frame);
+        stands = stands_told new (encoder_after_frame head.size c e f) (key_at head.size j t.number)
+            (subst (λ size. StandsFor new (encoder_after_frame size c e f)) same (after e f stands frame));
       }
 
   pub shows : Shows s new take out
