@@ -1,8 +1,8 @@
 -- A packet that is fed to a view.
-use Rattle.std.proofs.Common.{◌≡◌, ◌≤◌, ◌-◌, ℕ, List, [], ◌∷◌, ◌++◌, length, take, drop, refl, ap, sym, subst, ◌∙◌, arith, true, false}
-use Rattle.std.specs.Prelude.{Bool, Option, Some, None, Result, Ok, Err}
+use Rattle.std.proofs.Common.{◌≡◌, ◌≤◌, ◌-◌, ℕ, List, ◌++◌, length, take, drop, refl, ap, sym, subst, ◌∙◌, arith, true, false}
+use Rattle.std.specs.Prelude.{Ok, Err}
 use Rattle.std.proofs.lemmas.List.{length-take-le, length-drop}
-use Rattle.wire_num.specs.Field.{Read, place_in}
+use Rattle.wire_num.specs.Field.{place_in}
 use Rattle.wire_num.specs.Caused.{Caused, map_caused, before_caused}
 use Rattle.wire_num.specs.Cursor.{CursorOf, rest}
 use Rattle.wire_num.proofs.Caused.{map_ok, map_err}
@@ -10,12 +10,12 @@ use Rattle.wire_num.proofs.Content.{rest_of_content}
 use Rattle.draw_ops.specs.Slots.{Slots, lookup, filled_slot}
 use Rattle.pointer_share.specs.declared.fault.Cause.{Cause}
 use Rattle.pointer_share.specs.declared.message.Sent.{Sent}
-use Rattle.pointer_share.specs.Pointers.{Shape}
 use Rattle.pointer_share.specs.Messages.{Message}
 use Rattle.pointer_share.specs.Messages.Message.{Brings, Points}
-use Rattle.pointer_share.specs.Packets.{pointer_content, IsContent}
+use Rattle.order_means.specs.PointerPackets.{pointer_content}
+use Rattle.update_read.specs.PacketParts.{IsContent}
 use Rattle.pointer_share.specs.Views.{View, view_after_message, message_in, view_by, pointed, view_in, view_fed}
-use Rattle.pointer_share.specs.Outlines.{outline, outlines, ViewOf, HasView, sent_in, sent_of, kept_after, Feeds}
+use Rattle.pointer_share.specs.Outlines.{outline, ViewOf, HasView, sent_in, sent_of, kept_after, Feeds}
 use Rattle.pointer_share.proofs.Outlined.{lookup_outline, filled_outline, in_is}
 
 kept_view : (o : ViewOf) (v : View) (m : Message) → HasView o v → HasView (kept_after o (sent_of o.wide m)) (view_after_message v m)

@@ -1,13 +1,12 @@
-pub mod Found
 pub mod Outlined
 pub mod Fed
 pub mod FirstSet
-pub mod KindRead
 pub mod Sizes
 pub mod Sent
 pub mod Shown
 pub mod Eight
 pub mod Written
 pub mod Noted
+pub mod Desks
 pub mod Rows
 pub mod Seen

@@ -6,15 +6,15 @@ use Rattle.input_pdu.specs.declared.event.Event.{Event}
 use Rattle.input_pdu.specs.declared.event.Event.TheVariants.{Sync, Scan, Unicode, Mouse, MouseX}
 use Rattle.session_rules.specs.declared.entry.Entry.{Entry}
 use Rattle.session_rules.specs.declared.entry.Entry.TheVariants.{Join, Leave, Give, Input, Draw}
-use Rattle.session_core.specs.Typing.{is_shown_code, typed_by_event, typed_after, typed_by_entries, last_typed}
+use Rattle.session_rules.specs.Typing.{is_shown_code, typed_by_event, typed_after, typed_by_entries, last_typed}
 use Rattle.px_core.specs.declared.surface.Size.{Size}
 use Rattle.session_rules.specs.Journal.{holder_at}
 use Rattle.cache_plan.specs.CacheUse.{misses, cache_index}
 use Rattle.cache_plan.specs.Answers.{use_by, use_of}
 use Rattle.cache_plan.specs.declared.uses.Use.{Use}
-use Rattle.pointer_share.specs.Pointers.{code_shown, pointer_at, pointer_key, Shape, key_shape}
-use Rattle.pointer_share.specs.Messages.{pointer_packet}
-use Rattle.pointer_share.specs.Told.{is_told, is_last, last_told, message_by_miss, message_by_use, message_of, told_packet}
+use Rattle.frame_rules.specs.Pointers.{code_shown, pointer_at, pointer_key, Shape, key_shape}
+use Rattle.order_means.specs.PointerPackets.{pointer_packet}
+use Rattle.frame_rules.specs.Told.{is_told, is_last, last_told, message_by_miss, message_by_use, message_of, told_packet}
 use Rattle.pointer_share.specs.Desk.{IsKey}
 
 take_all : {A : Type 0} (xs : List A) → take (length xs) xs ≡ xs

@@ -1,6 +1,6 @@
 -- What is read of messages that bring a shape is its outline.
-use Rattle.std.proofs.Common.{◌≡◌, ℕ, zero, suc, List, [], ◌∷◌, length, refl, ap, sym, ◌∙◌, map}
-use Rattle.std.specs.Prelude.{Bool, true, false, ◌==◌, nat_lt, is_some, Option, Some, None, Result, Ok, Err, if◌then◌else◌}
+use Rattle.std.proofs.Common.{◌≡◌, ℕ, zero, suc, List, [], ◌∷◌, refl, ap, ◌∙◌}
+use Rattle.std.specs.Prelude.{Bool, true, false, ◌==◌, nat_lt, is_some, Option, Some, None, Ok, Err, if◌then◌else◌}
 use Rattle.std.proofs.lemmas.List.{length-map}
 use Rattle.wire_num.specs.Field.{Read, then_read, map_read, bytes_at, ended}
 use Rattle.wire_num.specs.Number.{little_at}
@@ -10,11 +10,13 @@ use Rattle.pointer_share.specs.declared.fault.Cause.{Cause}
 use Rattle.pointer_share.specs.declared.fault.Cause.TheVariants.{Broken, Missing}
 use Rattle.pointer_share.specs.declared.message.Sent.{Sent}
 use Rattle.pointer_share.specs.declared.message.Sent.TheVariants.{Brings, Points}
-use Rattle.pointer_share.specs.Pointers.{Shape}
-use Rattle.pointer_share.specs.Messages.{Message, xor_size, fixed_at, brought_at, is_entry, is_filled, index_at, message_by, message_at}
+use Rattle.frame_rules.specs.Pointers.{Shape}
+use Rattle.frame_rules.specs.Told.{xor_size}
+use Rattle.pointer_share.specs.Messages.{Message, fixed_at, brought_at, is_entry, is_filled, index_at, message_by, message_at}
 use Rattle.pointer_share.specs.Messages.Message.{Brings as BringsShape, Points as PointsAt}
-use Rattle.pointer_share.specs.Views.{compression_at, message_in}
-use Rattle.pointer_share.specs.Outlines.{outline, outlined, outlines, shape_at, outline_at, sent_brought, sent_by, sent_behind, sent_at, sent_in, sent_of}
+use Rattle.order_means.specs.PointerPackets.{compression_at}
+use Rattle.pointer_share.specs.Views.{message_in}
+use Rattle.pointer_share.specs.Outlines.{outline, outlined, outlines, outline_at, sent_brought, sent_by, sent_at, sent_in, sent_of}
 
 -- ---- a function of what was read
 

@@ -3,12 +3,12 @@ use Rattle.std.proofs.Common.{◌≡◌, ℕ, List, [], ◌∷◌, ◌++◌, ref
 use Rattle.std.specs.Prelude.{true, false, length, take, replicate}
 use Rattle.input_pdu.specs.declared.event.Event.TheVariants.{Scan, Unicode}
 use Rattle.session_rules.specs.declared.entry.Entry.TheVariants.{Leave, Input}
-use Rattle.session_core.specs.Typing.{last_typed}
-use Rattle.pointer_share.specs.Pointers.{pointer_color, wide_colors, key_shape}
-use Rattle.pointer_share.specs.Messages.{message_6, message_7, pointer_packet}
+use Rattle.session_rules.specs.Typing.{last_typed}
+use Rattle.frame_rules.specs.Pointers.{pointer_color, wide_colors, key_shape}
+use Rattle.order_means.specs.PointerPackets.{pointer_packet}
+use Rattle.frame_rules.specs.Told.{message_6, message_7, told_packet}
 use Rattle.pointer_share.specs.declared.fault.Cause.TheVariants.{Broken, Missing}
 use Rattle.pointer_share.specs.Views.{opening_view, view_after}
-use Rattle.pointer_share.specs.Told.{told_packet}
 
 -- viewer 1 holds control and typed nothing
 abbrev first : ℕ

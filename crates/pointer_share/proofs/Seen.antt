@@ -2,8 +2,9 @@
 use Rattle.std.proofs.Common.{◌≡◌, ℕ, ◌+◌, List, [], ◌∷◌, ◌++◌, refl, Some, None, Ok, Err}
 use Rattle.std.specs.Prelude.{true, false, take, drop, replicate}
 use Rattle.pointer_share.specs.declared.fault.Cause.TheVariants.{Broken, Missing}
-use Rattle.pointer_share.specs.Pointers.{key_shape}
-use Rattle.pointer_share.specs.Messages.{message_6, message_7, pointer_packet}
+use Rattle.frame_rules.specs.Pointers.{key_shape}
+use Rattle.order_means.specs.PointerPackets.{pointer_packet}
+use Rattle.frame_rules.specs.Told.{message_6, message_7}
 use Rattle.pointer_share.specs.Views.{View, opening_view, view_fed}
 use Rattle.pointer_share.specs.Outlines.{outline}
 use Rattle.share_pdu.specs.Packet.{update_packet}

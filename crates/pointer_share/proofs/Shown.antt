@@ -9,10 +9,11 @@ use Rattle.draw_ops.specs.Slots.{Slots, lookup, filled_slot}
 use Rattle.cache_plan.specs.CacheUse.{misses, cache_index}
 use Rattle.cache_plan.proofs.Indices.{cache_index_below, index_of_use, held_after_use}
 use Rattle.frame_laws.proofs.CacheHeld.{holds_hit, holds_miss}
-use Rattle.pointer_share.specs.Pointers.{Shape, Pointer, key_shape, pointer_key, pointer_of_key}
-use Rattle.pointer_share.specs.Messages.{xor_size, message_6, message_7, pointer_packet, is_entry, is_filled, message_at}
+use Rattle.frame_rules.specs.Pointers.{Shape, Pointer, key_shape, pointer_key, pointer_of_key}
+use Rattle.order_means.specs.PointerPackets.{pointer_packet}
+use Rattle.frame_rules.specs.Told.{xor_size, message_6, message_7, is_told, message_by_miss, message_of, told_packet}
+use Rattle.pointer_share.specs.Messages.{is_entry, is_filled, message_at}
 use Rattle.pointer_share.specs.Messages.Message.{Brings, Points}
-use Rattle.pointer_share.specs.Told.{is_told, message_by_miss, message_of, told_packet}
 use Rattle.pointer_share.specs.Views.{View, view_after, view_by}
 use Rattle.pointer_share.specs.Shows.{DescribesPointers, view_told, its_view, ShowsPointer}
 use Rattle.pointer_share.proofs.Sizes.{xor_long, mask_long, message_short}

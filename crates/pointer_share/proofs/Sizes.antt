@@ -4,9 +4,8 @@ use Rattle.std.specs.Prelude.{Bool, true, false, ◌==◌, if◌then◌else◌}
 use Rattle.byteorder.specs.Endian.{little_bytes}
 use Rattle.cache_plan.specs.CacheUse.{misses, cache_index}
 use Rattle.session_rules.specs.Board.{sign_of}
-use Rattle.pointer_share.specs.Pointers.{arrow, pointer_color, colors_up, masks_up, key_shape}
-use Rattle.pointer_share.specs.Messages.{message_head, message_6, message_7, xor_size}
-use Rattle.pointer_share.specs.Told.{message_by_miss, message_of}
+use Rattle.frame_rules.specs.Pointers.{arrow, pointer_color, colors_up, masks_up, key_shape}
+use Rattle.frame_rules.specs.Told.{message_head, message_6, message_7, xor_size, message_by_miss, message_of}
 
 colors_long : (wide arrows : Bool) (color code : ℕ) → length (colors_up wide (little_bytes 3 color) (if arrows then arrow else sign_of code)) ≡ xor_size wide
 colors_long true true color code = refl

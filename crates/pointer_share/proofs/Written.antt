@@ -3,8 +3,9 @@ use Rattle.std.proofs.Common.{◌≡◌, ℕ, List, [], ◌++◌, length, ap, sy
 use Rattle.std.specs.Prelude.{Bool, if◌then◌else◌}
 use Rattle.share_pdu.specs.Packet.{packet_headers}
 use Rattle.share_pdu.proofs.PacketHeaders.{packet_whole}
-use Rattle.pointer_share.specs.Pointers.{key_shape}
-use Rattle.pointer_share.specs.Messages.{message_head, message_6, message_7, pointer_packet}
+use Rattle.frame_rules.specs.Pointers.{key_shape}
+use Rattle.order_means.specs.PointerPackets.{pointer_packet}
+use Rattle.frame_rules.specs.Told.{message_head, message_6, message_7}
 use Rattle.pointer_share.proofs.Sizes.{size_is}
 
 pub entry_whole : (index : ℕ) (bytes start headers out : List ℕ) → start ≡ [] → headers ≡ start ++ packet_headers 0x1B 6 → out ≡ headers ++ bytes → bytes ≡ message_7 index

@@ -1,10 +1,6 @@
-pub mod Pointers
 pub mod Messages
-pub mod Packets
-pub mod Told
 pub mod Parts
 pub mod Desk
 pub mod Views
 pub mod Outlines
-pub mod Headers
 pub mod Shows

@@ -1,57 +1,14 @@
 -- The two messages of the Pointer PDU that are sent: 6 brings a shape to an entry of the viewer's cache and shows it ([MS-RDPBCGR]
--- 2.2.9.1.1.4.4), 7 shows the shape of an entry (2.2.9.1.1.4.6). They are written, and read.
-use Rattle.std.specs.Prelude.{ℕ, ◌==◌, nat_lt, Bool, List, [], ◌∷◌, ◌++◌, length, is_some, Ok, Err, if◌then◌else◌}
-use Rattle.byteorder.specs.Endian.{little_bytes}
+-- 2.2.9.1.1.4.4), 7 shows the shape of an entry (2.2.9.1.1.4.6). They are read.
+use Rattle.std.specs.Prelude.{ℕ, ◌==◌, nat_lt, Bool, List, length, is_some, Ok, Err, if◌then◌else◌}
 use Rattle.wire_num.specs.Field.{Read, then_read, map_read, bytes_at, wanted, ended}
 use Rattle.wire_num.specs.Number.{little_at}
 use Rattle.wire_num.specs.Caused.{Caused, caused, then_caused, map_caused}
 use Rattle.draw_ops.specs.Slots.{Slots, lookup}
-use Rattle.share_pdu.specs.Packet.{share_packet}
 use Rattle.pointer_share.specs.declared.fault.Cause.{Cause}
 use Rattle.pointer_share.specs.declared.fault.Cause.TheVariants.{Broken, Missing}
-use Rattle.pointer_share.specs.Pointers.{Shape}
-
--- pduType2 of a Pointer PDU, PDUTYPE2_POINTER
-abbrev pub pointer_kind : ℕ
-pointer_kind = 0x1B
-
--- ---- written
-
--- hot spot: xPos, yPos
-abbrev pub hot_spot : List ℕ
-hot_spot = 0 ∷ 0 ∷ 0 ∷ 0 ∷ []
-
--- width, height
-abbrev pub sides : Bool → List ℕ
-sides wide = (if wide then 16 else 8) ∷ 0 ∷ 8 ∷ 0 ∷ []
-
--- lengthAndMask, lengthXorMask
-abbrev pub mask_length : List ℕ
-mask_length = 16 ∷ 0 ∷ []
-
-abbrev pub xor_length : Bool → List ℕ
-xor_length wide = (if wide then 0x80 else 0xC0) ∷ (if wide then 1 else 0) ∷ []
-
--- the bytes of the colours
-abbrev pub xor_size : Bool → ℕ
-xor_size wide = if wide then 384 else 192
-
--- messageType 6, pad2Octets; cacheIndex; hot spot; sides; lengths
-abbrev pub message_head : Bool → ℕ → List ℕ
-message_head wide index = 6 ∷ 0 ∷ 0 ∷ 0 ∷ (little_bytes 2 index ++ (hot_spot ++ (sides wide ++ (mask_length ++ xor_length wide))))
-
--- xorMaskData and andMaskData behind them
-abbrev pub message_6 : Bool → ℕ → Shape → List ℕ
-message_6 wide index s = message_head wide index ++ (s.xor ++ s.mask)
-
--- messageType 7, pad2Octets; cacheIndex
-abbrev pub message_7 : ℕ → List ℕ
-message_7 index = 7 ∷ 0 ∷ 0 ∷ 0 ∷ little_bytes 2 index
-
-abbrev pub pointer_packet : List ℕ → List ℕ
-pointer_packet message = share_packet pointer_kind message
-
--- ---- read
+use Rattle.frame_rules.specs.Pointers.{Shape}
+use Rattle.frame_rules.specs.Told.{hot_spot, sides, mask_length, xor_length, xor_size}
 
 -- a message: a shape for an entry, or an entry
 pub data Message : Type 0 where

@@ -1,5 +1,5 @@
 -- What is kept of a view: of each shape its outline, which is the blue of its colour and the bits of its top row.
-use Rattle.std.specs.Prelude.{◌≡◌, ℕ, zero, suc, ◌+◌, ◌-◌, ◌*◌, ◌/◌, ◌%◌, ◌==◌, Bool, true, false, List, [], ◌∷◌, map, slice_index, Option, Some, None, Result, Ok, Err, if◌then◌else◌}
+use Rattle.std.specs.Prelude.{◌≡◌, ℕ, zero, suc, ◌+◌, ◌-◌, ◌*◌, ◌/◌, ◌%◌, ◌==◌, Bool, List, [], ◌∷◌, map, slice_index, Option, Some, None, Result, Ok, Err, if◌then◌else◌}
 use Rattle.wire_num.specs.Field.{Read, then_read, map_read, bytes_at, ended}
 use Rattle.wire_num.specs.Number.{little_at}
 use Rattle.wire_num.specs.Caused.{Caused, caused, then_caused, map_caused}
@@ -10,10 +10,12 @@ use Rattle.pointer_share.specs.declared.fault.ViewFault.{ViewFault}
 use Rattle.pointer_share.specs.declared.fault.ViewFault.TheVariants.{BadPointer, NoEntry, OutOfMemory}
 use Rattle.pointer_share.specs.declared.message.Sent.{Sent}
 use Rattle.pointer_share.specs.declared.message.Sent.TheVariants.{Brings, Points}
-use Rattle.pointer_share.specs.Pointers.{Shape}
-use Rattle.pointer_share.specs.Messages.{Message, xor_size, fixed_at, is_entry, is_filled, index_at}
+use Rattle.frame_rules.specs.Pointers.{Shape}
+use Rattle.frame_rules.specs.Told.{xor_size}
+use Rattle.pointer_share.specs.Messages.{Message, fixed_at, is_entry, is_filled, index_at}
 use Rattle.pointer_share.specs.Messages.Message.{Brings as BringsShape, Points as PointsAt}
-use Rattle.pointer_share.specs.Views.{View, opening_view, compression_at, view_fed}
+use Rattle.order_means.specs.PointerPackets.{compression_at}
+use Rattle.pointer_share.specs.Views.{View, opening_view, view_fed}
 
 -- ---- the outline of a shape, whose rows are sent from the bottom up
 

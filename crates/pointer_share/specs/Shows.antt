@@ -1,9 +1,9 @@
 -- That each take shows its pointer, whatever was told before.
 use Rattle.std.specs.Prelude.{◌≡◌, ℕ, Bool, List, [], ◌∷◌, length, Option, Some, None, Result, Ok, Err, ⊤}
 use Rattle.frame_laws.proofs.CacheHeld.{Holds}
-use Rattle.pointer_share.specs.Pointers.{Shape, key_shape}
+use Rattle.frame_rules.specs.Pointers.{Shape, key_shape}
 use Rattle.pointer_share.specs.declared.fault.Cause.{Cause}
-use Rattle.pointer_share.specs.Told.{told_packet, told_after}
+use Rattle.frame_rules.specs.Told.{told_packet, told_after}
 use Rattle.pointer_share.specs.Views.{View, view_fed}
 
 abbrev pub IsLastShown : Bool → List ℕ → Option Shape → Type 0

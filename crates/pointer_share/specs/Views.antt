@@ -1,14 +1,14 @@
 -- What a viewer shows of the messages that it gets.
-use Rattle.std.specs.Prelude.{ℕ, Bool, true, false, List, [], ◌∷◌, ◌++◌, Option, Some, None, Result, Ok, Err}
-use Rattle.wire_num.specs.Field.{Read, place_in, then_read, bytes_at, wanted}
+use Rattle.std.specs.Prelude.{ℕ, Bool, true, false, List, Option, Some, None, Result, Ok, Err}
+use Rattle.wire_num.specs.Field.{Read, place_in}
 use Rattle.wire_num.specs.Caused.{Caused, caused, then_caused, before_caused}
 use Rattle.draw_ops.specs.Slots.{Slots, lookup, filled_slot, empty_slots}
-use Rattle.pointer_share.specs.Pointers.{Shape}
+use Rattle.frame_rules.specs.Pointers.{Shape}
 use Rattle.pointer_share.specs.declared.fault.Cause.{Cause}
 use Rattle.pointer_share.specs.declared.fault.Cause.TheVariants.{Broken}
 use Rattle.pointer_share.specs.Messages.{Message, message_at}
 use Rattle.pointer_share.specs.Messages.Message.{Brings, Points}
-use Rattle.pointer_share.specs.Packets.{pointer_content}
+use Rattle.order_means.specs.PointerPackets.{pointer_content, compression_at}
 
 -- the shapes in the cells of a viewer, and the one that it shows
 pub record View : Type 0 where
@@ -31,10 +31,6 @@ abbrev pub view_after : Bool → View → List ℕ → Result View (Cause × ℕ
 view_after wide v message = view_by v message (message_at wide v.cells message)
 
 -- ---- packets
-
--- compressed type 00, compressed length 2
-abbrev pub compression_at : List ℕ → Read (List ℕ)
-compression_at bs = then_read (wanted (0 ∷ []) bs) (λ type a. bytes_at 2 a)
 
 -- what stands behind the kind of a pointer packet
 abbrev pub message_in : {A : Type 0} → Bool → Slots A → List ℕ → Caused Cause Message

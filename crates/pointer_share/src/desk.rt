@@ -1,9 +1,9 @@
 //! The desk of one viewer's pointer: what the viewer was told of it, and what there is to tell.
 
-ghost use Rattle.std.specs.Prelude.{◌≡◌, ℕ, ◌<◌, List, [], length, true, false, IfOk, IfErr, OnOk, Err};
+ghost use Rattle.std.specs.Prelude.{◌≡◌, ℕ, ◌<◌, List, length, true, false, IfOk, IfErr, OnOk, Err};
 ghost use Rattle.pointer_share.specs.declared.fault.DeskFault.TheVariants.{NoCache, OutOfMemory as no_memory};
-ghost use Rattle.pointer_share.specs.Pointers.{pointer_at, pointer_key};
-ghost use Rattle.pointer_share.specs.Told.{told_packet, told_after, is_last};
+ghost use Rattle.frame_rules.specs.Pointers.{pointer_at, pointer_key};
+ghost use Rattle.frame_rules.specs.Told.{told_packet, told_after, is_last};
 ghost use Rattle.pointer_share.specs.Desk.{HasTold, IsNew, packet_bytes, IsKey};
 
 use crate::fault::DeskFault;
@@ -86,7 +86,7 @@ impl PointerDesk {
 }
 
 /// A desk of so many cells.
-fn made(alloc: Global, cells: u16, wide: bool) -> Result<PointerDesk, DeskFault>
+pub(crate) fn made(alloc: Global, cells: u16, wide: bool) -> Result<PointerDesk, DeskFault>
     ensures made { IfOk result (IsNew wide cells) }
     ensures no_cache { cells ≡ 0 → result ≡ Err NoCache }
     ensures memory { 0 < cells → IfErr result (λ fault. fault ≡ no_memory) }

@@ -4,16 +4,17 @@
 
 mod desk;
 mod fault;
-mod headers;
 mod laws;
 mod message;
 mod outline;
 mod packet;
 mod shape;
 mod view;
+mod viewers;
 
 pub use desk::PointerDesk;
 pub use fault::{DeskFault, ViewFault};
-pub use laws::{each_take_shows_its_pointer, pointer_packets_are_told_by_their_headers};
+pub use laws::each_take_shows_its_pointer;
 pub use view::PointerView;
+pub use viewers::{desk_for, note, pointed, told_bytes};
 pub use wire_num::OutOfMemory;

@@ -6,11 +6,12 @@
 //! | 1 | 2 | generalCompressedLength | |
 //! | 3 | | the message, as `packet` has it | to the end of the total |
 
-ghost use Rattle.std.specs.Prelude.{◌≡◌, [], if◌then◌else◌};
+ghost use Rattle.std.specs.Prelude.{◌≡◌, []};
 ghost use Rattle.draw_ops.specs.Slots.{lookup};
 ghost use Rattle.wire_num.specs.Cursor.{ReadsFields, ReadsFieldsAs, ReadsCaused};
-ghost use Rattle.pointer_share.specs.Messages.{sides, xor_length, xor_size, fixed_at, is_entry, is_filled, index_at};
-ghost use Rattle.pointer_share.specs.Views.{compression_at};
+ghost use Rattle.frame_rules.specs.Told.{sides, xor_length, xor_size};
+ghost use Rattle.pointer_share.specs.Messages.{fixed_at, is_entry, is_filled, index_at};
+ghost use Rattle.order_means.specs.PointerPackets.{compression_at};
 ghost use Rattle.pointer_share.specs.Outlines.{shape_at, outline_at, sent_brought, sent_behind, sent_at, sent_in};
 
 use crate::fault::Cause;

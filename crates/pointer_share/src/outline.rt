@@ -1,7 +1,7 @@
 //! What is seen of a pointer's shape: the blue of its colour, and its top row.
 
 ghost use Rattle.std.specs.Prelude.{◌≡◌, ◌<◌, ◌/◌, ◌%◌, ◌==◌, length};
-ghost use Rattle.pointer_share.specs.Messages.{xor_size};
+ghost use Rattle.frame_rules.specs.Told.{xor_size};
 ghost use Rattle.pointer_share.specs.Outlines.{pixels, bit_of, mask_place, blue_place, is_set, first_blue, outline};
 
 /// The pixels of a shape of 8 and of 16 columns.

@@ -17,11 +17,10 @@
 //! | 0 | 4 | messageType, pad2Octets | `07 00 00 00` |
 //! | 4 | 2 | cacheIndex | the lowest byte first |
 
-ghost use Rattle.std.specs.Prelude.{◌≡◌, ◌≤◌, ◌<◌, ◌/◌, ◌%◌, ◌∷◌, ◌++◌, [], if◌then◌else◌, IfOk};
-ghost use Rattle.byteorder.specs.Endian.{little_bytes};
-ghost use Rattle.pointer_share.specs.Pointers.{key_shape};
-ghost use Rattle.pointer_share.specs.Messages.{message_6, message_7, pointer_packet, sides, xor_length, message_head};
-ghost use Rattle.pointer_share.specs.Told.{message_by_use};
+ghost use Rattle.std.specs.Prelude.{◌≡◌, ◌≤◌, ◌<◌, ◌/◌, ◌%◌, if◌then◌else◌, IfOk};
+ghost use Rattle.frame_rules.specs.Pointers.{key_shape};
+ghost use Rattle.order_means.specs.PointerPackets.{pointer_packet};
+ghost use Rattle.frame_rules.specs.Told.{message_6, message_7, message_head, message_by_use};
 
 use crate::shape::{color_of, mask_of, put_colors, rows_of};
 use cache_plan::Use;
@@ -30,7 +29,7 @@ use std::alloc::Global;
 use wire_num::OutOfMemory;
 
 /// The pduType2 of a Pointer PDU.
-const PDUTYPE2_POINTER: u8 = 0x1B;
+pub(crate) const PDUTYPE2_POINTER: u8 = 0x1B;
 
 /// The bytes of message 7, and of message 6 for shapes of 8 and of 16 columns.
 const POINT_SIZE: u16 = 6;

@@ -2,7 +2,7 @@
 
 ghost use Rattle.std.specs.Prelude.{◌≡◌, ◌≤◌, ◌<◌, ◌++◌, ◌+◌, ◌*◌, ◌/◌, ◌%◌, ◌∷◌, [], if◌then◌else◌, OnOk};
 ghost use Rattle.byteorder.specs.Endian.{little_bytes};
-ghost use Rattle.pointer_share.specs.Pointers.{rows_of, pointer_color, part_of, row_colors, wide_colors, wide_mask, joined, colors_up, masks_up};
+ghost use Rattle.frame_rules.specs.Pointers.{rows_of, pointer_color, part_of, row_colors, wide_colors, colors_up, masks_up};
 ghost use Rattle.pointer_share.specs.Parts.{parts_of, rows_in};
 
 use wire_num::OutOfMemory;

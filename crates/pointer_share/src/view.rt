@@ -2,14 +2,15 @@
 
 ghost use Rattle.std.specs.Prelude.{◌≡◌, true, false, IfOk, OnErr};
 ghost use Rattle.draw_ops.specs.Slots.{empty_slots, filled_slot};
-ghost use Rattle.pointer_share.specs.Views.{View, opening_view};
+ghost use Rattle.pointer_share.specs.Views.{View};
 ghost use Rattle.pointer_share.specs.Outlines.{HasView, kept_after, outlined, Feeds, IsNewView};
 
 use crate::fault::{Cause, ViewFault};
-use crate::headers::find_content;
 use crate::message::{Sent, held, read_sent};
+use crate::packet::PDUTYPE2_POINTER;
 use std::alloc::Global;
 use std::marker::Model;
+use update_read::find_content;
 use wire_num::OutOfMemory;
 
 /// What a viewer with a pointer cache makes of its packets. Of each shape its outline is kept.
@@ -50,7 +51,7 @@ impl PointerView {
         ensures wide { self.new.wide ≡ self.old.wide }
         ensures unchanged { OnErr result (self.new ≡ self.old) }
     {
-        let mut content = match find_content(packet) {
+        let mut content = match find_content(PDUTYPE2_POINTER, packet) {
             Ok(content) => content,
             Err(_) => return Ok(false),
         };

@@ -1,15 +1,18 @@
--- The body of an update within the total of its share data PDU.
-use Rattle.std.proofs.Common.{◌≡◌, ◌≤◌, ◌+◌, ◌-◌, ℕ, zero, suc, List, [], ◌∷◌, ◌++◌, length, take, drop, refl, ap, sym, ◌∙◌, arith, true}
+-- What stands within the total of a share data PDU: the body of an update, and what stands behind a kind.
+use Rattle.std.proofs.Common.{◌≡◌, ◌≤◌, ◌+◌, ◌-◌, ℕ, zero, suc, List, [], ◌∷◌, ◌++◌, length, take, drop, refl, ap, sym, ◌∙◌, arith, true, false}
 use Rattle.std.specs.Prelude.{Ok, Err, nat_le, ◌&&◌}
-use Rattle.std.proofs.lemmas.Bool.Decides.{nat_tests}
 use Rattle.std.proofs.lemmas.List.{length-take-le, drop-take, length-drop}
 use Rattle.wire_num.specs.Field.{Read, then_read, map_read, kept, taken, bytes_at}
 use Rattle.wire_num.specs.Number.{little_at}
 use Rattle.wire_num.specs.FieldValue.{as_one_field}
 use Rattle.wire_num.specs.Cursor.{CursorOf, rest}
 use Rattle.wire_num.proofs.Content.{rest_of_content}
-use Rattle.share_pdu.specs.Share.{share_at, headers_at, body_within}
-use Rattle.update_read.specs.PacketParts.{IsBody}
+use Rattle.share_pdu.specs.Share.{Within, share_at, headers_at, body_within}
+use Rattle.order_means.specs.PointerPackets.{kind_at, content_by, content_at}
+use Rattle.update_read.specs.PacketParts.{total_at, IsPart, IsBody}
+use Rattle.update_read.proofs.Headers.{share_behind_total, content_behind_total}
+
+-- ---- the total
 
 one_map : (whole : List ℕ) (f : List ℕ → List ℕ) (r : Read (List ℕ)) → as_one_field whole (map_read f r) ≡ map_read f (as_one_field whole r)
 one_map whole f (Ok v) = refl
@@ -21,79 +24,80 @@ taken_as u w zero bs = refl
 taken_as u w (suc n) [] = refl
 taken_as u w (suc n) (b ∷ bs) = one_map u (λ xs. b ∷ xs) (taken w n bs) ∙ ap (map_read (λ xs. b ∷ xs)) (taken_as u w n bs)
 
--- a total that fits, and what stands within it
-pub record IsContent (total : ℕ) (old mid new content : CursorOf) : Type 0 where
-  pub count : little_at 2 (rest old) ≡ Ok (total, rest mid)
-  pub same : mid.bytes ≡ old.bytes
-  pub enough : 6 ≤ total
-  pub room : total ≤ length (rest old)
-  pub part : bytes_at (total - 2) (rest mid) ≡ Ok (rest content, rest new)
-  pub fits : mid.at + (total - 2) ≤ length mid.bytes
-  pub behind : new ≡ record { bytes = mid.bytes; at = mid.at + (total - 2) }
-  pub offsets : content ≡ record { bytes = take (mid.at + (total - 2)) mid.bytes; at = mid.at }
+abbrev by_total : List ℕ → Read ℕ → Read (List ℕ)
+by_total bs r = then_read r (λ total a. kept (nat_le 6 total && nat_le total (length bs)) (taken bs (total - 2) a) bs)
 
-share_from : (total : ℕ) (bs a : List ℕ) (r : Read (List ℕ)) → little_at 2 bs ≡ Ok (total, a) → 6 ≤ total → total ≤ length bs → bytes_at (total - 2) a ≡ r →
-    share_at bs ≡ then_read (as_one_field bs r) (λ inside after. body_within (headers_at inside) after)
-share_from total bs a r e enough room f =
-    let test : (nat_le 6 total && nat_le total (length bs)) ≡ true = grind (arith, nat_tests) in
-    ap (λ r. then_read r (λ total a. then_read (kept (nat_le 6 total && nat_le total (length bs)) (taken bs (total - 2) a) bs) (λ inside after. body_within (headers_at inside) after))) e
-    ∙ ap (λ b. then_read (kept b (taken bs (total - 2) a) bs) (λ inside after. body_within (headers_at inside) after)) test
-    ∙ ap (λ r. then_read r (λ inside after. body_within (headers_at inside) after)) (sym (taken_as bs a (total - 2) a) ∙ ap (as_one_field bs) f)
+pub total_refused : (total : ℕ) (bs a : List ℕ) → little_at 2 bs ≡ Ok (total, a) → (nat_le 6 total && nat_le total (length bs)) ≡ false → total_at bs ≡ Err bs
+total_refused total bs a e unfit = ap (by_total bs) e ∙ ap (λ b. kept b (taken bs (total - 2) a) bs) unfit
 
-pub share_missing : (total : ℕ) (bs a left : List ℕ) → little_at 2 bs ≡ Ok (total, a) → 6 ≤ total → total ≤ length bs → bytes_at (total - 2) a ≡ Err left → share_at bs ≡ Err bs
-share_missing total bs a left e enough room f = share_from total bs a (Err left) e enough room f
+pub total_from : (total : ℕ) (bs a : List ℕ) (r : Read (List ℕ)) → little_at 2 bs ≡ Ok (total, a) → (nat_le 6 total && nat_le total (length bs)) ≡ true → bytes_at (total - 2) a ≡ r → total_at bs ≡ as_one_field bs r
+total_from total bs a r e fit f =
+    ap (by_total bs) e ∙ ap (λ b. kept b (taken bs (total - 2) a) bs) fit ∙ sym (taken_as bs a (total - 2) a) ∙ ap (as_one_field bs) f
 
-content_bytes : (total : ℕ) (old mid new content inner : CursorOf) → IsContent total old mid new content → inner.bytes ≡ content.bytes → inner.bytes ≡ take (mid.at + (total - 2)) mid.bytes
-content_bytes total old mid new content inner is same = same ∙ ap (λ (c : CursorOf). c.bytes) is.offsets
+-- a cursor that went back
+pub went_back : (first : ℕ) (old mid new : CursorOf) → new ≡ record { bytes = mid.bytes; at = first } → mid.bytes ≡ old.bytes → first ≡ old.at → new ≡ old
+went_back first old mid new e bytes at = e ∙ ap (λ (bs : List ℕ). record { bytes = bs; at = first }) bytes ∙ ap (λ (n : ℕ). record { bytes = old.bytes; at = n }) at
 
-few : (total : ℕ) (old mid new content inner : CursorOf) → IsContent total old mid new content → inner.bytes ≡ content.bytes → inner.at ≤ length inner.bytes → inner.at ≤ mid.at + (total - 2)
-few total old mid new content inner is same within =
-    let size = length-take-le (mid.at + (total - 2)) mid.bytes is.fits in
-    let long : length inner.bytes ≡ length (take (mid.at + (total - 2)) mid.bytes) = ap length (content_bytes total old mid new content inner is same) in
+-- ---- within it
+
+-- a total was read, and this stands within it
+pub record IsTotal (content old new : CursorOf) : Type 0 where
+  pub total : total_at (rest old) ≡ Ok (rest content, rest new)
+  pub same : new.bytes ≡ old.bytes
+  pub part : IsPart content old new
+
+few : (old new content inner : CursorOf) → IsTotal content old new → inner.bytes ≡ content.bytes → inner.at ≤ length inner.bytes → inner.at ≤ new.at
+few old new content inner is same within =
+    let size = length-take-le new.at old.bytes is.part.inside in
+    let long : length inner.bytes ≡ length (take new.at old.bytes) = ap length (same ∙ is.part.bytes) in
     omega (arith, size, long, within)
 
-pub rest_is : (total : ℕ) (old mid new content inner : CursorOf) → IsContent total old mid new content → inner.bytes ≡ content.bytes → inner.at ≤ length inner.bytes → rest inner ++ rest new ≡ drop inner.at old.bytes
-rest_is total old mid new content inner is same within =
-    let end : ℕ = mid.at + (total - 2) in
-    ap (λ (bs : List ℕ). drop inner.at bs ++ rest new) (content_bytes total old mid new content inner is same) ∙ ap (λ (c : CursorOf). drop inner.at (take end mid.bytes) ++ rest c) is.behind
-    ∙ rest_of_content inner.at end mid.bytes (few total old mid new content inner is same within) is.fits ∙ ap (drop inner.at) is.same
+rest_is : (old new content inner : CursorOf) → IsTotal content old new → inner.bytes ≡ content.bytes → inner.at ≤ length inner.bytes → rest inner ++ rest new ≡ drop inner.at old.bytes
+rest_is old new content inner is same within =
+    ap (λ (bs : List ℕ). drop inner.at bs ++ rest new) (same ∙ is.part.bytes) ∙ ap (λ (bs : List ℕ). drop inner.at (take new.at old.bytes) ++ drop new.at bs) is.same
+    ∙ rest_of_content inner.at new.at old.bytes (few old new content inner is same within) is.part.inside
 
-pub within_whole : (total : ℕ) (old mid new content inner : CursorOf) → IsContent total old mid new content → inner.bytes ≡ content.bytes → inner.at ≤ length inner.bytes → inner.at ≤ length new.bytes
-within_whole total old mid new content inner is same within =
-    let low = few total old mid new content inner is same within in
-    let fits = is.fits in
-    let whole : length new.bytes ≡ length mid.bytes = ap (λ (c : CursorOf). length c.bytes) is.behind in
-    omega (arith, low, fits, whole)
+-- ---- an update's body
+
+abbrev body_by : Read (List ℕ) → Read Within
+body_by r = then_read r (λ inside after. body_within (headers_at inside) after)
 
 -- a header is refused in the cursor's slice
-pub headers_refused : (total : ℕ) (old mid new content inner : CursorOf) → IsContent total old mid new content → inner.bytes ≡ content.bytes → inner.at ≤ length inner.bytes → headers_at (rest content) ≡ Err (rest inner)
+pub headers_refused : (old new content inner : CursorOf) → IsTotal content old new → inner.bytes ≡ content.bytes → inner.at ≤ length inner.bytes → headers_at (rest content) ≡ Err (rest inner)
     → share_at (rest old) ≡ Err (drop inner.at old.bytes)
-headers_refused total old mid new content inner is same within e =
-    share_from total (rest old) (rest mid) (Ok (rest content, rest new)) is.count is.enough is.room is.part
-    ∙ ap (λ r. body_within r (rest new)) e ∙ ap (λ (bs : List ℕ). Err bs) (rest_is total old mid new content inner is same within)
+headers_refused old new content inner is same within e =
+    share_behind_total (rest old) ∙ ap body_by is.total ∙ ap (λ r. body_within r (rest new)) e ∙ ap (λ (bs : List ℕ). Err bs) (rest_is old new content inner is same within)
 
 -- the body is what is left
-pub body_read : (total from to : ℕ) (field : List ℕ) (old mid new content inner : CursorOf) → IsContent total old mid new content → inner.bytes ≡ content.bytes → inner.at ≤ length inner.bytes
+pub body_read : (from to : ℕ) (field : List ℕ) (old new content inner : CursorOf) → IsTotal content old new → inner.bytes ≡ content.bytes → inner.at ≤ length inner.bytes
     → headers_at (rest content) ≡ Ok (field, rest inner) → from ≡ inner.at → to ≡ new.at → IsBody share_at (record { from = from; to = to }) old new
-body_read total from to field old mid new content inner is same within e first last =
-    let end : ℕ = mid.at + (total - 2) in
-    let low = few total old mid new content inner is same within in
-    let end_is : new.at ≡ end = ap (λ (c : CursorOf). c.at) is.behind in
-    let all = rest_is total old mid new content inner is same within in
+body_read from to field old new content inner is same within e first last =
+    let low = few old new content inner is same within in
+    let all = rest_is old new content inner is same within in
     let size = length-drop inner.at old.bytes in
-    let m : ℕ = end - inner.at in
-    let sum : inner.at + m ≡ end = omega (arith, low) in
-    let count : to - from ≡ m = omega (arith, first, last, end_is) in
-    let bytes : rest inner ≡ take m (drop inner.at mid.bytes) = ap (drop inner.at) (content_bytes total old mid new content inner is same) ∙ ap (λ (n : ℕ). drop inner.at (take n mid.bytes)) (sym sum) ∙ drop-take inner.at m mid.bytes in
-    let fits = is.fits in
-    let whole : length mid.bytes ≡ length old.bytes = ap length is.same in
+    let m : ℕ = new.at - inner.at in
+    let sum : inner.at + m ≡ new.at = omega (arith, low) in
+    let count : to - from ≡ m = omega (arith, first, last) in
+    let bytes : rest inner ≡ take m (drop inner.at old.bytes) = ap (drop inner.at) (same ∙ is.part.bytes) ∙ ap (λ (n : ℕ). drop inner.at (take n old.bytes)) (sym sum) ∙ drop-take inner.at m old.bytes in
+    let fits = is.part.inside in
     record {
       within = record { bytes = rest inner; behind = length (rest inner ++ rest new) };
       after = rest new;
-      stands = share_from total (rest old) (rest mid) (Ok (rest content, rest new)) is.count is.enough is.room is.part ∙ ap (λ r. body_within r (rest new)) e;
-      bytes = bytes ∙ ap (λ (bs : List ℕ). take m (drop inner.at bs)) is.same ∙ ap (λ (n : ℕ). take n (drop inner.at old.bytes)) (sym count) ∙ ap (λ (n : ℕ). take (to - from) (drop n old.bytes)) (sym first);
-      behind = let long : length (rest inner ++ rest new) ≡ length (drop inner.at old.bytes) = ap length all in omega (arith, long, size, first, low, fits, whole);
-      ordered = omega (arith, first, last, end_is, low);
-      inside = omega (arith, last, end_is, fits, whole);
-      same = ap (λ (c : CursorOf). c.bytes) is.behind ∙ is.same;
+      stands = share_behind_total (rest old) ∙ ap body_by is.total ∙ ap (λ r. body_within r (rest new)) e;
+      bytes = bytes ∙ ap (λ (n : ℕ). take n (drop inner.at old.bytes)) (sym count) ∙ ap (λ (n : ℕ). take (to - from) (drop n old.bytes)) (sym first);
+      behind = let long : length (rest inner ++ rest new) ≡ length (drop inner.at old.bytes) = ap length all in omega (arith, long, size, first, low, fits);
+      ordered = omega (arith, first, last, low);
+      inside = omega (arith, last, fits);
+      same = is.same;
     }
+
+-- ---- behind a kind
+
+abbrev kind_by : ℕ → Read (List ℕ) → Read (List ℕ)
+kind_by kind r = then_read r (λ inside after. content_by (kind_at kind inside) after)
+
+pub content_refused : (kind : ℕ) (bs left : List ℕ) → total_at bs ≡ Err left → content_at kind bs ≡ Err left
+content_refused kind bs left e = content_behind_total kind bs ∙ ap (kind_by kind) e
+
+pub kind_refused : (kind : ℕ) (left : List ℕ) (old new content : CursorOf) → IsTotal content old new → kind_at kind (rest content) ≡ Err left → content_at kind (rest old) ≡ Err (left ++ rest new)
+kind_refused kind left old new content is e = content_behind_total kind (rest old) ∙ ap (kind_by kind) is.total ∙ ap (λ r. content_by r (rest new)) e

@@ -6,3 +6,5 @@ pub mod FastJudged
 pub mod Found
 pub mod Pushed
 pub mod Taken
+pub mod KindFound
+pub mod Sieved

@@ -3,3 +3,4 @@ pub mod Told
 pub mod PacketParts
 pub mod Forms
 pub mod Cutters
+pub mod Sieves

@@ -21,15 +21,15 @@ use crate::state::{Found, State};
 use wire_num::Cursor;
 
 /// The version of a packet, its first byte.
-const VERSION: u8 = 3;
+pub(crate) const VERSION: u8 = 3;
 
 /// The first byte of a packet of the fast path.
-const FAST: u8 = 0;
+pub(crate) const FAST: u8 = 0;
 
 /// The bytes of a packet's header, and the least length that is read.
-const HEADER_SIZE: usize = 4;
+pub(crate) const HEADER_SIZE: usize = 4;
 
-const LEAST_LENGTH: usize = 7;
+pub(crate) const LEAST_LENGTH: usize = 7;
 
 /// The offset of the length, and of that of the fast path.
 const LENGTH_OFFSET: u64 = 2;
@@ -37,7 +37,7 @@ const LENGTH_OFFSET: u64 = 2;
 const FAST_LENGTH_OFFSET: u64 = 1;
 
 /// The number of two bytes, the highest first.
-fn length_of(high: u8, low: u8) -> usize
+pub(crate) fn length_of(high: u8, low: u8) -> usize
     ensures value { result ≡ 256 * high + low }
     ensures most { result ≤ 65535 }
 {

@@ -1,4 +1,4 @@
-//! A packet of an update: X.224 data with a Send Data Indication on channel 1003.
+//! A packet up to its share data PDU: X.224 data with a Send Data Indication on channel 1003.
 //!
 //! | offset | size | field | value |
 //! |---|---|---|---|
@@ -12,8 +12,9 @@
 
 ghost use Rattle.std.specs.Prelude.{◌≡◌, []};
 ghost use Rattle.wire_num.specs.Cursor.{ReadsFieldsAs};
-ghost use Rattle.share_pdu.specs.Packet.{counted_share, indication_at};
-ghost use Rattle.update_read.specs.PacketParts.{ReadsBody, mcs_at};
+ghost use Rattle.share_pdu.specs.Packet.{indication_at};
+ghost use Rattle.order_means.specs.PointerPackets.{mcs_at};
+ghost use Rattle.update_read.specs.PacketParts.{ReadsBody, count_at, front_at};
 
 use crate::share::read_share;
 use wire_num::{Cursor, Range, Short};
@@ -39,21 +40,30 @@ fn read_mcs(cursor: &mut Cursor<'_>) -> Result<(), Short>
     cursor.expect(&PRIORITY)
 }
 
-/// Reads user data that the length before it counts.
-fn read_counted(cursor: &mut Cursor<'_>, count: u16) -> Result<Range, Short>
-    ensures { ReadsBody (counted_share count) result cursor.old cursor.new }
+/// Reads the length, which counts all that is left.
+fn read_count(cursor: &mut Cursor<'_>) -> Result<(), Short>
+    ensures { ReadsFieldsAs (λ _. []) count_at result cursor.old cursor.new }
 {
+    let count = cursor.per_len()?;
     if cursor.left() != usize::from(count) {
         return Err(Short { at: cursor.at() });
     }
-    read_share(cursor)
+    Ok(())
+}
+
+/// Reads a packet behind its four header bytes, up to the share data PDU.
+pub fn read_front(cursor: &mut Cursor<'_>) -> Result<(), Short>
+    ensures { ReadsFieldsAs (λ _. []) front_at result cursor.old cursor.new }
+{
+    read_mcs(cursor)?;
+    read_count(cursor)
 }
 
 /// Reads a packet behind its four header bytes, and gives the part of the slice that is the update's body.
+#[tactic(auto, using(crate::proofs::Headers::behind_front))]
 pub fn read_indication(cursor: &mut Cursor<'_>) -> Result<Range, Short>
     ensures { ReadsBody indication_at result cursor.old cursor.new }
 {
-    read_mcs(cursor)?;
-    let count = cursor.per_len()?;
-    read_counted(cursor, count)
+    read_front(cursor)?;
+    read_share(cursor)
 }

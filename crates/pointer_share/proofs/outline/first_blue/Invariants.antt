@@ -1,5 +1,5 @@
 use Rattle.std.proofs.Common.{◌≡◌, ◌-◌}
-use Rattle.pointer_share.specs.Outlines.{pixels, first_blue}
+use Rattle.pointer_share.specs.Outlines.{first_blue}
 use Rattle.pointer_share.proofs.outline.first_blue.Given as goal
 
 -- the first of the pixels that are left is the first of all

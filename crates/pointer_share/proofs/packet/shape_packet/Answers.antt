@@ -1,6 +1,6 @@
 use Rattle.std.proofs.Common.{◌∙◌, ◌++◌, ◌/◌, ap}
 use Rattle.byteorder.specs.Endian.{little_bytes}
-use Rattle.pointer_share.specs.Pointers.{pointer_color, colors_up, masks_up}
+use Rattle.frame_rules.specs.Pointers.{pointer_color, colors_up, masks_up}
 use Rattle.pointer_share.specs.Parts.{rows_in}
 use Rattle.pointer_share.proofs.Written.{shape_whole}
 use Rattle.pointer_share.proofs.packet.shape_packet.Goals as goal

@@ -1,6 +1,6 @@
 use Rattle.std.proofs.Common.{◌∙◌, ◌++◌, [], ap, sym, append_assoc, append-nil}
 use Rattle.std.specs.Prelude.{if◌then◌else◌, replicate}
-use Rattle.pointer_share.specs.Pointers.{row_colors}
+use Rattle.frame_rules.specs.Pointers.{row_colors}
 use Rattle.pointer_share.specs.Parts.{parts_of}
 use Rattle.pointer_share.proofs.shape.put_row.Goals as goal
 

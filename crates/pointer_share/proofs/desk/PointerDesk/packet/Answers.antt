@@ -1,6 +1,6 @@
 use Rattle.std.proofs.Common.{◌≡◌, ◌∙◌, Some, ap, sym, subst}
 use Rattle.cache_plan.specs.Answers.{use_of}
-use Rattle.pointer_share.specs.Told.{told_packet}
+use Rattle.frame_rules.specs.Told.{told_packet}
 use Rattle.pointer_share.specs.Desk.{DeskOf, HasTold}
 use Rattle.pointer_share.proofs.Noted.{told_is}
 use Rattle.pointer_share.proofs.desk.PointerDesk.packet.Goals as goal

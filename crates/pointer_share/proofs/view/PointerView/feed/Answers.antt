@@ -1,4 +1,4 @@
-use Rattle.std.proofs.Common.{◌≡◌, ◌∙◌, ℕ, List, drop, ap, sym, subst, Ok, Err}
+use Rattle.std.proofs.Common.{◌≡◌, ◌∙◌, ℕ, drop, ap, sym, subst, Ok, Err}
 use Rattle.wire_num.specs.Cursor.{rest}
 use Rattle.draw_ops.specs.Slots.{Slots}
 use Rattle.pointer_share.specs.declared.fault.Cause.TheVariants.{Broken, Missing}

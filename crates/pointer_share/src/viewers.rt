@@ -1,0 +1,59 @@
+//! The desks of viewers with a pointer cache and of those without, which have none and are told nothing.
+
+ghost use Rattle.std.specs.Prelude.{◌≡◌, ℕ, List, [], ◌++◌, length, IfOk, OnOk};
+ghost use Rattle.frame_rules.specs.Told.{told_after, key_at, pointer_bytes};
+ghost use Rattle.pointer_share.specs.Desk.{IsDeskOf, IsNoted, noted_with, bytes_of};
+
+use crate::desk::{PointerDesk, made};
+use crate::fault::DeskFault;
+use caps_sets::Confirmed;
+use session_core::Session;
+use std::alloc::Global;
+use wire_num::OutOfMemory;
+
+/// The desk of a viewer that confirmed this and was told nothing; none where it has no pointer cells.
+pub fn desk_for(alloc: Global, confirmed: &Confirmed) -> Result<Option<PointerDesk>, OutOfMemory>
+    ensures { IfOk result (λ desk. IsDeskOf confirmed.now [] desk) }
+{
+    match made(alloc, confirmed.pointer_cells(), confirmed.cautious) {
+        Ok(desk) => Ok(Some(desk)),
+        Err(DeskFault::NoCache) => Ok(None),
+        Err(DeskFault::OutOfMemory) => Err(OutOfMemory),
+    }
+}
+
+/// Notes the pointer of a session's whole journal, where there is a desk. It takes no memory.
+pub fn note(desk: &mut Option<PointerDesk>, session: &Session)
+    ensures { desk.new ≡ noted_with (key_at session.now.head.size session.now.journal (length session.now.journal)) desk.old }
+{
+    if let Some(desk) = desk {
+        desk.note(session);
+    }
+}
+
+/// The packet that goes before a frame: it tells the viewer the pointer that was noted, where that isn't the one last told. After an `Err`
+/// nothing is said of the desk.
+pub fn told_bytes(desk: &mut Option<PointerDesk>) -> Result<Option<Vec<u8>>, OutOfMemory>
+    ensures told { (c : Confirmed) (told : List ℕ) (key : ℕ) → IsDeskOf c told desk.old → IsNoted desk.old key → IfOk result (λ packet. bytes_of packet ≡ pointer_bytes c told key) }
+    ensures after { OnOk result ((c : Confirmed) (told : List ℕ) (key : ℕ) → IsDeskOf c told desk.old → IsNoted desk.old key → IsDeskOf c (told_after told key) desk.new) }
+{
+    match desk {
+        None => Ok(None),
+        Some(desk) => desk.packet(),
+    }
+}
+
+/// A frame behind the packet that goes before it, in bytes. Where none goes before it the frame itself is given back. After an `Err`
+/// nothing is said of the desk.
+pub fn pointed(desk: &mut Option<PointerDesk>, frame: Vec<u8>) -> Result<Vec<u8>, OutOfMemory>
+    ensures told { (c : Confirmed) (told : List ℕ) (key : ℕ) → IsDeskOf c told desk.old → IsNoted desk.old key → IfOk result (λ bytes. bytes.items ≡ pointer_bytes c told key ++ frame.items) }
+    ensures after { OnOk result ((c : Confirmed) (told : List ℕ) (key : ℕ) → IsDeskOf c told desk.old → IsNoted desk.old key → IsDeskOf c (told_after told key) desk.new) }
+{
+    match told_bytes(desk)? {
+        None => Ok(frame),
+        Some(mut packet) => {
+            packet.extend_from_slice(&frame)?;
+            Ok(packet)
+        }
+    }
+}
