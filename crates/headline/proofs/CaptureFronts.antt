@@ -11,16 +11,17 @@ use Rattle.session_rules.specs.declared.entry.Entry.{Entry}
 use Rattle.session_rules.specs.Journal.{picture_after_entries}
 use Rattle.session_rules.specs.Steps.{journal_of_steps, frame_numbers}
 use Rattle.order_means.specs.FrameMarks.{pictures_at_marks}
+use Rattle.order_means.specs.Packets.{without_pointers}
 use Rattle.script_rules.specs.Script.{Script, Opening, opening_of}
 use Rattle.script_rules.specs.Script.Opening.{NoSize, Unended, Opened}
-use Rattle.script_rules.specs.Capture.{viewer_bytes}
+use Rattle.script_rules.specs.Capture.{written_bytes}
 use Rattle.script_rules.specs.CaptureText.{capture_of, encoder_frames}
 use Rattle.headline.specs.Headline.{known_picture, pictures_after, steps_of, confirmed_in, IfOpened, SeesJournal, EveryViewerOfScript}
 use Rattle.headline.specs.Headline.{EveryViewerOfOpening}
 use Rattle.headline.specs.Sent.{EveryViewerIsSentTheJournal}
 use Rattle.headline.specs.Fronts.{IsFront, SeesFirstOfJournal, EveryViewerOfFront, EveryViewerOfOpeningFront}
 use Rattle.headline.proofs.CapturesOfScripts.{captures_show}
-use Rattle.headline.proofs.StreamFronts.{marks_front}
+use Rattle.headline.proofs.PointerFronts.{fronts_without}
 use Rattle.headline.proofs.TextFronts.{bytes_in_front}
 
 -- the first pictures are those after the first numbers
@@ -31,13 +32,13 @@ first_pictures depth size j numbers shown h =
     sym (take-map (λ n. known_picture depth (picture_after_entries size j n)) (length shown) numbers) ∙ ap (take (length shown)) h.joined
     ∙ take-append_seam shown h.rest
 
--- a front of bytes that show a journal
-pub front_sees : (size : Size) (confirmed : Confirmed) (j : List Entry) (numbers bytes front : List ℕ) → SeesJournal size confirmed j numbers bytes
-    → IsFront front bytes
-    → SeesFirstOfJournal size confirmed j numbers front
-front_sees size confirmed j numbers bytes front sees h =
-    let marks = ap (pictures_at_marks confirmed size) (sym h.joined) ∙ sees.marks_show_journal in
-    let first = marks_front confirmed size front h.rest (pictures_after (depth_of confirmed) size j numbers) marks in
+-- a front of bytes that show a journal without the packets of pointers
+pub front_sees : (size : Size) (confirmed : Confirmed) (j : List Entry) (numbers written front : List ℕ)
+    → SeesJournal size confirmed j numbers (without_pointers written) → IsFront front written
+    → SeesFirstOfJournal size confirmed j numbers (without_pointers front)
+front_sees size confirmed j numbers written front sees h =
+    let marks = ap (λ bytes. pictures_at_marks confirmed size (without_pointers bytes)) (sym h.joined) ∙ sees.marks_show_journal in
+    let first = fronts_without confirmed size front h.rest (pictures_after (depth_of confirmed) size j numbers) marks in
     record {
       seen = take (length first.shown) numbers;
       are_first = record { rest = drop (length first.shown) numbers; joined = sym (take-append-drop (length first.shown) numbers) };
@@ -47,8 +48,8 @@ front_sees size confirmed j numbers bytes front sees h =
 script_front_sees : (s : Script) (capture front rest : List ℕ) → EveryViewerOfScript s capture → capture ≡ front ++ rest → EveryViewerOfFront s front
 script_front_sees s capture front rest sees e v =
     front_sees s.head.size (confirmed_in s.head s.asked v) (journal_of_steps s.head (steps_of s.asked)) (frame_numbers s.head (steps_of s.asked) v)
-    (viewer_bytes v capture) (viewer_bytes v front) (sees.viewers v)
-    (subst (λ text. IsFront (viewer_bytes v front) (viewer_bytes v text)) (sym e) (bytes_in_front v front rest))
+    (written_bytes v capture) (written_bytes v front) (sees.viewers v)
+    (subst (λ text. IsFront (written_bytes v front) (written_bytes v text)) (sym e) (bytes_in_front v front rest))
 
 opening_front_sees : (o : Opening) (capture front rest : List ℕ) → EveryViewerOfOpening o capture → capture ≡ front ++ rest → EveryViewerOfOpeningFront o front
 opening_front_sees NoSize capture front rest sees e = tt

@@ -17,7 +17,9 @@ use Rattle.script_rules.specs.Script.LineForm.{InviteForm, JoinForm, StepForm}
 use Rattle.script_rules.specs.Script.LineOutcome.{Breaks, Invites, Asks}
 use Rattle.script_rules.specs.Script.Opening.{NoSize, Unended, Opened}
 use Rattle.script_rules.specs.CaptureText.{capture_of_opening, capture_of_script, encoder_frames}
+use Rattle.order_means.specs.Packets.{without_pointers}
 use Rattle.headline.specs.Headline.{IfOpened, SeesJournal, confirmed_in, steps_of, EveryViewerOfScript, EveryViewerOfOpening}
+use Rattle.headline.specs.Pointed.{SeesPointers}
 use Rattle.script_rules.proofs.FormsOfViewers.{IsStepOf, IsFormOfItsViewer, line_form_is}
 use Rattle.headline.proofs.StepsOfScripts.{HasPremises, scripts_have}
 use Rattle.headline.specs.Sent.{PresetConfirms, PresetsConfirm, EveryViewerIsSentTheJournal}
@@ -106,8 +108,12 @@ script_shows s has confirms sends =
     let sees = sends.0 has.size has.present has.caches in
     record {
       viewers = λ v. subst
-          (SeesJournal s.head.size (confirmed_in s.head s.asked v) (journal_of_steps s.head (steps_of s.asked)) (frame_numbers s.head (steps_of s.asked) v))
+          (λ written. SeesJournal s.head.size (confirmed_in s.head s.asked v) (journal_of_steps s.head (steps_of s.asked)) (frame_numbers s.head (steps_of s.asked) v)
+          (without_pointers written))
           (sym (capture_is_read s has.present confirms sends.1 v)) (sees.viewers v);
+      pointers = λ v. subst
+          (SeesPointers s.head.size (confirmed_in s.head s.asked v) (journal_of_steps s.head (steps_of s.asked)) (frame_numbers s.head (steps_of s.asked) v))
+          (sym (capture_is_read s has.present confirms sends.1 v)) (sees.pointers v);
       journal_is_legal = sees.journal_is_legal;
       changes_are_the_holders = sees.changes_are_the_holders;
     }

@@ -4,7 +4,7 @@ use Rattle.session_rules.specs.Journal.{Head}
 use Rattle.session_rules.specs.Steps.{Play, journal_of_steps, frame_numbers, play_at_first, outcome}
 use Rattle.script_rules.specs.Script.{Asked, Script, Opening, opening_of}
 use Rattle.script_rules.specs.Script.Opening.{NoSize, Unended, Opened}
-use Rattle.script_rules.specs.Capture.{viewer_bytes}
+use Rattle.script_rules.specs.Capture.{written_bytes}
 use Rattle.script_rules.specs.CaptureText.{run_at_first, sent_from, encoder_frames}
 use Rattle.headline.specs.Headline.{AreByPresentFrom, steps_of, confirmed_in, IfOpened}
 use Rattle.headline.proofs.StepsOfScripts.{HasPremises, scripts_have}
@@ -28,24 +28,24 @@ confirm_at_first (a ∷ xs) ys h = (h.0, confirm_at_first xs ys h.1)
 
 -- a viewer's bytes in what was written are the first ones that all steps send it
 cut_bytes_are_first : (s : Script) (front : List ℕ) → HasPremises s → PresetsConfirm s.asked → (cut : IsCutCapture s front) → (v : ℕ)
-    → IsFront (viewer_bytes v front) (sent_to s.head s.asked v)
+    → IsFront (written_bytes v front) (sent_to s.head s.asked v)
 cut_bytes_are_first s front has confirms cut v =
     let first = script_of s.head cut.steps cut.refusal in
     let present = present_at_first s.head (play_at_first s.head.size) cut.steps cut.later
     (subst (AreByPresentFrom s.head (play_at_first s.head.size)) cut.are_first has.present) in
     let presets = confirm_at_first cut.steps cut.later (subst PresetsConfirm cut.are_first confirms) in
-    let read = ap (viewer_bytes v) (sym cut.written) ∙ capture_is_read first present presets cut.sends_bytes v in
+    let read = ap (written_bytes v) (sym cut.written) ∙ capture_is_read first present presets cut.sends_bytes v in
     let later = sent_from encoder_frames s.head (run_of s.head cut.steps) cut.later v in
     let goes = ap (λ asked. sent_to s.head asked v) cut.are_first
     ∙ sent_goes_on encoder_frames s.head (run_at_first encoder_frames s.head.size) cut.steps cut.later v in
-    front_of_front (viewer_bytes v front) (sent_to s.head cut.steps v) (sent_to s.head s.asked v)
-    (subst (IsFront (viewer_bytes v front)) read (bytes_in_front v front cut.rest))
+    front_of_front (written_bytes v front) (sent_to s.head cut.steps v) (sent_to s.head s.asked v)
+    (subst (IsFront (written_bytes v front)) read (bytes_in_front v front cut.rest))
     (record { rest = later; joined = goes })
 
 script_cut_shows : (s : Script) (front : List ℕ) → HasPremises s → PresetsConfirm s.asked → IsSentWhatIsWritten s front → EveryViewerOfFront s front
 script_cut_shows s front has confirms sends v =
     front_sees s.head.size (confirmed_in s.head s.asked v) (journal_of_steps s.head (steps_of s.asked)) (frame_numbers s.head (steps_of s.asked) v)
-    (sent_to s.head s.asked v) (viewer_bytes v front) ((sends.0 has.size has.present has.caches).viewers v)
+    (sent_to s.head s.asked v) (written_bytes v front) ((sends.0 has.size has.present has.caches).viewers v)
     (cut_bytes_are_first s front has confirms sends.1 v)
 
 opening_cut_shows : (o : Opening) (front : List ℕ) → IfOpened o HasPremises → IfOpened o (λ s. PresetsConfirm s.asked)

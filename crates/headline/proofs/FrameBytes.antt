@@ -18,7 +18,7 @@ use Rattle.tpkt_x224.specs.Tpkt.{packet_of}
 use Rattle.tpkt_x224.specs.Data.{data_header}
 use Rattle.mcs_dom.specs.SendData.{indication_start}
 use Rattle.share_pdu.specs.Share.{data_headers, share_bytes}
-use Rattle.share_pdu.specs.Packet.{update_packet}
+use Rattle.share_pdu.specs.Packet.{share_packet, update_packet}
 use Rattle.fast_path.specs.Written.{packet_length, fast_headers, fast_packet}
 use Rattle.order_fields.specs.OrderTable.{Registers}
 use Rattle.order_means.specs.WirePixels.{turned_over, PixelData, data_of}
@@ -35,15 +35,15 @@ use Rattle.headline.proofs.OrderBytes.{bytes_nil, bytes_cons, bytes_append, byte
 
 -- ---- packets
 
-share_are_bytes : (body : List ℕ) → AreBytes body → AreBytes (share_bytes 2 body)
-share_are_bytes body h =
+share_are_bytes : (kind : ℕ) (body : List ℕ) → kind < 256 → AreBytes body → AreBytes (share_bytes kind body)
+share_are_bytes kind body small h =
     let n = length body in
     let count = little_bytes 2 (4 + n) in
-    let rest = count ++ 2 ∷ 0 ∷ 0 ∷ 0 ∷ [] in
-    bytes_append (data_headers 2 n) body
+    let rest = count ++ kind ∷ 0 ∷ 0 ∷ 0 ∷ [] in
+    bytes_append (data_headers kind n) body
     (bytes_append (little_bytes 2 (18 + n)) (0x17 ∷ 0 ∷ 0xEA ∷ 3 ∷ 0xEA ∷ 3 ∷ 1 ∷ 0 ∷ 0 ∷ 1 ∷ rest) (little_are_bytes 2 (18 + n))
     (bytes_after (0x17 ∷ 0 ∷ 0xEA ∷ 3 ∷ 0xEA ∷ 3 ∷ 1 ∷ 0 ∷ 0 ∷ 1 ∷ []) rest refl
-    (bytes_append count (2 ∷ 0 ∷ 0 ∷ 0 ∷ []) (little_are_bytes 2 (4 + n)) (bytes_after (2 ∷ 0 ∷ 0 ∷ 0 ∷ []) [] refl bytes_nil))))
+    (bytes_append count (kind ∷ 0 ∷ 0 ∷ 0 ∷ []) (little_are_bytes 2 (4 + n)) (bytes_cons kind (0 ∷ 0 ∷ 0 ∷ []) small (bytes_after (0 ∷ 0 ∷ 0 ∷ []) [] refl bytes_nil)))))
     h
 
 per_length_are_bytes : (n : ℕ) → AreBytes (per_len_of n)
@@ -58,13 +58,16 @@ packet_are_bytes carried h =
     let n = big_bytes 2 (4 + length carried) in
     bytes_append (3 ∷ 0 ∷ n) carried (bytes_after (3 ∷ 0 ∷ []) n refl (big_are_bytes 2 (4 + length carried))) h
 
-update_are_bytes : (body : List ℕ) → AreBytes body → AreBytes (update_packet body)
-update_are_bytes body h =
-    let user = share_bytes 2 body in
+pub share_packet_are_bytes : (kind : ℕ) (body : List ℕ) → kind < 256 → AreBytes body → AreBytes (share_packet kind body)
+share_packet_are_bytes kind body small h =
+    let user = share_bytes kind body in
     let counted = per_len_of (length user) ++ user in
     packet_are_bytes (data_header ++ (indication_start ++ counted))
     (bytes_after data_header (indication_start ++ counted) refl
-    (bytes_after indication_start counted refl (bytes_append (per_len_of (length user)) user (per_length_are_bytes (length user)) (share_are_bytes body h))))
+    (bytes_after indication_start counted refl (bytes_append (per_len_of (length user)) user (per_length_are_bytes (length user)) (share_are_bytes kind body small h))))
+
+update_are_bytes : (body : List ℕ) → AreBytes body → AreBytes (update_packet body)
+update_are_bytes body h = share_packet_are_bytes 2 body (omega arith) h
 
 fast_length_are_bytes : (n : ℕ) → AreBytes (packet_length n)
 fast_length_are_bytes n = by (nat_lt (5 + n) 128) refl

@@ -17,17 +17,19 @@ use Rattle.session_rules.specs.Steps.Effect.{Enters, Answers}
 use Rattle.session_rules.proofs.Journals.{IsLegalJournal-journal_of_steps}
 use Rattle.session_rules.proofs.Takes.{TakesFollow-takes_of, taken-≤}
 use Rattle.session_rules.proofs.Changes.{ChangesAreTheHolders-legal}
+use Rattle.order_means.specs.Packets.{without_pointers}
 use Rattle.frame_rules.specs.FrameBytes.{joined_bytes}
-use Rattle.frame_rules.specs.Encoder.{Encoder, first_encoder, take_bytes, bytes_of_takes}
+use Rattle.frame_rules.specs.Encoder.{Encoder, first_encoder, pointed_bytes, pointed_of_takes}
 use Rattle.frame_rules.specs.Describes.{HasAllCaches}
 use Rattle.frame_shows.proofs.JournalShown.{frame_shows_journal}
 use Rattle.script_rules.specs.Script.{Asked}
 use Rattle.script_rules.specs.Capture.{viewer_of}
-use Rattle.script_rules.specs.CaptureText.{Run, run_at_first, confirmed_after, encoders_after, run_after, run_after_all, encoder_frames}
+use Rattle.script_rules.specs.CaptureText.{Run, run_at_first, confirmed_after, encoders_after, run_after, run_after_all, sent_from, encoder_frames}
 use Rattle.headline.specs.Headline.{SeesJournal, steps_of, confirmed_in, AreByPresentFrom, AreByPresentViewers}
 use Rattle.headline.specs.Headline.{ConfirmAllCaches, EveryViewerOfSteps}
 use Rattle.headline.specs.Interleaving.{frames_from}
-use Rattle.headline.proofs.Takes.{takes_see}
+use Rattle.headline.specs.Pointed.{SeesPointers}
+use Rattle.headline.proofs.TakesPointed.{takes_see_without, takes_point}
 use Rattle.headline.proofs.StepRuns.{NoJoin, IsIn, Fits, Steps, confirmed_stays, steps, sent_are_takes}
 use Rattle.headline.proofs.StepRuns.Steps.{Stays, Sends}
 use Rattle.headline.proofs.SentByTakes.{sent_are_frames}
@@ -113,7 +115,7 @@ module _ (head : Head) (v : ℕ) where
   -- what all comes to: the viewer's takes over the final journal, from the first encoder on
   abbrev Comes : Run Encoder → List Asked → Type 0
   Comes run asked = frames_from head run v asked
-      ≡ bytes_of_takes head.size ((run_after_all encoder_frames head run asked).confirmed v)
+      ≡ pointed_of_takes head.size ((run_after_all encoder_frames head run asked).confirmed v)
       (run.journal ++ entries_from head run.play (steps_of asked)) first_encoder (takes_from head run.play v (steps_of asked))
 
   -- a step in which the viewer takes nothing
@@ -125,10 +127,10 @@ module _ (head : Head) (v : ℕ) where
       let one = option_to_list (outcome head run.play a.step).entry in
       let es = entries_from head (outcome head run.play a.step).play (steps_of more) in
       let ts = takes_from head (outcome head run.play a.step).play v (steps_of more) in
-      ap (λ l. map (λ t. take_bytes head.size (run.confirmed v) run.journal (run.encoders v) t) l ++ frames_from head next v more) none
+      ap (λ l. map (λ t. pointed_bytes head.size (run.confirmed v) run.journal (run.encoders v) t) l ++ frames_from head next v more) none
       ∙ (rest
-      ∙ (ap (λ j. bytes_of_takes head.size c j first_encoder ts) (append_assoc run.journal one es)
-      ∙ ap (λ l. bytes_of_takes head.size c (run.journal ++ (one ++ es)) first_encoder (l ++ ts)) (sym none)))
+      ∙ (ap (λ j. pointed_of_takes head.size c j first_encoder ts) (append_assoc run.journal one es)
+      ∙ ap (λ l. pointed_of_takes head.size c (run.journal ++ (one ++ es)) first_encoder (l ++ ts)) (sym none)))
 
   -- a step that isn't the viewer's join leaves it new
   still_new : (run : Run Encoder) (a : Asked) → IsNew run → NoJoin v (outcome head run.play a.step).answer
@@ -163,8 +165,8 @@ module _ (head : Head) (v : ℕ) where
       let es = entries_from head next.play (steps_of more) in
       let ts = takes_from head next.play v (steps_of more) in
       on run a more none (sent_are_takes head v more next (record { counted = counted; taken = omega (arith, taken) }) inside
-      ∙ (ap (λ c. bytes_of_takes head.size c (next.journal ++ es) (next.encoders v) ts) (sym (confirmed_kept more next inside))
-      ∙ ap (λ e. bytes_of_takes head.size ((run_after_all encoder_frames head next more).confirmed v) (next.journal ++ es) e ts) (enc ∙ n.encoder)))
+      ∙ (ap (λ c. pointed_of_takes head.size c (next.journal ++ es) (next.encoders v) ts) (sym (confirmed_kept more next inside))
+      ∙ ap (λ e. pointed_of_takes head.size ((run_after_all encoder_frames head next more).confirmed v) (next.journal ++ es) e ts) (enc ∙ n.encoder)))
 
   -- ---- which of both a step is
 
@@ -263,7 +265,7 @@ module _ (head : Head) (v : ℕ) where
   -- of a new session
   pub sent_over_the_journal : (asked : List Asked) → AreByPresentViewers head asked
       → frames_from head (run_at_first encoder_frames head.size) v asked
-      ≡ bytes_of_takes head.size (confirmed_in head asked v) (journal_of_steps head (steps_of asked)) first_encoder (takes_of head (steps_of asked) v)
+      ≡ pointed_of_takes head.size (confirmed_in head asked v) (journal_of_steps head (steps_of asked)) first_encoder (takes_of head (steps_of asked) v)
   sent_over_the_journal asked present = comes asked (run_at_first encoder_frames head.size)
       (record { counted = refl; numbered = tt; apart = λ u some low. absurd (omega (arith, some, low)); taken = refl; encoder = refl }) present
 
@@ -295,15 +297,23 @@ every_viewer_sees head asked sized present caches =
     let steps = steps_of asked in
     let j = journal_of_steps head steps in
     let legal = IsLegalJournal-journal_of_steps head steps in
+    let taken : ℕ → ℕ = λ v. (session_after head (play_at_first head.size) steps).taken v in
+    let all : (v : ℕ) → HasAllCaches (confirmed_in head asked v) = λ v.
+    all_caches head asked (run_at_first encoder_frames head.size) (λ u. record { bitmaps = refl; glyphs = refl }) caches v in
+    let bytes : (v : ℕ) → sent_from encoder_frames head (run_at_first encoder_frames head.size) asked v
+    ≡ joined_bytes (pointed_of_takes head.size (confirmed_in head asked v) j first_encoder (takes_of head steps v)) = λ v.
+    sent_are_frames head v asked (run_at_first encoder_frames head.size) ∙ ap joined_bytes (sent_over_the_journal head v asked present) in
     record {
       viewers = λ v.
           let c = confirmed_in head asked v in
-          let all = all_caches head asked (run_at_first encoder_frames head.size) (λ u. record { bitmaps = refl; glyphs = refl }) caches v in
           let ts = takes_of head steps v in
-          let bytes = sent_are_frames head v asked (run_at_first encoder_frames head.size) ∙ ap joined_bytes (sent_over_the_journal head v asked present) in
-          subst (λ bs. SeesJournal head.size c j (map (λ t. t.number) ts) bs) (sym bytes)
-          (takes_see head c (frame_shows_journal head c) sized all j legal ts ((session_after head (play_at_first head.size) steps).taken v)
-          (TakesFollow-takes_of head steps v) (taken-≤ head steps v));
+          subst (λ written. SeesJournal head.size c j (map (λ t. t.number) ts) (without_pointers written)) (sym (bytes v))
+          (takes_see_without head c (frame_shows_journal head c) sized (all v) j legal ts (taken v) (TakesFollow-takes_of head steps v) (taken-≤ head steps v));
+      pointers = λ v.
+          let c = confirmed_in head asked v in
+          let ts = takes_of head steps v in
+          subst (SeesPointers head.size c j (map (λ t. t.number) ts)) (sym (bytes v))
+          (takes_point head c (frame_shows_journal head c) sized (all v) j legal ts (taken v) (TakesFollow-takes_of head steps v) (taken-≤ head steps v));
       journal_is_legal = legal;
       changes_are_the_holders = ChangesAreTheHolders-legal head j legal;
     }

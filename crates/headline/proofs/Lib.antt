@@ -14,12 +14,16 @@ pub mod NumberedLines
 pub mod LineRuns
 pub mod CapturesOfScripts
 pub mod StreamFronts
+pub mod Watched
+pub mod PointerFronts
 pub mod TextFronts
 pub mod CaptureFronts
+pub mod TakesPointed
 pub mod LinesGoOn
 pub mod CutCaptures
 pub mod OrderBytes
 pub mod FrameBytes
+pub mod PointerBytes
 pub mod SentInLines
 mod ScriptRows
 pub mod GlyphBits

@@ -22,9 +22,10 @@ use Rattle.session_rules.specs.Steps.Effect.{Enters, Answers}
 use Rattle.frame_rules.specs.FrameOrders.{orders_before_tiles}
 use Rattle.fast_path.specs.Written.{fast_headers}
 use Rattle.frame_rules.specs.FrameBytes.{bytes_of_orders, updates_of, tile_bytes, mark_bytes}
-use Rattle.frame_rules.specs.Encoder.{Encoder, encoder_frame, take_bytes}
+use Rattle.frame_rules.specs.Encoder.{Encoder, encoder_frame, take_bytes, pointed_bytes}
+use Rattle.frame_rules.specs.Told.{key_at, pointer_bytes}
 use Rattle.script_rules.specs.Script.{Asked, Script, viewer_limit}
-use Rattle.script_rules.specs.Capture.{viewer_of, viewer_bytes, bytes_of_lines, last_line}
+use Rattle.script_rules.specs.Capture.{viewer_of, written_bytes, bytes_of_lines, last_line}
 use Rattle.script_rules.specs.CaptureText.{FrameText, Run, run_at_first, bytes_of_answer, run_after, line_by, line_in_run, lines_from, sent_by, sent_from, capture_of_script, encoder_frames}
 use Rattle.headline.specs.Headline.{is_by_present_viewer, AreByPresentFrom, AreByPresentViewers}
 use Rattle.headline.specs.Sent.{AreBytes, SendsBytes, sent_to, PresetConfirms, PresetsConfirm}
@@ -183,17 +184,22 @@ mark_has_bytes true true = omega arith
 mark_has_bytes true false = omega arith
 
 -- a frame has its mark at least
-take_has_bytes : (size : Size) (c : Confirmed) (j : List Entry) (e : Encoder) (take : TakeOf) → 0 < length (take_bytes size c j e take)
-take_has_bytes size c j e take =
+frame_has_bytes : (size : Size) (c : Confirmed) (j : List Entry) (e : Encoder) (take : TakeOf) → 0 < length (take_bytes size c j e take)
+frame_has_bytes size c j e take =
     let f = encoder_frame size c j e take in
     let orders = updates_of (takes_fast c) (bytes_of_orders c e.registers (orders_before_tiles size c e.uses f)) in
     let tiles = flat_map (tile_bytes size c f.picture) f.tiles in
     omega (arith, mark_has_bytes (takes_fast c) c.marker, length-append tiles (mark_bytes (takes_fast c) c.marker), length-append orders (tiles ++ mark_bytes (takes_fast c) c.marker))
 
+take_has_bytes : (size : Size) (c : Confirmed) (j : List Entry) (e : Encoder) (take : TakeOf) → 0 < length (pointed_bytes size c j e take)
+take_has_bytes size c j e take =
+    let some = frame_has_bytes size c j e take in
+    omega (arith, some, length-append (pointer_bytes c e.told (key_at size j take.number)) (take_bytes size c j e take))
+
 -- ---- the capture of steps
 
 pub capture_is_read : (s : Script) → AreByPresentViewers s.head s.asked → PresetsConfirm s.asked → SendsBytes s.head s.asked
-    → (v : ℕ) → viewer_bytes v (capture_of_script encoder_frames s) ≡ sent_to s.head s.asked v
+    → (v : ℕ) → written_bytes v (capture_of_script encoder_frames s) ≡ sent_to s.head s.asked v
 capture_is_read s present confirms are v =
     run_is_read encoder_frames take_has_bytes s.head (run_at_first encoder_frames s.head.size) s.asked (last_line s.refusal) v
     (numbered_at_first s.head.size) present confirms are

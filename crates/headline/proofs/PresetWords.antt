@@ -1,19 +1,20 @@
 -- Preset words that confirm something have no line feed, so they stand on one line.
 use Rattle.std.proofs.Common.{◌≡◌, ℕ, ◌+◌, ◌*◌, List, [], ◌∷◌, ◌++◌, refl, ap, sym, subst, ◌∙◌, arith, Some, None, Bool, true, false}
-use Rattle.std.specs.Prelude.{Option, ⊤, is_some, ◌-◌, ◌==◌, ◌&&◌, nat_le, codes, if◌then◌else◌}
+use Rattle.std.specs.Prelude.{Option, ⊤, is_some, ◌-◌, ◌==◌, ◌&&◌, nat_le, codes, drop, length, nat_eq, if◌then◌else◌}
 use Rattle.std.specs.Option.{option_map, option_and_then}
 use Rattle.std.specs.Char.{is_digit, digit_value, is_ascii_digit}
-use Rattle.std.specs.List.{join_with_byte}
+use Rattle.std.specs.List.{join_with_byte, starts_with}
 use Rattle.std.proofs.lemmas.Bool.{and_parts}
 use Rattle.std.proofs.lemmas.Bool.Decides.{nat_tests}
 use Rattle.std.proofs.lemmas.List.Splits.{join_with_byte-slice_split}
+use Rattle.std.proofs.lemmas.List.Elements.{All-head, All-tail}
 use Rattle.px_core.specs.declared.depth.Depth.TheVariants.{Bits16}
 use Rattle.caps_sets.specs.declared.confirmed.Confirmed.{Confirmed}
 use Rattle.caps_sets.specs.declared.cache_size.CacheSize.{CacheSize}
-use Rattle.caps_sets.specs.Confirmed.{sized, with_bitmap_cache, with_glyph_cache}
+use Rattle.caps_sets.specs.Confirmed.{most_pointers, sized, with_bitmap_cache, with_glyph_cache}
 use Rattle.line_text.specs.Words.{parts_at, is_same_word}
 use Rattle.line_text.specs.Numbers.{digits_behind, number_of, number_up_to}
-use Rattle.caps_sets.specs.Presets.{Preset, presets, preset_named, cache_limit, size_by, with_cache, overridden, overridden_word, overridden_by, confirmed_by}
+use Rattle.caps_sets.specs.Presets.{Preset, presets, preset_named, cache_limit, size_by, with_cache, overridden, is_pointer_word, with_pointers, overridden_word, overridden_by, confirmed_by}
 use Rattle.script_rules.proofs.ReadBack.{Lacks}
 use Rattle.headline.proofs.Lacking.{lacks_nil, lacks_cons, lacks_append, lacks_by}
 use Rattle.headline.proofs.Lines.{AreOneLine}
@@ -114,18 +115,36 @@ override_lacks c (a ∷ b ∷ k ∷ sign ∷ rest) e = by (is_ascii_digit k && (
         (lacks_cons 10 k (sign ∷ rest) (sign_is_other k p.0) (lacks_cons 10 sign rest (equals_is_other sign p.1) (rest_lacks rest (ap is_some size))))
     by false is o size more = absurd (cc more)
 
+-- a word that begins with another one
+start_lacks : (start word : List ℕ) → starts_with nat_eq word start ≡ true → Lacks 10 start → Lacks 10 (drop (length start) word) → Lacks 10 word
+start_lacks [] word e h more = more
+start_lacks (a ∷ start) [] e h more = lacks_nil 10
+start_lacks (a ∷ start) (b ∷ word) e h more =
+    let p = and_parts (nat_eq a b) (starts_with nat_eq word start) e in
+    let same : a ≡ b = grind (arith, nat_tests, p.0) in
+    lacks_cons 10 b word (subst (λ x. (x == 10) ≡ false) same (All-head (λ x. (x == 10) ≡ false) a start h))
+    (start_lacks start word p.1 (All-tail (λ x. (x == 10) ≡ false) a start h) more)
+
+-- a number of pointers behind its name
+pointers_lack : (c : Confirmed) (word : List ℕ) → is_pointer_word word ≡ true → is_some (with_pointers c (drop 8 word)) ≡ true → Lacks 10 word
+pointers_lack c word is e =
+    let digits = up_to_lacks most_pointers (drop 8 word) (mapped_is (λ n. record c { pointers = n }) (number_up_to most_pointers (drop 8 word)) e) in
+    start_lacks (codes "pointer=") word is (lacks_by 10 (codes "pointer=") refl) digits
+
 word_lacks : (c : Confirmed) (word : List ℕ) → is_some (overridden_word c word) ≡ true → Lacks 10 word
-word_lacks c word e = by (is_same_word word (codes "cautious")) refl (is_same_word word (codes "fast")) refl (is_same_word word (codes "bpp=16")) refl e
+word_lacks c word e = by (is_same_word word (codes "cautious")) refl (is_same_word word (codes "fast")) refl (is_same_word word (codes "bpp=16")) refl
+    (is_pointer_word word) refl e
   where
     by : (cautious : Bool) → is_same_word word (codes "cautious") ≡ cautious → (fast : Bool) → is_same_word word (codes "fast") ≡ fast
-        → (sixteen : Bool) → is_same_word word (codes "bpp=16") ≡ sixteen
+        → (sixteen : Bool) → is_same_word word (codes "bpp=16") ≡ sixteen → (pointer : Bool) → is_pointer_word word ≡ pointer
         → is_some (if cautious then Some (record c { cautious = true }) else (if fast then Some (record c { fast = true })
-        else (if sixteen then Some (record c { depth = Bits16 }) else overridden c word))) ≡ true
+        else (if sixteen then Some (record c { depth = Bits16 }) else (if pointer then with_pointers c (drop 8 word) else overridden c word)))) ≡ true
         → Lacks 10 word
-    by true is fast other sixteen more_other more = subst (Lacks 10) (sym (same_word word (codes "cautious") is)) (lacks_by 10 (codes "cautious") refl)
-    by false other true is sixteen more_other more = subst (Lacks 10) (sym (same_word word (codes "fast") is)) (lacks_by 10 (codes "fast") refl)
-    by false other false more_other true is more = subst (Lacks 10) (sym (same_word word (codes "bpp=16") is)) (lacks_by 10 (codes "bpp=16") refl)
-    by false other false more_other false is more = override_lacks c word more
+    by true is fast fast_is sixteen sixteen_is pointer pointer_is more = subst (Lacks 10) (sym (same_word word (codes "cautious") is)) (lacks_by 10 (codes "cautious") refl)
+    by false other true is sixteen sixteen_is pointer pointer_is more = subst (Lacks 10) (sym (same_word word (codes "fast") is)) (lacks_by 10 (codes "fast") refl)
+    by false other false slow true is pointer pointer_is more = subst (Lacks 10) (sym (same_word word (codes "bpp=16") is)) (lacks_by 10 (codes "bpp=16") refl)
+    by false other false slow false deep true is more = pointers_lack c word is more
+    by false other false slow false deep false is more = override_lacks c word more
 
 overrides_are : (c : Confirmed) (words : List (List ℕ)) → is_some (overridden_by c words) ≡ true → AreOneLine words
 overrides_are c [] e = tt

@@ -14,7 +14,7 @@ use Rattle.session_rules.specs.Steps.Step.{JoinStep, LeaveStep, InputStep, DrawS
 use Rattle.session_rules.specs.Steps.Answer.{Joined, Left, Accepted, Refused, Nothing, Frame}
 use Rattle.session_rules.specs.Steps.Effect.{Enters, Answers}
 use Rattle.frame_rules.specs.FrameBytes.{joined_bytes}
-use Rattle.frame_rules.specs.Encoder.{Encoder, take_bytes}
+use Rattle.frame_rules.specs.Encoder.{Encoder, pointed_bytes}
 use Rattle.script_rules.specs.Script.{Asked}
 use Rattle.script_rules.specs.CaptureText.{Run, run_after, bytes_of_answer, sent_by, sent_from, encoder_frames}
 use Rattle.headline.specs.Interleaving.{frames_in, frames_from}
@@ -48,7 +48,7 @@ module _ (head : Head) (v : ℕ) (run : Run Encoder) where
   no_bytes true u (Frame take) h = absurd h
 
   abbrev bytes_of : TakeOf → List ℕ
-  bytes_of t = take_bytes head.size (run.confirmed v) run.journal (run.encoders v) t
+  bytes_of t = pointed_bytes head.size (run.confirmed v) run.journal (run.encoders v) t
 
   -- a step that takes nothing
   sent_nothing : (u : ℕ) (answer : Answer) (takes : List TakeOf) → NoFrame answer → takes ≡ []
@@ -83,9 +83,9 @@ module _ (head : Head) (v : ℕ) (run : Run Encoder) where
   take_sent u false = sent_nothing u Nothing [] tt refl
   take_sent u true = by (u == v) refl
     where
-      by : (own : Bool) → (u == v) ≡ own → (if own then take_bytes head.size (run.confirmed u) run.journal (run.encoders u) (take_of run.play u) else [])
+      by : (own : Bool) → (u == v) ≡ own → (if own then pointed_bytes head.size (run.confirmed u) run.journal (run.encoders u) (take_of run.play u) else [])
           ≡ joined_bytes (map bytes_of (if own then take_of run.play v ∷ [] else []))
-      by true e = ap (λ n. take_bytes head.size (run.confirmed n) run.journal (run.encoders n) (take_of run.play n)) (same_number u v e)
+      by true e = ap (λ n. pointed_bytes head.size (run.confirmed n) run.journal (run.encoders n) (take_of run.play n)) (same_number u v e)
           ∙ sym (append-nil (bytes_of (take_of run.play v)))
       by false e = refl
 

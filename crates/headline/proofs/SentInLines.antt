@@ -5,7 +5,8 @@ use Rattle.px_core.specs.declared.surface.Size.{Size}
 use Rattle.session_rules.specs.Journal.{Head}
 use Rattle.session_rules.specs.Steps.{Answer, outcome}
 use Rattle.session_rules.specs.Steps.Answer.{Joined, Left, Accepted, Refused, Nothing, Frame}
-use Rattle.frame_rules.specs.Encoder.{Encoder, encoder_frame}
+use Rattle.frame_rules.specs.Encoder.{Encoder, encoder_frame, take_bytes}
+use Rattle.frame_rules.specs.Told.{key_at, pointer_bytes}
 use Rattle.script_rules.specs.Script.{Asked}
 use Rattle.script_rules.specs.Capture.{viewer_of}
 use Rattle.script_rules.specs.CaptureText.{Run, run_at_first, bytes_of_answer, run_after, sent_by, sent_from, encoder_frames}
@@ -13,6 +14,7 @@ use Rattle.headline.specs.Sent.{AreBytes, run_of, SendsBytes}
 use Rattle.headline.specs.OrderBytes.{AnswerHoldsBytes, FramesHoldBytes}
 use Rattle.headline.proofs.OrderBytes.{bytes_nil, bytes_append}
 use Rattle.headline.proofs.FrameBytes.{frame_are_bytes}
+use Rattle.headline.proofs.PointerBytes.{pointer_are_bytes}
 use Rattle.headline.proofs.LinesGoOn.{bytes_or_none}
 
 answer_are_bytes : (size : Size) (run : Run Encoder) (v : ℕ) (answer : Answer) → AnswerHoldsBytes size run v answer
@@ -25,7 +27,9 @@ answer_are_bytes size run v Nothing h = bytes_nil
 answer_are_bytes size run v (Frame take) h =
     let e = run.encoders v in
     let c = run.confirmed v in
-    frame_are_bytes size c e.registers e.uses (encoder_frame size c run.journal e take) h
+    let key = key_at size run.journal take.number in
+    bytes_append (pointer_bytes c e.told key) (take_bytes size c run.journal e take) (pointer_are_bytes c e.told key)
+    (frame_are_bytes size c e.registers e.uses (encoder_frame size c run.journal e take) h)
 
 run_sends_bytes : (head : Head) (run : Run Encoder) (asked : List Asked) → FramesHoldBytes head run asked → (v : ℕ)
     → AreBytes (sent_from encoder_frames head run asked v)

@@ -14,8 +14,8 @@ use Rattle.session_rules.specs.Steps.{take_of, entered, outcome_of, outcome, ent
 use Rattle.session_rules.specs.Steps.Step.{JoinStep, LeaveStep, InputStep, DrawStep, RefreshStep, SuppressStep, TakeStep}
 use Rattle.session_rules.specs.Steps.Answer.{Joined, Left, Accepted, Refused, Nothing, Frame}
 use Rattle.session_rules.specs.Steps.Effect.{Enters, Takes, Answers}
-use Rattle.frame_rules.specs.Encoder.{Encoder, take_bytes, encoder_after, bytes_of_takes}
-use Rattle.frame_rules.proofs.FrameLaws.{take_bytes-append, encoder_after-append}
+use Rattle.frame_rules.specs.Encoder.{Encoder, pointed_bytes, encoder_after, pointed_of_takes}
+use Rattle.frame_rules.proofs.FrameLaws.{pointed_bytes-append, encoder_after-append}
 use Rattle.script_rules.specs.Script.{Asked}
 use Rattle.script_rules.specs.Capture.{viewer_of}
 use Rattle.script_rules.specs.CaptureText.{Run, confirmed_after, encoders_after, run_by, run_after, encoder_frames}
@@ -179,18 +179,18 @@ module _ (head : Head) (v : ℕ) where
   -- ---- all steps
 
   pub sent_are_takes : (asked : List Asked) (run : Run Encoder) → Fits run v → IsIn head run v asked
-      → frames_from head run v asked ≡ bytes_of_takes head.size (run.confirmed v) (run.journal ++ entries_from head run.play (steps_of asked)) (run.encoders v)
+      → frames_from head run v asked ≡ pointed_of_takes head.size (run.confirmed v) (run.journal ++ entries_from head run.play (steps_of asked)) (run.encoders v)
       (takes_from head run.play v (steps_of asked))
   sent_are_takes [] run f is = refl
   sent_are_takes (a ∷ more) run f is = by (steps run a f is.0) (λ g. sent_are_takes more (run_after encoder_frames head run a) g is.1)
     where
       by : Steps head run v a
           → (Fits (run_after encoder_frames head run a) v → frames_from head (run_after encoder_frames head run a) v more
-          ≡ bytes_of_takes head.size ((run_after encoder_frames head run a).confirmed v)
+          ≡ pointed_of_takes head.size ((run_after encoder_frames head run a).confirmed v)
           ((run.journal ++ option_to_list (outcome head run.play a.step).entry) ++ entries_from head (outcome head run.play a.step).play (steps_of more))
           ((run_after encoder_frames head run a).encoders v) (takes_from head (outcome head run.play a.step).play v (steps_of more)))
           → frames_in head run v a ++ frames_from head (run_after encoder_frames head run a) v more
-          ≡ bytes_of_takes head.size (run.confirmed v) (run.journal ++ (option_to_list (outcome head run.play a.step).entry
+          ≡ pointed_of_takes head.size (run.confirmed v) (run.journal ++ (option_to_list (outcome head run.play a.step).entry
           ++ entries_from head (outcome head run.play a.step).play (steps_of more))) (run.encoders v)
           (take_in v run.play (effect_of head run.play a.step) ++ takes_from head (outcome head run.play a.step).play v (steps_of more))
       by (Stays none conf enc g) rest =
@@ -199,11 +199,11 @@ module _ (head : Head) (v : ℕ) where
           let es = entries_from head (outcome head run.play a.step).play (steps_of more) in
           let ts = takes_from head (outcome head run.play a.step).play v (steps_of more) in
           let one = option_to_list (outcome head run.play a.step).entry in
-          ap (λ l. map (λ t. take_bytes head.size c run.journal E t) l ++ frames_from head (run_after encoder_frames head run a) v more) none
-          ∙ (rest g ∙ (ap (λ x. bytes_of_takes head.size x ((run.journal ++ one) ++ es) ((run_after encoder_frames head run a).encoders v) ts) conf
-          ∙ (ap (λ x. bytes_of_takes head.size c ((run.journal ++ one) ++ es) x ts) enc
-          ∙ (ap (λ j. bytes_of_takes head.size c j E ts) (append_assoc run.journal one es)
-          ∙ ap (λ l. bytes_of_takes head.size c (run.journal ++ (one ++ es)) E (l ++ ts)) (sym none)))))
+          ap (λ l. map (λ t. pointed_bytes head.size c run.journal E t) l ++ frames_from head (run_after encoder_frames head run a) v more) none
+          ∙ (rest g ∙ (ap (λ x. pointed_of_takes head.size x ((run.journal ++ one) ++ es) ((run_after encoder_frames head run a).encoders v) ts) conf
+          ∙ (ap (λ x. pointed_of_takes head.size c ((run.journal ++ one) ++ es) x ts) enc
+          ∙ (ap (λ j. pointed_of_takes head.size c j E ts) (append_assoc run.journal one es)
+          ∙ ap (λ l. pointed_of_takes head.size c (run.journal ++ (one ++ es)) E (l ++ ts)) (sym none)))))
       by (Sends one none conf enc g) rest =
           let c = run.confirmed v in
           let E = run.encoders v in
@@ -214,14 +214,14 @@ module _ (head : Head) (v : ℕ) where
           let J = run.journal ++ (made ++ es) in
           let counted = f.counted in
           let taken = f.taken in
-          let bytes : take_bytes head.size c run.journal E t ≡ take_bytes head.size c J E t =
-          sym (take_bytes-append head.size c run.journal (made ++ es) E t taken (omega (arith, counted))) in
+          let bytes : pointed_bytes head.size c run.journal E t ≡ pointed_bytes head.size c J E t =
+          sym (pointed_bytes-append head.size c run.journal (made ++ es) E t taken (omega (arith, counted))) in
           let later : (run_after encoder_frames head run a).encoders v ≡ encoder_after head.size c J E t =
           enc ∙ sym (encoder_after-append head.size c run.journal (made ++ es) E t taken (omega (arith, counted))) in
-          ap (λ l. map (λ t. take_bytes head.size c run.journal E t) l ++ frames_from head (run_after encoder_frames head run a) v more) one
+          ap (λ l. map (λ t. pointed_bytes head.size c run.journal E t) l ++ frames_from head (run_after encoder_frames head run a) v more) one
           ∙ (ap (λ b. b ∷ frames_from head (run_after encoder_frames head run a) v more) bytes
-          ∙ (ap (λ l. take_bytes head.size c J E t ∷ l)
-          (rest g ∙ (ap (λ x. bytes_of_takes head.size x ((run.journal ++ made) ++ es) ((run_after encoder_frames head run a).encoders v) ts) conf
-          ∙ (ap (λ x. bytes_of_takes head.size c ((run.journal ++ made) ++ es) x ts) later
-          ∙ ap (λ j. bytes_of_takes head.size c j (encoder_after head.size c J E t) ts) (append_assoc run.journal made es))))
-          ∙ ap (λ l. bytes_of_takes head.size c J E (l ++ ts)) (sym one)))
+          ∙ (ap (λ l. pointed_bytes head.size c J E t ∷ l)
+          (rest g ∙ (ap (λ x. pointed_of_takes head.size x ((run.journal ++ made) ++ es) ((run_after encoder_frames head run a).encoders v) ts) conf
+          ∙ (ap (λ x. pointed_of_takes head.size c ((run.journal ++ made) ++ es) x ts) later
+          ∙ ap (λ j. pointed_of_takes head.size c j (encoder_after head.size c J E t) ts) (append_assoc run.journal made es))))
+          ∙ ap (λ l. pointed_of_takes head.size c J E (l ++ ts)) (sym one)))

@@ -1,25 +1,25 @@
 -- What a script's lines ask for keeps the premises of the headline over lists of steps.
 use Rattle.std.proofs.Common.{◌≡◌, ℕ, ◌+◌, Bool, true, false, List, [], ◌∷◌, length, refl, sym, subst, ◌∙◌, Some, None}
-use Rattle.std.specs.Prelude.{Option, IfSome, IsTrue, ⊤, not, ◌-◌, ◌==◌, ◌&&◌, ◌||◌, nat_le, codes, if◌then◌else◌}
+use Rattle.std.specs.Prelude.{Option, IfSome, IsTrue, ⊤, not, ◌-◌, ◌==◌, ◌&&◌, ◌||◌, nat_le, codes, drop, if◌then◌else◌}
 use Rattle.std.specs.Bool.{then_some}
 use Rattle.std.specs.Char.{is_ascii_digit}
 use Rattle.std.proofs.lemmas.List.{length-set}
-use Rattle.std.specs.Option.{option_and_then}
+use Rattle.std.specs.Option.{option_map, option_and_then}
 use Rattle.px_core.specs.declared.surface.Size.{Size}
 use Rattle.px_core.specs.Rectangle.{is_session_size}
 use Rattle.px_core.specs.declared.depth.Depth.TheVariants.{Bits16}
 use Rattle.caps_sets.specs.declared.confirmed.Confirmed.{Confirmed}
 use Rattle.caps_sets.specs.declared.cache_size.CacheSize.{CacheSize}
-use Rattle.caps_sets.specs.Confirmed.{plain, with_bitmap_cache, with_glyph_cache}
+use Rattle.caps_sets.specs.Confirmed.{most_pointers, plain, with_bitmap_cache, with_glyph_cache}
 use Rattle.draw_ops.specs.Fits.{first_some}
 use Rattle.line_text.specs.Lines.{Line, line_bytes, lines_of}
 use Rattle.line_text.specs.Words.{words_of, parts_at, is_same_word}
-use Rattle.line_text.specs.Numbers.{number_of}
+use Rattle.line_text.specs.Numbers.{number_of, number_up_to}
 use Rattle.frame_rules.specs.Describes.{HasAllCaches}
 use Rattle.session_rules.specs.Journal.{Row, is_present}
 use Rattle.session_rules.specs.Steps.{Step, Play, play_at_first, outcome}
 use Rattle.session_rules.specs.Steps.Step.{JoinStep, LeaveStep, InputStep, DrawStep, RefreshStep, SuppressStep, TakeStep}
-use Rattle.caps_sets.specs.Presets.{Preset, presets, preset_named, size_by, with_cache, overridden, overridden_word, overridden_by, confirmed_by}
+use Rattle.caps_sets.specs.Presets.{Preset, presets, preset_named, size_by, with_cache, overridden, is_pointer_word, with_pointers, overridden_word, overridden_by, confirmed_by}
 use Rattle.script_rules.specs.Script.{Asked, Script, ScriptReading, LineForm, LineOutcome, Opening, without_preset, broken_if}
 use Rattle.script_rules.specs.Script.{unless_broken, join_outcome, form_outcome, line_outcome, line_form, is_name, is_invited, row_limit}
 use Rattle.script_rules.specs.Script.{order_rule, name_rule, presence_rule, text_rule, breaks_text_rule, with_asked, with_row}
@@ -65,17 +65,26 @@ overridden_has c (a ∷ b ∷ k ∷ sign ∷ rest) h = by (is_ascii_digit k && (
     by true = some_of HasAllCaches (with_cache c (a ∷ b ∷ []) (k - 48)) (size_by (parts_at 44 rest)) (λ size. with_cache_has c (a ∷ b ∷ []) (k - 48) size h)
     by false = tt
 
+with_pointers_has : (c : Confirmed) (digits : List ℕ) → HasAllCaches c → IfSome (with_pointers c digits) HasAllCaches
+with_pointers_has c digits h = by (number_up_to most_pointers digits)
+  where
+    by : (o : Option ℕ) → IfSome (option_map (λ n. record c { pointers = n }) o) HasAllCaches
+    by None = tt
+    by (Some n) = record { bitmaps = h.bitmaps; glyphs = h.glyphs }
+
 overridden_word_has : (c : Confirmed) (word : List ℕ) → HasAllCaches c → IfSome (overridden_word c word) HasAllCaches
 overridden_word_has c word h =
-    by (is_same_word word (codes "cautious")) (is_same_word word (codes "fast")) (is_same_word word (codes "bpp=16")) (overridden_has c word h)
+    by (is_same_word word (codes "cautious")) (is_same_word word (codes "fast")) (is_same_word word (codes "bpp=16")) (is_pointer_word word)
+    (with_pointers_has c (drop 8 word) h) (overridden_has c word h)
   where
-    by : (cautious fast sixteen : Bool) → IfSome (overridden c word) HasAllCaches
+    by : (cautious fast sixteen pointer : Bool) → IfSome (with_pointers c (drop 8 word)) HasAllCaches → IfSome (overridden c word) HasAllCaches
         → IfSome (if cautious then Some (record c { cautious = true }) else (if fast then Some (record c { fast = true })
-        else (if sixteen then Some (record c { depth = Bits16 }) else overridden c word))) HasAllCaches
-    by true fast sixteen more = record { bitmaps = h.bitmaps; glyphs = h.glyphs }
-    by false true sixteen more = record { bitmaps = h.bitmaps; glyphs = h.glyphs }
-    by false false true more = record { bitmaps = h.bitmaps; glyphs = h.glyphs }
-    by false false false more = more
+        else (if sixteen then Some (record c { depth = Bits16 }) else (if pointer then with_pointers c (drop 8 word) else overridden c word)))) HasAllCaches
+    by true fast sixteen pointer counted more = record { bitmaps = h.bitmaps; glyphs = h.glyphs }
+    by false true sixteen pointer counted more = record { bitmaps = h.bitmaps; glyphs = h.glyphs }
+    by false false true pointer counted more = record { bitmaps = h.bitmaps; glyphs = h.glyphs }
+    by false false false true counted more = counted
+    by false false false false counted more = more
 
 overridden_by_has : (c : Confirmed) (words : List (List ℕ)) → HasAllCaches c → IfSome (overridden_by c words) HasAllCaches
 overridden_by_has c [] h = h

@@ -33,7 +33,7 @@ front_of_front xs ys zs a b = record {
 
 -- ---- a viewer's pictures only grow
 
-abbrev Pictures : Type 0
+abbrev pub Pictures : Type 0
 Pictures = List (List (Option ℕ))
 
 -- a view that is reached has these pictures first
@@ -116,7 +116,7 @@ bodies_extend confirmed size (b ∷ bs) v =
     (read_extends confirmed size b v (update_in b)) (λ w. bodies_extend confirmed size bs w)
 
 -- a reading that is reached has these pictures first
-abbrev ReadingExtends : Pictures → Result ClientReading Refusal → Type 0
+abbrev pub ReadingExtends : Pictures → Result ClientReading Refusal → Type 0
 ReadingExtends pictures (Ok r) = IsFront pictures r.view.pictures
 ReadingExtends pictures (Err e) = ⊤
 
@@ -126,7 +126,7 @@ reading_extends pictures (Ok w) None cut h = h
 reading_extends pictures (Ok w) (Some place) cut h = tt
 reading_extends pictures (Err e) o cut h = tt
 
-reading_on_extends : (confirmed : Confirmed) (size : Size) (r : ClientReading) (bytes : List ℕ) → ReadingExtends r.view.pictures (read_on confirmed size r bytes)
+pub reading_on_extends : (confirmed : Confirmed) (size : Size) (r : ClientReading) (bytes : List ℕ) → ReadingExtends r.view.pictures (read_on confirmed size r bytes)
 reading_on_extends confirmed size r bytes =
     let u = updates_from (takes_fast confirmed) r.cut bytes in
     reading_extends r.view.pictures (view_after_bodies confirmed size r.view u.bodies) (refusal_in u.next.stage) u.next
@@ -150,7 +150,7 @@ stream_front confirmed size front rest whole e =
     by (Err refusal) is more = absurd (cc more)
 
 -- these pictures are the first ones of those of a list that is reached
-abbrev AreFirstOf : Pictures → Result Pictures Refusal → Type 0
+abbrev pub AreFirstOf : Pictures → Result Pictures Refusal → Type 0
 AreFirstOf shown (Ok pictures) = IsFront shown pictures
 AreFirstOf shown (Err refusal) = ⊤
 

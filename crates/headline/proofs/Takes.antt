@@ -10,9 +10,9 @@ use Rattle.session_rules.specs.declared.entry.Entry.{Entry}
 use Rattle.session_rules.specs.Journal.{Head, state_after, IsLegalJournal}
 use Rattle.session_rules.specs.Steps.{TakeOf, TakesFollow}
 use Rattle.wire_num.specs.Field.{bind}
-use Rattle.order_means.specs.Updates.{Cutting, cutting, updates_in, refusal_in}
+use Rattle.order_means.specs.Updates.{Cutting, cutting, updates_from, refusal_in}
 use Rattle.order_means.specs.Updates.Stage.{Between}
-use Rattle.order_means.specs.FrameMarks.{View, Refusal, ClientReading, first_view, reading, unless_refused_at, read_stream, view_after_bodies, EndsBetween}
+use Rattle.order_means.specs.FrameMarks.{View, Refusal, ClientReading, first_view, reading, first_reading, unless_refused_at, read_on, read_stream, view_after_bodies, EndsBetween}
 use Rattle.frame_rules.specs.FrameBytes.{joined_bytes}
 use Rattle.frame_rules.specs.FrameRead.{Reads}
 use Rattle.frame_rules.specs.Encoder.{Encoder, first_encoder, take_bytes, encoder_after, bytes_of_takes, encoder_after_takes}
@@ -27,16 +27,21 @@ abbrev stage_of : Result ClientReading Refusal → Cutting
 stage_of (Ok r) = r.cut
 stage_of (Err refusal) = cutting 0 Between
 
-ends_by : (c : Confirmed) (size : Size) (w : Result View Refusal) (o : Option ℕ) (next : Cutting) (view : View) (end : ℕ) →
-    bind w (λ v. unless_refused_at o (reading v next)) ≡ Ok (reading view (cutting end Between)) → next.stage ≡ Between
-ends_by c size (Ok v) None next view end e = ap (λ r. (stage_of r).stage) e
-ends_by c size (Ok v) (Some place) next view end e = absurd (cc e)
-ends_by c size (Err refusal) o next view end e = absurd (cc e)
+cut_by : (c : Confirmed) (size : Size) (w : Result View Refusal) (o : Option ℕ) (next : Cutting) (r : ClientReading)
+    → bind w (λ v. unless_refused_at o (reading v next)) ≡ Ok r → next ≡ r.cut
+cut_by c size (Ok v) None next r e = ap stage_of e
+cut_by c size (Ok v) (Some place) next r e = absurd (cc e)
+cut_by c size (Err refusal) o next r e = absurd (cc e)
+
+-- a viewer that has read on is where the packets end
+pub read_to : (c : Confirmed) (size : Size) (r s : ClientReading) (bytes : List ℕ) → read_on c size r bytes ≡ Ok s
+    → (updates_from (takes_fast c) r.cut bytes).next ≡ s.cut
+read_to c size r s bytes e = cut_by c size (view_after_bodies c size r.view (updates_from (takes_fast c) r.cut bytes).bodies)
+    (refusal_in (updates_from (takes_fast c) r.cut bytes).next.stage) (updates_from (takes_fast c) r.cut bytes).next s e
 
 ends_between : (c : Confirmed) (size : Size) (bytes : List ℕ) (view : View) (end : ℕ) → read_stream c size bytes ≡ Ok (reading view (cutting end Between))
     → EndsBetween (takes_fast c) bytes
-ends_between c size bytes view end e = ends_by c size (view_after_bodies c size (first_view c size) (updates_in (takes_fast c) bytes).bodies)
-    (refusal_in (updates_in (takes_fast c) bytes).next.stage) (updates_in (takes_fast c) bytes).next view end e
+ends_between c size bytes view end e = ap (λ (cut : Cutting). cut.stage) (read_to c size (first_reading c size) (reading view (cutting end Between)) bytes e)
 
 -- ---- takes, one after the other
 

@@ -39,7 +39,7 @@ pub record SeesFirstOfJournal (size : Size) (confirmed : Confirmed) (j : List En
   pub are_first : IsFront seen numbers
   pub marks_show_journal : pictures_at_marks confirmed size bytes ≡ Ok (pictures_after (depth_of confirmed) size j seen)
 
--- each viewer's bytes in a front of a script's capture
+-- each viewer's bytes in a front of a script's capture, without packets of pointers
 abbrev pub EveryViewerOfFront : Script → List ℕ → Type 0
 EveryViewerOfFront s front = (v : ℕ)
     → SeesFirstOfJournal s.head.size (confirmed_in s.head s.asked v) (journal_of_steps s.head (steps_of s.asked)) (frame_numbers s.head (steps_of s.asked) v)

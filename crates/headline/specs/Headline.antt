@@ -1,6 +1,6 @@
 -- The headline: whatever the interleaving of joins, inputs, drawings, refreshes, takes and departures, no viewer's bytes are
 -- ever refused by the protocol's own reading, and at each mark they show, cut to the viewer's depth, the picture after exactly the
--- journal entries that the frame's take found; each change was made by the holder of control.
+-- journal entries that the frame's take found, and the pointer after them; each change was made by the holder of control.
 use Rattle.std.specs.Prelude.{◌≡◌, ℕ, Bool, true, List, [], ◌∷◌, map, Ok, ⊤, IsTrue}
 use Rattle.std.specs.declared.option.Option.{Option}
 use Rattle.px_core.specs.declared.depth.Depth.{Depth}
@@ -14,11 +14,13 @@ use Rattle.session_rules.specs.Journal.{Head, picture_after_entries, is_present,
 use Rattle.session_rules.specs.Steps.{Step, Play, play_at_first, outcome, journal_of_steps, frame_numbers}
 use Rattle.session_rules.specs.Steps.Step.{JoinStep, LeaveStep, InputStep, DrawStep, RefreshStep, SuppressStep, TakeStep}
 use Rattle.order_means.specs.FrameMarks.{pictures_at_marks, EndsBetween}
+use Rattle.order_means.specs.Packets.{without_pointers}
 use Rattle.script_rules.specs.Script.{Asked, Script, Opening, opening_of}
 use Rattle.script_rules.specs.Script.Opening.{NoSize, Unended, Opened}
-use Rattle.script_rules.specs.Capture.{viewer_bytes}
+use Rattle.script_rules.specs.Capture.{written_bytes}
 use Rattle.frame_rules.specs.Describes.{HasAllCaches}
 use Rattle.script_rules.specs.CaptureText.{run_at_first, run_after_all, sent_from, encoder_frames}
+use Rattle.headline.specs.Pointed.{SeesPointers}
 
 -- a picture of which each pixel is known, cut to a depth
 abbrev pub known_picture : Depth → List ℕ → List (Option ℕ)
@@ -70,9 +72,10 @@ ConfirmAllCaches (a ∷ rest) = HasAllCaches a.confirmed × ConfirmAllCaches res
 abbrev pub HasSessionSize : Head → Type 0
 HasSessionSize head = IsTrue (is_session_size head.size.w head.size.h)
 
--- for a list of steps, and the bytes that each viewer is sent
-pub record EveryViewerSeesTheJournal (head : Head) (asked : List Asked) (bytes : ℕ → List ℕ) : Type 0 where
-  pub viewers : (v : ℕ) → SeesJournal head.size (confirmed_in head asked v) (journal_of_steps head (steps_of asked)) (frame_numbers head (steps_of asked) v) (bytes v)
+-- for a list of steps, and the bytes that each viewer is sent, with pointers: without those each viewer sees the journal, and with them the journal's pointers
+pub record EveryViewerSeesTheJournal (head : Head) (asked : List Asked) (written : ℕ → List ℕ) : Type 0 where
+  pub viewers : (v : ℕ) → SeesJournal head.size (confirmed_in head asked v) (journal_of_steps head (steps_of asked)) (frame_numbers head (steps_of asked) v) (without_pointers (written v))
+  pub pointers : (v : ℕ) → SeesPointers head.size (confirmed_in head asked v) (journal_of_steps head (steps_of asked)) (frame_numbers head (steps_of asked) v) (written v)
   pub journal_is_legal : IsLegalJournal head (journal_of_steps head (steps_of asked))
   pub changes_are_the_holders : ChangesAreTheHolders head.size (journal_of_steps head (steps_of asked))
 
@@ -85,7 +88,7 @@ EveryViewerOfSteps head asked = HasSessionSize head → AreByPresentViewers head
 
 -- for a script and its capture
 abbrev pub EveryViewerOfScript : Script → List ℕ → Type 0
-EveryViewerOfScript s capture = EveryViewerSeesTheJournal s.head s.asked (λ v. viewer_bytes v capture)
+EveryViewerOfScript s capture = EveryViewerSeesTheJournal s.head s.asked (λ v. written_bytes v capture)
 
 abbrev pub EveryViewerOfOpening : Opening → List ℕ → Type 0
 EveryViewerOfOpening NoSize capture = ⊤

@@ -1,4 +1,5 @@
 pub mod Headline
+pub mod Pointed
 pub mod Interleaving
 pub mod Sent
 pub mod Fronts

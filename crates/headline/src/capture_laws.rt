@@ -6,8 +6,9 @@ ghost use Rattle.caps_sets.specs.declared.confirmed.Confirmed.{Confirmed};
 ghost use Rattle.session_rules.specs.Journal.{Head};
 ghost use Rattle.session_rules.specs.Steps.{outcome};
 ghost use Rattle.order_means.specs.FrameMarks.{ClientReading, read_stream, pictures_at_marks};
+ghost use Rattle.order_means.specs.Packets.{without_pointers};
 ghost use Rattle.script_rules.specs.Script.{Asked, Script, opening_of};
-ghost use Rattle.script_rules.specs.Capture.{viewer_of, viewer_bytes};
+ghost use Rattle.script_rules.specs.Capture.{viewer_of, written_bytes};
 ghost use Rattle.script_rules.specs.CaptureText.{Run, bytes_of_answer, run_after_all, lines_from, sent_from, capture_of, capture_of_script, encoder_frames};
 ghost use Rattle.frame_rules.specs.Frame.{FrameOf};
 ghost use Rattle.frame_rules.specs.FrameOrders.{Uses, orders_before_tiles};
@@ -19,10 +20,10 @@ ghost use Rattle.headline.specs.Sent.{AreBytes, sent_to, run_of, SendsBytes, Pre
 ghost use Rattle.headline.specs.OrderBytes.{HoldBytes, FramesHoldBytes};
 ghost use Rattle.headline.specs.Fronts.{IsFront, ReadsFront, ShowsFirst, IsSentWhatIsWritten, EveryViewerOfOpeningFront};
 
-/// The bytes of each viewer in the capture of any steps are those that it was sent, whatever line ends the capture.
+/// The bytes of each viewer's lines in the capture of any steps are those that it was sent, with pointers, whatever line ends the capture.
 pub fn viewer_bytes_are_those_sent()
     ensures { (s : Script) → AreByPresentViewers s.head s.asked → PresetsConfirm s.asked → SendsBytes s.head s.asked
-        → (v : ℕ) → viewer_bytes v (capture_of_script encoder_frames s) ≡ sent_to s.head s.asked v }
+        → (v : ℕ) → written_bytes v (capture_of_script encoder_frames s) ≡ sent_to s.head s.asked v }
 {}
 
 /// The preset words of a script's joins confirm what their viewers confirmed.
@@ -44,9 +45,16 @@ pub fn fronts_of_a_stream_are_read()
         → pictures_at_marks confirmed size (front ++ rest) ≡ Ok pictures → ShowsFirst confirmed size front pictures }
 {}
 
+/// Where bytes without the packets of pointers are read without a refusal, each front of them is, and the pictures at its marks are the first ones,
+/// wherever it is cut, also in a packet of a pointer.
+pub fn fronts_without_pointers_are_read()
+    ensures { (confirmed : Confirmed) (size : Size) (front rest : List ℕ) (pictures : List (List (Option ℕ)))
+        → pictures_at_marks confirmed size (without_pointers (front ++ rest)) ≡ Ok pictures → ShowsFirst confirmed size (without_pointers front) pictures }
+{}
+
 /// The bytes of a viewer in a front of a text are a front of its bytes in the text.
 pub fn bytes_in_a_front_are_a_front()
-    ensures { (v : ℕ) (front rest : List ℕ) → IsFront (viewer_bytes v front) (viewer_bytes v (front ++ rest)) }
+    ensures { (v : ℕ) (front rest : List ℕ) → IsFront (written_bytes v front) (written_bytes v (front ++ rest)) }
 {}
 
 /// Where every viewer of a script's steps sees the journal in what it is sent, each front of the script's capture shows each viewer its first takes.

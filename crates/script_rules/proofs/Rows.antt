@@ -3,7 +3,7 @@ use Rattle.std.proofs.Common.{◌≡◌, ℕ, List, [], ◌∷◌, ◌++◌, ref
 use Rattle.std.specs.Prelude.{codes, Option}
 use Rattle.script_rules.specs.Script.{opening_of, Opening, LineRefusal}
 use Rattle.script_rules.specs.Script.Opening.{NoSize, Unended, Opened}
-use Rattle.script_rules.specs.Capture.{ended, first_broken_line, viewer_bytes}
+use Rattle.script_rules.specs.Capture.{ended, first_broken_line, written_bytes}
 
 -- a broken line and its rule
 abbrev broken_in : Option LineRefusal → List ℕ
@@ -92,5 +92,5 @@ seven_is_the_greatest_rule = refl
 no_line_breaks_rule_8 : first_broken_line (ended (codes "line 3 rule 8")) ≡ Some 1
 no_line_breaks_rule_8 = refl
 
-bytes_are_joined : viewer_bytes 1 (ended (codes "1 joined 64 48 plain") ++ ended (codes "1 00ff") ++ ended (codes "2 joined 64 48 plain") ++ ended (codes "2 03") ++ ended (codes "1 01")) ≡ 0 ∷ 255 ∷ 1 ∷ []
+bytes_are_joined : written_bytes 1 (ended (codes "1 joined 64 48 plain") ++ ended (codes "1 00ff") ++ ended (codes "2 joined 64 48 plain") ++ ended (codes "2 03") ++ ended (codes "1 01")) ≡ 0 ∷ 255 ∷ 1 ∷ []
 bytes_are_joined = refl

@@ -18,6 +18,7 @@ use Rattle.session_rules.specs.Steps.{Step, Answer}
 use Rattle.session_rules.specs.Steps.Step.{JoinStep, LeaveStep, InputStep, DrawStep, RefreshStep, SuppressStep, TakeStep}
 use Rattle.session_rules.specs.Steps.Answer.{Joined, Left, Accepted, Refused, Nothing, Frame}
 use Rattle.caps_sets.specs.Presets.{presets, confirmed_by}
+use Rattle.order_means.specs.Packets.{without_pointers}
 use Rattle.script_rules.specs.Script.{Asked, LineRefusal, all_bytes, size_with, viewer_limit}
 
 -- ---- lines that are written
@@ -203,9 +204,13 @@ abbrev pub bytes_of_lines : ℕ → List Line → List ℕ
 bytes_of_lines v [] = []
 bytes_of_lines v (line ∷ lines) = bytes_of_line v (line_read line) ++ bytes_of_lines v lines
 
--- the bytes of a viewer in a capture: those of its hexadecimal lines, joined
+-- the bytes of a viewer's hexadecimal lines in a capture, joined
+abbrev pub written_bytes : ℕ → List ℕ → List ℕ
+written_bytes v capture = bytes_of_lines v (lines_of capture)
+
+-- the bytes of a viewer in a capture: those, without the packets of pointers
 abbrev pub viewer_bytes : ℕ → List ℕ → List ℕ
-viewer_bytes v capture = bytes_of_lines v (lines_of capture)
+viewer_bytes v capture = without_pointers (written_bytes v capture)
 
 -- a viewer's joined line: the size and what it confirmed
 pub record JoinedAs : Type 0 where

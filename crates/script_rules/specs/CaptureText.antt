@@ -7,7 +7,7 @@ use Rattle.session_rules.specs.declared.entry.Entry.{Entry}
 use Rattle.session_rules.specs.Journal.{Head}
 use Rattle.session_rules.specs.Steps.{Answer, TakeOf, Play, PerViewer, replaced_for, play_at_first, Outcome, outcome}
 use Rattle.session_rules.specs.Steps.Answer.{Joined, Left, Accepted, Refused, Nothing, Frame}
-use Rattle.frame_rules.specs.Encoder.{Encoder, first_encoder, take_bytes, encoder_after}
+use Rattle.frame_rules.specs.Encoder.{Encoder, first_encoder, pointed_bytes, encoder_after}
 use Rattle.script_rules.specs.Script.{Asked, Script, Opening, opening_of, size_rule, text_rule}
 use Rattle.script_rules.specs.Script.Opening.{NoSize, Unended, Opened}
 use Rattle.script_rules.specs.Capture.{answer_line, viewer_of, broken_line, last_line}
@@ -18,9 +18,9 @@ pub record FrameText (E : Type 0) : Type 0 where
   pub bytes : Size → Confirmed → List Entry → E → TakeOf → List ℕ
   pub after : Size → Confirmed → List Entry → E → TakeOf → E
 
--- the bytes of frames, by the encoder
+-- the bytes of frames, by the encoder, each behind the pointer that is told before it, if any
 abbrev pub encoder_frames : FrameText Encoder
-encoder_frames = record { first = first_encoder; bytes = take_bytes; after = encoder_after }
+encoder_frames = record { first = first_encoder; bytes = pointed_bytes; after = encoder_after }
 
 -- a run in its course: the session and its journal, and of each viewer what it confirmed and its encoder
 pub record Run (E : Type 0) : Type 0 where

@@ -30,3 +30,4 @@ mod MeaningsOfFrames
 mod PendingRows
 mod Depths
 mod DepthRows
+pub mod Pointers

@@ -9,6 +9,7 @@ use Rattle.session_rules.specs.Journal.{Head}
 use Rattle.session_rules.specs.Steps.{play_at_first, session_after, journal_of_steps, frame_numbers}
 use Rattle.session_rules.specs.Steps.Step.{JoinStep, TakeStep}
 use Rattle.order_means.specs.FrameMarks.{pictures_at_marks}
+use Rattle.order_means.specs.Packets.{without_pointers}
 use Rattle.script_rules.specs.Script.{Asked, without_preset}
 use Rattle.script_rules.specs.CaptureText.{run_at_first, sent_from, encoder_frames}
 use Rattle.headline.specs.Headline.{steps_of, pictures_after, confirmed_in, is_by_present_viewer, EveryViewerSeesTheJournal}
@@ -35,7 +36,7 @@ unfolding two small
 the_taker_is_absent = refl
 
 -- its frame ends as for a viewer without markers, which is no mark for what bob confirms
-no_mark : pictures_at_marks (confirmed_in two early 2) small (sent 2) ≡ Ok []
+no_mark : pictures_at_marks (confirmed_in two early 2) small (without_pointers (sent 2)) ≡ Ok []
 unfolding early two small sent
 no_mark = refl
 
