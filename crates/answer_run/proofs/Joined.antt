@@ -20,6 +20,7 @@ use Rattle.session_core.specs.Faults.{join_answer}
 use Rattle.session_core.specs.Outcomes.{IsAnswered}
 use Rattle.frame_rules.specs.Encoder.{first_encoder}
 use Rattle.viewer_sender.specs.Senders.{SenderModel, StandsFor}
+use Rattle.pointer_share.specs.Desk.{DeskOf, IsDeskOf}
 use Rattle.script_rules.specs.Script.{is_invited}
 use Rattle.script_rules.specs.CaptureText.{run_at_first, run_by, encoder_frames}
 use Rattle.answer_run.specs.Asking.{owners_head, client, asks_to_join}
@@ -65,8 +66,8 @@ turned_away size owner name joined number old e l none a =
     not_owner size owner (is_same_word name owner) joined number l none
     (subst (λ o. IsAnswered (join_answer joined) (answer_at o.head (reached_by o) (JoinStep name))) e a)
 
--- what is known of the session before and after, and of the sender
-pub record JoinFacts (size : Size) (owner name : List ℕ) (c : Confirmed) (v : ℕ) (old new : SessionModel) (s : SenderModel) : Type 0 where
+-- what is known of the session before and after, of the sender and of the desk
+pub record JoinFacts (size : Size) (owner name : List ℕ) (c : Confirmed) (v : ℕ) (old new : SessionModel) (s : SenderModel) (d : Option DeskOf) : Type 0 where
   pub head : new.head ≡ old.head
   pub answer : Joined v ≡ answer_at old.head (reached_by old) (JoinStep name)
   pub journal : new.journal ≡ old.journal ++ option_to_list (entry_of_step old.head (reached_by old) (JoinStep name))
@@ -80,14 +81,15 @@ pub record JoinFacts (size : Size) (owner name : List ℕ) (c : Confirmed) (v : 
   pub encoded : s.encoded ≡ 0
   pub sound : s.spent ≡ false
   pub stands : StandsFor s first_encoder
+  pub desk : IsDeskOf c [] d
 
-module _ (size : Size) (owner name : List ℕ) (c : Confirmed) (v : ℕ) (new : SessionModel) (s : SenderModel) where
+module _ (size : Size) (owner name : List ℕ) (c : Confirmed) (v : ℕ) (new : SessionModel) (s : SenderModel) (d : Option DeskOf) where
   abbrev IsRunBy : Bool → Type 0
-  IsRunBy b = IsRunOf (owners_head size owner) (seat_of new s)
+  IsRunBy b = IsRunOf (owners_head size owner) (seat_of new s d)
       (run_by encoder_frames size (run_at_first encoder_frames size) (asks_to_join name c) (joins_by size owner b))
 
   -- a new session
-  seated_first : JoinFacts size owner name c v (new_session (owners_head size owner)) new s → Joins (owners_head size owner) name c (Some (seat_of new s))
+  seated_first : JoinFacts size owner name c v (new_session (owners_head size owner)) new s d → Joins (owners_head size owner) name c (Some (seat_of new s d))
   seated_first f =
       let head = owners_head size owner in
       let old = new_session head in
@@ -106,6 +108,7 @@ module _ (size : Size) (owner name : List ℕ) (c : Confirmed) (v : ℕ) (new : 
         confirmed = f.confirmed;
         taken = sym f.number;
         follows = (f.stands, f.held);
+        desk = f.desk;
       } in (
         ap (λ b. is_some (role_if b)) is.0,
         record {
@@ -117,5 +120,5 @@ module _ (size : Size) (owner name : List ℕ) (c : Confirmed) (v : ℕ) (new : 
         subst IsRunBy (sym is.0) run,
       )
 
-  pub joined : (old : SessionModel) → old ≡ new_session (owners_head size owner) → JoinFacts size owner name c v old new s → Joins (owners_head size owner) name c (Some (seat_of new s))
-  joined old e f = seated_first (subst (λ o. JoinFacts size owner name c v o new s) e f)
+  pub joined : (old : SessionModel) → old ≡ new_session (owners_head size owner) → JoinFacts size owner name c v old new s d → Joins (owners_head size owner) name c (Some (seat_of new s d))
+  joined old e f = seated_first (subst (λ o. JoinFacts size owner name c v o new s d) e f)

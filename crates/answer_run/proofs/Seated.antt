@@ -24,8 +24,10 @@ use Rattle.session_core.specs.declared.faults.InputRefusal.{InputRefusal}
 use Rattle.session_core.specs.declared.faults.InputRefusal.TheVariants as refusal
 use Rattle.session_core.proofs.Sessions.{reached_at_end}
 use Rattle.std.specs.Prelude.{Result, Ok, Err}
+use Rattle.caps_sets.specs.declared.confirmed.Confirmed.{Confirmed}
 use Rattle.frame_rules.specs.Encoder.{Encoder}
 use Rattle.viewer_sender.specs.Senders.{SenderModel, Follows}
+use Rattle.pointer_share.specs.Desk.{DeskOf, IsDeskOf}
 use Rattle.script_rules.specs.Script.{Asked, without_preset}
 use Rattle.script_rules.specs.Capture.{viewer_of}
 use Rattle.script_rules.specs.CaptureText.{Run, run_after, confirmed_after, encoders_after, encoder_frames}
@@ -33,8 +35,8 @@ use Rattle.answer_run.specs.Asking.{client}
 use Rattle.answer_run.specs.Seats.{IsSeated, IsRunOf, Does, IsSettled}
 use Rattle.answer_run.specs.declared.seat.Seat.{Seat}
 
-abbrev pub seat_of : SessionModel → SenderModel → Seat
-seat_of session sender = record { session = session; sender = sender }
+abbrev pub seat_of : SessionModel → SenderModel → Option DeskOf → Seat
+seat_of session sender desk = record { session = session; sender = sender; desk = desk }
 
 -- ---- what is reached
 
@@ -136,12 +138,19 @@ asked_same old new h = ap (λ kept. tiles (kept_for [] kept client)) h
 suppressed_same : (old new : SessionModel) → new.suppressed ≡ old.suppressed → is_suppressed new client ≡ is_suppressed old client
 suppressed_same old new h = ap (λ kept. kept_for false kept client) h
 
-module _ (old new : SessionModel) (s : SenderModel) where
+-- a desk stays the client's where what it confirmed and its encoder stay
+desk_same : (cs ds : PerViewer Confirmed) (es fs : PerViewer Encoder) (desk : Option DeskOf) → ds ≡ cs → fs ≡ es → IsDeskOf (cs client) (es client).told desk
+    → IsDeskOf (ds client) (fs client).told desk
+desk_same cs ds es fs desk confirmed encoders h =
+    subst (λ (k : PerViewer Confirmed). IsDeskOf (k client) (fs client).told desk) (sym confirmed)
+    (subst (λ (k : PerViewer Encoder). IsDeskOf (cs client) (k client).told desk) (sym encoders) h)
+
+module _ (old new : SessionModel) (s : SenderModel) (d : Option DeskOf) where
   -- ---- an input event
 
   module _ (e : Event) (head : new.head ≡ old.head)
       (journal : new.journal ≡ old.journal ++ option_to_list (entry_of_step old.head (reached_by old) (InputStep client e))) where
-    pub input_seated : IsSeated (seat_of old s) → IsSeated (seat_of new s)
+    pub input_seated : IsSeated (seat_of old s d) → IsSeated (seat_of new s d)
     input_seated h =
         let count = ap length journal in
         let longer = length-append old.journal (option_to_list (entry_of_step old.head (reached_by old) (InputStep client e))) in
@@ -153,8 +162,8 @@ module _ (old new : SessionModel) (s : SenderModel) where
           idle = h.idle;
         }
 
-    pub input_done : new.asked ≡ old.asked → new.suppressed ≡ old.suppressed → Does (without_preset (InputStep client e)) (seat_of old s) (seat_of new s)
-    input_done asked suppressed = for_head (without_preset (InputStep client e)) (seat_of old s) (seat_of new s) (λ run r.
+    pub input_done : new.asked ≡ old.asked → new.suppressed ≡ old.suppressed → Does (without_preset (InputStep client e)) (seat_of old s d) (seat_of new s d)
+    input_done asked suppressed = for_head (without_preset (InputStep client e)) (seat_of old s d) (seat_of new s d) (λ run r.
         let o = outcome old.head run.play (InputStep client e) in
         let k = input_keeps old.head run (without_preset (InputStep client e)) client e in
         let entry : o.entry ≡ entry_of_step old.head (reached_by old) (InputStep client e) =
@@ -169,11 +178,13 @@ module _ (old new : SessionModel) (s : SenderModel) where
           confirmed = r.confirmed ∙ sym (ap (λ f. f client) k.confirmed);
           taken = ap (λ f. f client) k.taken ∙ r.taken;
           follows = subst (λ (es : PerViewer Encoder). Follows s (es client)) (sym k.encoders) r.follows;
+          desk = desk_same run.confirmed (confirmed_after run.confirmed (without_preset (InputStep client e)) o.answer) run.encoders
+              (encoders_after encoder_frames old.head.size run client o.answer) d k.confirmed k.encoders r.desk;
         })
 
   -- ---- requests
 
-  pub same_seated : new.head ≡ old.head → new.journal ≡ old.journal → IsSeated (seat_of old s) → IsSeated (seat_of new s)
+  pub same_seated : new.head ≡ old.head → new.journal ≡ old.journal → IsSeated (seat_of old s d) → IsSeated (seat_of new s d)
   same_seated head journal h =
       let count = ap length journal in
       let seen = h.seen in
@@ -186,8 +197,8 @@ module _ (old new : SessionModel) (s : SenderModel) where
 
   pub refresh_done : (area : Rect) → new.head ≡ old.head → new.journal ≡ old.journal
       → asked_by new ≡ replaced_for client (either_tiles (asked_by old client) (tiles_of old.head.size area)) (asked_by old)
-      → new.suppressed ≡ old.suppressed → Does (without_preset (RefreshStep client area)) (seat_of old s) (seat_of new s)
-  refresh_done area head journal asked suppressed = for_head (without_preset (RefreshStep client area)) (seat_of old s) (seat_of new s) (λ run r. record {
+      → new.suppressed ≡ old.suppressed → Does (without_preset (RefreshStep client area)) (seat_of old s d) (seat_of new s d)
+  refresh_done area head journal asked suppressed = for_head (without_preset (RefreshStep client area)) (seat_of old s d) (seat_of new s d) (λ run r. record {
     of_head = head;
     journal = append-nil run.journal ∙ (r.journal ∙ sym journal);
     reached = r.reached ∙ sym (same_reached old new head journal);
@@ -196,11 +207,12 @@ module _ (old new : SessionModel) (s : SenderModel) where
     confirmed = r.confirmed;
     taken = r.taken;
     follows = r.follows;
+    desk = r.desk;
   })
 
   pub suppress_done : (stop : Bool) → new.head ≡ old.head → new.journal ≡ old.journal → new.asked ≡ old.asked
-      → is_suppressed new ≡ replaced_for client stop (is_suppressed old) → Does (without_preset (SuppressStep client stop)) (seat_of old s) (seat_of new s)
-  suppress_done stop head journal asked suppressed = for_head (without_preset (SuppressStep client stop)) (seat_of old s) (seat_of new s) (λ run r. record {
+      → is_suppressed new ≡ replaced_for client stop (is_suppressed old) → Does (without_preset (SuppressStep client stop)) (seat_of old s d) (seat_of new s d)
+  suppress_done stop head journal asked suppressed = for_head (without_preset (SuppressStep client stop)) (seat_of old s d) (seat_of new s d) (λ run r. record {
     of_head = head;
     journal = append-nil run.journal ∙ (r.journal ∙ sym journal);
     reached = r.reached ∙ sym (same_reached old new head journal);
@@ -209,4 +221,5 @@ module _ (old new : SessionModel) (s : SenderModel) where
     confirmed = r.confirmed;
     taken = r.taken;
     follows = r.follows;
+    desk = r.desk;
   })

@@ -6,6 +6,7 @@ use Rattle.std.specs.declared.option.Option.TheVariants.{Some, None}
 use Rattle.px_core.specs.declared.surface.Size.{Size}
 use Rattle.session_rules.specs.Journal.{Head}
 use Rattle.session_rules.specs.Steps.{journal_of_steps, frame_numbers}
+use Rattle.order_means.specs.Packets.{without_pointers}
 use Rattle.script_rules.specs.Script.{Asked}
 use Rattle.script_rules.specs.CaptureText.{run_at_first, sent_from, encoder_frames}
 use Rattle.headline.specs.Headline.{steps_of, confirmed_in, EveryViewerSeesTheJournal}
@@ -13,15 +14,16 @@ use Rattle.headline.specs.Fronts.{IsFront, SeesFirstOfJournal}
 use Rattle.answer_run.specs.Asking.{owners_head, client}
 use Rattle.answer_run.specs.Service.{asked_of_stream, replies_of_stream, frames_of_stream, written_of_stream, end_so_far_of_stream, answer_of_stream}
 
--- what of a text are frames, which stand behind these replies, and are at most these
+-- what of a text are frames, with the pointers before them, which stand behind these replies, and are at most these
 abbrev pub frames_in : (replies frames : List ℕ) → List ℕ → List ℕ
 frames_in replies frames text = take (length frames) (drop (length replies) text)
 
--- bytes show the client its first takes among the steps that are asked for, by the pictures after exactly as many entries of the journal as
--- these takes found, and aren't refused
+-- bytes show the client, without the packets of pointers, its first takes among the steps that are asked for, by the pictures after exactly as
+-- many entries of the journal as these takes found, and aren't refused
 abbrev pub ShowsFirstTakes : Head → List Asked → List ℕ → Type 0
 ShowsFirstTakes head asked bytes =
-    SeesFirstOfJournal head.size (confirmed_in head asked client) (journal_of_steps head (steps_of asked)) (frame_numbers head (steps_of asked) client) bytes
+    SeesFirstOfJournal head.size (confirmed_in head asked client) (journal_of_steps head (steps_of asked)) (frame_numbers head (steps_of asked) client)
+    (without_pointers bytes)
 
 -- a text is a front of the answer to a stream, and the frames in it show the client its first takes
 pub record IsFrontOfAnswer (size : Size) (owner stream text : List ℕ) : Type 0 where
@@ -29,9 +31,9 @@ pub record IsFrontOfAnswer (size : Size) (owner stream text : List ℕ) : Type 0
   pub shows_journal : ShowsFirstTakes (owners_head size owner) (asked_of_stream size owner stream)
       (frames_in (replies_of_stream size owner stream) (frames_of_stream size owner stream) text)
 
--- a service wrote exactly what is due for the bytes of the stream that the source handed out in it: the replies, and then the frames,
--- which aren't refused, and whose marks show the pictures after exactly as many entries of the journal as the takes found. These bytes
--- bring no end, so no ultimatum is due
+-- a service wrote exactly what is due for the bytes of the stream that the source handed out in it: the replies, and then the frames with
+-- the pointers before them, which aren't refused, and whose marks show the pictures after exactly as many entries of the journal as the takes
+-- found, and the pointers after them. These bytes bring no end, so no ultimatum is due
 pub record WritesHandedBytes (size : Size) (owner stream : List ℕ) (left told telling : Option (List ℕ)) : Type 0 where
   pub handed : List ℕ
   pub is_handed : Consumes (Some stream) left handed

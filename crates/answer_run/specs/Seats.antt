@@ -1,4 +1,4 @@
--- A session with the sender of its one viewer, and which runs it stands for.
+-- A session with the sender and the desk of its one viewer, and which runs it stands for.
 use Rattle.std.specs.Prelude.{◌≡◌, ℕ, ◌≤◌, true, false, ⊤, IsTrue, List, length, Option, Some, None, Result, Ok, Err}
 use Rattle.caps_sets.specs.declared.confirmed.Confirmed.{Confirmed}
 use Rattle.session_rules.specs.Journal.{Head}
@@ -9,6 +9,7 @@ use Rattle.session_core.specs.declared.faults.InputRefusal.{InputRefusal}
 use Rattle.session_core.specs.declared.faults.InputRefusal.TheVariants as refusal
 use Rattle.frame_rules.specs.Encoder.{Encoder}
 use Rattle.viewer_sender.specs.Senders.{IsIdle, Follows}
+use Rattle.pointer_share.specs.Desk.{IsDeskOf}
 use Rattle.script_rules.specs.Script.{Asked, is_invited}
 use Rattle.script_rules.specs.CaptureText.{Run, run_at_first, run_after, sent_by, encoder_frames}
 use Rattle.answer_run.specs.Asking.{client, asks_to_join, asks_for_frame}
@@ -22,7 +23,7 @@ pub record IsSeated (seat : Seat) : Type 0 where
   pub idle : IsIdle seat.sender
 
 -- the run has the session's journal and what it has reached; and of the client what it asked for, whether it is suppressed, what it confirmed, the number
--- of its last frame, and its encoder
+-- of its last frame, its encoder, and the pointers that it was told
 pub record IsRunOf (head : Head) (seat : Seat) (run : Run Encoder) : Type 0 where
   pub of_head : seat.session.head ≡ head
   pub journal : run.journal ≡ seat.session.journal
@@ -32,12 +33,13 @@ pub record IsRunOf (head : Head) (seat : Seat) (run : Run Encoder) : Type 0 wher
   pub confirmed : seat.sender.confirmed ≡ run.confirmed client
   pub taken : run.play.taken client ≡ seat.sender.number
   pub follows : Follows seat.sender (run.encoders client)
+  pub desk : IsDeskOf (run.confirmed client) (run.encoders client).told seat.desk
 
 -- what is asked for was done
 abbrev pub Does : Asked → Seat → Seat → Type 0
 Does a old new = (head : Head) (run : Run Encoder) → IsRunOf head old run → IsRunOf head new (run_after encoder_frames head run a)
 
--- a frame was taken, which is these bytes; none where it has no work
+-- a frame was taken, which is these bytes, behind the packet of its pointer where one is due; none where it has no work
 abbrev pub Takes : List ℕ → Seat → Seat → Type 0
 Takes bytes old new = (head : Head) (run : Run Encoder) → IsRunOf head old run
     → IsRunOf head new (run_after encoder_frames head run asks_for_frame) × (bytes ≡ sent_by encoder_frames head run asks_for_frame client)

@@ -71,8 +71,9 @@ abbrev pub Tells : Option (List ℕ) → (List ℕ → Type 0) → Type 0
 Tells None says = ⊤
 Tells (Some bytes) says = says bytes
 
--- a client was served by all of its stream: what was written is its answer, and by that it is told why; its frames aren't refused and leave no rest, and their marks
--- show the pictures after exactly as many entries of the journal as its takes found
+-- a client was served by all of its stream: what was written is its answer, and by that it is told why; what was written behind the replies, but for a last
+-- ultimatum, is the client's frames and the pointers before them: without the pointers they aren't refused and leave no rest, and their marks show the pictures after
+-- exactly as many entries of the journal as its takes found; with them the pointers after those
 pub record ServesStream (size : Size) (owner : List ℕ) (why : Option AnswerFault) (stream : List ℕ) (told telling : Option (List ℕ)) : Type 0 where
   pub ends : fault_of (ending_of_stream size owner stream) ≡ why
   pub written : Appends told telling (answer_of_stream size owner stream)

@@ -81,11 +81,11 @@ heard_of s bytes = heard s.hearing bytes
 abbrev pub asked_of : Head → Service → List ℕ → List Asked
 asked_of head s bytes = asked_from head s.guest (heard_of s bytes).steps
 
--- the frames that the client is sent for them
+-- the frames that the client is sent for them, with the pointers before them
 abbrev pub frames_of : Head → Service → List ℕ → List ℕ
 frames_of head s bytes = sent_from encoder_frames head s.run (asked_of head s bytes) client
 
--- all that is written for them while the service goes on: replies, and then frames
+-- all that is written for them while the service goes on: replies, and then frames with the pointers before them
 abbrev pub written_of : Head → Service → List ℕ → List ℕ
 written_of head s bytes = (heard_of s bytes).replies ++ frames_of head s bytes
 

@@ -24,7 +24,8 @@ const ROOM: usize = 16_384;
 /// Serves one client, whose stream comes from the input: a session of this size is made for it, which it joins by the owner's name.
 ///
 /// What is written are the replies of the connection, then a frame once the client is ready and after each further packet whose take has
-/// work, and then an ultimatum where the client asked for the end, is refused or isn't let in. What is due for the bytes that were read is
+/// work, and then an ultimatum where the client asked for the end, is refused or isn't let in. Right before a frame goes a packet of the
+/// pointer, where the client keeps pointers and this one isn't the one that it was told last. What is due for the bytes that were read is
 /// written before more are read; so a `ReadFault` leaves exactly what is due for the bytes that the input had handed out.
 pub fn run_answer<S: Source, K: Sink>(
     alloc: Global,
@@ -37,10 +38,11 @@ pub fn run_answer<S: Source, K: Sink>(
     requires owner { owner.now ≢ [] }
     // Where the input tells the client's stream, what is written is its answer, to the byte, and it ends as it is told to: well, refused
     // by just that number at just that place, truncated or not invited. The client's frames are never refused, and their marks show the
-    // pictures after exactly the journal entries that its takes found. After a failed read exactly what is due for the bytes that the
-    // input had handed out stands there, the replies and then the frames, which show these pictures; after a failed write, or want of
-    // memory, all that is due for the bytes before the last read, and then a front of what is due for those of that read. Either is a
-    // front of the answer, and the frames in it show the first ones of its takes.
+    // pictures after exactly the journal entries that its takes found, and the pointers after them. After a failed read exactly what is
+    // due for the bytes that the input had handed out stands there, the replies and then the frames, which show these pictures and
+    // pointers; after a failed write, or want of memory, all that is due for the bytes before the last read, and then a front of what is
+    // due for those of that read. Either is a front of the answer, and the frames in it, without the packets of pointers, show the first
+    // ones of its takes.
     ensures answer { RunsAnswer result size owner.now (S.left input.old) (S.left input.new) (K.told output.old) (K.told output.new) }
     // A refusal's number is 1 to 14.
     ensures number { IfErr result IsNumberedFault }

@@ -1,4 +1,4 @@
-//! A session with the sender of its one viewer.
+//! A session with the sender and the desk of its one viewer.
 
 ghost use Rattle.std.specs.Prelude.{◌≡◌, ◌≢◌, [], Err, IsTrue, IfOk, OnOk, OnErr};
 ghost use Rattle.px_core.specs.Rectangle.{is_session_size, IsPlaced};
@@ -10,6 +10,7 @@ ghost use Rattle.answer_run.specs.Seats.{IsSeated, Does, Takes, Joins, IsSettled
 use caps_sets::Confirmed;
 use info_lic::Name;
 use input_pdu::Event;
+use pointer_share::{PointerDesk, desk_for, note, pointed};
 use px_core::{Rect, Size};
 use session_core::{InputRefusal, Invite, JoinFault, Role, Session};
 use std::alloc::Global;
@@ -19,11 +20,12 @@ use wire_num::OutOfMemory;
 /// The client's number: it is the first that joins.
 const CLIENT: u32 = 1;
 
-/// A session with the sender of its one viewer.
+/// A session with the sender of its one viewer, and the desk of the viewer's pointer, if it has pointer cells.
 #[derive(Drop)]
 pub struct Seat {
     pub session: Session,
     pub sender: Sender,
+    pub desk: Option<PointerDesk>,
 }
 
 /// A client joins a new session, whose one row is the owner's; `None` where that isn't its name.
@@ -45,8 +47,13 @@ pub fn join(
     let mut session = Session::new(alloc, size, &rows)?;
     match let_in(session.join(name))? {
         Some(v) => {
+            let desk = desk_for(alloc, &confirmed)?;
             let sender = Sender::new(alloc, v, confirmed)?;
-            Ok(Some(Seat { session, sender }))
+            Ok(Some(Seat {
+                session,
+                sender,
+                desk,
+            }))
         }
         None => Ok(None),
     }
@@ -106,7 +113,8 @@ pub fn suppress(seat: &mut Seat, stop: bool)
     seat.session.suppress(CLIENT, stop);
 }
 
-/// The bytes of the frame that is due, which are none where there is no work.
+/// The bytes of the frame that is due, which are none where there is no work, behind the packet that tells the pointer after the take, if
+/// one is due.
 pub fn take(alloc: Global, seat: &mut Seat) -> Result<Vec<u8>, OutOfMemory>
     requires { IsSeated seat.old }
     ensures seated { OnOk result (IsSeated seat.new) }
@@ -114,10 +122,16 @@ pub fn take(alloc: Global, seat: &mut Seat) -> Result<Vec<u8>, OutOfMemory>
 {
     match seat.sender.take(alloc, &mut seat.session)? {
         Taken::Nothing => Ok(Vec::new(alloc)),
-        Taken::Frame(frame) => match seat.sender.encode(alloc, frame) {
-            Ok(bytes) => Ok(bytes),
-            Err(SendFault::OutOfMemory) => Err(OutOfMemory),
-            Err(SendFault::Spent) => unreachable!(),
-        },
+        Taken::Frame(frame) => {
+            note(&mut seat.desk, &seat.session);
+            match seat.sender.encode(alloc, frame) {
+                Ok(frame) => {
+                    let bytes = pointed(&mut seat.desk, frame)?;
+                    Ok(bytes)
+                }
+                Err(SendFault::OutOfMemory) => Err(OutOfMemory),
+                Err(SendFault::Spent) => unreachable!(),
+            }
+        }
     }
 }

@@ -6,6 +6,7 @@ use Rattle.std.proofs.lemmas.Bool.Decides.{nat_tests}
 use Rattle.wire_num.specs.Field.{bind}
 use Rattle.px_core.specs.declared.surface.Size.{Size}
 use Rattle.caps_sets.specs.declared.confirmed.Confirmed.{Confirmed}
+use Rattle.caps_sets.specs.Confirmed.{pointer_cells}
 use Rattle.order_means.specs.FrameMarks.{ClientReading, Refusal, first_reading, read_on, read_stream, pictures_at_marks}
 use Rattle.order_means.proofs.Pieces.{read_joined}
 use Rattle.client_view.specs.Clients.{IsReading}
@@ -24,6 +25,7 @@ use Rattle.demo_run.specs.Watching.{read_behind, IsAccepted, ReadsOn}
 use Rattle.demo_run.specs.Standing.{run_of, Watches, AreWatching}
 use Rattle.demo_run.proofs.Runs.{run_more, sent_more, play_is, takes_more}
 use Rattle.demo_run.proofs.Drawn.{Comes, frames_in}
+use Rattle.demo_run.proofs.Pointerless.{all_read}
 
 -- a count that stands still may be raised part by part
 pub kept_more : (n m : ℕ) → kept (kept n + m) ≡ kept (n + m)
@@ -91,11 +93,15 @@ module _ (done : List Asked) (a : Asked) where
       ∙ (read_joined c demo_size (first_reading c demo_size) (sent_to done v) next
       ∙ ap (λ (x : Result ClientReading Refusal). bind x (λ s. read_on c demo_size s next)) e))
 
-  -- it isn't refused
-  pub not_refused : AreByPresentViewers demo_head (done ++ a ∷ []) → ConfirmAllCaches (done ++ a ∷ []) → (v : ℕ) → (s : ClientReading) × (read_by (done ++ a ∷ []) v ≡ Ok s)
-  not_refused present caches v =
-      let sees = (every_viewer_sees demo_head (done ++ a ∷ []) refl present caches).viewers v in
-      let whole = read_whole (confirmed_in demo_head (done ++ a ∷ []) v) demo_size (sent_to (done ++ a ∷ []) v) _ sees.marks_show_journal in
+  -- it isn't refused, where the viewer has no pointer cells
+  pub not_refused : AreByPresentViewers demo_head (done ++ a ∷ []) → ConfirmAllCaches (done ++ a ∷ []) → (v : ℕ) → pointer_cells (confirmed_in demo_head (done ++ a ∷ []) v) ≡ 0
+      → (s : ClientReading) × (read_by (done ++ a ∷ []) v ≡ Ok s)
+  not_refused present caches v none =
+      let c = confirmed_in demo_head (done ++ a ∷ []) v in
+      let sent = sent_to (done ++ a ∷ []) v in
+      let every = every_viewer_sees demo_head (done ++ a ∷ []) refl present caches in
+      let same = all_read demo_size c _ _ sent none (every.pointers v) in
+      let whole = read_whole c demo_size sent _ (ap (pictures_at_marks c demo_size) (sym same) ∙ (every.viewers v).marks_show_journal) in
       (whole.0, whole.1)
 
   -- a viewer that is sent nothing
@@ -112,6 +118,7 @@ module _ (done : List Asked) (a : Asked) where
             ∙ (ap (read_stream (confirmed_in demo_head done v) demo_size) sent ∙ h.read);
         client = h.client;
         confirmed = h.confirmed ∙ sym (confirmed_now comes v);
+        pointers = ap pointer_cells (confirmed_now comes v) ∙ h.pointers;
         size = h.size;
         takes = h.takes ∙ ap kept (sym takes);
         bytes = h.bytes ∙ ap (λ bs. kept (length bs)) (sym sent);
@@ -134,6 +141,7 @@ module _ (done : List Asked) (a : Asked) where
         read = read_more comes v h.reading h.read ∙ (sym same ∙ next.1);
         client = next.2;
         confirmed = reads.same.confirmed ∙ (h.confirmed ∙ sym (confirmed_now comes v));
+        pointers = ap pointer_cells (confirmed_now comes v) ∙ h.pointers;
         size = reads.same.size ∙ h.size;
         takes = reads.takes ∙ (ap (λ n. kept (n + 1)) h.takes ∙ (kept_more (takes_of done v) 1
             ∙ ap kept (ap (λ n. takes_of done v + n) (sym one) ∙ sym (takes_now comes v))));
@@ -147,7 +155,7 @@ module _ (done : List Asked) (a : Asked) where
       → sent_by encoder_frames demo_head (run_of done) a v ≡ frame → Watches done v w → IsAccepted w frame
   frame_accepted comes present caches v w frame is h =
       let c = confirmed_in demo_head done v in
-      let whole = not_refused present caches v in
+      let whole = not_refused present caches v (ap pointer_cells (confirmed_now comes v) ∙ h.pointers) in
       record {
         reading = h.reading;
         stands = h.client;

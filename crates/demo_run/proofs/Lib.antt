@@ -1,6 +1,7 @@
 pub mod Runs
 pub mod Drawn
 pub mod Scenes
+pub mod Pointerless
 pub mod Frames
 pub mod Asked
 pub mod Beginning

@@ -5,7 +5,7 @@ use Rattle.std.specs.Fmt.{digits}
 use Rattle.std.proofs.lemmas.Bool.Decides.{nat_tests}
 use Rattle.px_core.specs.Picture.{listed}
 use Rattle.caps_sets.specs.declared.confirmed.Confirmed.{Confirmed}
-use Rattle.caps_sets.specs.Confirmed.{plain, full, marked, bare}
+use Rattle.caps_sets.specs.Confirmed.{plain, full, marked, bare, pointer_cells}
 use Rattle.session_rules.specs.Journal.{is_present}
 use Rattle.session_rules.specs.Steps.{Play, play_at_first, outcome, answers_of_steps}
 use Rattle.frame_rules.specs.Describes.{HasAllCaches}
@@ -100,6 +100,10 @@ joins_give_control = refl
 pub joins_confirm : (v : ℕ) → IsViewer v → confirmed_in demo_head joins v ≡ (preset_of v).confirmed
 unfolding digits
 joins_confirm v at = same_at (λ v. confirmed_in demo_head joins v) (λ v. (preset_of v).confirmed) 16 1 refl v at.0 (omega (arith, at.1))
+
+-- no viewer has pointer cells
+pub joins_confirm_no_pointers : (v : ℕ) → IsViewer v → pointer_cells (confirmed_in demo_head joins v) ≡ 0
+joins_confirm_no_pointers v at = ap pointer_cells (joins_confirm v at) ∙ same_at (λ v. pointer_cells (preset_of v).confirmed) (λ v. 0) 16 1 refl v at.0 (omega (arith, at.1))
 
 pub joins_send_nothing : (v : ℕ) → IsViewer v → sent_to joins v ≡ []
 unfolding digits

@@ -1,6 +1,7 @@
 -- For what has been asked the demonstration in code stands.
 use Rattle.std.specs.Prelude.{◌≡◌, ℕ, ◌+◌, List, length, slice_get, Some, Ok}
 use Rattle.px_core.specs.Picture.{listed}
+use Rattle.caps_sets.specs.Confirmed.{pointer_cells}
 use Rattle.order_means.specs.FrameMarks.{ClientReading}
 use Rattle.session_rules.specs.Journal.{Viewer}
 use Rattle.session_rules.specs.Steps.{answers_of_steps}
@@ -25,12 +26,13 @@ run_of done = run_after_all encoder_frames demo_head (run_at_first encoder_frame
 abbrev pub all_viewers : List Viewer
 all_viewers = listed viewer_count 1 (λ v. record { number = v; role = role_of v })
 
--- a watcher stands for what a viewer was sent
+-- a watcher stands for what a viewer was sent, which has no pointer cells
 pub record Watches (done : List Asked) (v : ℕ) (w : Watcher) : Type 0 where
   pub reading : ClientReading
   pub read : read_by done v ≡ Ok reading
   pub client : IsReading reading w.client
   pub confirmed : w.client.viewer.confirmed ≡ confirmed_in demo_head done v
+  pub pointers : pointer_cells (confirmed_in demo_head done v) ≡ 0
   pub size : w.client.viewer.pictures.size ≡ demo_size
   pub takes : w.takes ≡ kept (takes_of done v)
   pub bytes : w.bytes ≡ kept (length (sent_to done v))

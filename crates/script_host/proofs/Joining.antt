@@ -19,15 +19,16 @@ use Rattle.session_core.specs.Faults.{join_answer}
 use Rattle.session_core.specs.SessionModel.{reached_by, asked_by, is_suppressed}
 use Rattle.frame_rules.specs.Encoder.{Encoder, first_encoder}
 use Rattle.viewer_sender.specs.Senders.{SenderModel, StandsFor}
+use Rattle.pointer_share.specs.Desk.{DeskOf, IsDeskOf}
 use Rattle.script_rules.specs.Script.{Asked}
 use Rattle.script_rules.specs.Capture.{joined_line}
 use Rattle.script_rules.specs.CaptureText.{Run, run_after, run_by, line_by, line_in_run, encoder_frames}
 use Rattle.script_host.specs.declared.answer.StepAnswer.{StepAnswer}
 use Rattle.script_host.specs.declared.answer.StepAnswer.TheVariants as says
 use Rattle.script_host.specs.Answers.{answer_of, IsVerdict}
-use Rattle.script_host.specs.Hosts.{HostModel, sender_of}
+use Rattle.script_host.specs.Hosts.{HostModel, seat_of}
 use Rattle.script_host.specs.Runs.{IsViewerOf, IsRunOf}
-use Rattle.script_host.proofs.SeatLemmas.{sender_pushed, sender_new}
+use Rattle.script_host.proofs.SeatLemmas.{seat_pushed, seat_new}
 use Rattle.script_host.proofs.StepsOn.{KeepsAll, session_reached, StaysFor, viewer_stays, later_stays, replaced_here, replaced_other}
 
 -- ---- who isn't let in
@@ -110,15 +111,15 @@ pub record IsFresh (v : ℕ) (c : Confirmed) (s : SenderModel) : Type 0 where
   pub stands : StandsFor s first_encoder
 
 -- a viewer joins: of it the run says what it says of all at first, and all is as it was for the others
-pub join_on : (host new : HostModel) (run : Run Encoder) (name : List ℕ) (preset : List (List ℕ)) (c : Confirmed) (v : ℕ) (s : SenderModel) → IsRunOf host run
+pub join_on : (host new : HostModel) (run : Run Encoder) (name : List ℕ) (preset : List (List ℕ)) (c : Confirmed) (v : ℕ) (s : SenderModel) (desk : Option DeskOf) → IsRunOf host run
     → Joined v ≡ answer_at host.session.head (reached_by host.session) (JoinStep name) → new.session.head ≡ host.session.head
     → new.session.journal ≡ host.session.journal ++ option_to_list (entry_of_step host.session.head (reached_by host.session) (JoinStep name))
     → asked_by new.session ≡ asked_by host.session → is_suppressed new.session ≡ is_suppressed host.session
     → asked_by new.session v ≡ no_tiles → is_suppressed new.session v ≡ false
-    → new.seats ≡ host.seats ++ record { viewer = v; sender = s } ∷ [] → IsFresh v c s
+    → new.seats ≡ host.seats ++ record { viewer = v; sender = s; desk = desk } ∷ [] → IsFresh v c s → IsDeskOf c [] desk
     → (joined_line host.session.head.size v preset ≡ line_in_run encoder_frames host.session.head run (record { step = JoinStep name; preset = preset; confirmed = c }))
     × IsRunOf new (run_after encoder_frames host.session.head run (record { step = JoinStep name; preset = preset; confirmed = c }))
-join_on host new run name preset c v s r answer head journal asked suppressed no_asked no_stop seats fresh =
+join_on host new run name preset c v s desk r answer head journal asked suppressed no_asked no_stop seats fresh begins =
     let hd = host.session.head in
     let a : Asked = record { step = JoinStep name; preset = preset; confirmed = c } in
     let found = joins_as hd run.play name v (answer ∙ (ap (λ x. answer_at hd x (JoinStep name)) (sym r.reached) ∙ sym (answer_of_outcome hd run.play (JoinStep name) refl))) in
@@ -144,19 +145,20 @@ join_on host new run name preset c v s r answer head journal asked suppressed no
       encoder = refl;
       kept = ap (λ f. f u) asked;
       stopped = ap (λ f. f u) suppressed;
-      seat = ap (sender_of u) seats ∙ sender_pushed host.seats (record { viewer = v; sender = s }) u (ap (λ w. w == u) is_new ∙ ne);
+      seat = ap (seat_of u) seats ∙ seat_pushed host.seats (record { viewer = v; sender = s; desk = desk }) u (ap (λ w. w == u) is_new ∙ ne);
     } in
     let own : IsViewerOf new n next = record {
       asked = mine.asked ∙ (sym no_asked ∙ ap (asked_by new.session) is_new);
       suppressed = mine.suppressed ∙ (sym no_stop ∙ ap (is_suppressed new.session) is_new);
-      sender = s;
-      found = ap (sender_of n) seats ∙ sender_new host.seats (record { viewer = v; sender = s }) n mine.nobody is_new;
+      seat = record { viewer = v; sender = s; desk = desk };
+      found = ap (seat_of n) seats ∙ seat_new host.seats (record { viewer = v; sender = s; desk = desk }) n mine.nobody is_new;
       number = fresh.viewer ∙ is_new;
       confirmed = fresh.confirmed ∙ sym (replaced_here n c run.confirmed);
       taken = mine.taken ∙ sym fresh.number;
       seen = let z = fresh.number in omega (arith, z);
       idle = record { all = fresh.encoded ∙ sym fresh.taken; sound = fresh.sound };
       follows = rw mine.encoder (fresh.stands, fresh.held);
+      pointers = subst (λ k. IsDeskOf k (run.encoders n).told desk) (sym (replaced_here n c run.confirmed)) (subst (λ (e : Encoder). IsDeskOf c e.told desk) (sym mine.encoder) begins);
     } in
     let is_run : IsRunOf new next = record {
       journal = ap (λ j. j ++ Join n found.role ∷ []) r.journal ∙ sym entry;

@@ -19,7 +19,7 @@ use Rattle.frame_rules.specs.Encoder.{Encoder}
 use Rattle.script_rules.specs.Script.{Asked}
 use Rattle.script_rules.specs.Capture.{of_viewer}
 use Rattle.script_rules.specs.CaptureText.{Run, run_after, run_by, line_by, line_in_run, encoder_frames}
-use Rattle.script_host.specs.Hosts.{HostModel, sender_of}
+use Rattle.script_host.specs.Hosts.{HostModel, seat_of}
 use Rattle.script_host.specs.Runs.{IsViewerOf, IsRunOf}
 use Rattle.script_host.proofs.StepsOn.{session_reached, StaysFor, viewer_stays, later_stays, is_no_later, replaced_other}
 
@@ -47,7 +47,7 @@ pub leave_on : (host new : HostModel) (run : Run Encoder) (a : Asked) (v : ℕ) 
     → is_session_size host.session.head.size.w host.session.head.size.h ≡ true → IsLegalJournal host.session.head host.session.journal
     → new.session.head ≡ host.session.head → new.session.journal ≡ host.session.journal ++ Leave v ∷ []
     → asked_by new.session ≡ replaced_for v no_tiles (asked_by host.session) → is_suppressed new.session ≡ replaced_for v false (is_suppressed host.session)
-    → ((u : ℕ) → (v == u) ≡ false → sender_of u new.seats ≡ sender_of u host.seats)
+    → ((u : ℕ) → (v == u) ≡ false → seat_of u new.seats ≡ seat_of u host.seats)
     → (of_viewer v (codes "left") ≡ line_in_run encoder_frames host.session.head run a) × IsRunOf new (run_after encoder_frames host.session.head run a)
 leave_on host new run a v is small r mine size legal head journal asked suppressed seats =
     let hd = host.session.head in

@@ -24,7 +24,7 @@ use Rattle.frame_rules.specs.Encoder.{Encoder}
 use Rattle.script_rules.specs.Script.{Asked}
 use Rattle.script_rules.specs.Capture.{viewer_of}
 use Rattle.script_rules.specs.CaptureText.{Run, run_after, confirmed_after, encoders_after, encoder_frames}
-use Rattle.script_host.specs.Hosts.{HostModel, sender_of}
+use Rattle.script_host.specs.Hosts.{HostModel, seat_of}
 use Rattle.script_host.specs.Runs.{IsViewerOf, IsYetToCome, IsRunOf}
 
 -- ---- what was reached
@@ -107,14 +107,14 @@ pub record StaysFor (host new : HostModel) (run next : Run Encoder) (v : ℕ) : 
   pub encoder : next.encoders v ≡ run.encoders v
   pub kept : asked_by new.session v ≡ asked_by host.session v
   pub stopped : is_suppressed new.session v ≡ is_suppressed host.session v
-  pub seat : sender_of v new.seats ≡ sender_of v host.seats
+  pub seat : seat_of v new.seats ≡ seat_of v host.seats
 
 module _ (host new : HostModel) (run next : Run Encoder) where
   pub viewer_stays : (v : ℕ) → length host.session.journal ≤ length new.session.journal → StaysFor host new run next v → IsViewerOf host v run → IsViewerOf new v next
   viewer_stays v longer s h = record {
     asked = s.asked ∙ (h.asked ∙ sym s.kept);
     suppressed = s.suppressed ∙ (h.suppressed ∙ sym s.stopped);
-    sender = h.sender;
+    seat = h.seat;
     found = s.seat ∙ h.found;
     number = h.number;
     confirmed = h.confirmed ∙ sym s.confirmed;
@@ -122,6 +122,7 @@ module _ (host new : HostModel) (run next : Run Encoder) where
     seen = let a = h.seen in omega (arith, a, longer);
     idle = h.idle;
     follows = rw s.encoder h.follows;
+    pointers = rw (s.confirmed, s.encoder) h.pointers;
   }
 
   pub later_stays : (v : ℕ) → StaysFor host new run next v → IsYetToCome host v run → IsYetToCome new v next
@@ -210,7 +211,7 @@ verdict_on host new run a r head journal asked suppressed seats k =
       encoder = ap (λ f. f u) k.encoders;
       kept = ap (λ f. f u) asked;
       stopped = ap (λ f. f u) suppressed;
-      seat = ap (sender_of u) seats;
+      seat = ap (seat_of u) seats;
     })
 
 -- ---- what is kept of viewers, by their lists
@@ -264,20 +265,21 @@ refresh_on host new run a v r is h mine head journal asked suppressed seats =
       encoder = refl;
       kept = ap (λ f. f u) asked ∙ replaced_other v u _ (asked_by host.session) ne;
       stopped = ap (λ f. f u) suppressed;
-      seat = ap (sender_of u) seats;
+      seat = ap (seat_of u) seats;
     })
     (record {
       asked = replaced_here v _ run.play.asked ∙ (ap (λ t. either_tiles t (tiles_of size r)) w.asked
           ∙ (sym (replaced_here v (either_tiles (asked_by host.session v) (tiles_of size r)) (asked_by host.session)) ∙ sym (ap (λ f. f v) asked)));
       suppressed = w.suppressed ∙ sym (ap (λ f. f v) suppressed);
-      sender = w.sender;
-      found = ap (sender_of v) seats ∙ w.found;
+      seat = w.seat;
+      found = ap (seat_of v) seats ∙ w.found;
       number = w.number;
       confirmed = w.confirmed;
       taken = w.taken;
       seen = let s = w.seen in let count = ap length journal in omega (arith, s, count);
       idle = w.idle;
       follows = w.follows;
+      pointers = w.pointers;
     }))
 
 -- a viewer wants no output, or wants it again
@@ -301,17 +303,18 @@ suppress_on host new run a v stop is h mine head journal asked suppressed seats 
       encoder = refl;
       kept = ap (λ f. f u) asked;
       stopped = ap (λ f. f u) suppressed ∙ replaced_other v u _ (is_suppressed host.session) ne;
-      seat = ap (sender_of u) seats;
+      seat = ap (seat_of u) seats;
     })
     (record {
       asked = w.asked ∙ sym (ap (λ f. f v) asked);
       suppressed = replaced_here v _ run.play.suppressed ∙ (sym (replaced_here v stop (is_suppressed host.session)) ∙ sym (ap (λ f. f v) suppressed));
-      sender = w.sender;
-      found = ap (sender_of v) seats ∙ w.found;
+      seat = w.seat;
+      found = ap (seat_of v) seats ∙ w.found;
       number = w.number;
       confirmed = w.confirmed;
       taken = w.taken;
       seen = let s = w.seen in let count = ap length journal in omega (arith, s, count);
       idle = w.idle;
       follows = w.follows;
+      pointers = w.pointers;
     }))

@@ -6,19 +6,18 @@ use Rattle.std.specs.Option.{option_map}
 use Rattle.px_core.specs.Rectangle.{is_session_size}
 use Rattle.session_rules.specs.Journal.{Head, Row}
 use Rattle.session_core.specs.SessionModel.{SessionModel, new_session, AreInvited}
-use Rattle.viewer_sender.specs.Senders.{SenderModel}
 use Rattle.script_host.specs.declared.seats.Seat.{Seat}
 
--- whether a step was asked for, the session, and the senders of the viewers that are present
+-- whether a step was asked for, the session, and the seats of the viewers that are present
 pub record HostModel : Type 0 where
   pub begun : Bool
   pub session : SessionModel
   pub seats : List Seat
 
--- the sender of a viewer
-abbrev pub sender_of : ℕ → List Seat → Option SenderModel
-sender_of v [] = None
-sender_of v (s ∷ ss) = if s.viewer == v then Some s.sender else sender_of v ss
+-- the seat of a viewer
+abbrev pub seat_of : ℕ → List Seat → Option Seat
+seat_of v [] = None
+seat_of v (s ∷ ss) = if s.viewer == v then Some s else seat_of v ss
 
 -- the place of a viewer's seat
 abbrev pub place_of : ℕ → List Seat → Option ℕ

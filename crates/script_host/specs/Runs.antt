@@ -4,24 +4,27 @@ use Rattle.px_core.specs.Tiles.{no_tiles}
 use Rattle.session_rules.specs.Journal.{Head}
 use Rattle.session_core.specs.SessionModel.{reached_by, is_here, asked_by, is_suppressed}
 use Rattle.frame_rules.specs.Encoder.{Encoder, first_encoder}
-use Rattle.viewer_sender.specs.Senders.{SenderModel, IsIdle, Follows}
+use Rattle.viewer_sender.specs.Senders.{IsIdle, Follows}
+use Rattle.pointer_share.specs.Desk.{IsDeskOf}
 use Rattle.script_rules.specs.Script.{Asked}
 use Rattle.script_rules.specs.CaptureText.{Run, run_after, line_in_run, encoder_frames}
-use Rattle.script_host.specs.Hosts.{HostModel, sender_of}
+use Rattle.script_host.specs.declared.seats.Seat.{Seat}
+use Rattle.script_host.specs.Hosts.{HostModel, seat_of}
 
--- of a viewer that is present the run says what the session and the viewer's sender do: what it asked for, whether it is suppressed, what it confirmed, the
--- number of its last frame, which is in the journal, and its encoder
+-- of a viewer that is present the run says what the session and the viewer's seat do: what it asked for, whether it is suppressed, what it confirmed, the
+-- number of its last frame, which is in the journal, its encoder, and the pointers that it was told
 pub record IsViewerOf (host : HostModel) (v : ℕ) (run : Run Encoder) : Type 0 where
   pub asked : run.play.asked v ≡ asked_by host.session v
   pub suppressed : run.play.suppressed v ≡ is_suppressed host.session v
-  pub sender : SenderModel
-  pub found : sender_of v host.seats ≡ Some sender
-  pub number : sender.v ≡ v
-  pub confirmed : sender.confirmed ≡ run.confirmed v
-  pub taken : run.play.taken v ≡ sender.number
-  pub seen : sender.number ≤ length host.session.journal
-  pub idle : IsIdle sender
-  pub follows : Follows sender (run.encoders v)
+  pub seat : Seat
+  pub found : seat_of v host.seats ≡ Some seat
+  pub number : seat.sender.v ≡ v
+  pub confirmed : seat.sender.confirmed ≡ run.confirmed v
+  pub taken : run.play.taken v ≡ seat.sender.number
+  pub seen : seat.sender.number ≤ length host.session.journal
+  pub idle : IsIdle seat.sender
+  pub follows : Follows seat.sender (run.encoders v)
+  pub pointers : IsDeskOf (run.confirmed v) (run.encoders v).told seat.desk
 
 -- of a viewer that is yet to come it says what it says of all at first
 pub record IsYetToCome (host : HostModel) (v : ℕ) (run : Run Encoder) : Type 0 where
@@ -29,7 +32,7 @@ pub record IsYetToCome (host : HostModel) (v : ℕ) (run : Run Encoder) : Type 0
   pub suppressed : run.play.suppressed v ≡ false
   pub taken : run.play.taken v ≡ 0
   pub encoder : run.encoders v ≡ first_encoder
-  pub nobody : sender_of v host.seats ≡ None
+  pub nobody : seat_of v host.seats ≡ None
 
 -- the run has the session's journal and what it has reached, and says that of each viewer; of one that left, whose number isn't given again, nothing is asked
 pub record IsRunOf (host : HostModel) (run : Run Encoder) : Type 0 where

@@ -25,7 +25,7 @@ pub enum StepAnswer {
     Refused { cause: Cause },
     /// A take found no work.
     Nothing,
-    /// A take gave a frame of these bytes.
+    /// A take gave a frame: its bytes, behind those that tell its pointer where that is told.
     Frame { bytes: Vec<u8> },
 }
 

@@ -83,7 +83,7 @@ impl ScriptHost {
         Ok(())
     }
 
-    /// A viewer joins by a row that has this name, where it is let in, and is sent frames by what it confirmed.
+    /// A viewer joins by a row that has this name, where it is let in, and is sent frames, and told pointers, by what it confirmed.
     pub fn join(&mut self, name: &[u8], confirmed: Confirmed) -> Result<StepAnswer, OutOfMemory>
         requires { IsTrue (is_name name.now) }
         ensures begun { OnOk result (self.new.begun ≡ true) }

@@ -1,4 +1,4 @@
-//! A session with the senders of its viewers.
+//! A session with the seats of its viewers.
 
 ghost use Rattle.std.specs.Prelude.{◌≡◌, ◌≤◌, ◌<◌, ℕ, List, [], codes, length, IsTrue, IfOk, OnOk, true};
 ghost use Rattle.px_core.specs.Rectangle.{is_session_size, IsPlaced};
@@ -25,6 +25,7 @@ use caps_sets::Confirmed;
 use draw_ops::Drawing;
 use info_lic::Name;
 use input_pdu::Event;
+use pointer_share::{PointerDesk, desk_for, note, pointed};
 use px_core::{Rect, Size};
 use script_lines::ViewerStep;
 use session_core::{Invite, Session};
@@ -32,7 +33,7 @@ use std::alloc::Global;
 use std::marker::Model;
 use viewer_sender::{SendFault, Sender, Taken};
 
-/// A session with the senders of its viewers.
+/// A session with the seats of its viewers.
 #[derive(Drop)]
 pub struct Running {
     alloc: Global,
@@ -85,7 +86,7 @@ impl Running {
         self.session.length()
     }
 
-    /// A viewer joins, where it is let in, and gets a sender.
+    /// A viewer joins, where it is let in, and gets a seat.
     pub fn join(&mut self, name: &Name, confirmed: Confirmed) -> Result<StepAnswer, OutOfMemory>
         ensures begun { self.new.begun ≡ true }
         ensures head { self.new.session.head ≡ self.old.session.head }
@@ -96,7 +97,12 @@ impl Running {
         match self.session.join(name) {
             Ok(viewer) => {
                 let sender = Sender::new(self.alloc, viewer, confirmed)?;
-                self.seats.push(Seat { viewer, sender })?;
+                let desk = desk_for(self.alloc, &confirmed)?;
+                self.seats.push(Seat {
+                    viewer,
+                    sender,
+                    desk,
+                })?;
                 Ok(StepAnswer::Joined { viewer })
             }
             Err(fault) => {
@@ -127,7 +133,7 @@ impl Running {
         }
     }
 
-    /// A viewer leaves, and its sender goes.
+    /// A viewer leaves, and its seat goes.
     fn leave(&mut self, viewer: u32) -> Result<StepAnswer, OutOfMemory>
         requires present { IsTrue (is_here self.old.session viewer) }
         requires course { IsInCourse self.old }
@@ -155,7 +161,13 @@ impl Running {
         ensures told { IfOk result (λ answer. (run : Run Encoder) → IsRunOf self.old run → SaysOutcome self.old.session.head run (TakeStep viewer) answer) }
     {
         let i = place_here(&self.seats, viewer);
-        let answer = send_next(self.alloc, &mut self.seats[i].sender, &mut self.session)?;
+        let seat = &mut self.seats[i];
+        let answer = send_next(
+            self.alloc,
+            &mut seat.sender,
+            &mut seat.desk,
+            &mut self.session,
+        )?;
         Ok(answer)
     }
 
@@ -214,10 +226,12 @@ impl Running {
     }
 }
 
-/// Takes the frame that is due to a sender's viewer and makes its bytes; where a frame isn't finished, no other is to be asked for.
+/// Takes the frame that is due to a sender's viewer and makes its bytes, behind those of the pointer where that is told; where a frame isn't
+/// finished, no other is to be asked for.
 fn send_next(
     alloc: Global,
     sender: &mut Sender,
+    desk: &mut Option<PointerDesk>,
     session: &mut Session,
 ) -> Result<StepAnswer, OutOfMemory>
     requires present { IsTrue (is_here session.old sender.old.v) }
@@ -227,14 +241,20 @@ fn send_next(
     ensures journal { session.new.journal ≡ session.old.journal }
     ensures suppressed { session.new.suppressed ≡ session.old.suppressed }
     ensures asked { OnOk result (asked_by session.new ≡ asked_if (is_work session.old (desk_of sender.old)) sender.old.v (asked_by session.old)) }
-    ensures sent { IfOk result (λ answer. HasSent (is_work session.old (desk_of sender.old)) session.old sender.old sender.new answer) }
+    ensures sent { IfOk result (λ answer. HasSent (is_work session.old (desk_of sender.old)) session.old sender.old sender.new desk.old desk.new answer) }
 {
     match sender.take(alloc, session)? {
         Taken::Nothing => Ok(StepAnswer::Nothing),
-        Taken::Frame(take) => match sender.encode(alloc, take) {
-            Ok(bytes) => Ok(StepAnswer::Frame { bytes }),
-            Err(SendFault::OutOfMemory) => Err(OutOfMemory),
-            Err(SendFault::Spent) => unreachable!(),
-        },
+        Taken::Frame(take) => {
+            note(desk, session);
+            match sender.encode(alloc, take) {
+                Ok(frame) => {
+                    let bytes = pointed(desk, frame)?;
+                    Ok(StepAnswer::Frame { bytes })
+                }
+                Err(SendFault::OutOfMemory) => Err(OutOfMemory),
+                Err(SendFault::Spent) => unreachable!(),
+            }
+        }
     }
 }

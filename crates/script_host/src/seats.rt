@@ -1,15 +1,17 @@
 //! What is kept of the viewers that are present, by their numbers.
 
 ghost use Rattle.std.specs.Prelude.{◌≡◌, ◌<◌, length, Some, IsTrue, is_some};
-ghost use Rattle.script_host.specs.Hosts.{sender_of, place_of};
+ghost use Rattle.script_host.specs.Hosts.{seat_of, place_of};
 
+use pointer_share::PointerDesk;
 use viewer_sender::Sender;
 
-/// A viewer that is present, with its sender.
+/// A viewer that is present, with its sender, and the desk of its pointer, if it has pointer cells.
 #[derive(Drop)]
 pub struct Seat {
     pub viewer: u32,
     pub sender: Sender,
+    pub desk: Option<PointerDesk>,
 }
 
 /// The place of a viewer's seat.
@@ -26,7 +28,7 @@ fn place_of(seats: &[Seat], v: u32) -> Option<usize>
 
 /// The place of the seat of a viewer that has one.
 pub fn place_here(seats: &[Seat], v: u32) -> usize
-    requires { IsTrue (is_some (sender_of v seats.now)) }
+    requires { IsTrue (is_some (seat_of v seats.now)) }
     ensures place { place_of v seats.now ≡ Some result }
     ensures within { result < length seats.now }
 {

@@ -35,8 +35,9 @@ refusal_of NoSize = refusal_at 1 size_rule
 refusal_of Unended = refusal_at 1 text_rule
 refusal_of (Opened script) = script.refusal
 
--- a script's run wrote its capture, in which each viewer's bytes are read whole, and each mark shows the picture after exactly the
--- journal entries that the frame's take found; and this is the first of its lines that breaks a rule
+-- a script's run wrote its capture, in which each viewer's bytes are read whole, and each mark shows the picture, and the pointer where
+-- the viewer has pointer cells, after exactly the journal entries that the frame's take found; and this is the first of its lines that
+-- breaks a rule
 pub record WritesTheCapture (script : List ℕ) (refused : Option LineRefusal) (before now : Option (List ℕ)) : Type 0 where
   pub text : List ℕ
   pub written : Appends before now text

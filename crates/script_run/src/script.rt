@@ -19,8 +19,9 @@ pub fn run_script<S: Source, K: Sink>(
     input: &mut S,
     output: &mut K,
 ) -> Result<(), ScriptFault>
-    // What is written is the script's capture: in it each viewer's bytes are never refused, and at each mark they show the picture
-    // after exactly the journal entries that the frame's take found. A line is refused exactly where it is the first that breaks a rule.
+    // What is written is the script's capture: in it each viewer's bytes are never refused, and at each mark they show the picture, and
+    // the pointer where the viewer has pointer cells, after exactly the journal entries that the frame's take found. A line is refused
+    // exactly where it is the first that breaks a rule.
     // After a failed read exactly what the whole lines write stands there that the input had handed out; after a failed write, or want
     // of memory, what the first lines write, and then a front of what the next line, or the script's end, writes. Each viewer's marks
     // are then the first ones.

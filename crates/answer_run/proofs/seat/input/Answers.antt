@@ -11,7 +11,7 @@ pub returns-clause-seated : goal.returns-clause-seated
 returns-clause-seated c =
     let old = c.args.seat.now.session in
     let settled : IsSettled c.input.result = c.in_ok-settle.ensures.settled in
-    input_seated old c.input.new.self c.args.seat.now.sender c.args.event c.input.ensures.head
+    input_seated old c.input.new.self c.args.seat.now.sender c.args.seat.now.desk c.args.event c.input.ensures.head
     (settled_journal c.input.result (entry_of_step old.head (reached_by old) (InputStep client c.args.event)) old.journal c.input.new.self.journal settled c.input.ensures.journal)
     c.requires
 
@@ -19,7 +19,7 @@ pub returns-clause-done : goal.returns-clause-done
 returns-clause-done c =
     let old = c.args.seat.now.session in
     let settled : IsSettled c.input.result = c.in_ok-settle.ensures.settled in
-    input_done old c.input.new.self c.args.seat.now.sender c.args.event c.input.ensures.head
+    input_done old c.input.new.self c.args.seat.now.sender c.args.seat.now.desk c.args.event c.input.ensures.head
     (settled_journal c.input.result (entry_of_step old.head (reached_by old) (InputStep client c.args.event)) old.journal c.input.new.self.journal settled c.input.ensures.journal)
     c.input.ensures.asked c.input.ensures.suppressed
 

@@ -19,7 +19,7 @@ returns-in_ok-sender-in-Some c =
     let is : c.join.result ≡ Ok c.in-Some.v = let_in_is c.join.result c.in_ok-v.field-0 c.in-Some.v c.in_ok-v.ensures.number c.in-Some.is in
     let fresh = subst (λ r. IfOk r (λ v. (asked_by new v ≡ no_tiles) × (is_suppressed new v ≡ false))) is c.join.ensures.fresh in
     let sender = c.in_ok-sender-in-Some.ensures in
-    joined c.args.size c.args.owner.now c.args.name.now c.args.confirmed c.in-Some.v new c.in_ok-sender-in-Some.sender old c.in_ok-session.ensures (record {
+    joined c.args.size c.args.owner.now c.args.name.now c.args.confirmed c.in-Some.v new c.in_ok-sender-in-Some.sender c.in_ok-desk-in-Some.desk old c.in_ok-session.ensures (record {
       head = c.join.ensures.head;
       answer = subst (λ r. IsAnswered (join_answer r) (answer_at old.head (reached_by old) step)) is c.join.ensures.answer;
       journal = subst (λ r. GoesOn (join_answer r) (entry_of_step old.head (reached_by old) step) old.journal new.journal) is c.join.ensures.journal;
@@ -33,6 +33,7 @@ returns-in_ok-sender-in-Some c =
       encoded = sender.idle.1;
       sound = sender.idle.2;
       stands = sender.stands;
+      desk = c.in_ok-desk-in-Some.ensures;
     })
 
 pub returns-in-None : goal.returns-in-None

@@ -3,7 +3,7 @@ use Rattle.answer_run.proofs.seat.refresh.Goals as goal
 use Rattle.std.proofs.Common.{rules}
 
 pub returns-clause-done : goal.returns-clause-done
-returns-clause-done c = refresh_done c.args.seat.now.session c.refresh.new.self c.args.seat.now.sender c.args.area c.refresh.ensures.head c.refresh.ensures.journal c.refresh.ensures.asked
+returns-clause-done c = refresh_done c.args.seat.now.session c.refresh.new.self c.args.seat.now.sender c.args.seat.now.desk c.args.area c.refresh.ensures.head c.refresh.ensures.journal c.refresh.ensures.asked
     c.refresh.ensures.suppressed
 
 pub refresh-requires-clause-present : goal.refresh-requires-clause-present

@@ -15,6 +15,7 @@ returns-in_ok-push-in-Ok-clause-done c =
     let e = c.in-Ok.ensures in
     let n = c.in_ok-sender-in-Ok.ensures in
     let s = c.in_ok-sender-in-Ok.sender in
+    let desk = c.in_ok-desk-in-Ok.desk in
     let host : HostModel = record { begun = true; session = c.self.inside.session; seats = c.self.inside.seats.items } in
     let new : HostModel = record { begun = true; session = c.join.new.self; seats = c.push.new.self.items } in
     let fresh : IsFresh c.in-Ok.viewer c.args.confirmed s = record {
@@ -28,8 +29,8 @@ returns-in_ok-push-in-Ok-clause-done c =
       stands = n.stands;
     } in
     rw (← c.self.view_is) (λ run preset r.
-    let k = join_on host new run c.args.name.now preset c.args.confirmed c.in-Ok.viewer s r e.answer e.head e.journal e.asked e.suppressed e.fresh.0 e.fresh.1
-    c.in_ok-push-in-Ok.ensures.items fresh in
+    let k = join_on host new run c.args.name.now preset c.args.confirmed c.in-Ok.viewer s desk r e.answer e.head e.journal e.asked e.suppressed e.fresh.0 e.fresh.1
+    c.in_ok-push-in-Ok.ensures.items fresh c.in_ok-desk-in-Ok.ensures in
     record { line = k.0; is_run = k.1 })
 
 pub returns-in_ok-answer-in-Err-clause-done : goal.returns-in_ok-answer-in-Err-clause-done
