@@ -1,6 +1,6 @@
 -- What was done for a viewer between its Join and the end of its connection.
 use Rattle.std.proofs.Common.{◌≡◌, ℕ, ◌≤◌, List, [], ◌∷◌, ◌++◌, length, sym, refl, ap, ◌∙◌, subst, ⊎_elim, arith, map, drop}
-use Rattle.std.specs.Prelude.{true, false, Result, Ok, Err}
+use Rattle.std.specs.Prelude.{true, false, Option, Result, Ok, Err}
 use Rattle.std.specs.Io.KnownBytes.{Consumes, Appends}
 use Rattle.std.proofs.KnownBytes.{Consumes-nil, Appends-nil}
 use Rattle.edge_io.specs.Outside.{Outside}
@@ -13,8 +13,9 @@ use Rattle.session_rules.specs.Journal.{Head, Reached, is_present, reached_at}
 use Rattle.session_rules.specs.Steps.{TakeOf, TakesFollow}
 use Rattle.session_rules.proofs.Journals.{reached_at-append}
 use Rattle.frame_rules.specs.FrameBytes.{joined_bytes}
-use Rattle.frame_rules.specs.Encoder.{first_encoder, bytes_of_takes}
+use Rattle.frame_rules.specs.Encoder.{first_encoder, pointed_of_takes}
 use Rattle.viewer_sender.specs.Senders.{SenderModel}
+use Rattle.pointer_share.specs.Desk.{DeskOf}
 use Rattle.serve_rules.specs.Turns.{SessionPass}
 use Rattle.serve_rules.specs.Events.{Handles, IsWithin}
 use Rattle.serve_rules.specs.Notices.{Notice, events_in, notice_after_all, notice_in}
@@ -57,7 +58,7 @@ pub record Viewed (head : Head) (v : ℕ) (confirmed : Confirmed) (rest : List C
   pub takes_found : IsWithin (map (λ (t : TakeOf). t.number) (drop 1 takes)) more_found
   pub written : List ℕ
   pub unwritten : List ℕ
-  pub bytes : joined_bytes (bytes_of_takes head.size confirmed after.seen first_encoder takes) ≡ written ++ unwritten
+  pub bytes : joined_bytes (pointed_of_takes head.size confirmed after.seen first_encoder takes) ≡ written ++ unwritten
   pub told : Appends before.output.told now.output.told written
   pub all_written : is_cut end ≡ false → unwritten ≡ []
   pub calm : is_cut end ≡ false → now.output.faults ≡ before.output.faults
@@ -85,12 +86,13 @@ no_want : (end : ConnEnd) → is_cut end ≡ false → end ≡ OutOfMemory → �
 no_want end free is = cc (sym free ∙ ap is_cut is)
 
 module _ (head : Head) (v : ℕ) (confirmed : Confirmed) (rest : List ConnStep) (conn : Hearing) (p q : SessionPass) (a b : Noted) (before now : Outside) (end : ConnEnd) where
-  viewed_first : is_present v (reached_at head.size p.seen (length p.seen)).viewers ≡ true → (sender : SenderModel) → Attends head v confirmed rest conn sender p q a b before now end
+  viewed_first : is_present v (reached_at head.size p.seen (length p.seen)).viewers ≡ true → (sender : SenderModel) (desk : Option DeskOf)
+      → Attends head v confirmed rest conn sender desk p q a b before now end
       → IsShownLast head v q sender end (notice_in b)
       → Viewed head v confirmed rest conn p q a.places.list b.places.list (notice_in a) (notice_in b) before now end
-  viewed_first here sender x shown =
+  viewed_first here sender desk x shown =
       let r = x.reads in
-      let f : FramesSent head v confirmed sender p q before.output now.output x.sent = x.frames in record {
+      let f : FramesSent head v confirmed sender desk p q before.output now.output x.sent = x.frames in record {
         fed = r.fed;
         taken = r.taken;
         steps = r.steps;
@@ -165,5 +167,5 @@ module _ (head : Head) (v : ℕ) (confirmed : Confirmed) (rest : List ConnStep) 
   -- in either way in which a viewer stays
   pub viewed : is_present v (reached_at head.size p.seen (length p.seen)).viewers ≡ true → (first : Result FirstFrame NoMemory) → Stays head v confirmed first rest conn p q a b before now end
       → Viewed head v confirmed rest conn p q a.places.list b.places.list (notice_in a) (notice_in b) before now end
-  viewed here (Ok first) s = viewed_first here s.0 s.1 s.2
+  viewed here (Ok first) s = viewed_first here s.0 s.1 s.2 s.3
   viewed here (Err refusal) s = viewed_none s.0 s.1 s.2 s.3

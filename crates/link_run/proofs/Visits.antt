@@ -21,10 +21,10 @@ use Rattle.session_rules.specs.Journal.{Head, Reached, IsLegalJournal, is_presen
 use Rattle.session_rules.specs.Steps.{TakeOf}
 use Rattle.session_rules.proofs.Journals.{reached_at-append}
 use Rattle.frame_rules.specs.FrameBytes.{joined_bytes}
-use Rattle.frame_rules.specs.Encoder.{first_encoder, bytes_of_takes}
+use Rattle.frame_rules.specs.Encoder.{first_encoder, pointed_of_takes}
 use Rattle.frame_rules.specs.Describes.{HasAllCaches}
 use Rattle.frame_shows.proofs.JournalShown.{frame_shows_journal}
-use Rattle.headline.proofs.Takes.{takes_see}
+use Rattle.headline.proofs.TakesPointed.{takes_point, takes_see_without}
 use Rattle.headline.proofs.CaptureFronts.{front_sees}
 use Rattle.grow_lock.specs.Journal.{StartsWith}
 use Rattle.grow_lock.proofs.Lists.{starts_trans, length_starts}
@@ -52,7 +52,7 @@ use Rattle.viewer_run.specs.Arriving.{no_notice, IsUnnoted, ServesArrival}
 use Rattle.viewer_run.specs.Ending.{ultimatum_at}
 use Rattle.viewer_run.proofs.Attending.{wants_left}
 use Rattle.viewer_run.proofs.Coming.{present_by}
-use Rattle.viewer_sides.proofs.TakesOn.{present_stays, bytes_stay}
+use Rattle.viewer_sides.proofs.TakesOn.{present_stays, pointed_stay}
 use Rattle.link_run.specs.Ending.{is_cut, SaysLast, Writes}
 use Rattle.link_run.specs.Served.{ReportsVisit}
 use Rattle.link_run.specs.Serving.{HasLeftElsewhere, BeginsWith, ServesViewer}
@@ -218,11 +218,11 @@ module _ (head : Head) (p p1 r : SessionPass) (size : Size) (conn : Hearing) (na
       = λ free. view.notice ∙ (ap (λ (n : Notice). notice_after_all n view.steps) (sa.joined_notice ∙ unnoted.1)
       ∙ ap (notice_after_all no_notice) (sym (view.front ∙ (ap (λ l. view.steps ++ l) (view.all free) ∙ append-nil view.steps)))) in
       -- the frames
-      let frames : List ℕ = joined_bytes (bytes_of_takes head.size confirmed r.seen first_encoder view.takes) in
-      let same_frames : joined_bytes (bytes_of_takes head.size confirmed r.seen first_encoder view.takes)
-      ≡ joined_bytes (bytes_of_takes head.size confirmed u.seen first_encoder view.takes)
-      = ap joined_bytes (ap (λ (j : List Entry). bytes_of_takes head.size confirmed j first_encoder view.takes) on_r.1
-      ∙ bytes_stay head.size confirmed u.seen on_r.0 first_encoder view.takes 0 view.last view.follow view.within_seen) in
+      let frames : List ℕ = joined_bytes (pointed_of_takes head.size confirmed r.seen first_encoder view.takes) in
+      let same_frames : joined_bytes (pointed_of_takes head.size confirmed r.seen first_encoder view.takes)
+      ≡ joined_bytes (pointed_of_takes head.size confirmed u.seen first_encoder view.takes)
+      = ap joined_bytes (ap (λ (j : List Entry). pointed_of_takes head.size confirmed j first_encoder view.takes) on_r.1
+      ∙ pointed_stay head.size confirmed u.seen on_r.0 first_encoder view.takes 0 view.last view.follow view.within_seen) in
       let replied : (host_handshake head.size read).replies ≡ a.written = stream.replies ∙ (a.replies ∙ (ap (λ l. a.written ++ l) a.came.0 ∙ append-nil a.written)) in
       let word : List ℕ = ultimatum_at visit.end noted.shutdown in
       let within : view.last ≤ length r.seen = omega (arith, view.within_seen, length_starts r.seen u.seen on_r) in
@@ -302,7 +302,8 @@ module _ (head : Head) (p p1 r : SessionPass) (size : Size) (conn : Hearing) (na
               (writes_said visit.end noted.shutdown said ((host_handshake head.size read).replies ++ frames) (a.written ++ view.written) view.unwritten link spent mid
               (ap₂ ◌++◌ replied (same_frames ∙ view.bytes) ∙ sym (append_assoc a.written view.written view.unwritten))
               (Appends-trans link.output.told between.output.told mid.told a.written view.written a.told view.told) view.all_written s);
-          sees = takes_see head confirmed (frame_shows_journal head confirmed) sized caches r.seen legal view.takes view.last view.follow within;
+          sees = takes_see_without head confirmed (frame_shows_journal head confirmed) sized caches r.seen legal view.takes view.last view.follow within;
+          points = takes_point head confirmed (frame_shows_journal head confirmed) sized caches r.seen legal view.takes view.last view.follow within;
           viewed = view.written;
           viewed_front = record { rest = view.unwritten; joined = same_frames ∙ view.bytes };
           said = s.written;
@@ -316,7 +317,7 @@ module _ (head : Head) (p p1 r : SessionPass) (size : Size) (conn : Hearing) (na
               (Appends-trans link.output.told mid.told spent.output.told (a.written ++ view.written) s.written
               (Appends-trans link.output.told between.output.told mid.told a.written view.written a.told view.told) s.told);
           sees_first = front_sees head.size confirmed r.seen (map (λ (t : TakeOf). t.number) view.takes) frames view.written
-              (takes_see head confirmed (frame_shows_journal head confirmed) sized caches r.seen legal view.takes view.last view.follow within)
+              (takes_see_without head confirmed (frame_shows_journal head confirmed) sized caches r.seen legal view.takes view.last view.follow within)
               (record { rest = view.unwritten; joined = same_frames ∙ view.bytes });
           ends = view_said read (host_handshake head.size read).after (notice_after_all no_notice steps) link spent.input mid spent.output visit.end said noted.shutdown
               (view_then a.fed view.fed (host_handshake head.size read).after (notice_in t1) (notice_after_all no_notice steps) link between (outside spent.input mid) visit.end

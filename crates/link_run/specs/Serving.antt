@@ -7,6 +7,7 @@ use Rattle.caps_sets.specs.declared.confirmed.Confirmed.{Confirmed}
 use Rattle.conn_rules.specs.declared.conn_step.ConnStep.{ConnStep}
 use Rattle.conn_rules.specs.Hearing.{Hearing, host_handshake, end_of}
 use Rattle.conn_rules.specs.Hearing.StreamEnd.{RefusedAt}
+use Rattle.order_means.specs.Packets.{without_pointers}
 use Rattle.session_rules.specs.declared.entry.Role.{Role}
 use Rattle.session_rules.specs.declared.entry.Entry.{Entry}
 use Rattle.session_rules.specs.declared.entry.Entry.TheVariants.{Join, Leave}
@@ -19,8 +20,9 @@ use Rattle.session_core.specs.Faults.{join_answer}
 use Rattle.session_core.specs.declared.faults.JoinFault.{JoinFault}
 use Rattle.session_core.specs.declared.faults.JoinFault.TheVariants as join
 use Rattle.frame_rules.specs.FrameBytes.{joined_bytes}
-use Rattle.frame_rules.specs.Encoder.{first_encoder, bytes_of_takes}
+use Rattle.frame_rules.specs.Encoder.{first_encoder, pointed_of_takes}
 use Rattle.headline.specs.Headline.{SeesJournal}
+use Rattle.headline.specs.Pointed.{SeesPointers}
 use Rattle.headline.specs.Fronts.{IsFront, SeesFirstOfJournal}
 use Rattle.grow_lock.specs.Journal.{StartsWith}
 use Rattle.serve_rules.specs.Turns.{SessionPass, KeepsShare}
@@ -130,22 +132,24 @@ pub record IsVisit (head : Head) (before after : SessionPass) (report : ConnRepo
   pub found : after.found ≡ before.found ++ more_found
   pub acts_found : IsWithin (join ∷ map (λ (a : Act). a.at) acts) more_found
   pub takes_found : IsWithin (map (λ (t : TakeOf). t.number) (drop 1 takes)) more_found
-  -- what was written: the replies, the frames of the takes, and the last word
+  -- what was written: the replies, the frames of the takes with the pointers before them, and the last word
   pub word : List ℕ
   pub word_is : IsLastWord report.end (notice_after_all no_notice steps).shutdown word
   pub writes : Writes report.end
-      ((host_handshake head.size read).replies ++ (joined_bytes (bytes_of_takes head.size confirmed after.seen first_encoder takes) ++ word)) link spent
+      ((host_handshake head.size read).replies ++ (joined_bytes (pointed_of_takes head.size confirmed after.seen first_encoder takes) ++ word)) link spent
   pub sees : SeesJournal head.size confirmed after.seen (map (λ (t : TakeOf). t.number) takes)
-      (joined_bytes (bytes_of_takes head.size confirmed after.seen first_encoder takes))
-  -- of the frames this was written, behind the replies and before a front of the last word: wherever it was cut it isn't refused, and its marks show the first
-  -- of these pictures
+      (without_pointers (joined_bytes (pointed_of_takes head.size confirmed after.seen first_encoder takes)))
+  pub points : SeesPointers head.size confirmed after.seen (map (λ (t : TakeOf). t.number) takes)
+      (joined_bytes (pointed_of_takes head.size confirmed after.seen first_encoder takes))
+  -- of the frames with their pointers this was written, behind the replies and before a front of the last word: wherever it was cut it isn't refused, and its marks
+  -- show the first of these pictures
   pub viewed : List ℕ
-  pub viewed_front : IsFront viewed (joined_bytes (bytes_of_takes head.size confirmed after.seen first_encoder takes))
+  pub viewed_front : IsFront viewed (joined_bytes (pointed_of_takes head.size confirmed after.seen first_encoder takes))
   pub said : List ℕ
   pub said_front : IsFront said word
-  pub in_order : (viewed ≡ joined_bytes (bytes_of_takes head.size confirmed after.seen first_encoder takes)) ⊎ (said ≡ [])
+  pub in_order : (viewed ≡ joined_bytes (pointed_of_takes head.size confirmed after.seen first_encoder takes)) ⊎ (said ≡ [])
   pub told : Appends link.output.told spent.output.told ((host_handshake head.size read).replies ++ (viewed ++ said))
-  pub sees_first : SeesFirstOfJournal head.size confirmed after.seen (map (λ (t : TakeOf). t.number) takes) viewed
+  pub sees_first : SeesFirstOfJournal head.size confirmed after.seen (map (λ (t : TakeOf). t.number) takes) (without_pointers viewed)
   -- the connection's end, and the last mark at it
   pub ends : ViewEnd read (host_handshake head.size read).after (notice_after_all no_notice steps) link spent report.end
   pub shown : wants_last report.end (notice_after_all no_notice steps) ≡ true

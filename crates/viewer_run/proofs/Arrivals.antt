@@ -1,6 +1,6 @@
 -- A client that is ready joins, is attended to, and leaves.
 use Rattle.std.proofs.Common.{◌≡◌, ℕ, ◌+◌, ◌-◌, List, [], ◌∷◌, length, sym, ap, ◌∙◌, subst, arith}
-use Rattle.std.specs.Prelude.{Result, Ok, Err, MatchResult}
+use Rattle.std.specs.Prelude.{Option, Result, Ok, Err, MatchResult}
 use Rattle.edge_io.specs.Outside.{Outside}
 use Rattle.wire_num.specs.declared.out_of_memory.OutOfMemory.{OutOfMemory}
 use Rattle.caps_sets.specs.declared.confirmed.Confirmed.{Confirmed}
@@ -11,6 +11,7 @@ use Rattle.pending_core.proofs.AllShown.{length_pushed}
 use Rattle.conn_rules.specs.declared.conn_step.ConnStep.{ConnStep}
 use Rattle.conn_rules.specs.Hearing.{Hearing}
 use Rattle.viewer_sender.specs.Senders.{SenderModel}
+use Rattle.pointer_share.specs.Desk.{DeskOf}
 use Rattle.serve_rules.specs.Turns.{SessionPass, IsTurn}
 use Rattle.serve_rules.specs.Notices.{notice_in}
 use Rattle.serve_rules.specs.declared.ends.ConnEnd.{ConnEnd}
@@ -35,13 +36,13 @@ last_place p q base entry turn =
 
 -- a viewer whose first frame was taken was attended to
 pub stays_first : (head : Head) (v : ℕ) (confirmed : Confirmed) (given : Result FirstFrame OutOfMemory) (first : FirstFrame) (rest : List ConnStep) (conn : Hearing)
-    (t : SenderModel) (p q : SessionPass) (a b : Noted) (before after : Outside) (end : ConnEnd)
+    (t : SenderModel) (d : Option DeskOf) (p q : SessionPass) (a b : Noted) (before after : Outside) (end : ConnEnd)
     → given ≡ Ok first → IsFirst head p.seen v confirmed given
-    → Attends head v first.sender.confirmed rest conn t p q a b before after end → IsShownLast head v q t end (notice_in b)
+    → Attends head v first.sender.confirmed rest conn t d p q a b before after end → IsShownLast head v q t end (notice_in b)
     → Stays head v confirmed given rest conn p q a b before after end
-stays_first head v confirmed (Ok other) first rest conn t p q a b before after end is fresh attends whole =
+stays_first head v confirmed (Ok other) first rest conn t d p q a b before after end is fresh attends whole =
     let same : first ≡ other = sym (cc is) in
     let confirms : first.sender.confirmed ≡ confirmed
-    = ap (λ (x : FirstFrame). x.sender.confirmed) same ∙ (ap (λ (s : SenderModel). s.confirmed) fresh.2.sender ∙ fresh.1.confirms) in
-    (t, subst (λ (x : Confirmed). Attends head v x rest conn t p q a b before after end) confirms attends, whole)
-stays_first head v confirmed (Err refusal) first rest conn t p q a b before after end is fresh attends whole = absurd (cc is)
+    = ap (λ (x : FirstFrame). x.sender.confirmed) same ∙ (ap (λ (s : SenderModel). s.confirmed) fresh.3.sender ∙ fresh.2.confirms) in
+    (t, d, subst (λ (x : Confirmed). Attends head v x rest conn t d p q a b before after end) confirms attends, whole)
+stays_first head v confirmed (Err refusal) first rest conn t d p q a b before after end is fresh attends whole = absurd (cc is)

@@ -1,6 +1,6 @@
 -- A viewer's sides and its first frame, until its connection ends.
 use Rattle.std.proofs.Common.{◌≡◌, ℕ, ◌<◌, ⊎_elim, List, [], ◌++◌, map, sym, refl, ap, ◌∙◌, subst, arith, append_assoc, inl, inr}
-use Rattle.std.specs.Prelude.{Bool, true, false}
+use Rattle.std.specs.Prelude.{Bool, true, false, Option}
 use Rattle.edge_io.specs.Faults.{Rose}
 use Rattle.edge_io.specs.Outside.{Input, Output, Outside, outside}
 use Rattle.caps_sets.specs.declared.confirmed.Confirmed.{Confirmed}
@@ -10,8 +10,9 @@ use Rattle.session_rules.specs.Steps.{TakeOf}
 use Rattle.conn_rules.specs.declared.conn_step.ConnStep.{ConnStep}
 use Rattle.conn_rules.specs.Hearing.{Hearing, heard}
 use Rattle.frame_rules.specs.FrameBytes.{joined_bytes}
-use Rattle.frame_rules.specs.Encoder.{Encoder, bytes_of_takes, encoder_after_takes}
-use Rattle.viewer_sender.specs.Senders.{SenderModel, Follows}
+use Rattle.frame_rules.specs.Encoder.{Encoder, pointed_of_takes, encoder_after_takes}
+use Rattle.viewer_sender.specs.Senders.{SenderModel}
+use Rattle.pointer_share.specs.Desk.{DeskOf}
 use Rattle.grow_lock.specs.Journal.{StartsWith}
 use Rattle.grow_lock.proofs.Lists.{starts_trans, length_starts}
 use Rattle.serve_rules.specs.Turns.{SessionPass}
@@ -26,12 +27,12 @@ use Rattle.grow_lock.proofs.Shares.{holds_same}
 use Rattle.serve_rules.proofs.Handling.{handles_nothing, handles_more}
 use Rattle.serve_rules.proofs.Lists.{within_back}
 use Rattle.serve_rules.proofs.ReadOn.{reads_then}
-use Rattle.viewer_sides.specs.Sending.{IsSendEnd, SendsOn}
+use Rattle.viewer_sides.specs.Sending.{IsSendEnd, FollowsWith, SendsOn}
 use Rattle.viewer_run.specs.Frames.{FirstSent, FramesSent}
 use Rattle.viewer_run.specs.Serving.{ViewEnd, ReadsTo, EndsSending, SidesServe, Attends, ended_by, wants_last, end_of_last}
 use Rattle.viewer_run.proofs.FromFirst.{first_alone, first_then, frames_then}
 use Rattle.viewer_sides.proofs.Stretches.{same_none}
-use Rattle.viewer_sides.proofs.TakesOn.{present_stays, bytes_stay, encoder_stays}
+use Rattle.viewer_sides.proofs.TakesOn.{present_stays, pointed_stay, encoder_stays}
 
 -- ---- the end of the reading is that of the connection
 
@@ -125,13 +126,13 @@ unread_to head v rest conn p noted i o o' end room only cause = record {
 
 -- ---- what was sent stays so as the pass goes on
 
-pub sends_stay : (head : Head) (s s' : SenderModel) (p q r : SessionPass) (o o' : Output) (end : SideEnd) (turns : List ℕ)
-    → SendsOn head s s' p q o o' end → StartsWith r.seen q.seen → r.found ≡ q.found ++ turns → SendsOn head s s' p r o o' end
-sends_stay head s s' p q r o o' end turns h grows found =
+pub sends_stay : (head : Head) (s s' : SenderModel) (d d' : Option DeskOf) (p q r : SessionPass) (o o' : Output) (end : SideEnd) (turns : List ℕ)
+    → SendsOn head s s' d d' p q o o' end → StartsWith r.seen q.seen → r.found ≡ q.found ++ turns → SendsOn head s s' d d' p r o o' end
+sends_stay head s s' d d' p q r o o' end turns h grows found =
     let size = head.size in
     let c = s.confirmed in
-    let bytes_same : (e : Encoder) → bytes_of_takes size c r.seen e h.takes ≡ bytes_of_takes size c q.seen e h.takes
-    = λ e. ap (λ (j : List Entry). bytes_of_takes size c j e h.takes) grows.1 ∙ bytes_stay size c q.seen grows.0 e h.takes s.number h.last h.follow h.within_seen in
+    let bytes_same : (e : Encoder) → pointed_of_takes size c r.seen e h.takes ≡ pointed_of_takes size c q.seen e h.takes
+    = λ e. ap (λ (j : List Entry). pointed_of_takes size c j e h.takes) grows.1 ∙ pointed_stay size c q.seen grows.0 e h.takes s.number h.last h.follow h.within_seen in
     let encoder_same : (e : Encoder) → encoder_after_takes size c r.seen e h.takes ≡ encoder_after_takes size c q.seen e h.takes
     = λ e. ap (λ (j : List Entry). encoder_after_takes size c j e h.takes) grows.1 ∙ encoder_stays size c q.seen grows.0 e h.takes s.number h.last h.follow h.within_seen in
     record {
@@ -149,7 +150,7 @@ sends_stay head s s' p q r o o' end turns h grows found =
       written = h.written;
       told = h.told;
       bytes = λ e fol. let x = h.bytes e fol in (x.0, ap joined_bytes (bytes_same e) ∙ x.1, x.2);
-      after_is = λ stopped. let x = h.after_is stopped in (x.0, x.1, x.2, x.3, λ e fol. subst (Follows s') (sym (encoder_same e)) (x.4 e fol));
+      after_is = λ stopped. let x = h.after_is stopped in (x.0, x.1, x.2, x.3, λ e fol. subst (FollowsWith s' d') (sym (encoder_same e)) (x.4 e fol));
       only = h.only;
       cause = h.cause;
       calm = h.calm;
@@ -157,37 +158,37 @@ sends_stay head s s' p q r o o' end turns h grows found =
 
 -- ---- both sides
 
-module _ (head : Head) (v : ℕ) (rest : List ConnStep) (conn conn' : Hearing) (s s' : SenderModel) (p q : SessionPass) (a b : Noted) (i j : Input) (o o' : Output) where
+module _ (head : Head) (v : ℕ) (rest : List ConnStep) (conn conn' : Hearing) (s s' : SenderModel) (d d' : Option DeskOf) (p q : SessionPass) (a b : Noted) (i j : Input) (o o' : Output) where
   -- one of them met the connection's end
-  pub sides_ended : (read sent : SideEnd) (end : ConnEnd) → ReadsOn head v rest true conn conn' p q a b i j read → SendsOn head s s' p q o o' sent
-      → Done end ≡ ended_by read sent → SidesServe head v rest conn s s' p q a b (outside i o) (outside j o') end
-  sides_ended read (Done other) end r d e =
+  pub sides_ended : (read sent : SideEnd) (end : ConnEnd) → ReadsOn head v rest true conn conn' p q a b i j read → SendsOn head s s' d d' p q o o' sent
+      → Done end ≡ ended_by read sent → SidesServe head v rest conn s s' d d' p q a b (outside i o) (outside j o') end
+  sides_ended read (Done other) end r x e =
       let same : other ≡ end = sym (cc e) in
-      let sent : SendsOn head s s' p q o o' (Done end) = subst (λ (x : ConnEnd). SendsOn head s s' p q o o' (Done x)) same d in record {
+      let sent : SendsOn head s s' d d' p q o o' (Done end) = subst (λ (y : ConnEnd). SendsOn head s s' d d' p q o o' (Done y)) same x in record {
         reads = cut_to head v rest conn p q a b (outside i o) (outside j o') end true conn' read r sent.only sent.cause;
         sent = Done end;
         sends = sent;
         ended = inr refl;
       }
-  sides_ended read Stopped end r d e = record {
+  sides_ended read Stopped end r x e = record {
     reads = read_to head v rest conn p q a b (outside i o) (outside j o') end true conn'
-        (subst (λ (x : SideEnd). ReadsOn head v rest true conn conn' p q a b i j x) (sym e) r);
+        (subst (λ (y : SideEnd). ReadsOn head v rest true conn conn' p q a b i j y) (sym e) r);
     sent = Stopped;
-    sends = d;
+    sends = x;
     ended = inl refl;
   }
 
   -- neither did, and the stream was read on
   pub sides_read_on : (read sent : SideEnd) (end : ConnEnd) (conn'' : Hearing) (z : SessionPass) (c : Noted) (l : Input)
-      → ReadsOn head v rest true conn conn' p q a b i j read → SendsOn head s s' p q o o' sent → Stopped ≡ ended_by read sent
-      → ReadsOn head v [] false conn' conn'' q z b c j l (Done end) → SidesServe head v rest conn s s' p z a c (outside i o) (outside l o') end
-  sides_read_on read (Done other) end conn'' z c l r d e on = absurd (cc e)
-  sides_read_on read Stopped end conn'' z c l r d e on = record {
+      → ReadsOn head v rest true conn conn' p q a b i j read → SendsOn head s s' d d' p q o o' sent → Stopped ≡ ended_by read sent
+      → ReadsOn head v [] false conn' conn'' q z b c j l (Done end) → SidesServe head v rest conn s s' d d' p z a c (outside i o) (outside l o') end
+  sides_read_on read (Done other) end conn'' z c l r x e on = absurd (cc e)
+  sides_read_on read Stopped end conn'' z c l r x e on = record {
     reads = read_to head v rest conn p z a c (outside i o) (outside l o') end false conn''
         (reads_then head v rest false conn conn' conn'' p q z a b c i j l (Done end)
-        (subst (λ (x : SideEnd). ReadsOn head v rest true conn conn' p q a b i j x) (sym e) r) on);
+        (subst (λ (y : SideEnd). ReadsOn head v rest true conn conn' p q a b i j y) (sym e) r) on);
     sent = Stopped;
-    sends = sends_stay head s s' p q z o o' Stopped on.handles.more_found d on.handles.grows on.handles.found;
+    sends = sends_stay head s s' d d' p q z o o' Stopped on.handles.more_found x on.handles.grows on.handles.found;
     ended = inl refl;
   }
 
@@ -213,20 +214,20 @@ view_before fed h n i o o' now OutOfMemory calm e = tt
 
 module _ (head : Head) (v : ℕ) (confirmed : Confirmed) (rest : List ConnStep) (conn : Hearing) where
   -- it wasn't sent
-  pub attends_cut : (t : SenderModel) (p : SessionPass) (noted : Noted) (i : Input) (o o' : Output) (end : ConnEnd) → 0 < noted.places.room
-      → FirstSent head v confirmed p.seen t o o' (Done end) → Attends head v confirmed rest conn t p p noted noted (outside i o) (outside i o') end
-  attends_cut t p noted i o o' end room a = record {
+  pub attends_cut : (t : SenderModel) (d : Option DeskOf) (p : SessionPass) (noted : Noted) (i : Input) (o o' : Output) (end : ConnEnd) → 0 < noted.places.room
+      → FirstSent head v confirmed p.seen t d o o' (Done end) → Attends head v confirmed rest conn t d p p noted noted (outside i o) (outside i o') end
+  attends_cut t d p noted i o o' end room a = record {
     reads = unread_to head v rest conn p noted i o o' end room a.only a.cause;
     sent = Done end;
-    frames = first_alone head v confirmed t p o o' (Done end) a;
+    frames = first_alone head v confirmed t d p o o' (Done end) a;
     ended = inr refl;
   }
 
   -- it was, and both sides did their work
-  pub attends_all : (t u : SenderModel) (p q : SessionPass) (a b : Noted) (i : Input) (o o' : Output) (now : Outside) (end : ConnEnd)
-      → FirstSent head v confirmed p.seen t o o' Stopped → SidesServe head v rest conn t u p q a b (outside i o') now end
-      → Attends head v confirmed rest conn u p q a b (outside i o) now end
-  attends_all t u p q a b i o o' now end first x =
+  pub attends_all : (t u : SenderModel) (d d' : Option DeskOf) (p q : SessionPass) (a b : Noted) (i : Input) (o o' : Output) (now : Outside) (end : ConnEnd)
+      → FirstSent head v confirmed p.seen t d o o' Stopped → SidesServe head v rest conn t u d d' p q a b (outside i o') now end
+      → Attends head v confirmed rest conn u d' p q a b (outside i o) now end
+  attends_all t u d d' p q a b i o o' now end first x =
       let h = x.reads in record {
         reads = record {
           fed = h.fed;
@@ -242,7 +243,7 @@ module _ (head : Head) (v : ℕ) (confirmed : Confirmed) (rest : List ConnStep) 
           ends = view_before h.fed (heard conn h.fed).after (notice_in b) i o o' now end (first.calm refl) h.ends;
         };
         sent = x.sent;
-        frames = first_then head v confirmed t u p q o o' now.output x.sent first x.sends;
+        frames = first_then head v confirmed t u d d' p q o o' now.output x.sent first x.sends;
         ended = x.ended;
       }
 
@@ -277,14 +278,14 @@ ends_last (Done end) = inr refl
 ends_last Stopped = inl refl
 
 module _ (head : Head) (v : ℕ) (confirmed : Confirmed) (rest : List ConnStep) (conn : Hearing) where
-  pub attends_last : (t u : SenderModel) (p q r : SessionPass) (b c : Noted) (before : Outside) (j : Input) (o o' : Output) (end : ConnEnd) (sent : SideEnd)
-      → Attends head v confirmed rest conn t p q b c before (outside j o) end → end ≡ Left → SendsOn head t u q r o o' sent → r.mine ≡ q.mine → r.share ≡ q.share
-      → Attends head v confirmed rest conn u p r b c before (outside j o') (end_of_last sent)
-  attends_last t u p q r b c before j o o' end sent a is d mine share =
+  pub attends_last : (t u : SenderModel) (d d' : Option DeskOf) (p q r : SessionPass) (b c : Noted) (before : Outside) (j : Input) (o o' : Output) (end : ConnEnd) (sent : SideEnd)
+      → Attends head v confirmed rest conn t d p q b c before (outside j o) end → end ≡ Left → SendsOn head t u d d' q r o o' sent → r.mine ≡ q.mine → r.share ≡ q.share
+      → Attends head v confirmed rest conn u d' p r b c before (outside j o') (end_of_last sent)
+  attends_last t u d d' p q r b c before j o o' end sent a is x mine share =
       let h = a.reads in
-      let frames : FramesSent head v confirmed t p q before.output o Stopped
-      = subst (FramesSent head v confirmed t p q before.output o) (left_stopped a.sent end a.ended a.frames.only is) a.frames in
-      let both : FramesSent head v confirmed u p r before.output o' sent = frames_then head v confirmed t u p q r before.output o o' sent frames d in
+      let frames : FramesSent head v confirmed t d p q before.output o Stopped
+      = subst (FramesSent head v confirmed t d p q before.output o) (left_stopped a.sent end a.ended a.frames.only is) a.frames in
+      let both : FramesSent head v confirmed u d' p r before.output o' sent = frames_then head v confirmed t u d d' p q r before.output o o' sent frames x in
       record {
         reads = record {
           fed = h.fed;
@@ -293,11 +294,11 @@ module _ (head : Head) (v : ℕ) (confirmed : Confirmed) (rest : List ConnStep) 
           undone = h.undone;
           front = h.front;
           all = λ no_write no_memory. h.all (λ wrote. absurd (cc (sym is ∙ wrote))) (λ wanted. absurd (cc (sym is ∙ wanted)));
-          handles = handles_more head v (events_in h.steps) p q r b.places.list c.places.list d.more_found h.handles d.grows d.found mine (holds_same r.share q.share share);
+          handles = handles_more head v (events_in h.steps) p q r b.places.list c.places.list x.more_found h.handles x.grows x.found mine (holds_same r.share q.share share);
           room = h.room;
           notice = h.notice;
           stops = h.stops;
-          ends = last_end h.fed (heard conn h.fed).after (notice_in c) before j o o' sent d.only both.cause
+          ends = last_end h.fed (heard conn h.fed).after (notice_in c) before j o o' sent x.only both.cause
               (subst (ViewEnd h.fed (heard conn h.fed).after (notice_in c) before (outside j o)) is h.ends);
         };
         sent = sent;

@@ -23,6 +23,7 @@ use Rattle.frame_plan.specs.Plans.{is_work, taken_if}
 use Rattle.frame_plan.specs.declared.taken.Taken.{Taken}
 use Rattle.frame_plan.specs.declared.taken.Taken.TheVariants.{Nothing}
 use Rattle.viewer_sender.specs.Senders.{SenderModel, desk_of}
+use Rattle.pointer_share.specs.Desk.{DeskOf}
 use Rattle.grow_lock.specs.Journal.{StartsWith}
 use Rattle.serve_rules.specs.Turns.{SessionPass}
 use Rattle.serve_rules.proofs.Lists.{got_end}
@@ -205,7 +206,7 @@ here_stays old new u v head journal same here =
     ∙ (ap (λ (h : Head). is_present v (reached_at h.size old.journal (length old.journal)).viewers) head ∙ here))
 
 -- likewise a take
-pub taken_stays : (old new : SessionModel) (s s' : SenderModel) (result : Result Taken OutOfMemory) → new.head ≡ old.head → new.journal ≡ old.journal
-    → TakesAs new.head new.journal s s' result → TakesAs old.head old.journal s s' result
-taken_stays old new s s' result head journal h =
-    subst (λ (j : List Entry). TakesAs old.head j s s' result) journal (subst (λ (x : Head). TakesAs x new.journal s s' result) head h)
+pub taken_stays : (old new : SessionModel) (s s' : SenderModel) (d d' : Option DeskOf) (result : Result Taken OutOfMemory) → new.head ≡ old.head → new.journal ≡ old.journal
+    → TakesAs new.head new.journal s s' d d' result → TakesAs old.head old.journal s s' d d' result
+taken_stays old new s s' d d' result head journal h =
+    subst (λ (j : List Entry). TakesAs old.head j s s' d d' result) journal (subst (λ (x : Head). TakesAs x new.journal s s' d d' result) head h)

@@ -8,6 +8,7 @@ use Rattle.session_rules.specs.Journal.{Head}
 use Rattle.conn_rules.specs.declared.conn_step.ConnStep.{ConnStep}
 use Rattle.conn_rules.specs.Hearing.{Hearing}
 use Rattle.viewer_sender.specs.Senders.{SenderModel}
+use Rattle.pointer_share.specs.Desk.{DeskOf}
 use Rattle.serve_rules.specs.Turns.{SessionPass}
 use Rattle.serve_rules.specs.Notices.{Notice, notice_in}
 use Rattle.serve_rules.specs.declared.ends.ConnEnd.{ConnEnd}
@@ -29,8 +30,8 @@ IsFirstOfSome head j v first = (confirmed : Confirmed) × IsFirst head j v confi
 -- a viewer who joined was attended to until its connection ended; where memory was wanted for its first frame nothing was read, written, noted or handled
 abbrev pub Stays : Head → ℕ → Confirmed → Result FirstFrame OutOfMemory → List ConnStep → Hearing → (joined viewed : SessionPass) → (noted_old noted_new : Noted)
     → (before now : Outside) → ConnEnd → Type 0
-Stays head v confirmed (Ok first) rest conn joined viewed noted_old noted_new before now end = (sender : SenderModel)
-    × Attends head v confirmed rest conn sender joined viewed noted_old noted_new before now end × IsShownLast head v viewed sender end (notice_in noted_new)
+Stays head v confirmed (Ok first) rest conn joined viewed noted_old noted_new before now end = (sender : SenderModel) × (desk : Option DeskOf)
+    × Attends head v confirmed rest conn sender desk joined viewed noted_old noted_new before now end × IsShownLast head v viewed sender end (notice_in noted_new)
 Stays head v confirmed (Err refusal) rest conn joined viewed noted_old noted_new before now end =
     (viewed ≡ joined) × (noted_new ≡ noted_old) × (now ≡ before) × (end ≡ ends.OutOfMemory)
 

@@ -1,5 +1,5 @@
 -- What is done for a client that is ready.
-use Rattle.std.specs.Prelude.{◌≡◌, ℕ, ◌<◌, ⊤, Bool, true, false, not, ◌&&◌, List, [], ◌++◌, length, ◌⊎◌}
+use Rattle.std.specs.Prelude.{◌≡◌, ℕ, ◌<◌, ⊤, Bool, true, false, not, ◌&&◌, Option, List, [], ◌++◌, length, ◌⊎◌}
 use Rattle.std.specs.Io.KnownBytes.{Consumes}
 use Rattle.edge_io.specs.Faults.{Rose}
 use Rattle.edge_io.specs.Outside.{Outside}
@@ -8,6 +8,7 @@ use Rattle.session_rules.specs.Journal.{Head, is_present, reached_at}
 use Rattle.conn_rules.specs.declared.conn_step.ConnStep.{ConnStep}
 use Rattle.conn_rules.specs.Hearing.{Hearing, heard}
 use Rattle.viewer_sender.specs.Senders.{SenderModel}
+use Rattle.pointer_share.specs.Desk.{DeskOf}
 use Rattle.serve_rules.specs.Turns.{SessionPass}
 use Rattle.serve_rules.specs.Events.{Handles}
 use Rattle.serve_rules.specs.Notices.{Notice, events_in, notice_after_all, notice_in}
@@ -53,19 +54,19 @@ abbrev pub EndsSending : SideEnd → ConnEnd → Type 0
 EndsSending sent end = (sent ≡ Stopped) ⊎ (sent ≡ Done end)
 
 -- both sides of a viewer did their work, until its connection ended
-pub record SidesServe (head : Head) (v : ℕ) (rest : List ConnStep) (conn : Hearing) (sender_old sender_new : SenderModel) (before after : SessionPass) (noted_old noted_new : Noted)
-    (outside_old outside_new : Outside) (end : ConnEnd) : Type 0 where
+pub record SidesServe (head : Head) (v : ℕ) (rest : List ConnStep) (conn : Hearing) (sender_old sender_new : SenderModel) (desk_old desk_new : Option DeskOf)
+    (before after : SessionPass) (noted_old noted_new : Noted) (outside_old outside_new : Outside) (end : ConnEnd) : Type 0 where
   pub reads : ReadsTo head v rest conn before after noted_old noted_new outside_old outside_new end
   pub sent : SideEnd
-  pub sends : SendsOn head sender_old sender_new before after outside_old.output outside_new.output sent
+  pub sends : SendsOn head sender_old sender_new desk_old desk_new before after outside_old.output outside_new.output sent
   pub ended : EndsSending sent end
 
 -- likewise with the viewer's first frame before
-pub record Attends (head : Head) (v : ℕ) (confirmed : Confirmed) (rest : List ConnStep) (conn : Hearing) (sender : SenderModel) (joined after : SessionPass) (noted_old noted_new : Noted)
-    (outside_old outside_new : Outside) (end : ConnEnd) : Type 0 where
+pub record Attends (head : Head) (v : ℕ) (confirmed : Confirmed) (rest : List ConnStep) (conn : Hearing) (sender : SenderModel) (desk : Option DeskOf)
+    (joined after : SessionPass) (noted_old noted_new : Noted) (outside_old outside_new : Outside) (end : ConnEnd) : Type 0 where
   pub reads : ReadsTo head v rest conn joined after noted_old noted_new outside_old outside_new end
   pub sent : SideEnd
-  pub frames : FramesSent head v confirmed sender joined after outside_old.output outside_new.output sent
+  pub frames : FramesSent head v confirmed sender desk joined after outside_old.output outside_new.output sent
   pub ended : EndsSending sent end
 
 -- which of both sides' ends counts: that of the sending, where that didn't stop

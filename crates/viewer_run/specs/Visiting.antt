@@ -15,25 +15,26 @@ use Rattle.session_core.specs.declared.faults.JoinFault.{JoinFault}
 use Rattle.frame_rules.specs.Encoder.{first_encoder}
 use Rattle.frame_plan.specs.declared.taken.Taken.{Taken}
 use Rattle.frame_plan.specs.declared.taken.Taken.TheVariants.{Nothing}
-use Rattle.viewer_sender.specs.Senders.{SenderModel, IsIdle, Follows}
+use Rattle.viewer_sender.specs.Senders.{SenderModel, IsIdle}
+use Rattle.pointer_share.specs.Desk.{DeskOf}
 use Rattle.serve_rules.specs.Turns.{SessionPass, IsTurn}
 use Rattle.serve_rules.specs.declared.ends.SideEnd.{SideEnd}
 use Rattle.serve_rules.specs.declared.ends.SideEnd.TheVariants.{Stopped}
-use Rattle.viewer_sides.specs.Sending.{TakesFrame}
+use Rattle.viewer_sides.specs.Sending.{TakesFrame, FollowsWith}
 use Rattle.viewer_run.specs.declared.visits.Arrival.{Arrival}
 use Rattle.viewer_run.specs.declared.visits.FirstFrame.{FirstFrame}
 
--- a sender that has given no frame
-pub record IsFresh (s : SenderModel) (v : ℕ) (confirmed : Confirmed) : Type 0 where
+-- a sender that has given no frame, and a desk at which no pointer was told
+pub record IsFresh (s : SenderModel) (d : Option DeskOf) (v : ℕ) (confirmed : Confirmed) : Type 0 where
   pub viewer : s.v ≡ v
   pub confirms : s.confirmed ≡ confirmed
   pub number : s.number ≡ 0
   pub idle : IsIdle s
-  pub follows : Follows s first_encoder
+  pub follows : FollowsWith s d first_encoder
 
--- a viewer's first frame over a journal, unless memory was wanted
+-- a viewer's first frame over a journal, for which that journal's pointer is noted, unless memory was wanted
 abbrev pub IsFirst : Head → List Entry → ℕ → Confirmed → Result FirstFrame OutOfMemory → Type 0
-IsFirst head j v confirmed (Ok first) = (s : SenderModel) × IsFresh s v confirmed × TakesFrame head j s first.sender first.take
+IsFirst head j v confirmed (Ok first) = (s : SenderModel) × (d : Option DeskOf) × IsFresh s d v confirmed × TakesFrame head j s first.sender d first.desk first.take
 IsFirst head j v confirmed (Err refusal) = ⊤
 
 -- a name joined: the next viewer's Join, with the role of the name's row, was appended

@@ -191,7 +191,7 @@ fn attend_first<R: Threads + Wait + Sync, S: Source + Send, K: Sink + Send>(
 {
     match first {
         Ok(first) => {
-            let (pass, _, end) = attend_whole(
+            let (pass, _, _, end) = attend_whole(
                 rt, alloc, lock, pass, v, conn, rest, noted, first, input, output,
             );
             (pass, end)

@@ -18,6 +18,7 @@ use conn_core::Conn;
 use conn_rules::ConnStep;
 use edge_io::{Sink, Source};
 use grow_lock::{GrowLock, Pass};
+use pointer_share::PointerDesk;
 use session_core::Session;
 use std::alloc::Global;
 use std::sync::Wait;
@@ -38,19 +39,19 @@ pub fn attend<R: Threads + Wait + Sync, S: Source + Send, K: Sink + Send>(
     first: FirstFrame,
     input: &mut S,
     output: &mut K,
-) -> (Pass<Session>, Sender, ConnEnd)
+) -> (Pass<Session>, Sender, Option<PointerDesk>, ConnEnd)
     requires lock { IsPassOf lock.now pass }
     requires part { AreBytes conn.old.hearing.part }
     requires placed { ArePlaced rest.now }
     requires room { 0 < noted.old.places.room }
     requires first { IsFirst lock.now.head pass.seen v first.sender.confirmed (Ok first) }
     ensures lock { IsPassOf lock.now result.0 }
-    ensures attends { Attends lock.now.head v first.sender.confirmed rest.now conn.old.hearing result.1 pass result.0 noted.old noted.new
-        (outside_of S.Source K.Sink input.old output.old) (outside_of S.Source K.Sink input.new output.new) result.2 }
+    ensures attends { Attends lock.now.head v first.sender.confirmed rest.now conn.old.hearing result.1 result.2 pass result.0 noted.old noted.new
+        (outside_of S.Source K.Sink input.old output.old) (outside_of S.Source K.Sink input.new output.new) result.3 }
 {
-    let (mut sender, sent) = send_first(alloc, first, output);
+    let (mut sender, mut desk, sent) = send_first(alloc, first, output);
     match sent {
-        SideEnd::Done { end } => (pass, sender, end),
+        SideEnd::Done { end } => (pass, sender, desk, end),
         SideEnd::Stopped => {
             let (pass, end) = serve_sides(
                 rt,
@@ -62,10 +63,11 @@ pub fn attend<R: Threads + Wait + Sync, S: Source + Send, K: Sink + Send>(
                 rest,
                 noted,
                 &mut sender,
+                &mut desk,
                 input,
                 output,
             );
-            (pass, sender, end)
+            (pass, sender, desk, end)
         }
     }
 }
@@ -83,25 +85,25 @@ pub fn attend_whole<R: Threads + Wait + Sync, S: Source + Send, K: Sink + Send>(
     first: FirstFrame,
     input: &mut S,
     output: &mut K,
-) -> (Pass<Session>, Sender, ConnEnd)
+) -> (Pass<Session>, Sender, Option<PointerDesk>, ConnEnd)
     requires lock { IsPassOf lock.now pass }
     requires part { AreBytes conn.old.hearing.part }
     requires placed { ArePlaced rest.now }
     requires room { 0 < noted.old.places.room }
     requires first { IsFirst lock.now.head pass.seen v first.sender.confirmed (Ok first) }
     ensures lock { IsPassOf lock.now result.0 }
-    ensures attends { Attends lock.now.head v first.sender.confirmed rest.now conn.old.hearing result.1 pass result.0 noted.old noted.new
-        (outside_of S.Source K.Sink input.old output.old) (outside_of S.Source K.Sink input.new output.new) result.2 }
-    ensures whole { IsShownLast lock.now.head v result.0 result.1 result.2 (notice_in noted.new) }
+    ensures attends { Attends lock.now.head v first.sender.confirmed rest.now conn.old.hearing result.1 result.2 pass result.0 noted.old noted.new
+        (outside_of S.Source K.Sink input.old output.old) (outside_of S.Source K.Sink input.new output.new) result.3 }
+    ensures whole { IsShownLast lock.now.head v result.0 result.1 result.3 (notice_in noted.new) }
 {
-    let (pass, mut sender, end) = attend(
+    let (pass, mut sender, mut desk, end) = attend(
         rt, alloc, lock, pass, v, conn, rest, noted, first, input, output,
     );
     if wants_last(end, noted) {
-        let (pass, sent) = send_last(rt, alloc, lock, pass, v, &mut sender, output);
-        return (pass, sender, end_of_last(sent));
+        let (pass, sent) = send_last(rt, alloc, lock, pass, v, &mut sender, &mut desk, output);
+        return (pass, sender, desk, end_of_last(sent));
     }
-    (pass, sender, end)
+    (pass, sender, desk, end)
 }
 
 /// Whether a last frame is due at an end.
@@ -142,6 +144,7 @@ fn serve_sides<R: Threads + Wait + Sync, S: Source + Send, K: Sink + Send>(
     rest: &[ConnStep],
     noted: &mut Noted,
     sender: &mut Sender,
+    desk: &mut Option<PointerDesk>,
     input: &mut S,
     output: &mut K,
 ) -> (Pass<Session>, ConnEnd)
@@ -153,11 +156,11 @@ fn serve_sides<R: Threads + Wait + Sync, S: Source + Send, K: Sink + Send>(
     requires idle { IsIdle sender.old }
     requires seen { sender.old.number ≤ length pass.seen }
     ensures lock { IsPassOf lock.now result.0 }
-    ensures serves { SidesServe lock.now.head v rest.now conn.old.hearing sender.old sender.new pass result.0 noted.old noted.new
+    ensures serves { SidesServe lock.now.head v rest.now conn.old.hearing sender.old sender.new desk.old desk.new pass result.0 noted.old noted.new
         (outside_of S.Source K.Sink input.old output.old) (outside_of S.Source K.Sink input.new output.new) result.1 }
 {
     let (pass, read, sent) = run_sides(
-        rt, alloc, lock, pass, v, conn, rest, noted, sender, input, output,
+        rt, alloc, lock, pass, v, conn, rest, noted, sender, desk, input, output,
     );
     match ended_by(read, sent) {
         SideEnd::Done { end } => (pass, end),
@@ -208,6 +211,7 @@ pub fn send_last<R: Wait, K: Sink>(
     pass: Pass<Session>,
     v: u32,
     sender: &mut Sender,
+    desk: &mut Option<PointerDesk>,
     output: &mut K,
 ) -> (Pass<Session>, SideEnd)
     requires lock { IsPassOf lock.now pass }
@@ -217,11 +221,11 @@ pub fn send_last<R: Wait, K: Sink>(
     ensures lock { IsPassOf lock.now result.0 }
     ensures mine { result.0.mine ≡ pass.mine }
     ensures share { result.0.share ≡ pass.share }
-    ensures sends { SendsOn lock.now.head sender.old sender.new pass result.0 (output_of K.Sink output.old) (output_of K.Sink output.new) result.1 }
+    ensures sends { SendsOn lock.now.head sender.old sender.new desk.old desk.new pass result.0 (output_of K.Sink output.old) (output_of K.Sink output.new) result.1 }
     ensures whole { IsShownAll lock.now.head v result.0.seen sender.new.number result.1 }
 {
-    let (pass, taken) = take_last(rt, alloc, lock, pass, v, sender);
-    let end = send_last_taken(alloc, taken, sender, output);
+    let (pass, taken) = take_last(rt, alloc, lock, pass, v, sender, desk);
+    let end = send_last_taken(alloc, taken, sender, desk, output);
     (pass, end)
 }
 
@@ -230,13 +234,14 @@ fn send_last_taken<K: Sink>(
     alloc: Global,
     taken: Result<Taken, OutOfMemory>,
     sender: &mut Sender,
+    desk: &mut Option<PointerDesk>,
     output: &mut K,
 ) -> SideEnd
     requires { IsNext taken sender.old }
-    ensures { SendsTaken taken sender.old sender.new (output_of K.Sink output.old) (output_of K.Sink output.new) result }
+    ensures { SendsTaken taken sender.old sender.new desk.old desk.new (output_of K.Sink output.old) (output_of K.Sink output.new) result }
 {
     match taken {
-        Ok(Taken::Frame(take)) => send_frame(alloc, take, sender, output),
+        Ok(Taken::Frame(take)) => send_frame(alloc, take, sender, desk, output),
         Ok(Taken::Nothing) => SideEnd::Stopped,
         Err(OutOfMemory) => NO_MEMORY,
     }

@@ -15,10 +15,12 @@ use crate::OutOfMemory;
 use caps_sets::Confirmed;
 use grow_lock::{GrowLock, Pass};
 use info_lic::Name;
+use pointer_share::{PointerDesk, desk_for, note};
 use session_core::{JoinFault, Session};
 use std::alloc::Global;
 use std::sync::Wait;
 use viewer_sender::{Sender, Take, Taken};
+use viewer_sides::note_taken;
 
 /// A viewer who has joined.
 #[derive(Drop)]
@@ -29,11 +31,12 @@ pub struct Arrival {
     pub first: Result<FirstFrame, OutOfMemory>,
 }
 
-/// A viewer's first frame, and what sends it.
+/// A viewer's first frame, and what sends it: with a desk for its pointer, if it has pointer cells.
 #[derive(Drop)]
 pub struct FirstFrame {
     pub sender: Sender,
     pub take: Take,
+    pub desk: Option<PointerDesk>,
 }
 
 /// A viewer joins by a name, and its first frame is taken, in one turn.
@@ -96,7 +99,7 @@ fn join_here(
     }
 }
 
-/// A viewer's first frame, right after its Join.
+/// A viewer's first frame, right after its Join; the session's pointer is noted for it.
 fn first_frame(
     alloc: Global,
     session: &mut Session,
@@ -111,13 +114,18 @@ fn first_frame(
     ensures first { IsFirst session.old.head session.old.journal v confirmed result }
 {
     let mut sender = Sender::new(alloc, v, confirmed)?;
+    let mut desk = desk_for(alloc, &confirmed)?;
     match sender.take(alloc, session)? {
-        Taken::Frame(take) => Ok(FirstFrame { sender, take }),
+        Taken::Frame(take) => {
+            note(&mut desk, session);
+            Ok(FirstFrame { sender, take, desk })
+        }
         Taken::Nothing => unreachable!(),
     }
 }
 
-/// Output is allowed again, and a viewer's last frame is taken, in one turn. For a viewer that isn't present it does nothing.
+/// Output is allowed again, and a viewer's last frame is taken, in one turn, in which the session's pointer is noted for it. For a viewer that isn't present it
+/// does nothing.
 pub fn take_last<R: Wait>(
     rt: &R,
     alloc: Global,
@@ -125,33 +133,35 @@ pub fn take_last<R: Wait>(
     pass: Pass<Session>,
     v: u32,
     sender: &mut Sender,
+    desk: &mut Option<PointerDesk>,
 ) -> (Pass<Session>, Result<Taken, OutOfMemory>)
     requires lock { IsPassOf lock.now pass }
     requires viewer { sender.old.v ≡ v }
     requires seen { sender.old.number ≤ length pass.seen }
     ensures lock { IsPassOf lock.now result.0 }
-    ensures taken { TakesIn lock.now.head pass result.0 sender.old sender.new result.1 }
+    ensures taken { TakesIn lock.now.head pass result.0 sender.old sender.new desk.old desk.new result.1 }
     ensures whole { IsUpToDate lock.now.head v result.0.seen sender.old.number result.1 }
     ensures absent { IsAbsent lock.now.head v result.0.seen → result.1 ≡ Ok Nothing }
 {
     let mut turn = lock.enter(rt, pass);
-    let taken = take_last_here(alloc, turn.value(), v, sender);
+    let taken = take_last_here(alloc, turn.value(), v, sender, desk);
     let pass = lock.leave(turn);
     (pass, taken)
 }
 
-/// Output is allowed again at a session, and a viewer's last frame is taken.
+/// Output is allowed again at a session, and a viewer's last frame is taken, for which the session's pointer is noted.
 fn take_last_here(
     alloc: Global,
     session: &mut Session,
     v: u32,
     sender: &mut Sender,
+    desk: &mut Option<PointerDesk>,
 ) -> Result<Taken, OutOfMemory>
     requires viewer { sender.old.v ≡ v }
     requires seen { sender.old.number ≤ length session.old.journal }
     ensures head { session.new.head ≡ session.old.head }
     ensures journal { session.new.journal ≡ session.old.journal }
-    ensures taken { TakesAs session.old.head session.old.journal sender.old sender.new result }
+    ensures taken { TakesAs session.old.head session.old.journal sender.old sender.new desk.old desk.new result }
     ensures work { IfOk result (λ taken. taken ≡ taken_if (finds_last session.old sender.old) session.old (desk_of sender.old)) }
     ensures asked { OnOk result (asked_by session.new ≡ asked_if (finds_last session.old sender.old) v (asked_by session.old)) }
     ensures kept { OnErr result (asked_by session.new ≡ asked_by session.old) }
@@ -163,7 +173,9 @@ fn take_last_here(
         return Ok(Taken::Nothing);
     }
     session.suppress(v, false);
-    sender.take(alloc, session)
+    let taken = sender.take(alloc, session);
+    note_taken(&taken, desk, session);
+    taken
 }
 
 /// A viewer leaves in a turn of its own; gives the place of its Leave. One that isn't present has left already.

@@ -5,5 +5,6 @@ pub mod Streams
 pub mod Stretches
 pub mod TakesOn
 pub mod OneTake
+pub mod Writing
 pub mod SendOn
 pub mod Asked

@@ -1,4 +1,5 @@
 -- A send side that goes on: one stretch of sending after another, and the pass that meets another one.
+use Rattle.std.specs.Prelude.{Option}
 use Rattle.std.proofs.Common.{◌≡◌, ℕ, ◌≤◌, List, [], ◌++◌, length, map, sym, refl, ap, ap₂, ◌∙◌, subst, arith, append_assoc, append-nil}
 use Rattle.std.proofs.lemmas.List.{map-append}
 use Rattle.std.proofs.KnownBytes.{Appends-nil, Appends-trans}
@@ -9,8 +10,9 @@ use Rattle.session_rules.specs.declared.entry.Entry.{Entry}
 use Rattle.session_rules.specs.Journal.{Head}
 use Rattle.session_rules.specs.Steps.{TakeOf, TakesFollow}
 use Rattle.frame_rules.specs.FrameBytes.{joined_bytes}
-use Rattle.frame_rules.specs.Encoder.{Encoder, bytes_of_takes, encoder_after_takes}
-use Rattle.viewer_sender.specs.Senders.{SenderModel, IsIdle, Follows}
+use Rattle.frame_rules.specs.Encoder.{Encoder, pointed_of_takes, encoder_after_takes}
+use Rattle.viewer_sender.specs.Senders.{SenderModel, IsIdle}
+use Rattle.pointer_share.specs.Desk.{DeskOf}
 use Rattle.grow_lock.specs.Journal.{StartsWith}
 use Rattle.grow_lock.proofs.Lists.{starts_itself, starts_trans, length_starts}
 use Rattle.serve_rules.specs.Turns.{SessionPass}
@@ -18,13 +20,13 @@ use Rattle.serve_rules.specs.Events.{IsWithin}
 use Rattle.serve_rules.specs.declared.ends.SideEnd.{SideEnd}
 use Rattle.serve_rules.specs.declared.ends.SideEnd.TheVariants.{Stopped}
 use Rattle.serve_rules.proofs.Lists.{within_front, within_then}
-use Rattle.viewer_sides.specs.Sending.{AtLeast, IsPresentAtEach, SendsOn}
-use Rattle.viewer_sides.proofs.TakesOn.{follow_then, at_least_lower, at_least_then, present_then, present_stays, joined_then, bytes_then, encoder_then, bytes_stay, encoder_stays}
+use Rattle.viewer_sides.specs.Sending.{AtLeast, IsPresentAtEach, FollowsWith, SendsOn}
+use Rattle.viewer_sides.proofs.TakesOn.{follow_then, at_least_lower, at_least_then, present_then, present_stays, joined_then, pointed_then, encoder_then, pointed_stay, encoder_stays}
 use Rattle.viewer_sides.proofs.OneTake.{stopped_is_no_fault}
 
 -- nothing was done
-pub sends_none : (head : Head) (s : SenderModel) (p : SessionPass) (out : Output) → IsIdle s → s.number ≤ length p.seen → SendsOn head s s p p out out Stopped
-sends_none head s p out idle seen = record {
+pub sends_none : (head : Head) (s : SenderModel) (d : Option DeskOf) (p : SessionPass) (out : Output) → IsIdle s → s.number ≤ length p.seen → SendsOn head s s d d p p out out Stopped
+sends_none head s d p out idle seen = record {
   takes = [];
   last = s.number;
   up_to = refl;
@@ -50,15 +52,15 @@ module _ (head : Head) where
   numbers ts = map (λ (t : TakeOf). t.number) ts
 
   -- a stretch of sending after one that went well
-  pub sends_then : (s t u : SenderModel) (p q r : SessionPass) (out out' out'' : Output) (end : SideEnd)
-      → SendsOn head s t p q out out' Stopped → SendsOn head t u q r out' out'' end → SendsOn head s u p r out out'' end
-  sends_then s t u p q r out out' out'' end a b =
+  pub sends_then : (s t u : SenderModel) (d d' d'' : Option DeskOf) (p q r : SessionPass) (out out' out'' : Output) (end : SideEnd)
+      → SendsOn head s t d d' p q out out' Stopped → SendsOn head t u d' d'' q r out' out'' end → SendsOn head s u d d'' p r out out'' end
+  sends_then s t u d d' d'' p q r out out' out'' end a b =
       let size = head.size in
       let c = s.confirmed in
       let w = a.after_is refl in
       let conf : t.confirmed ≡ c = w.1 in
-      let bytes_same : (e : Encoder) → bytes_of_takes size c r.seen e a.takes ≡ bytes_of_takes size c q.seen e a.takes
-      = λ e. ap (λ (j : List Entry). bytes_of_takes size c j e a.takes) b.grows.1 ∙ bytes_stay size c q.seen b.grows.0 e a.takes s.number a.last a.follow a.within_seen in
+      let bytes_same : (e : Encoder) → pointed_of_takes size c r.seen e a.takes ≡ pointed_of_takes size c q.seen e a.takes
+      = λ e. ap (λ (j : List Entry). pointed_of_takes size c j e a.takes) b.grows.1 ∙ pointed_stay size c q.seen b.grows.0 e a.takes s.number a.last a.follow a.within_seen in
       let encoder_same : (e : Encoder) → encoder_after_takes size c r.seen e a.takes ≡ encoder_after_takes size c q.seen e a.takes
       = λ e. ap (λ (j : List Entry). encoder_after_takes size c j e a.takes) b.grows.1
       ∙ encoder_stays size c q.seen b.grows.0 e a.takes s.number a.last a.follow a.within_seen in
@@ -84,14 +86,14 @@ module _ (head : Head) where
         bytes = λ e fol.
             let x = a.bytes e fol in
             let y = b.bytes (mid e) (w.4 e fol) in
-            let first : joined_bytes (bytes_of_takes size c r.seen e a.takes) ≡ a.written
+            let first : joined_bytes (pointed_of_takes size c r.seen e a.takes) ≡ a.written
             = ap joined_bytes (bytes_same e) ∙ (x.1 ∙ (ap (λ l. a.written ++ l) (x.2 refl) ∙ append-nil a.written)) in
-            let later : joined_bytes (bytes_of_takes size c r.seen (encoder_after_takes size c r.seen e a.takes) b.takes) ≡ b.written ++ y.0
-            = ap (λ (k : Encoder). joined_bytes (bytes_of_takes size c r.seen k b.takes)) (encoder_same e)
-            ∙ (ap (λ (d : Confirmed). joined_bytes (bytes_of_takes size d r.seen (mid e) b.takes)) (sym conf) ∙ y.1) in (
+            let later : joined_bytes (pointed_of_takes size c r.seen (encoder_after_takes size c r.seen e a.takes) b.takes) ≡ b.written ++ y.0
+            = ap (λ (k : Encoder). joined_bytes (pointed_of_takes size c r.seen k b.takes)) (encoder_same e)
+            ∙ (ap (λ (k : Confirmed). joined_bytes (pointed_of_takes size k r.seen (mid e) b.takes)) (sym conf) ∙ y.1) in (
               y.0,
-              ap joined_bytes (bytes_then size c r.seen e a.takes b.takes)
-                  ∙ (joined_then (bytes_of_takes size c r.seen e a.takes) (bytes_of_takes size c r.seen (encoder_after_takes size c r.seen e a.takes) b.takes)
+              ap joined_bytes (pointed_then size c r.seen e a.takes b.takes)
+                  ∙ (joined_then (pointed_of_takes size c r.seen e a.takes) (pointed_of_takes size c r.seen (encoder_after_takes size c r.seen e a.takes) b.takes)
                   ∙ (ap₂ ◌++◌ first later ∙ sym (append_assoc a.written b.written y.0))),
               y.2,
             );
@@ -100,10 +102,10 @@ module _ (head : Head) where
           z.1 ∙ w.1,
           z.2,
           z.3,
-          λ e fol. subst (Follows u)
+          λ e fol. subst (FollowsWith u d'')
               (sym (encoder_then size c r.seen e a.takes b.takes
               ∙ (ap (λ (k : Encoder). encoder_after_takes size c r.seen k b.takes) (encoder_same e)
-              ∙ ap (λ (d : Confirmed). encoder_after_takes size d r.seen (mid e) b.takes) (sym conf))))
+              ∙ ap (λ (k : Confirmed). encoder_after_takes size k r.seen (mid e) b.takes) (sym conf))))
               (z.4 (mid e) (w.4 e fol)),
         );
         only = b.only;
@@ -112,15 +114,15 @@ module _ (head : Head) where
       }
 
   -- what a send side did stays so for the pass in which the other side's met it, seen from the pass that it was split from
-  pub sends_met : (s s' : SenderModel) (p o a b m : SessionPass) (out out' : Output) (end : SideEnd) (turns : List ℕ)
-      → SendsOn head s s' o b out out' end → o.seen ≡ p.seen → o.found ≡ [] → a.found ≡ p.found ++ turns
+  pub sends_met : (s s' : SenderModel) (d d' : Option DeskOf) (p o a b m : SessionPass) (out out' : Output) (end : SideEnd) (turns : List ℕ)
+      → SendsOn head s s' d d' o b out out' end → o.seen ≡ p.seen → o.found ≡ [] → a.found ≡ p.found ++ turns
       → StartsWith m.seen b.seen → m.found ≡ a.found ++ b.found
-      → SendsOn head s s' p m out out' end
-  sends_met s s' p o a b m out out' end turns h same none ahead grows found =
+      → SendsOn head s s' d d' p m out out' end
+  sends_met s s' d d' p o a b m out out' end turns h same none ahead grows found =
       let size = head.size in
       let c = s.confirmed in
-      let bytes_same : (e : Encoder) → bytes_of_takes size c m.seen e h.takes ≡ bytes_of_takes size c b.seen e h.takes
-      = λ e. ap (λ (j : List Entry). bytes_of_takes size c j e h.takes) grows.1 ∙ bytes_stay size c b.seen grows.0 e h.takes s.number h.last h.follow h.within_seen in
+      let bytes_same : (e : Encoder) → pointed_of_takes size c m.seen e h.takes ≡ pointed_of_takes size c b.seen e h.takes
+      = λ e. ap (λ (j : List Entry). pointed_of_takes size c j e h.takes) grows.1 ∙ pointed_stay size c b.seen grows.0 e h.takes s.number h.last h.follow h.within_seen in
       let encoder_same : (e : Encoder) → encoder_after_takes size c m.seen e h.takes ≡ encoder_after_takes size c b.seen e h.takes
       = λ e. ap (λ (j : List Entry). encoder_after_takes size c j e h.takes) grows.1 ∙ encoder_stays size c b.seen grows.0 e h.takes s.number h.last h.follow h.within_seen in
       record {
@@ -139,7 +141,7 @@ module _ (head : Head) where
         written = h.written;
         told = h.told;
         bytes = λ e fol. let x = h.bytes e fol in (x.0, ap joined_bytes (bytes_same e) ∙ x.1, x.2);
-        after_is = λ stopped. let x = h.after_is stopped in (x.0, x.1, x.2, x.3, λ e fol. subst (Follows s') (sym (encoder_same e)) (x.4 e fol));
+        after_is = λ stopped. let x = h.after_is stopped in (x.0, x.1, x.2, x.3, λ e fol. subst (FollowsWith s' d') (sym (encoder_same e)) (x.4 e fol));
         only = h.only;
         cause = h.cause;
         calm = h.calm;

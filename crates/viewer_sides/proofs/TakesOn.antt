@@ -7,8 +7,8 @@ use Rattle.session_rules.specs.Journal.{Head, Reached, is_present}
 use Rattle.session_rules.specs.Steps.{TakeOf, TakesFollow}
 use Rattle.session_rules.proofs.Journals.{reached_at-append}
 use Rattle.frame_rules.specs.FrameBytes.{joined_bytes}
-use Rattle.frame_rules.specs.Encoder.{Encoder, take_bytes, encoder_after, bytes_of_takes, encoder_after_takes}
-use Rattle.frame_rules.proofs.FrameLaws.{take_bytes-append, encoder_after-append}
+use Rattle.frame_rules.specs.Encoder.{Encoder, pointed_bytes, encoder_after, pointed_of_takes, encoder_after_takes}
+use Rattle.frame_rules.proofs.FrameLaws.{pointed_bytes-append, encoder_after-append}
 use Rattle.grow_lock.specs.Journal.{StartsWith}
 use Rattle.viewer_sides.specs.Sending.{AtLeast, IsPresentAtEach}
 
@@ -54,26 +54,26 @@ joined_then [] ys = refl
 joined_then (x ∷ xs) ys = ap (λ bs. x ++ bs) (joined_then xs ys) ∙ sym (append_assoc x (joined_bytes xs) (joined_bytes ys))
 
 module _ (size : Size) (c : Confirmed) where
-  pub bytes_then : (j : List Entry) (e : Encoder) (ts us : List TakeOf)
-      → bytes_of_takes size c j e (ts ++ us) ≡ bytes_of_takes size c j e ts ++ bytes_of_takes size c j (encoder_after_takes size c j e ts) us
-  bytes_then j e [] us = refl
-  bytes_then j e (t ∷ ts) us = ap (λ (later : List (List ℕ)). take_bytes size c j e t ∷ later) (bytes_then j (encoder_after size c j e t) ts us)
+  pub pointed_then : (j : List Entry) (e : Encoder) (ts us : List TakeOf)
+      → pointed_of_takes size c j e (ts ++ us) ≡ pointed_of_takes size c j e ts ++ pointed_of_takes size c j (encoder_after_takes size c j e ts) us
+  pointed_then j e [] us = refl
+  pointed_then j e (t ∷ ts) us = ap (λ (later : List (List ℕ)). pointed_bytes size c j e t ∷ later) (pointed_then j (encoder_after size c j e t) ts us)
 
   pub encoder_then : (j : List Entry) (e : Encoder) (ts us : List TakeOf)
       → encoder_after_takes size c j e (ts ++ us) ≡ encoder_after_takes size c j (encoder_after_takes size c j e ts) us
   encoder_then j e [] us = refl
   encoder_then j e (t ∷ ts) us = encoder_then j (encoder_after size c j e t) ts us
 
-  -- the bytes of takes that follow each other, and the encoder after them, stay as the journal goes on after the last of them
-  pub bytes_stay : (j more : List Entry) (e : Encoder) (ts : List TakeOf) (from last : ℕ) → TakesFollow from ts last → last ≤ length j
-      → bytes_of_takes size c (j ++ more) e ts ≡ bytes_of_takes size c j e ts
-  bytes_stay j more e [] from last follow within = refl
-  bytes_stay j more e (t ∷ ts) from last follow within =
+  -- what is sent for takes that follow each other, and the encoder after them, stay as the journal goes on after the last of them
+  pub pointed_stay : (j more : List Entry) (e : Encoder) (ts : List TakeOf) (from last : ℕ) → TakesFollow from ts last → last ≤ length j
+      → pointed_of_takes size c (j ++ more) e ts ≡ pointed_of_takes size c j e ts
+  pointed_stay j more e [] from last follow within = refl
+  pointed_stay j more e (t ∷ ts) from last follow within =
       let up : t.before ≤ t.number = omega (arith, follow.0, follow.1) in
       let below : t.number ≤ length j = omega (arith, within, follow_up t.number ts last follow.2) in
-      ap₂ (λ (bytes : List ℕ) (later : List (List ℕ)). bytes ∷ later) (take_bytes-append size c j more e t up below)
-      (ap (λ (next : Encoder). bytes_of_takes size c (j ++ more) next ts) (encoder_after-append size c j more e t up below)
-      ∙ bytes_stay j more (encoder_after size c j e t) ts t.number last follow.2 within)
+      ap₂ (λ (bytes : List ℕ) (later : List (List ℕ)). bytes ∷ later) (pointed_bytes-append size c j more e t up below)
+      (ap (λ (next : Encoder). pointed_of_takes size c (j ++ more) next ts) (encoder_after-append size c j more e t up below)
+      ∙ pointed_stay j more (encoder_after size c j e t) ts t.number last follow.2 within)
 
   pub encoder_stays : (j more : List Entry) (e : Encoder) (ts : List TakeOf) (from last : ℕ) → TakesFollow from ts last → last ≤ length j
       → encoder_after_takes size c (j ++ more) e ts ≡ encoder_after_takes size c j e ts

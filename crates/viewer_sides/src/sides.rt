@@ -15,6 +15,7 @@ use conn_core::Conn;
 use conn_rules::ConnStep;
 use edge_io::{Sink, Source};
 use grow_lock::{GrowLock, Pass};
+use pointer_share::PointerDesk;
 use session_core::Session;
 use std::alloc::Global;
 use std::sync::Wait;
@@ -87,6 +88,7 @@ pub fn run_sides<R: Threads + Wait + Sync, S: Source + Send, K: Sink + Send>(
     rest: &[ConnStep],
     noted: &mut Noted,
     sender: &mut Sender,
+    desk: &mut Option<PointerDesk>,
     input: &mut S,
     output: &mut K,
 ) -> (Pass<Session>, SideEnd, SideEnd)
@@ -101,12 +103,12 @@ pub fn run_sides<R: Threads + Wait + Sync, S: Source + Send, K: Sink + Send>(
     ensures reads { ReadsOn lock.now.head v rest.now true conn.old.hearing conn.new.hearing pass result.0 noted.old noted.new
         (input_of S.Source input.old) (input_of S.Source input.new) result.1 }
     ensures part { result.1 ≡ Stopped → AreBytes conn.new.hearing.part }
-    ensures sends { SendsOn lock.now.head sender.old sender.new pass result.0 (output_of K.Sink output.old) (output_of K.Sink output.new) result.2 }
+    ensures sends { SendsOn lock.now.head sender.old sender.new desk.old desk.new pass result.0 (output_of K.Sink output.old) (output_of K.Sink output.new) result.2 }
 {
     let mut mine = pass;
     let theirs = lock.split(&mut mine);
     let (mine, read, theirs, sent) = side_by_side(
-        rt, alloc, lock, mine, theirs, v, conn, rest, noted, sender, input, output,
+        rt, alloc, lock, mine, theirs, v, conn, rest, noted, sender, desk, input, output,
     );
     (lock.meet(theirs, mine), read, sent)
 }
@@ -123,6 +125,7 @@ fn side_by_side<R: Threads + Wait + Sync, S: Source + Send, K: Sink + Send>(
     rest: &[ConnStep],
     noted: &mut Noted,
     sender: &mut Sender,
+    desk: &mut Option<PointerDesk>,
     input: &mut S,
     output: &mut K,
 ) -> (Pass<Session>, SideEnd, Pass<Session>, SideEnd)
@@ -141,7 +144,7 @@ fn side_by_side<R: Threads + Wait + Sync, S: Source + Send, K: Sink + Send>(
     ensures other { IsPassOf lock.now result.2 }
     ensures mine { result.2.mine ≡ other.mine }
     ensures share { result.2.share ≡ other.share }
-    ensures sends { SendsOn lock.now.head sender.old sender.new other result.2 (output_of K.Sink output.old) (output_of K.Sink output.new) result.3 }
+    ensures sends { SendsOn lock.now.head sender.old sender.new desk.old desk.new other result.2 (output_of K.Sink output.old) (output_of K.Sink output.new) result.3 }
 {
     let shared = Shared::new();
     let mut mine = Some(pass);
@@ -170,7 +173,7 @@ fn side_by_side<R: Threads + Wait + Sync, S: Source + Send, K: Sink + Send>(
         },
         &mut || -> (Pass<Session>, SideEnd)
             requires { IfSome theirs (λ p. IsPassOf lock.now p × (sender.now.number ≤ length p.seen)) × (is_some theirs ≡ true) × (sender.now.v ≡ v) × IsIdle sender.now }
-            ensures { IfSome theirs.entry (λ p. IsPassOf lock.entry.now result.0 × (result.0.mine ≡ p.mine) × (result.0.share ≡ p.share) × SendsOn lock.entry.now.head sender.entry.now sender.exit.now p result.0 (output_of K.Sink output.entry.now) (output_of K.Sink output.exit.now) result.1) }
+            ensures { IfSome theirs.entry (λ p. IsPassOf lock.entry.now result.0 × (result.0.mine ≡ p.mine) × (result.0.share ≡ p.share) × SendsOn lock.entry.now.head sender.entry.now sender.exit.now desk.entry.now desk.exit.now p result.0 (output_of K.Sink output.entry.now) (output_of K.Sink output.exit.now) result.1) }
         {
             let ended = send_beside(
                 rt,
@@ -179,6 +182,7 @@ fn side_by_side<R: Threads + Wait + Sync, S: Source + Send, K: Sink + Send>(
                 theirs.take().unwrap(),
                 v,
                 sender,
+                desk,
                 output,
                 &shared,
             );
@@ -197,6 +201,7 @@ fn send_beside<R: Wait, K: Sink>(
     pass: Pass<Session>,
     v: u32,
     sender: &mut Sender,
+    desk: &mut Option<PointerDesk>,
     output: &mut K,
     shared: &Shared,
 ) -> (Pass<Session>, SideEnd)
@@ -207,10 +212,20 @@ fn send_beside<R: Wait, K: Sink>(
     ensures lock { IsPassOf lock.now result.0 }
     ensures mine { result.0.mine ≡ pass.mine }
     ensures share { result.0.share ≡ pass.share }
-    ensures sends { SendsOn lock.now.head sender.old sender.new pass result.0 (output_of K.Sink output.old) (output_of K.Sink output.new) result.1 }
+    ensures sends { SendsOn lock.now.head sender.old sender.new desk.old desk.new pass result.0 (output_of K.Sink output.old) (output_of K.Sink output.new) result.1 }
 {
     if shared.has_started(rt) {
-        send_side(rt, alloc, lock, pass, v, sender, output, &shared.ended)
+        send_side(
+            rt,
+            alloc,
+            lock,
+            pass,
+            v,
+            sender,
+            desk,
+            output,
+            &shared.ended,
+        )
     } else {
         (pass, SideEnd::Stopped)
     }

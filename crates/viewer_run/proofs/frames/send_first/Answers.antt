@@ -2,4 +2,5 @@ use Rattle.viewer_run.proofs.FromFirst.{first_sent}
 use Rattle.viewer_run.proofs.frames.send_first.Goals as goal
 
 pub returns : goal.returns
-returns g c head j v confirmed h = first_sent head j v confirmed h.0 c.args.first.sender c.send_frame-end.new.sender c.args.first.take _ _ _ h.1 h.2 c.send_frame-end.ensures
+returns g c head j v confirmed h =
+    first_sent head j v confirmed h.0 c.args.first.sender c.send_frame-end.new.sender h.1 c.args.first.desk c.send_frame-end.new.desk c.args.first.take _ _ _ h.2 h.3 c.send_frame-end.ensures

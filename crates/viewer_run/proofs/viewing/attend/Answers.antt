@@ -9,25 +9,25 @@ use Rattle.viewer_run.proofs.viewing.attend.Goals as goal
 pub send_first-sender-requires-clause-next : goal.send_first-sender-requires-clause-next
 send_first-sender-requires-clause-next g c =
     let x = c.requires.first in
-    (next_is c.args.lock.now.head c.args.pass.seen x.0 c.args.first.sender (Ok (Frame c.args.first.take)) x.1.idle x.2).0
+    (next_is c.args.lock.now.head c.args.pass.seen x.0 c.args.first.sender x.1 c.args.first.desk (Ok (Frame c.args.first.take)) x.2.idle x.3).0
 
 pub send_first-sender-requires-clause-own : goal.send_first-sender-requires-clause-own
 send_first-sender-requires-clause-own g c =
     let x = c.requires.first in
-    (next_is c.args.lock.now.head c.args.pass.seen x.0 c.args.first.sender (Ok (Frame c.args.first.take)) x.1.idle x.2).1
+    (next_is c.args.lock.now.head c.args.pass.seen x.0 c.args.first.sender x.1 c.args.first.desk (Ok (Frame c.args.first.take)) x.2.idle x.3).1
 
 pub returns-in-Done-clause-attends : goal.returns-in-Done-clause-attends
 returns-in-Done-clause-attends g c =
     let r = c.send_first-sender in
-    attends_cut _ _ _ _ _ r.result.0 c.args.pass c.args.noted.now _ _ _ c.in-Done.end c.requires.room
-    (subst (FirstSent c.args.lock.now.head c.args.v c.args.first.sender.confirmed c.args.pass.seen r.result.0 _ _) c.in-Done.is
+    attends_cut _ _ _ _ _ r.result.0 r.result.1 c.args.pass c.args.noted.now _ _ _ c.in-Done.end c.requires.room
+    (subst (FirstSent c.args.lock.now.head c.args.v c.args.first.sender.confirmed c.args.pass.seen r.result.0 r.result.1 _ _) c.in-Done.is
     (r.ensures c.args.lock.now.head c.args.pass.seen c.args.v c.args.first.sender.confirmed c.requires.first))
 
 pub returns-in-Stopped-clause-attends : goal.returns-in-Stopped-clause-attends
 returns-in-Stopped-clause-attends g c =
     let r = c.send_first-sender in
-    attends_all _ _ _ _ _ r.result.0 _ c.args.pass _ _ _ _ _ _ _ _
-    (subst (FirstSent c.args.lock.now.head c.args.v c.args.first.sender.confirmed c.args.pass.seen r.result.0 _ _) c.in-Stopped.is
+    attends_all _ _ _ _ _ r.result.0 _ r.result.1 _ c.args.pass _ _ _ _ _ _ _ _
+    (subst (FirstSent c.args.lock.now.head c.args.v c.args.first.sender.confirmed c.args.pass.seen r.result.0 r.result.1 _ _) c.in-Stopped.is
     (r.ensures c.args.lock.now.head c.args.pass.seen c.args.v c.args.first.sender.confirmed c.requires.first))
     c.serve_sides-pass.ensures.serves
 

@@ -10,7 +10,7 @@ leave-pass-requires-clause-list g c =
     ([], c.take_last_here-taken.ensures.journal ∙ (ap (λ (s : SessionModel). s.journal) c.value.ensures.value ∙ (sym c.enter-turn.ensures.list.0 ∙ sym (append-nil _))))
 
 pub returns-clause-taken : goal.returns-clause-taken
-returns-clause-taken g c = taken_in _ _ c.enter-turn.result.pass _ c.enter-turn.result.base c.take_last_here-taken.new.session.journal _ _ c.take_last_here-taken.result c.value.result.now
+returns-clause-taken g c = taken_in _ _ c.enter-turn.result.pass _ c.enter-turn.result.base c.take_last_here-taken.new.session.journal _ _ _ _ c.take_last_here-taken.result c.value.result.now
     (ap (λ (s : SessionModel). s.head) c.value.ensures.value ∙ c.enter-turn.ensures.head)
     (ap (λ (s : SessionModel). s.journal) c.value.ensures.value ∙ sym c.enter-turn.ensures.list.0)
     (record {

@@ -3,7 +3,7 @@ use Rattle.viewer_sides.proofs.OneTake.{sends_one, next_is}
 use Rattle.viewer_sides.proofs.sends.send_once.Goals as goal
 
 pub returns-clause-sends : goal.returns-clause-sends
-returns-clause-sends g c = sends_one _ _ _ _ c.take_once-pass.new.sender _ _ _ _ c.take_once-pass.result.1 c.take_once-pass.ensures.taken c.requires.seen c.requires.idle
+returns-clause-sends g c = sends_one _ _ _ _ c.take_once-pass.new.sender _ _ c.take_once-pass.new.desk _ _ _ _ c.take_once-pass.result.1 c.take_once-pass.ensures.taken c.requires.seen c.requires.idle
     c.args.v c.requires.viewer c.take_once-pass.ensures.absent c.send_taken-end.ensures
 
 pub returns-clause-mine : goal.returns-clause-mine
@@ -14,5 +14,5 @@ returns-clause-share g c = c.take_once-pass.ensures.taken.turn.share
 
 pub send_taken-end-requires : goal.send_taken-end-requires
 send_taken-end-requires g c =
-    next_is c.args.lock.now.head c.take_once-pass.result.0.seen c.args.sender.now c.take_once-pass.new.sender c.take_once-pass.result.1 c.requires.idle
+    next_is c.args.lock.now.head c.take_once-pass.result.0.seen c.args.sender.now c.take_once-pass.new.sender c.args.desk.now c.take_once-pass.new.desk c.take_once-pass.result.1 c.requires.idle
     c.take_once-pass.ensures.taken.takes

@@ -13,13 +13,13 @@ loop-init g c = record {
   seen = c.requires.seen;
   mine = refl;
   share = refl;
-  sends = sends_none c.args.lock.now.head c.args.sender.now c.args.pass (output_of g.K.Sink c.args.output.now) c.requires.idle c.requires.seen;
+  sends = sends_none c.args.lock.now.head c.args.sender.now c.args.desk.now c.args.pass (output_of g.K.Sink c.args.output.now) c.requires.idle c.requires.seen;
 }
 
 pub returns-then-is_done-clause-sends : goal.returns-then-is_done-clause-sends
 returns-then-is_done-clause-sends g c =
     let r = c.send_once-next in
-    sends_then c.args.lock.now.head c.args.sender.now c.loop.sender r.new.sender c.args.pass c.loop.now r.result.0 _ _ _ r.result.1 c.loop.invariant.sends r.ensures.sends
+    sends_then c.args.lock.now.head c.args.sender.now c.loop.sender r.new.sender c.args.desk.now c.loop.desk r.new.desk c.args.pass c.loop.now r.result.0 _ _ _ r.result.1 c.loop.invariant.sends r.ensures.sends
 
 pub loop-preserved : goal.loop-preserved
 loop-preserved g c =
@@ -35,6 +35,6 @@ loop-preserved g c =
       seen = omega (arith, within, number);
       mine = r.ensures.mine ∙ c.loop.invariant.mine;
       share = r.ensures.share ∙ c.loop.invariant.share;
-      sends = subst (SendsOn c.args.lock.now.head c.args.sender.now r.new.sender c.args.pass r.result.0 (output_of g.K.Sink c.args.output.now) (output_of g.K.Sink r.new.output)) stopped
-          (sends_then c.args.lock.now.head c.args.sender.now c.loop.sender r.new.sender c.args.pass c.loop.now r.result.0 _ _ _ r.result.1 c.loop.invariant.sends r.ensures.sends);
+      sends = subst (SendsOn c.args.lock.now.head c.args.sender.now r.new.sender c.args.desk.now r.new.desk c.args.pass r.result.0 (output_of g.K.Sink c.args.output.now) (output_of g.K.Sink r.new.output)) stopped
+          (sends_then c.args.lock.now.head c.args.sender.now c.loop.sender r.new.sender c.args.desk.now c.loop.desk r.new.desk c.args.pass c.loop.now r.result.0 _ _ _ r.result.1 c.loop.invariant.sends r.ensures.sends);
     }

@@ -15,5 +15,5 @@ invariant-loop g l = record {
   seen : l.sender.number ≤ length l.now.seen;
   mine : l.now.mine ≡ l.fn.pass.mine;
   share : l.now.share ≡ l.fn.pass.share;
-  sends : SendsOn l.lock.head l.fn.sender l.sender l.fn.pass l.now (output_of g.K.Sink l.fn.output) (output_of g.K.Sink l.output) Stopped;
+  sends : SendsOn l.lock.head l.fn.sender l.sender l.fn.desk l.desk l.fn.pass l.now (output_of g.K.Sink l.fn.output) (output_of g.K.Sink l.output) Stopped;
 }

@@ -14,6 +14,6 @@ returns-clause-reads g c =
 pub returns-clause-sends : goal.returns-clause-sends
 returns-clause-sends g c =
     let split = c.split-theirs in let sides = c.side_by_side-mine in let meet = c.meet.ensures in
-    sends_met _ _ _ c.args.pass split.result sides.result.0 sides.result.2 c.meet.result _ _ _ _ sides.ensures.sends split.ensures.seen split.ensures.found
+    sends_met _ _ _ _ _ c.args.pass split.result sides.result.0 sides.result.2 c.meet.result _ _ _ _ sides.ensures.sends split.ensures.seen split.ensures.found
     (sides.ensures.reads.handles.found ∙ ap (λ (x : SessionPass). x.found ++ sides.ensures.reads.handles.more_found) split.ensures.unchanged)
     meet.seen.2 meet.found
