@@ -213,7 +213,7 @@ def info(b, s, e):
         r.skip(n)
         r.exact([0, 0] if wide else [0])
 
-LEAST = {1: 24, 2: 28, 3: 88, 4: 40, 15: 8, 16: 52}
+LEAST = {1: 24, 2: 28, 3: 88, 4: 40, 8: 8, 15: 8, 16: 52}
 
 def confirm(b, s, e):
     """A Confirm Active behind its share control header."""

@@ -1,6 +1,6 @@
 #!/usr/bin/env python3
-"""A model of scripts and of what their viewers are sent at 24 and at 16 bits, on the slow path and by the fast one, apart from the crates:
-it was written from the rules that docs/session.md, docs/frames.md and docs/protocol.md tell, and shares nothing with their code or
+"""A model of scripts and of what their viewers are sent at 24 and at 16 bits, on the slow path and by the fast one, with pointers, apart from
+the crates: it was written from the rules that docs/session.md, docs/frames.md and docs/protocol.md tell, and shares nothing with their code or
 definitions.
 
 python3 bench/script_model.py capture SCRIPT     writes the capture
@@ -87,10 +87,10 @@ def bitmap_data(rows, no_header, depth):
 
 def le(n, size): return (n % (1 << 8 * size)).to_bytes(size, 'little')
 
-def packet(body):
-    """A slow update, by its body."""
+def packet(body, kind=2):
+    """A slow update, by its body, or a PDU of another kind."""
     total = 18 + len(body)
-    share = le(total, 2) + bytes.fromhex('1700ea03ea0301000001') + le(total - 14, 2) + bytes([2, 0, 0, 0]) + body
+    share = le(total, 2) + bytes.fromhex('1700ea03ea0301000001') + le(total - 14, 2) + bytes([kind, 0, 0, 0]) + body
     count = bytes([total]) if total < 128 else (0x8000 | total).to_bytes(2, 'big')
     mcs = bytes.fromhex('02f08068000103eb70') + count + share
     return bytes([3, 0]) + (len(mcs) + 4).to_bytes(2, 'big') + mcs
@@ -381,19 +381,45 @@ class Cache:
         self.held.append((key, index))
         return True, index
 
+# ---- pointers
+
+def pointer_shape(key, wide):
+    """What message 6 says of a pointer behind its entry: hot spot, sides, lengths, colours and mask, rows from the bottom."""
+    holder, code = key
+    rows = [code << k & 255 | code >> 8 - k for k in range(8)] if code else [0xFF << 7 - k & 255 for k in range(8)]
+    color = ((holder + 1) * 0x111111 & 0xFFFFFF).to_bytes(3, 'little')
+    more = 8 if wide else 0
+    xor = b''.join(b''.join(color if row >> 7 - x & 1 else bytes(3) for x in range(8)) + bytes(3 * more) for row in reversed(rows))
+    mask = b''.join(bytes([255 - row, 255 if wide else 0]) for row in reversed(rows))
+    return bytes(4) + le(8 + more, 2) + le(8, 2) + le(len(mask), 2) + le(len(xor), 2) + xor + mask
+
+class Desk:
+    """What a viewer with a pointer cache was told."""
+    def __init__(self, cells, wide): self.cache, self.wide, self.told = Cache(cells), wide, None
+
+    def tell(self, key):
+        """The packet before a frame with this pointer; no bytes where it was told last."""
+        if key == self.told: return b''
+        self.told = key
+        miss, index = self.cache.use(key)
+        return packet(le(6, 4) + le(index, 2) + pointer_shape(key, self.wide) if miss else le(7, 4) + le(index, 2), 0x1B)
+
 class Viewer:
     def __init__(self, words):
         p = PRESETS[words[0]]
         self.__dict__.update(p)
         self.bc, self.gc, self.cautious, self.fast, self.depth = list(p['bc']), list(p['gc']), False, False, Depth(24)
+        cells = 0
         for word in words[1:]:
             if word == 'cautious': self.cautious = True
             elif word == 'fast': self.fast = True
             elif word == 'bpp=16': self.depth = Depth(16)
+            elif word.startswith('pointer='): cells = int(word[8:])
             else:
                 pair = tuple(int(n) for n in word[4:].split(','))
                 (self.bc if word[0] == 'b' else self.gc)[int(word[2])] = pair
         self.number, self.blocks, self.registers = 0, {}, Registers()
+        self.desk = Desk(cells, self.cautious) if cells else None
         self.images = [Cache(min(e, 512)) for e, _ in self.bc]
         self.glyph_caches = [Cache(min(e, 254)) for e, _ in self.gc]
         self.brushes = Cache(64)
@@ -479,7 +505,8 @@ class Viewer:
                 d = self.cut_of(whole, surface)
                 if d is None or d['kind'].startswith('load'): continue
                 if not self.sent(d, surface, dirty, say, orders): dirty |= self.touched(d, surface)
-        out, gathered = b'', b''
+        out = self.desk.tell((session.holder % 16, session.typed)) if self.desk else b''
+        gathered = b''
         count = 0
         for o in orders:
             if gathered and not self.has_room(gathered + o):
@@ -586,6 +613,7 @@ class Session:
     def __init__(self, w, h):
         self.surface, self.board = Surface(w, h), Board(w, h)
         self.journal, self.rows, self.roles, self.viewers, self.holder, self.joins = [], {}, {}, {}, 0, 0
+        self.typed = 0
         self.gone = {}
 
     def join(self, name, words):
@@ -623,6 +651,7 @@ class Session:
             self.journal.append([])
             return None
         if v != self.holder: return f'{v} refused not-holder {self.holder}'
+        if event[0] == 'char' and 0x21 <= event[1] <= 0x7E: self.typed = event[1]
         self.draw_all(self.board.react(event))
 
     def draw(self, v, d):

@@ -5,3 +5,4 @@ pub mod Judging
 pub mod Steps
 pub mod Texts
 pub mod Showing
+pub mod PointerRows

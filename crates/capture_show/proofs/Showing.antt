@@ -8,7 +8,7 @@ use Rattle.edge_io.specs.Sink.{WritesFront}
 use Rattle.capture_show.specs.declared.show_fault.ShowFault.{ShowFault}
 use Rattle.capture_show.specs.declared.show_fault.ShowFault.TheVariants.{ReadFault, WriteFault, OutOfMemory}
 use Rattle.capture_show.specs.declared.stage.Stage.{Stage}
-use Rattle.capture_show.specs.Shown.{Shown, shown, text_of, is_accepted, row_text, rows_text}
+use Rattle.capture_show.specs.Shown.{Shown, shown, text_of, row_text, rows_text}
 use Rattle.capture_show.specs.Stages.{Shows}
 use Rattle.capture_show.specs.Answers.{Tells, ShowsCapture, Writes, WritesShown, ReadCause, WriteCause, IsReadFault, IsWriteFault}
 

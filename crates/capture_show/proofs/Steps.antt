@@ -1,33 +1,33 @@
 -- What a line makes of a stage that stands for what was read.
 use Rattle.std.proofs.Common.{◌≡◌, ◌∙◌, ℕ, ◌+◌, Bool, true, false, List, [], ◌∷◌, ◌++◌, Result, Ok, Err, refl, sym, ap, append_assoc, append-nil}
-use Rattle.std.specs.Prelude.{◌==◌, ◌||◌, if◌then◌else◌, not}
+use Rattle.std.specs.Prelude.{◌==◌, ◌||◌, if◌then◌else◌}
 use Rattle.std.specs.Bool.{then_some}
 use Rattle.std.proofs.Common.{arith}
 use Rattle.std.proofs.lemmas.Bool.Decides.{nat_tests}
+use Rattle.std.proofs.lemmas.List.Concat.{flat_map-append}
 use Rattle.std.specs.declared.option.Option.{Option}
 use Rattle.std.specs.declared.option.Option.TheVariants.{Some, None}
 use Rattle.std.specs.Io.KnownBytes.{Keeps, IsAtEnd, prepend_known}
 use Rattle.wire_num.specs.Field.{bind}
 use Rattle.line_text.specs.Lines.{Line, lines_of}
 use Rattle.edge_io.specs.Reading.{TakesLine}
-use Rattle.script_rules.specs.Capture.{CaptureLine, JoinedAs, may_stand, joined_after, has_joined, line_read, first_broken_line, first_broken_by, first_broken_from, bytes_of_line, bytes_of_lines, joined_in_line, joined_in_lines, joined_or_later, joined_as, viewer_bytes}
+use Rattle.script_rules.specs.Capture.{CaptureLine, JoinedAs, may_stand, joined_after, has_joined, line_read, first_broken_by, first_broken_from, bytes_of_line, bytes_of_lines, joined_in_line, joined_in_lines, joined_or_later}
 use Rattle.script_rules.specs.Capture.CaptureLine.{JoinedLine, OtherLine, BytesLine, NobodyLine}
 use Rattle.order_means.specs.FrameMarks.{ClientReading, Refusal, read_stream, read_on, first_reading}
+use Rattle.order_means.specs.Packets.{PacketStage, Pieces, pieces_from, pieces_in, kept_piece, kept_pieces, held_in, without_pointers}
+use Rattle.order_means.specs.Packets.PacketStage.{Between}
 use Rattle.order_means.proofs.Pieces.{read_joined}
-use Rattle.client_view.specs.Views.{capped}
-use Rattle.client_view.specs.Clients.{ClientOf, IsReading}
+use Rattle.packet_laws.proofs.PieceJoined.{pieces_joined}
+use Rattle.client_view.specs.Clients.{ClientOf}
 use Rattle.capture_show.specs.declared.capture_reader.Told.{Told}
 use Rattle.capture_show.specs.declared.capture_reader.Told.TheVariants as told
-use Rattle.capture_show.specs.Reading.{CaptureReading, StandsBefore, Allows, ReadsLine, BreaksLine, Finds, counted}
+use Rattle.capture_show.specs.Reading.{CaptureReading, StandsBefore, Allows, ReadsLine, Finds, counted}
 use Rattle.capture_show.specs.declared.stage.Stage.{Stage}
 use Rattle.capture_show.specs.declared.stage.Stage.TheVariants as stage
-use Rattle.capture_show.specs.Stages.{GoesOn, HasNotJoined, HasJoined, HasRead, HasRefused, HasBroken, Stands, StandsFor, Shows}
+use Rattle.capture_show.specs.Stages.{GoesOn, HasNotJoined, HasJoined, whole_of, HasRead, HasBroken, Stands, StandsFor, Shows}
 use Rattle.capture_show.specs.Shown.{shown, joined_shown, stream_shown, unless_broken, view_shown}
-use Rattle.capture_show.specs.Shown.Shown.{BrokenAt, NeverJoined, RefusedAt}
 use Rattle.capture_show.specs.Answers.{Tells}
-use Rattle.capture_show.specs.Steps.{Advances, Joins, FeedsClient, Feeds, Breaks, ReadsFirst, ReadsOn, RefusesFor}
-use Rattle.std.proofs.Common.{IfOk}
-use Rattle.wire_num.specs.declared.out_of_memory.OutOfMemory.{OutOfMemory}
+use Rattle.capture_show.specs.Steps.{Advances, Joins, Meets, Feeds, Finishes, Breaks, ReadsOn, place_of}
 use Rattle.order_means.specs.ClientState.Fault.{Broken, Oversized, Empty}
 use Rattle.client_view.specs.declared.client_fault.ClientFault.{ClientFault}
 use Rattle.client_view.specs.declared.client_fault.ClientFault.TheVariants as fault
@@ -123,21 +123,34 @@ further_with v k joined capture rest left line joins_as bytes table j fed cut a 
   bytes = h.bytes ∙ ap (λ b. fed ++ b) (gives_next v rest left line bytes cut a.gives) ∙ sym (append_assoc fed bytes (bytes_of_lines v (lines_of left)));
 }
 
+-- the whole packets of bytes behind others, and how the last one goes on
+whole_joined : (given bytes : List ℕ) → whole_of (given ++ bytes) ≡ whole_of given ++ kept_pieces (pieces_from (pieces_in given).next bytes).pieces
+whole_joined given bytes = ap (λ (p : Pieces). kept_pieces p.pieces) (pieces_joined Between given bytes) ∙ flat_map-append kept_piece (pieces_in given).pieces (pieces_from (pieces_in given).next bytes).pieces
+
+next_joined : (given bytes : List ℕ) → (pieces_in (given ++ bytes)).next ≡ (pieces_from (pieces_in given).next bytes).next
+next_joined given bytes = ap (λ (p : Pieces). p.next) (pieces_joined Between given bytes)
+
 -- what bytes behind others make of the meaning
-read_more : (j : JoinedAs) (fed bytes : List ℕ) (m : Result ClientReading Refusal) → read_stream j.confirmed j.size fed ≡ m →
-    read_stream j.confirmed j.size (fed ++ bytes) ≡ bind m (λ s. read_on j.confirmed j.size s bytes)
-read_more j fed bytes m is = read_joined j.confirmed j.size (first_reading j.confirmed j.size) fed bytes
-    ∙ ap (λ (x : Result ClientReading Refusal). bind x (λ s. read_on j.confirmed j.size s bytes)) is
+read_behind : (j : JoinedAs) (front more : List ℕ) (m : Result ClientReading Refusal) → read_stream j.confirmed j.size front ≡ m →
+    read_stream j.confirmed j.size (front ++ more) ≡ bind m (λ s. read_on j.confirmed j.size s more)
+read_behind j front more m is = read_joined j.confirmed j.size (first_reading j.confirmed j.size) front more
+    ∙ ap (λ (x : Result ClientReading Refusal). bind x (λ s. read_on j.confirmed j.size s more)) is
+
+-- the same, without pointers
+read_more : (j : JoinedAs) (given bytes : List ℕ) (m : Result ClientReading Refusal) → read_stream j.confirmed j.size (whole_of given) ≡ m →
+    read_stream j.confirmed j.size (whole_of (given ++ bytes)) ≡ bind m (λ s. read_on j.confirmed j.size s (kept_pieces (pieces_from (pieces_in given).next bytes).pieces))
+read_more j given bytes m is = ap (read_stream j.confirmed j.size) (whole_joined given bytes) ∙ read_behind j (whole_of given) (kept_pieces (pieces_from (pieces_in given).next bytes).pieces) m is
 
 -- a line that gives the viewer nothing keeps the stage of one that has joined
 kept_in : (s : Stage) (v k : ℕ) (joined capture rest left : List ℕ) (line : Line) (table : List Bool) → lines_of rest ≡ line ∷ lines_of left →
     (a : Allows v joined (line_read line) None [] table) → Stands v s k joined capture rest → Stands v s (k + 1) (joined_after joined a.said) capture left
 kept_in stage.NotJoined v k joined capture rest left line table cut a h = still_out v k joined capture rest left line [] table cut a h
-kept_in (stage.Reads client) v k joined capture rest left line table cut a h = record {
+kept_in (stage.Reads client sieve) v k joined capture rest left line table cut a h = record {
   as_joined = h.as_joined;
-  fed = h.fed;
+  given = h.given;
   r = h.r;
-  has_joined = further v k joined capture rest left line None table h.as_joined h.fed cut a h.has_joined;
+  has_joined = further v k joined capture rest left line None table h.as_joined h.given cut a h.has_joined;
+  sieved = h.sieved;
   read = h.read;
   reading = h.reading;
   confirmed = h.confirmed;
@@ -145,9 +158,9 @@ kept_in (stage.Reads client) v k joined capture rest left line table cut a h = r
 }
 kept_in (stage.Refused at) v k joined capture rest left line table cut a h = record {
   as_joined = h.as_joined;
-  fed = h.fed;
+  given = h.given;
   refusal = h.refusal;
-  has_joined = further v k joined capture rest left line None table h.as_joined h.fed cut a h.has_joined;
+  has_joined = further v k joined capture rest left line None table h.as_joined h.given cut a h.has_joined;
   refused = h.refused;
   place = h.place;
 }
@@ -156,24 +169,26 @@ kept_in (stage.Broken first) v k joined capture rest left line table cut a h = h
 joined_by : (s next : Stage) (v k : ℕ) (joined capture rest left : List ℕ) (line : Line) (j : JoinedAs) (table : List Bool) → lines_of rest ≡ line ∷ lines_of left →
     (a : Allows v joined (line_read line) (Some j) [] table) → Joins s j.size j.confirmed next → Stands v s k joined capture rest →
     Stands v next (k + 1) (joined_after joined a.said) capture left
-joined_by stage.NotJoined (stage.Reads client) v k joined capture rest left line j table cut a is h = record {
+joined_by stage.NotJoined (stage.Reads client sieve) v k joined capture rest left line j table cut a is h = record {
   as_joined = j;
-  fed = [];
+  given = [];
   r = first_reading j.confirmed j.size;
   has_joined = now_in v k joined capture rest left line j table cut a h;
+  sieved = is.1.1.1;
   read = refl;
   reading = is.0;
   confirmed = is.1.0;
-  size = is.1.1;
+  size = is.1.1.0;
 }
 joined_by stage.NotJoined stage.NotJoined v k joined capture rest left line j table cut a is h = absurd is
 joined_by stage.NotJoined (stage.Refused at) v k joined capture rest left line j table cut a is h = absurd is
 joined_by stage.NotJoined (stage.Broken n) v k joined capture rest left line j table cut a is h = absurd is
-joined_by (stage.Reads client) next v k joined capture rest left line j table cut a is h = rw is (record {
+joined_by (stage.Reads client sieve) next v k joined capture rest left line j table cut a is h = rw is (record {
   as_joined = h.as_joined;
-  fed = h.fed;
+  given = h.given;
   r = h.r;
-  has_joined = further v k joined capture rest left line (Some j) table h.as_joined h.fed cut a h.has_joined;
+  has_joined = further v k joined capture rest left line (Some j) table h.as_joined h.given cut a h.has_joined;
+  sieved = h.sieved;
   read = h.read;
   reading = h.reading;
   confirmed = h.confirmed;
@@ -181,9 +196,9 @@ joined_by (stage.Reads client) next v k joined capture rest left line j table cu
 })
 joined_by (stage.Refused at) next v k joined capture rest left line j table cut a is h = rw is (record {
   as_joined = h.as_joined;
-  fed = h.fed;
+  given = h.given;
   refusal = h.refusal;
-  has_joined = further v k joined capture rest left line (Some j) table h.as_joined h.fed cut a h.has_joined;
+  has_joined = further v k joined capture rest left line (Some j) table h.as_joined h.given cut a h.has_joined;
   refused = h.refused;
   place = h.place;
 })
@@ -193,34 +208,39 @@ fed_by : (s next : Stage) (v k : ℕ) (joined capture rest left : List ℕ) (lin
     (a : Allows v joined (line_read line) None bytes table) → Feeds s bytes next → Stands v s k joined capture rest →
     Stands v next (k + 1) (joined_after joined a.said) capture left
 fed_by stage.NotJoined next v k joined capture rest left line bytes table cut a is h = rw is (still_out v k joined capture rest left line bytes table cut a h)
-fed_by (stage.Reads client) next v k joined capture rest left line bytes table cut a is h = read_by next (is h.r h.reading) where
-  more : read_stream h.as_joined.confirmed h.as_joined.size (h.fed ++ bytes) ≡ read_on client.viewer.confirmed client.viewer.pictures.size h.r bytes
-  more = read_more h.as_joined h.fed bytes (Ok h.r) h.read ∙ ap (λ c. read_on c h.as_joined.size h.r bytes) (sym h.confirmed)
-      ∙ ap (λ z. read_on client.viewer.confirmed z h.r bytes) (sym h.size)
+fed_by (stage.Reads client sieve) next v k joined capture rest left line bytes table cut a is h = read_by next (is h.r h.reading) where
+  come : Pieces
+  come = pieces_from sieve bytes
 
-  has : HasJoined v (k + 1) (joined_after joined a.said) capture left h.as_joined (h.fed ++ bytes)
-  has = further_with v k joined capture rest left line None bytes table h.as_joined h.fed cut a h.has_joined
+  more : read_stream h.as_joined.confirmed h.as_joined.size (whole_of (h.given ++ bytes)) ≡ read_on client.viewer.confirmed client.viewer.pictures.size h.r (kept_pieces come.pieces)
+  more = read_more h.as_joined h.given bytes (Ok h.r) h.read
+      ∙ ap (λ (st : PacketStage). read_on h.as_joined.confirmed h.as_joined.size h.r (kept_pieces (pieces_from st bytes).pieces)) (sym h.sieved)
+      ∙ ap (λ c. read_on c h.as_joined.size h.r (kept_pieces come.pieces)) (sym h.confirmed) ∙ ap (λ z. read_on client.viewer.confirmed z h.r (kept_pieces come.pieces)) (sym h.size)
 
-  read_by : (n : Stage) → ReadsOn client (read_on client.viewer.confirmed client.viewer.pictures.size h.r bytes) n → Stands v n (k + 1) (joined_after joined a.said) capture left
-  read_by (stage.Reads fed) f = record {
+  has : HasJoined v (k + 1) (joined_after joined a.said) capture left h.as_joined (h.given ++ bytes)
+  has = further_with v k joined capture rest left line None bytes table h.as_joined h.given cut a h.has_joined
+
+  read_by : (n : Stage) → ReadsOn client come.next (read_on client.viewer.confirmed client.viewer.pictures.size h.r (kept_pieces come.pieces)) n → Stands v n (k + 1) (joined_after joined a.said) capture left
+  read_by (stage.Reads fed after) f = record {
     as_joined = h.as_joined;
-    fed = h.fed ++ bytes;
+    given = h.given ++ bytes;
     r = f.0;
     has_joined = has;
+    sieved = f.1.1.1 ∙ ap (λ (st : PacketStage). (pieces_from st bytes).next) h.sieved ∙ sym (next_joined h.given bytes);
     read = more ∙ f.1.0;
-    reading = f.1.1.0;
-    confirmed = f.1.1.1.0 ∙ h.confirmed;
-    size = f.1.1.1.1 ∙ h.size;
+    reading = f.1.1.0.0;
+    confirmed = f.1.1.0.1.0 ∙ h.confirmed;
+    size = f.1.1.0.1.1 ∙ h.size;
   }
-  read_by (stage.Refused at) f = record { as_joined = h.as_joined; fed = h.fed ++ bytes; refusal = f.0; has_joined = has; refused = more ∙ f.1.0; place = f.1.1 }
+  read_by (stage.Refused at) f = record { as_joined = h.as_joined; given = h.given ++ bytes; refusal = f.0; has_joined = has; refused = more ∙ f.1.0; place = f.1.1 }
   read_by stage.NotJoined f = absurd f
   read_by (stage.Broken n) f = absurd f
 fed_by (stage.Refused at) next v k joined capture rest left line bytes table cut a is h = rw is (record {
   as_joined = h.as_joined;
-  fed = h.fed ++ bytes;
+  given = h.given ++ bytes;
   refusal = h.refusal;
-  has_joined = further_with v k joined capture rest left line None bytes table h.as_joined h.fed cut a h.has_joined;
-  refused = read_more h.as_joined h.fed bytes (Err h.refusal) h.refused;
+  has_joined = further_with v k joined capture rest left line None bytes table h.as_joined h.given cut a h.has_joined;
+  refused = read_more h.as_joined h.given bytes (Err h.refusal) h.refused;
   place = h.place;
 })
 fed_by (stage.Broken first) next v k joined capture rest left line bytes table cut a is h = rw is h
@@ -238,7 +258,7 @@ broken_by : (s next : Stage) (v k number : ℕ) (joined capture rest left : List
     ((n : ℕ) (others : List ℕ → Option ℕ) → first_broken_by n joined (line_read line) others ≡ Some n) → number ≡ counted k → Breaks s number next →
     Stands v s k joined capture rest → Stands v next (k + 1) joined capture left
 broken_by stage.NotJoined next v k number joined capture rest left line cut breaks is b h = rw b (breaks_at k number joined capture rest left line cut h.goes_on breaks is)
-broken_by (stage.Reads client) next v k number joined capture rest left line cut breaks is b h = rw b (breaks_at k number joined capture rest left line cut h.has_joined.goes_on breaks is)
+broken_by (stage.Reads client sieve) next v k number joined capture rest left line cut breaks is b h = rw b (breaks_at k number joined capture rest left line cut h.has_joined.goes_on breaks is)
 broken_by (stage.Refused at) next v k number joined capture rest left line cut breaks is b h = rw b (breaks_at k number joined capture rest left line cut h.has_joined.goes_on breaks is)
 broken_by (stage.Broken first) next v k number joined capture rest left line cut breaks is b h = rw b h
 
@@ -308,48 +328,58 @@ pub at_first : (v : ℕ) (reading : CaptureReading) (left : Option (List ℕ)) �
     AtLine v stage.NotJoined reading left (prepend_known reading.unread left)
 at_first v reading left before viewer none = record { k = 1; joined = []; before = before; viewer = viewer; stands = first_stands v left reading.unread none }
 
--- what is shown where no line is left
-shows_at_end : (s : Stage) (v k : ℕ) (joined capture : List ℕ) → Stands v s k joined capture [] → Shows s (shown v capture)
-shows_at_end stage.NotJoined v k joined capture h = ap (unless_broken v capture) h.goes_on ∙ ap (joined_shown v capture) h.joins
-shows_at_end (stage.Reads client) v k joined capture h = record {
-  r = h.r;
-  reading = h.reading;
-  is = ap (unless_broken v capture) h.has_joined.goes_on ∙ ap (joined_shown v capture) h.has_joined.joins
-      ∙ ap (λ b. stream_shown h.as_joined.size (read_stream h.as_joined.confirmed h.as_joined.size b)) (h.has_joined.bytes ∙ append-nil h.fed)
-      ∙ ap (stream_shown h.as_joined.size) h.read ∙ ap (λ n. view_shown n h.r.view) (sym h.size);
-}
-shows_at_end (stage.Refused at) v k joined capture h = (
+-- what is shown where no line is left, and what was held was read
+shown_at_end : (v k : ℕ) (joined capture : List ℕ) (j : JoinedAs) (given : List ℕ) (m : Result ClientReading Refusal) → HasJoined v k joined capture [] j given →
+    read_stream j.confirmed j.size (without_pointers given) ≡ m → shown v capture ≡ stream_shown j.size m
+shown_at_end v k joined capture j given m has is = ap (unless_broken v capture) has.goes_on ∙ ap (joined_shown v capture) has.joins
+    ∙ ap (λ b. stream_shown j.size (read_stream j.confirmed j.size (without_pointers b))) (has.bytes ∙ append-nil given) ∙ ap (stream_shown j.size) is
+
+finished_by : (client : ClientOf) (sieve : PacketStage) (next : Stage) (v k : ℕ) (joined capture : List ℕ) → (h : HasRead v k joined capture [] client sieve) →
+    ReadsOn client sieve (read_on client.viewer.confirmed client.viewer.pictures.size h.r (held_in sieve)) next → Shows next (shown v capture)
+finished_by client sieve next v k joined capture h is = by next is
+  where
+    all : read_stream h.as_joined.confirmed h.as_joined.size (without_pointers h.given) ≡ read_on client.viewer.confirmed client.viewer.pictures.size h.r (held_in sieve)
+    all = read_behind h.as_joined (whole_of h.given) (held_in (pieces_in h.given).next) (Ok h.r) h.read
+        ∙ ap (λ (st : PacketStage). read_on h.as_joined.confirmed h.as_joined.size h.r (held_in st)) (sym h.sieved)
+        ∙ ap (λ c. read_on c h.as_joined.size h.r (held_in sieve)) (sym h.confirmed) ∙ ap (λ z. read_on client.viewer.confirmed z h.r (held_in sieve)) (sym h.size)
+
+    by : (n : Stage) → ReadsOn client sieve (read_on client.viewer.confirmed client.viewer.pictures.size h.r (held_in sieve)) n → Shows n (shown v capture)
+    by (stage.Reads fed after) f = record {
+      r = f.0;
+      reading = f.1.1.0.0;
+      is = shown_at_end v k joined capture h.as_joined h.given (Ok f.0) h.has_joined (all ∙ f.1.0) ∙ ap (λ n. view_shown n f.0.view) (sym (f.1.1.0.1.1 ∙ h.size));
+    }
+    by (stage.Refused at) f = (f.0.place, shown_at_end v k joined capture h.as_joined h.given (Err f.0) h.has_joined (all ∙ f.1.0), f.1.1)
+    by stage.NotJoined f = absurd f
+    by (stage.Broken n) f = absurd f
+
+shows_at_end : (s next : Stage) (v k : ℕ) (joined capture : List ℕ) → Finishes s next → Stands v s k joined capture [] → Shows next (shown v capture)
+shows_at_end stage.NotJoined next v k joined capture is h = rw is (ap (unless_broken v capture) h.goes_on ∙ ap (joined_shown v capture) h.joins)
+shows_at_end (stage.Reads client sieve) next v k joined capture is h = finished_by client sieve next v k joined capture h (is h.r h.reading)
+shows_at_end (stage.Refused at) next v k joined capture is h = rw is (
   h.refusal.place,
-  ap (unless_broken v capture) h.has_joined.goes_on ∙ ap (joined_shown v capture) h.has_joined.joins
-      ∙ ap (λ b. stream_shown h.as_joined.size (read_stream h.as_joined.confirmed h.as_joined.size b)) (h.has_joined.bytes ∙ append-nil h.fed)
-      ∙ ap (stream_shown h.as_joined.size) h.refused,
+  shown_at_end v k joined capture h.as_joined h.given (Err h.refusal) h.has_joined (read_behind h.as_joined (whole_of h.given) (held_in (pieces_in h.given).next) (Err h.refusal) h.refused),
   h.place,
 )
-shows_at_end (stage.Broken line) v k joined capture h = (h.first, ap (unless_broken v capture) h.broken, h.number)
+shows_at_end (stage.Broken line) next v k joined capture is h = rw is (h.first, ap (unless_broken v capture) h.broken, h.number)
 
-pub at_end : (v : ℕ) (s : Stage) (reading : CaptureReading) (left ahead rest : Option (List ℕ)) → AtLine v s reading left ahead → IsAtEnd ahead × Keeps ahead rest →
-    Tells left (λ capture. Shows s (shown v capture) × IsAtEnd rest)
-at_end v s reading None ahead rest h end = tt
-at_end v s reading (Some capture) None rest h end = absurd h.stands
-at_end v s reading (Some capture) (Some xs) None h end = absurd end.1
-at_end v s reading (Some capture) (Some xs) (Some ys) h end =
+pub at_end : (v : ℕ) (s next : Stage) (reading : CaptureReading) (left ahead rest : Option (List ℕ)) → AtLine v s reading left ahead → IsAtEnd ahead × Keeps ahead rest → Finishes s next →
+    Tells left (λ capture. Shows next (shown v capture) × IsAtEnd rest)
+at_end v s next reading None ahead rest h end is = tt
+at_end v s next reading (Some capture) None rest h end is = absurd h.stands
+at_end v s next reading (Some capture) (Some xs) None h end is = absurd end.1
+at_end v s next reading (Some capture) (Some xs) (Some ys) h end is =
     let stands : Stands v s h.k h.joined capture [] = rw end.0 at h.stands in
-    (shows_at_end s v h.k h.joined capture stands, end.1 ∙ end.0)
+    (shows_at_end s next v h.k h.joined capture is stands, end.1 ∙ end.0)
+
+-- ---- a client got bytes
 
 same_some : {a b : ℕ} → Some a ≡ Some b → a ≡ b
 same_some e = cc
 
--- a client refused bytes
-refuses_at : (f : ClientFault) (client : ClientOf) (meaning : Result ClientReading Refusal) (next : Stage) → RefusesFor f next → RefusesAt f meaning → ReadsOn client meaning next
-refuses_at (fault.Refused at) client meaning next r m = let is : next ≡ stage.Refused at = r.1.1 ∙ ap stage.Refused (sym (same_some r.1.0)) in
-    rw is (record { place = m.0; fault = Broken }, (m.1, m.2))
-refuses_at (fault.Named at true cache index) client meaning next r m = let is : next ≡ stage.Refused at = r.1.1 ∙ ap stage.Refused (sym (same_some r.1.0)) in
-    rw is (record { place = m.0; fault = Oversized cache index }, (m.1, m.2))
-refuses_at (fault.Named at false cache index) client meaning next r m = let is : next ≡ stage.Refused at = r.1.1 ∙ ap stage.Refused (sym (same_some r.1.0)) in
-    rw is (record { place = m.0; fault = Empty cache index }, (m.1, m.2))
-refuses_at fault.OutOfMemory client meaning next r m = let none : None ≡ Some r.0 = r.1.0 in cc
-
-pub client_refuses : (answer : Result Stage OutOfMemory) (f : ClientFault) (client : ClientOf) (bytes : List ℕ) → IfOk answer (λ next. RefusesFor f next) →
-    ((r : ClientReading) → IsReading r client → RefusesAt f (read_on client.viewer.confirmed client.viewer.pictures.size r bytes)) → IfOk answer (λ next. FeedsClient client bytes next)
-client_refuses (Ok next) f client bytes refused m = λ r reading. refuses_at f client (read_on client.viewer.confirmed client.viewer.pictures.size r bytes) next refused (m r reading)
-client_refuses (Err e) f client bytes refused m = tt
+-- it refused them
+pub refuses_at : (f : ClientFault) (client fed : ClientOf) (meaning : Result ClientReading Refusal) (at : ℕ) → place_of f ≡ Some at → RefusesAt f meaning → Meets client fed meaning (Some at)
+refuses_at (fault.Refused here) client fed meaning at e m = let same : here ≡ at = same_some e in (record { place = m.0; fault = Broken }, (m.1, sym same ∙ m.2))
+refuses_at (fault.Named here true cache index) client fed meaning at e m = let same : here ≡ at = same_some e in (record { place = m.0; fault = Oversized cache index }, (m.1, sym same ∙ m.2))
+refuses_at (fault.Named here false cache index) client fed meaning at e m = let same : here ≡ at = same_some e in (record { place = m.0; fault = Empty cache index }, (m.1, sym same ∙ m.2))
+refuses_at fault.OutOfMemory client fed meaning at e m = let none : None ≡ Some at = e in absurd (let no : ⊥ = cc in no)

@@ -1,5 +1,5 @@
 -- Texts of what is shown.
-use Rattle.std.proofs.Common.{◌≡◌, ◌∙◌, ℕ, suc, ◌+◌, ◌<◌, List, [], ◌∷◌, ◌++◌, length, codes, refl, sym, ap, append_assoc, add-one, arith}
+use Rattle.std.proofs.Common.{◌≡◌, ◌∙◌, ℕ, ◌+◌, ◌<◌, List, [], ◌∷◌, ◌++◌, length, codes, refl, sym, ap, append_assoc, add-one, arith}
 use Rattle.std.specs.Prelude.{decimal}
 use Rattle.std.specs.declared.option.Option.{Option}
 use Rattle.px_core.specs.declared.surface.Size.{Size}

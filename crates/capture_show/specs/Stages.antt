@@ -1,9 +1,10 @@
 -- How far a capture was read for a viewer, and what that stands for.
-use Rattle.std.specs.Prelude.{◌≡◌, ℕ, ◌+◌, false, List, [], ◌++◌, ⊤, Result, Ok, Err}
+use Rattle.std.specs.Prelude.{◌≡◌, ℕ, false, List, ◌++◌, ⊤, Ok, Err}
 use Rattle.std.specs.declared.option.Option.{Option}
 use Rattle.std.specs.declared.option.Option.TheVariants.{Some, None}
 use Rattle.line_text.specs.Lines.{lines_of}
-use Rattle.script_rules.specs.Capture.{JoinedAs, first_broken_line, first_broken_from, joined_as, joined_in_lines, viewer_bytes, bytes_of_lines, has_joined}
+use Rattle.script_rules.specs.Capture.{JoinedAs, first_broken_line, first_broken_from, joined_as, joined_in_lines, written_bytes, bytes_of_lines, has_joined}
+use Rattle.order_means.specs.Packets.{PacketStage, pieces_in, kept_pieces}
 use Rattle.order_means.specs.FrameMarks.{ClientReading, Refusal, read_stream}
 use Rattle.client_view.specs.Views.{capped}
 use Rattle.client_view.specs.Clients.{ClientOf, IsReading}
@@ -21,32 +22,37 @@ pub record HasNotJoined (v k : ℕ) (joined capture rest : List ℕ) : Type 0 wh
   pub goes_on : GoesOn k joined capture rest
   pub not_joined : has_joined v joined ≡ false
   pub joins : joined_as v capture ≡ joined_in_lines v (lines_of rest)
-  pub bytes : viewer_bytes v capture ≡ bytes_of_lines v (lines_of rest)
+  pub bytes : written_bytes v capture ≡ bytes_of_lines v (lines_of rest)
 
 -- the viewer joined, and these bytes came to it
-pub record HasJoined (v k : ℕ) (joined capture rest : List ℕ) (as_joined : JoinedAs) (fed : List ℕ) : Type 0 where
+pub record HasJoined (v k : ℕ) (joined capture rest : List ℕ) (as_joined : JoinedAs) (given : List ℕ) : Type 0 where
   pub goes_on : GoesOn k joined capture rest
   pub joins : joined_as v capture ≡ Some as_joined
-  pub bytes : viewer_bytes v capture ≡ fed ++ bytes_of_lines v (lines_of rest)
+  pub bytes : written_bytes v capture ≡ given ++ bytes_of_lines v (lines_of rest)
 
--- they were read
-pub record HasRead (v k : ℕ) (joined capture rest : List ℕ) (client : ClientOf) : Type 0 where
+-- those of whole packets that aren't of pointers
+abbrev pub whole_of : List ℕ → List ℕ
+whole_of given = kept_pieces (pieces_in given).pieces
+
+-- these were read, and the sieve holds the rest
+pub record HasRead (v k : ℕ) (joined capture rest : List ℕ) (client : ClientOf) (sieve : PacketStage) : Type 0 where
   pub as_joined : JoinedAs
-  pub fed : List ℕ
+  pub given : List ℕ
   pub r : ClientReading
-  pub has_joined : HasJoined v k joined capture rest as_joined fed
-  pub read : read_stream as_joined.confirmed as_joined.size fed ≡ Ok r
+  pub has_joined : HasJoined v k joined capture rest as_joined given
+  pub sieved : sieve ≡ (pieces_in given).next
+  pub read : read_stream as_joined.confirmed as_joined.size (whole_of given) ≡ Ok r
   pub reading : IsReading r client
   pub confirmed : client.viewer.confirmed ≡ as_joined.confirmed
   pub size : client.viewer.pictures.size ≡ as_joined.size
 
--- they are refused
+-- these are refused
 pub record HasRefused (v k : ℕ) (joined capture rest : List ℕ) (at : ℕ) : Type 0 where
   pub as_joined : JoinedAs
-  pub fed : List ℕ
+  pub given : List ℕ
   pub refusal : Refusal
-  pub has_joined : HasJoined v k joined capture rest as_joined fed
-  pub refused : read_stream as_joined.confirmed as_joined.size fed ≡ Err refusal
+  pub has_joined : HasJoined v k joined capture rest as_joined given
+  pub refused : read_stream as_joined.confirmed as_joined.size (whole_of given) ≡ Err refusal
   pub place : at ≡ capped refusal.place
 
 -- a line broke the rules
@@ -58,7 +64,7 @@ pub record HasBroken (capture : List ℕ) (line : ℕ) : Type 0 where
 -- a stage stands for what was read of a capture, whose rest begins with line k
 abbrev pub Stands : ℕ → Stage → ℕ → List ℕ → (capture rest : List ℕ) → Type 0
 Stands v stage.NotJoined k joined capture rest = HasNotJoined v k joined capture rest
-Stands v (stage.Reads client) k joined capture rest = HasRead v k joined capture rest client
+Stands v (stage.Reads client sieve) k joined capture rest = HasRead v k joined capture rest client sieve
 Stands v (stage.Refused at) k joined capture rest = HasRefused v k joined capture rest at
 Stands v (stage.Broken line) k joined capture rest = HasBroken capture line
 
@@ -74,9 +80,9 @@ pub record ShowsReading (client : ClientOf) (s : Shown) : Type 0 where
   pub reading : IsReading r client
   pub is : s ≡ view_shown client.viewer.pictures.size r.view
 
--- a stage at a capture's end shows this
+-- a stage behind a capture's end shows this
 abbrev pub Shows : Stage → Shown → Type 0
 Shows stage.NotJoined s = s ≡ NeverJoined
-Shows (stage.Reads client) s = ShowsReading client s
+Shows (stage.Reads client sieve) s = ShowsReading client s
 Shows (stage.Refused at) s = (place : ℕ) × (s ≡ RefusedAt place) × (at ≡ capped place)
 Shows (stage.Broken line) s = (first : ℕ) × (s ≡ BrokenAt first) × (line ≡ capped first)

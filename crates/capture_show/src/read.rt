@@ -4,7 +4,7 @@ ghost use Rattle.capture_show.specs.Answers.{ReadsCapture, ReadCause, IsReadFaul
 
 use crate::ShowFault;
 use crate::capture_reader::{CaptureReader, Told};
-use crate::stage::{Stage, advance};
+use crate::stage::{Stage, advance, finish};
 use edge_io::Source;
 use std::alloc::Global;
 use std::sync::Wait;
@@ -25,7 +25,7 @@ pub(crate) fn read_capture<R: Wait, S: Source>(
     for _ in rt.forever() {
         let told = reader.next_line(input)?;
         match told {
-            Told::End => return Ok(stage),
+            Told::End => return Ok(finish(stage)?),
             Told::Failed => return Err(ShowFault::ReadFault),
             _ => stage = advance(alloc, stage, told, reader.bytes())?,
         }

@@ -24,6 +24,7 @@ const NOBODY: &[u8] = b"line 0\n";
 const NO_MARK: &[u8] = b"no mark\n";
 
 /// Reads a capture to its end, and writes what it shows one of its viewers; says whether the capture and the viewer's bytes are accepted.
+/// The packets of pointers are taken out of these before they are read, and places and counts are without them.
 ///
 /// A picture is that of the last mark. A line says that there was no mark, at which place the viewer's bytes are refused, which line breaks
 /// the rules of captures, or, with number 0, that no line joins the viewer; a broken line goes before a missing join, and both go before a
@@ -62,7 +63,7 @@ fn write_stage<K: Sink>(alloc: Global, stage: &Stage, output: &mut K) -> Result<
 fn is_accepted(stage: &Stage) -> bool
     ensures { (s : Shown) → Shows stage.now s → result ≡ is_accepted s }
 {
-    matches!(stage, Stage::Reads(_))
+    matches!(stage, Stage::Reads { .. })
 }
 
 /// Writes the text of what a stage at a capture's end shows. An `Err` leaves a front of it there.
@@ -73,7 +74,7 @@ fn write_text<K: Sink>(alloc: Global, stage: &Stage, output: &mut K) -> Result<(
 {
     match stage {
         Stage::NotJoined => put(output, NOBODY),
-        Stage::Reads(client) => write_client(alloc, client, output),
+        Stage::Reads { client, .. } => write_client(alloc, client, output),
         Stage::Refused { at } => write_refused(alloc, *at, output),
         Stage::Broken { line } => put_made(output, number_line(alloc, b"line ", *line)),
     }

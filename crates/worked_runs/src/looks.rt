@@ -5,7 +5,7 @@ use crate::expected::Expected;
 use crate::files;
 use crate::job::Job;
 use crate::row::number;
-use crate::turns::{Task, otherwise, try_cuts, try_task, try_whole};
+use crate::turns::{Task, otherwise, try_pieces, try_task, try_whole};
 use crate::verdict::{Trouble, Way};
 use line_text::read_hexadecimal;
 use std::rt::Files;
@@ -71,8 +71,8 @@ fn text(text: String) -> Expected {
     Expected::Whole(text.into_bytes())
 }
 
-/// Shows a capture that is accepted to a viewer, cut in two at each place, and each front of it: within a line that line breaks the rules,
-/// and between lines all is right but that nobody has joined at first.
+/// Shows a capture that is accepted to a viewer, byte by byte, cut in two at each place, and each front of it: within a line that line
+/// breaks the rules, and between lines all is right but that nobody has joined at first.
 pub fn run_fronts<R: Files + AllocGlobal + Wait>(rt: &R, words: &[&str]) -> Result<(), Trouble> {
     let [name, viewer] = words else {
         return Err(Trouble::NoForm);
@@ -84,8 +84,8 @@ pub fn run_fronts<R: Files + AllocGlobal + Wait>(rt: &R, words: &[&str]) -> Resu
         input: &capture,
         ending: Ending::Done,
     };
-    let told = try_whole(rt, rt.alloc(), &task, &Expected::Tail(Vec::new(rt.alloc())))?;
-    try_cuts(rt, rt.alloc(), &task, &told, 1)?;
+    let whatever = Expected::Tail(Vec::new(rt.alloc()));
+    try_pieces(rt, rt.alloc(), &task, &whatever, 1)?;
     for cut in 0..capture.len() {
         try_front(rt, viewer, &capture[..cut])?;
     }

@@ -5,7 +5,8 @@ ghost use Rattle.std.specs.Prelude.{◌≤◌, IfOk};
 use crate::streams::Known;
 use crate::verdict::Trouble;
 use crate::{
-    demos, faults, handshake, joins, looks, records, scripts, serves, streams, views, words,
+    demos, faults, handshake, joins, looks, pointers, records, scripts, serves, streams, views,
+    words,
 };
 use line_text::read_number;
 use std::rt::Files;
@@ -36,6 +37,7 @@ pub fn run<R: Files + AllocGlobal + Threads + Wait + Sync>(
         "view-lengths" => views::run_lengths(rt, words),
         "look" => looks::run_row(rt, words),
         "fronts" => looks::run_fronts(rt, words),
+        "points" => pointers::run_row(rt, words),
         "record" => records::run_record(rt, words),
         "replay" => records::run_replay(rt, words),
         "again" => records::run_again(rt, words),
@@ -52,7 +54,7 @@ pub fn run<R: Files + AllocGlobal + Threads + Wait + Sync>(
 /// How many words of a row of this kind are its title.
 fn title_words(kind: &str) -> usize {
     match kind {
-        "look" | "demo" | "serve" | "replay" | "view-cut" => 3,
+        "look" | "points" | "demo" | "serve" | "replay" | "view-cut" => 3,
         "request" | "viewer" | "viewing" => usize::MAX,
         _ => 2,
     }

@@ -5,7 +5,7 @@ use crate::expected::Expected;
 use crate::files;
 use crate::job::Job;
 use crate::row::number;
-use crate::turns::{Task, must_be_front, try_pieces, try_task, try_whole};
+use crate::turns::{MOST_CUTS, Task, must_be_front, try_pieces, try_task, try_whole};
 use crate::verdict::{Trouble, Way};
 use px_core::Size;
 use std::rt::Files;
@@ -172,5 +172,7 @@ fn run_case<R: AllocGlobal + Wait>(
         input: &stream,
         ending: refused(k, at)?,
     };
-    try_pieces(rt, rt.alloc(), &task, expected)
+    let step = stream.len() / MOST_CUTS + 1;
+    try_pieces(rt, rt.alloc(), &task, expected, step)?;
+    Ok(())
 }

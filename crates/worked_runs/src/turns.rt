@@ -11,7 +11,7 @@ use std::alloc::{AllocError, Global};
 use std::sync::Wait;
 
 /// At how many places an input is cut in two at most.
-const MOST_CUTS: usize = 16;
+pub const MOST_CUTS: usize = 16;
 
 /// At how many places a client's stream is.
 const STREAM_CUTS: usize = 1_000;
@@ -56,23 +56,25 @@ pub fn try_task<R: Wait>(
     task: &Task<'_>,
     expected: &Expected,
 ) -> Result<(), Trouble> {
-    let told = try_whole(rt, alloc, task, expected)?;
-    try_bytes(rt, alloc, task, &told)?;
-    try_cuts(rt, alloc, task, &told, step_of(task))?;
+    let told = try_pieces(rt, alloc, task, expected, step_of(task))?;
     try_reads(rt, alloc, task, &told)?;
     try_writes(rt, alloc, task, &told)
 }
 
-/// Does a task whole, byte by byte, and cut in two at a few places.
+/// Does a task whole, byte by byte, and cut in two at one place after the other, so many bytes apart; what it wrote.
 pub fn try_pieces<R: Wait>(
     rt: &R,
     alloc: Global,
     task: &Task<'_>,
     expected: &Expected,
-) -> Result<(), Trouble> {
+    step: usize,
+) -> Result<Vec<u8>, Trouble>
+    requires { 0 < step }
+{
     let told = try_whole(rt, alloc, task, expected)?;
     try_bytes(rt, alloc, task, &told)?;
-    try_cuts(rt, alloc, task, &told, task.input.len() / MOST_CUTS + 1)
+    try_cuts(rt, alloc, task, &told, step)?;
+    Ok(told)
 }
 
 /// Does a task whole; what it wrote.
@@ -115,7 +117,7 @@ fn step_of(task: &Task<'_>) -> usize
 }
 
 /// Does a task whose input is cut in two, at one place after the other, so many bytes apart.
-pub fn try_cuts<R: Wait>(
+fn try_cuts<R: Wait>(
     rt: &R,
     alloc: Global,
     task: &Task<'_>,

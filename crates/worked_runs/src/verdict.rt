@@ -1,6 +1,7 @@
 //! What a row comes to.
 
 use crate::ending::Ending;
+use edge_io::OutOfMemory;
 use std::alloc::AllocError;
 
 /// In which way a row was run.
@@ -52,6 +53,12 @@ pub enum Trouble {
 
 impl From<AllocError> for Trouble {
     fn from(_: AllocError) -> Trouble {
+        Trouble::OutOfMemory
+    }
+}
+
+impl From<OutOfMemory> for Trouble {
+    fn from(_: OutOfMemory) -> Trouble {
         Trouble::OutOfMemory
     }
 }

@@ -1,4 +1,4 @@
-use Rattle.std.proofs.Common.{◌∙◌, rules}
+use Rattle.std.proofs.Common.{rules}
 use Rattle.capture_show.specs.Reading.{ahead}
 use Rattle.capture_show.proofs.Steps.{at_next, at_end}
 use Rattle.capture_show.proofs.read.read_capture.Goals as goal
@@ -7,8 +7,8 @@ pub returns-in-End-clause-stage : goal.returns-in-End-clause-stage
 returns-in-End-clause-stage g c =
     let found = rw c.in-End.is at c.in_ok-told.ensures.found in
     let now = c.loop.invariant.at in
-    at_end c.args.viewer c.loop.stage c.loop.reader (g.S.Source.left c.args.input.now) (ahead c.loop.reader (g.S.Source.left c.loop.input)) (g.S.Source.left c.next_line.new.input)
-    now (found now.k now.joined now.before)
+    at_end c.args.viewer c.loop.stage c.in_ok-finish-in-End.field-0 c.loop.reader (g.S.Source.left c.args.input.now) (ahead c.loop.reader (g.S.Source.left c.loop.input)) (g.S.Source.left c.next_line.new.input)
+    now (found now.k now.joined now.before) c.in_ok-finish-in-End.ensures
 
 pub loop-preserved : goal.loop-preserved
 loop-preserved g c =
