@@ -14,6 +14,7 @@ use Rattle.session_rules.specs.declared.entry.Entry.{Entry}
 use Rattle.session_rules.specs.declared.entry.Entry.TheVariants.{Join, Leave, Give, Input}
 use Rattle.session_rules.specs.Steps.{Step, journal_of_steps, takes_of}
 use Rattle.session_rules.specs.Steps.Step.{InputStep}
+use Rattle.share_pdu.specs.Packet.{update_packet}
 use Rattle.order_means.specs.PointerPackets.{pointer_packet}
 use Rattle.order_means.specs.UpdateBodies.{synchronize_packet}
 use Rattle.order_means.specs.Packets.{without_pointers, pointer_packets}
@@ -163,6 +164,10 @@ the_latest_pointer_is_shown = refl
 -- wrong: a packet of a pointer that is refused is passed over
 an_entry_that_was_not_filled_is_refused : shapes_at_marks (cells 2) size (brings 0 (pointer 1 0x41) ++ shows 1 ++ synchronize_packet false) ≡ None
 an_entry_that_was_not_filled_is_refused = refl
+
+-- wrong: a refused packet that is no pointer's is passed over
+an_update_of_no_kind_is_refused_beside_pointers : shapes_at_marks (cells 2) size (brings 0 (pointer 1 0x41) ++ update_packet (9 ∷ 0 ∷ []) ++ synchronize_packet false) ≡ None
+an_update_of_no_kind_is_refused_beside_pointers = refl
 
 -- ---- without pointers
 
