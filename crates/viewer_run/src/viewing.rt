@@ -6,14 +6,14 @@ ghost use Rattle.viewer_sender.specs.Senders.{IsIdle};
 ghost use Rattle.grow_lock.specs.Passes.{IsPassOf};
 ghost use Rattle.serve_rules.specs.Reading.{ReadsOn};
 ghost use Rattle.serve_rules.specs.declared.ends.SideEnd.TheVariants.{Done, Stopped};
-ghost use Rattle.viewer_sides.specs.Sending.{IsNext, SendsTaken, SendsOn};
+ghost use Rattle.viewer_sides.specs.Sending.{SendsOn};
 ghost use Rattle.viewer_run.specs.Visiting.{IsFirst, IsShownAll};
 ghost use Rattle.viewer_run.specs.Serving.{SidesServe, Attends, IsShownLast, ended_by, wants_last, end_of_last};
 ghost use Rattle.serve_rules.specs.Notices.{notice_in};
 
 use crate::frames::send_first;
 use crate::visits::{FirstFrame, take_last};
-use crate::{ConnEnd, Noted, OutOfMemory, SideEnd};
+use crate::{ConnEnd, Noted, SideEnd};
 use conn_core::Conn;
 use conn_rules::ConnStep;
 use edge_io::{Sink, Source};
@@ -23,8 +23,8 @@ use session_core::Session;
 use std::alloc::Global;
 use std::sync::Wait;
 use std::thread::Threads;
-use viewer_sender::{Sender, Taken};
-use viewer_sides::{NO_MEMORY, read_side, run_sides, send_frame};
+use viewer_sender::Sender;
+use viewer_sides::{read_side, run_sides, send_taken};
 
 /// Sends a viewer's first frame, and then runs both its sides until the connection ends.
 pub fn attend<R: Threads + Wait + Sync, S: Source + Send, K: Sink + Send>(
@@ -225,24 +225,6 @@ pub fn send_last<R: Wait, K: Sink>(
     ensures whole { IsShownAll lock.now.head v result.0.seen sender.new.number result.1 }
 {
     let (pass, taken) = take_last(rt, alloc, lock, pass, v, sender, desk);
-    let end = send_last_taken(alloc, taken, sender, desk, output);
+    let end = send_taken(alloc, taken, sender, desk, output);
     (pass, end)
-}
-
-/// Sends what the last take found.
-fn send_last_taken<K: Sink>(
-    alloc: Global,
-    taken: Result<Taken, OutOfMemory>,
-    sender: &mut Sender,
-    desk: &mut Option<PointerDesk>,
-    output: &mut K,
-) -> SideEnd
-    requires { IsNext taken sender.old }
-    ensures { SendsTaken taken sender.old sender.new desk.old desk.new (output_of K.Sink output.old) (output_of K.Sink output.new) result }
-{
-    match taken {
-        Ok(Taken::Frame(take)) => send_frame(alloc, take, sender, desk, output),
-        Ok(Taken::Nothing) => SideEnd::Stopped,
-        Err(OutOfMemory) => NO_MEMORY,
-    }
 }

@@ -10,7 +10,7 @@ mod steps;
 mod turns;
 
 pub use reading::{NO_MEMORY, feed, new_buffer, read_side};
-pub use sends::{note_taken, send_frame, send_side, take_once};
+pub use sends::{note_taken, send_frame, send_side, send_taken, take_once};
 pub use serve_rules::{ConnEnd, Noted, SideEnd};
 pub use sides::run_sides;
 pub use steps::do_steps;

@@ -24,7 +24,7 @@ use std::sync::Wait;
 use std::sync::atomic::{AtomicBool, Ordering};
 use viewer_sender::{Sender, Take, Taken};
 
-/// The send side of a viewer. It sends what is new, and sleeps where nothing is, until memory or the output fails, or it finds the flag set.
+/// The send side of a viewer. It sends what is new, and sleeps where nothing else is, until memory or the output fails, or it finds the flag set.
 pub fn send_side<R: Wait, K: Sink>(
     rt: &R,
     alloc: Global,
@@ -60,8 +60,8 @@ pub fn send_side<R: Wait, K: Sink>(
     unreachable!()
 }
 
-/// One round of a send side: a take in a turn, and its frame. Where there is nothing to send it sleeps until there was more news than
-/// this. `Stopped` says that no fault came.
+/// One round of a send side: a take in a turn, and its frame. Then it sleeps until there was more news than this, of which the take may
+/// have found some. `Stopped` says that no fault came.
 fn send_once<R: Wait, K: Sink>(
     rt: &R,
     alloc: Global,
@@ -83,8 +83,16 @@ fn send_once<R: Wait, K: Sink>(
     ensures sends { SendsOn lock.now.head sender.old sender.new desk.old desk.new pass result.0 (output_of K.Sink output.old) (output_of K.Sink output.new) result.1 }
 {
     let (pass, taken) = take_once(rt, alloc, lock, pass, v, sender, desk);
-    let end = send_taken(rt, alloc, lock, rings, taken, sender, desk, output);
+    let end = send_taken(alloc, taken, sender, desk, output);
+    sleep_unless_done(rt, lock, rings, end);
     (pass, end)
+}
+
+/// Sleeps until there was more news than this, unless a side met the connection's end.
+fn sleep_unless_done<R: Wait>(rt: &R, lock: &GrowLock<Session>, rings: u64, end: SideEnd) {
+    if !is_done(end) {
+        lock.sleep(rt, rings);
+    }
 }
 
 /// Takes in a turn of its own, in which the session's pointer is noted for a frame. While the viewer isn't present it takes nothing.
@@ -153,12 +161,9 @@ pub fn note_taken(
     }
 }
 
-/// Sends what a take found.
-fn send_taken<R: Wait, K: Sink>(
-    rt: &R,
+/// Sends what a take found. `Stopped` says that no fault came.
+pub fn send_taken<K: Sink>(
     alloc: Global,
-    lock: &GrowLock<Session>,
-    rings: u64,
     taken: Result<Taken, OutOfMemory>,
     sender: &mut Sender,
     desk: &mut Option<PointerDesk>,
@@ -169,10 +174,7 @@ fn send_taken<R: Wait, K: Sink>(
 {
     match taken {
         Ok(Taken::Frame(take)) => send_frame(alloc, take, sender, desk, output),
-        Ok(Taken::Nothing) => {
-            lock.sleep(rt, rings);
-            SideEnd::Stopped
-        }
+        Ok(Taken::Nothing) => SideEnd::Stopped,
         Err(OutOfMemory) => NO_MEMORY,
     }
 }
