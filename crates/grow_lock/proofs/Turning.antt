@@ -1,6 +1,6 @@
 -- The kinds 1, 2, 4 and 6 keep the rule, and tell what they should: a turn is taken, its length read, its list published, and it is free again.
 use Rattle.std.proofs.Common.{◌≡◌, ◌≢◌, ℕ, ◌<◌, ◌≤◌, eqb, List, [], ◌∷◌, ◌++◌, length, get_or, set, sym, refl, ap, ◌∙◌, subst, ⊎_elim, inl, inr, arith, true, Option, Some, None}
-use Rattle.std.specs.Prelude.{Contains}
+use Rattle.std.specs.Prelude.{Contains, Box}
 use Rattle.std.proofs.lemmas.List.{set-get_or}
 use Rattle.std.proofs.lemmas.List.Elements.{All-append, All-weaker, All-contains_itself, Contains-append_left, Contains-append_right, Contains-append_cases}
 use mathlib.Core.Option.{none, some, some-injective}
@@ -15,6 +15,7 @@ use Rattle.atomic_table.proofs.Lists.{set_again, exchanged}
 use Rattle.grow_lock.specs.declared.notes.Notes.{Notes}
 use Rattle.grow_lock.specs.declared.notes.Stage.{Stage}
 use Rattle.grow_lock.specs.declared.notes.Stage.TheVariants.{Out, Taken, Measured, Published}
+use Rattle.grow_lock.specs.Boxed.{boxed}
 use Rattle.grow_lock.specs.Journal.{StartsWith, added_places}
 use Rattle.grow_lock.specs.Notes.{is_in_turn, base_of}
 use Rattle.grow_lock.specs.Passes.{PassModel, TurnModel, pass_of}
@@ -24,6 +25,10 @@ use Rattle.grow_lock.specs.Steps.{Holder, carried_list, TakesTurn, ReadsLength, 
 use Rattle.grow_lock.proofs.Lists.{none_has, starts_itself, length_starts, added_places_within, added_places_all}
 use Rattle.grow_lock.proofs.Moves.{none_in_turn, same_seat, seated_by_head, seated_by_stage, other_stays, own_kept, moves}
 use Rattle.grow_lock.proofs.Shares.{holds_itself}
+
+-- the list begins with the first one, and all places behind that are these
+abbrev pub HasAll : {E : Type 0} → List E → List E → List ℕ → Type 0
+HasAll entries front mine = StartsWith entries front × ((n : ℕ) → length front ≤ n → n < length entries → Contains mine n)
 
 module _ {T H E : Type 0} (head : T → H) (list : T → List E) (h : H) (first : List E) where
   abbrev Seat : Type 0
@@ -193,10 +198,6 @@ module _ {T H E : Type 0} (head : T → H) (list : T → List E) (h : H) (first 
       subst (λ (c : List (ℕ × Option T)). Goes s 0 id (me.0, c) (λ _ m. FreesTurn (step n 0 0 0 none) (me.0, c) 0 m) 0) (sym held)
       (free_at n id me.0 x (ap (λ (z : Notes H E). z.stage) published.0) head_is (sym seen_is) s k at)
 
-  -- the list begins with the first one, and all places behind that are these
-  abbrev pub HasAll : List E → List E → List ℕ → Type 0
-  HasAll entries front mine = StartsWith entries front × ((n : ℕ) → length front ≤ n → n < length entries → Contains mine n)
-
   -- who is in turn and has the whole lock has all places behind the first list: nobody else has any part of it, so all others are spent
   pub closes : (s : LockTable T H E) (id : ℕ) (v : Notes H E) (base : List E) → Seen (IsKept head list h first) id v s → v.stage ≡ Measured base → IsWhole v.part.share → HasAll base first v.mine
   closes s id v base (k, at) is whole =
@@ -210,11 +211,12 @@ module _ {T H E : Type 0} (head : T → H) (list : T → List E) (h : H) (first 
             (k.2.each_seat o.0 o.1 o.2)),
       )
 
+module _ {T A H E : Type 0} (head : T → H) (list : T → List E) (h : H) (first : List E) where
   -- the same, of the turn and the pass by which the lock is closed
-  pub closes_with : (s : LockTable T H E) (id : ℕ) (v : Notes H E) (t : TurnModel T H E) (pass : PassModel H E) (table : TableId) (value : T) (front : List E) → Seen (IsKept head list h first) id v s
+  pub closes_with : (s : LockTable (Box T A) H E) (id : ℕ) (v : Notes H E) (t : TurnModel T H E) (pass : PassModel H E) (table : TableId) (value : T) (front : List E) → Seen (IsKept (boxed head) (boxed list) h first) id v s
       → v.stage ≡ Measured (base_of v.stage) → record { value = value; base = base_of v.stage; pass = pass_of table v } ≡ t → t.base ≡ list t.value → t.pass.share ≡ pass.share → t.pass.mine ≡ pass.mine
       → IsWhole pass.share → first ≡ front → HasAll (list value) front pass.mine
   closes_with s id v t pass table value front seen is view base share mine whole first_is =
       subst (λ (z : List E × List E × List ℕ). HasAll z.0 z.1 z.2)
       (λ i. ((ap (λ (z : TurnModel T H E). z.base) view ∙ base ∙ sym (ap (λ (z : TurnModel T H E). list z.value) view)) i, first_is i, (ap (λ (z : TurnModel T H E). z.pass.mine) view ∙ mine) i))
-      (closes s id v (base_of v.stage) seen is (subst IsWhole (sym (ap (λ (z : TurnModel T H E). z.pass.share) view ∙ share)) whole))
+      (closes (boxed head) (boxed list) h first s id v (base_of v.stage) seen is (subst IsWhole (sym (ap (λ (z : TurnModel T H E). z.pass.share) view ∙ share)) whole))

@@ -1,3 +1,4 @@
+pub mod Boxed
 pub mod Journal
 pub mod Lending
 pub mod Notes

@@ -1,6 +1,7 @@
 //! The lock.
 ghost use Rattle.std.specs.Prelude.{◌≡◌, ℕ, ◌<◌, ◌≤◌, ◌++◌, ◌∷◌, [], length, Contains, IfOk, Some};
 ghost use Rattle.std.specs.Slots.{slots_len, IsFull};
+ghost use Rattle.grow_lock.specs.Boxed.{boxed, carried_value};
 ghost use Rattle.grow_lock.specs.Journal.{StartsWith, IsDisjoint, added_places, longer};
 ghost use Rattle.grow_lock.specs.Passes.{IsPassOf, pass_of, pass_after_entering};
 ghost use Rattle.grow_lock.specs.Shares.{left_half, right_half, both, IsWhole};
@@ -31,7 +32,7 @@ const TRIES: u64 = 100;
 /// which lock it is, the head of its value, and the list of the value that it was made with.
 #[derive(Drop)]
 pub struct GrowLock<T: Grows> {
-    table: Table<Option<T>, Notes<T::Head, T::Entry>, Snapshot<T>, LockRule<T>, Global>,
+    table: Table<Option<Box<T>>, Notes<T::Head, T::Entry>, Snapshot<T>, LockRule<T>, Global>,
     // How many threads sleep until the turn is free, or are about to.
     waiting: AtomicU64,
     // Rings where the list has grown, and where a caller rings it.
@@ -60,8 +61,9 @@ impl<T: Grows> GrowLock<T> {
     {
         let about = Snapshot::of(&value);
         let count = value.ready();
+        let home = Box::new(alloc, value)?;
         let mut slots = Vec::new(alloc);
-        slots.push(Some(value))?;
+        slots.push(Some(home))?;
         match Table::new(alloc, &[FREE, count], slots, &about) {
             Ok((table, seat)) => {
                 let lock = GrowLock {
@@ -120,8 +122,8 @@ impl<T: Grows> GrowLock<T> {
     // Reads the length, and moves the value out.
     fn begin(&self, mut seat: Place<T>) -> Turn<T>
         requires lock { seat.table_id ≡ self.now.id }
-        requires taken { HasTaken T.list seat.me }
-        ensures value { seat.me.1 ≡ (0, Some result.value) ∷ [] }
+        requires taken { HasTaken (boxed T.list) seat.me }
+        ensures value { carried_value seat.me.1 ≡ Some result.value }
         ensures base { result.base ≡ T.list result.value }
         ensures pass { result.pass ≡ pass_after_entering (pass_of seat.table_id seat.me.0) result.base }
     {
@@ -232,7 +234,7 @@ impl<T: Grows> GrowLock<T> {
             news: _,
         } = self;
         free(table.close_with(seat));
-        value
+        Box::into_inner(value)
     }
 }
 

@@ -4,7 +4,7 @@
 //! |---|---|
 //! | word 0, `TURN` | 1 while a pass is in turn, else 0 |
 //! | word 1, `LENGTH` | the length of the journal, which is the list that was published last |
-//! | slot 0, `VALUE` | the value, while no pass is in turn |
+//! | slot 0, `VALUE` | the value in a box, while no pass is in turn |
 use crate::grows::Grows;
 use crate::notes::Notes;
 use atomic_table::{Seat, TableRule};
@@ -31,16 +31,17 @@ pub struct LockRule<T> {
     value: PhantomData<T>,
 }
 
-impl<T: Grows> TableRule<Option<T>, Notes<T::Head, T::Entry>, Snapshot<T>> for LockRule<T> {
+impl<T: Grows> TableRule<Option<Box<T>>, Notes<T::Head, T::Entry>, Snapshot<T>> for LockRule<T> {
     ghost use Rattle.std.specs.Prelude.{Some};
+    ghost use Rattle.grow_lock.specs.Boxed.{boxed};
     ghost use Rattle.grow_lock.specs.Notes.{fresh_notes};
     ghost use Rattle.grow_lock.specs.Shares.{whole};
     ghost use Rattle.grow_lock.specs.Rule.{IsKept};
 
-    ghost holds = { λ key. IsKept T.head T.list (T.head key.value) (T.list key.value) };
+    ghost holds = { λ key. IsKept (boxed T.head) (boxed T.list) (T.head key.value) (T.list key.value) };
 
     ghost first = { λ key. fresh_notes (Some (T.head key.value)) (T.list key.value) whole };
 }
 
 /// A seat at the lock's table.
-pub type Place<T> = Seat<Option<T>, Notes<<T as Grows>::Head, <T as Grows>::Entry>>;
+pub type Place<T> = Seat<Option<Box<T>>, Notes<<T as Grows>::Head, <T as Grows>::Entry>>;

@@ -12,12 +12,12 @@ use std::marker::Model;
 #[derive(Drop)]
 #[must_use]
 pub struct Turn<T: Grows> {
-    pub(crate) value: T,
+    pub(crate) value: Box<T>,
     pub(crate) seat: Place<T>,
 }
 
 impl<T: Grows> Model for Turn<T> {
-    ghost use Rattle.std.specs.Prelude.{◌≡◌, [], ◌∷◌, None};
+    ghost use Rattle.std.specs.Prelude.{◌≡◌, [], ◌∷◌, None, box_value};
     ghost use Rattle.std.specs.Coded.{codes};
     ghost use Rattle.grow_lock.specs.Passes.{TurnModel, pass_of};
     ghost use Rattle.grow_lock.specs.Shares.{share_coded};
@@ -28,7 +28,7 @@ impl<T: Grows> Model for Turn<T> {
 
     ghost coded = { Prim.hlevel (codes, share_coded) };
 
-    ghost view = { λ t. record { value = t.value; base = base_of t.seat.me.0.stage; pass = pass_of t.seat.table_id t.seat.me.0 } };
+    ghost view = { λ t. record { value = box_value t.value; base = base_of t.seat.me.0.stage; pass = pass_of t.seat.table_id t.seat.me.0 } };
 
     ghost invariant = { λ t. (t.seat.me.1 ≡ (0, None) ∷ []) × (t.seat.me.0.stage ≡ Measured (base_of t.seat.me.0.stage)) };
 }
@@ -39,6 +39,6 @@ impl<T: Grows> Turn<T> {
         ensures* lends { sem 𝓛 (LendsValue T.row T.Head.row T.Entry.row T.Grows self.entry result) }
         ensures value { result.now ≡ self.old.value }
     {
-        &mut self.value
+        &mut *self.value
     }
 }

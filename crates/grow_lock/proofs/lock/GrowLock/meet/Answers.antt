@@ -1,4 +1,5 @@
 use Rattle.std.proofs.Common.{rules, ap, ◌∙◌, subst, List, ℕ, ◌++◌}
+use Rattle.grow_lock.specs.Boxed.{boxed}
 use Rattle.grow_lock.specs.Journal.{IsDisjoint}
 use Rattle.grow_lock.specs.Notes.{is_in_turn}
 use Rattle.grow_lock.specs.Steps.{IsJoinSound}
@@ -11,7 +12,7 @@ join_seat-requires g c = (
   search rules,
   search rules,
   search rules,
-  joins g.T.Grows.head g.T.Grows.list _ _ _ _ _ _ _ _ (ap (λ p. p.head) c.into.view_is ∙ c.requires.into.1) (ap (λ p. p.head) c.from.view_is ∙ c.requires.from.1)
+  joins (boxed g.T.Grows.head) (boxed g.T.Grows.list) _ _ _ _ _ _ _ _ (ap (λ p. p.head) c.into.view_is ∙ c.requires.into.1) (ap (λ p. p.head) c.from.view_is ∙ c.requires.from.1)
       (ap is_in_turn c.into.invariant.1) (ap is_in_turn c.from.invariant.1),
 )
 
@@ -19,7 +20,7 @@ pub load-requires : goal.load-requires
 load-requires g c = let joined = c.join_seat.ensures.2 in (
   search rules,
   search rules,
-  reads_joined g.T.Grows.head g.T.Grows.list _ _ _ _ _ _ (ap (λ m. m.0.head) joined ∙ ap (λ p. p.head) c.into.view_is ∙ c.requires.into.1) (ap (λ m. is_in_turn m.0.stage) joined),
+  reads_joined (boxed g.T.Grows.head) (boxed g.T.Grows.list) _ _ _ _ _ _ (ap (λ m. m.0.head) joined ∙ ap (λ p. p.head) c.into.view_is ∙ c.requires.into.1) (ap (λ m. is_in_turn m.0.stage) joined),
 )
 
 pub returns-clause-mine : goal.returns-clause-mine
