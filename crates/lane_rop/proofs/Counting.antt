@@ -5,9 +5,9 @@ use Rattle.std.specs.Int.{trailing_ones, bit_at}
 use Rattle.std.specs.Simd.Lanes.{chunk, mask_l, zip2, top}
 use Rattle.std.proofs.lemmas.Bool.{cases_lt}
 use Rattle.std.proofs.lemmas.Nat.Bits.{bit_at_above, bit_at-trailing_ones}
-use Rattle.std.proofs.lemmas.List.{drop-drop, length-map}
+use Rattle.std.proofs.lemmas.List.{drop-drop, get_or-take, length-map}
 use Rattle.std.proofs.lemmas.List.Sums.{common_prefix_len-le, prefix_len_is, prefix_len-le-length}
-use Rattle.std.proofs.lemmas.Simd.{bit_mask_l, bitmask_splat, length-chunk, length-zip2, mask_l-lt, mask_l-mod, tops_compared}
+use Rattle.std.proofs.lemmas.Simd.{bit_mask_l, bitmask_splat, get_or-zip2, length-chunk, length-zip2, mask_l-lt, mask_l-mod, tops_compared}
 
 bit_is_true : (b : Bool) → ◌≡◌ {A = ℕ} (cond b 1 0) 1 → b ≡ true
 bit_is_true true h = refl
@@ -65,6 +65,25 @@ pair_ones xs ys long high =
   where
     pairs : length (zip2 eqb xs ys) ≡ 16
     pairs = length-zip2 eqb xs ys (long ∙ sym high) ∙ long
+
+-- each bit of a comparison of the first 64 pixels
+pub pair_bits : (xs ys : List ℕ) → 64 ≤ length xs → 64 ≤ length ys → (k : ℕ) → k < 64
+    → bit_at (mask_l (map (top 31) (zip2 (λ a b. cond (eqb a b) (2 ^ 32 - 1) 0) (take 64 xs) (take 64 ys))) % 2 ^ 64) k ≡ cond (eqb (get_or xs k 0) (get_or ys k 0)) 1 0
+pair_bits xs ys long high k below =
+    ap (λ bits. bit_at (mask_l bits % 2 ^ 64) k) (tops_compared w32 eqb (take 64 xs) (take 64 ys))
+    ∙ ap (λ m. bit_at m k) (mask_l-mod (zip2 eqb (take 64 xs) (take 64 ys)) 64 (omega (arith, pairs)))
+    ∙ bit_mask_l (zip2 eqb (take 64 xs) (take 64 ys)) k
+    ∙ ap (λ b. cond b 1 0) (get_or-zip2 eqb (take 64 xs) (take 64 ys) k 0 0 false (omega (arith, first, below)) (omega (arith, second, below))
+    ∙ (λ j. eqb (get_or-take 64 xs k 0 below j) (get_or-take 64 ys k 0 below j)))
+  where
+    first : length (take 64 xs) ≡ 64
+    first = length-chunk 0 64 xs long
+
+    second : length (take 64 ys) ≡ 64
+    second = length-chunk 0 64 ys high
+
+    pairs : length (zip2 eqb (take 64 xs) (take 64 ys)) ≡ 64
+    pairs = length-zip2 eqb (take 64 xs) (take 64 ys) (first ∙ sym second) ∙ first
 
 -- a count over the front of a list is at most that over the list, and goes on behind it
 longer : (b : Bool) (m n : ℕ) → m ≤ n → cond b (1 + m) 0 ≤ cond b (1 + n) 0

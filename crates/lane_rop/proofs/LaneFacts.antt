@@ -52,3 +52,29 @@ stored_lanes f old d v i room done lanes = record {
         let at = get_or-put_chunk_at i d v (k - i) 0 (omega (arith, late, below, lanes.long)) (omega (arith, room, lanes.long)) in
         let is = lanes.each (k - i) (omega (arith, late, below)) in
         subst (λ m. get_or (put_chunk i d v) m 0 ≡ f m) back (at ∙ is)
+
+-- where a vector is stored, sixteen more places are made, whatever was behind the places so far
+pub more_lanes : (f : ℕ → ℕ) (d v : List ℕ) (i : ℕ) → i + 16 ≤ length d → ((k : ℕ) → k < i → get_or d k 0 ≡ f k) → HasLanes v (λ k. f (i + k))
+    → (k : ℕ) → k < i + 16 → get_or (put_chunk i d v) k 0 ≡ f k
+more_lanes f d v i room done lanes k below = ⊎_elim
+    (λ (early : k < i). get_or-put_chunk_below i d v k 0 early ∙ done k early)
+    (λ (late : i ≤ k).
+    let back : i + (k - i) ≡ k = omega (arith, late) in
+    let at = get_or-put_chunk_at i d v (k - i) 0 (omega (arith, late, below, lanes.long)) (omega (arith, room, lanes.long)) in
+    let is = lanes.each (k - i) (omega (arith, late, below)) in
+    subst (λ m. get_or (put_chunk i d v) m 0 ≡ f m) back (at ∙ is))
+    (cases_lt k i)
+
+-- the same of a shorter vector, of lanes that are stored twice: at the first place, and before the end
+pub both_ends : (f : ℕ → ℕ) (d u v : List ℕ) (m i : ℕ) → length u ≡ m → length v ≡ m → i + m ≡ length d → i ≤ m → ((k : ℕ) → k < m → get_or u k 0 ≡ f k) → ((k : ℕ) → k < m → get_or v k 0 ≡ f (i + k))
+    → (k : ℕ) → k < length d → get_or (put_chunk i (put_chunk 0 d u) v) k 0 ≡ f k
+both_ends f d u v m i eu ev room half first last k below = ⊎_elim
+    (λ (early : k < i). get_or-put_chunk_below i (put_chunk 0 d u) v k 0 early
+    ∙ (let there : k ≡ 0 + k = omega arith in ap (λ j. get_or (put_chunk 0 d u) j 0) there) ∙ get_or-put_chunk_at 0 d u k 0 (omega (arith, early, half, eu)) (omega (arith, room, eu))
+    ∙ first k (omega (arith, early, half)))
+    (λ (late : i ≤ k).
+    let back : i + (k - i) ≡ k = omega (arith, late) in
+    let at = get_or-put_chunk_at i (put_chunk 0 d u) v (k - i) 0 (omega (arith, late, below, room, ev)) (omega (arith, room, ev, length-put_chunk 0 d u)) in
+    let is = last (k - i) (omega (arith, late, below, room)) in
+    subst (λ m. get_or (put_chunk i (put_chunk 0 d u) v) m 0 ≡ f m) back (at ∙ is))
+    (cases_lt k i)

@@ -3,10 +3,12 @@
 //! Sixteen lanes of 32 bits as far as a row has so many pixels, and a plain loop for the rest. Nothing takes memory.
 #![tactic(auto)]
 
+mod fills;
 mod lanes;
 mod rows;
 mod runs;
 mod sums;
 
+pub use fills::{copy_lanes, fill_lanes};
 pub use rows::rop_lanes;
-pub use runs::{back_run, same_run, zero_run};
+pub use runs::{back_run, equal_word, same_run, zero_run};

@@ -1,5 +1,6 @@
 //! How long runs are.
-ghost use Rattle.std.specs.Prelude.{◌≡◌, ◌+◌, ◌<◌, ◌≤◌, ◌==◌, drop, length, slice_index};
+ghost use Rattle.std.specs.Prelude.{◌≡◌, ℕ, ◌+◌, ◌<◌, ◌≤◌, ◌==◌, drop, if◌then◌else◌, length, slice_index};
+ghost use Rattle.std.specs.Int.{bit_at};
 ghost use Rattle.std.specs.List.{common_prefix_len, prefix_len};
 ghost use Rattle.std.specs.Simd.Lanes.{chunk};
 
@@ -36,6 +37,18 @@ pub fn back_run(pixels: &[u32], above: &[u32], from: usize) -> usize
         at += 1;
     }
     at - from
+}
+
+/// A word with a one at each of the first 64 places where both have the same pixel.
+#[inline(always)]
+pub fn equal_word(pixels: &[u32], others: &[u32]) -> u64
+    requires pixels { 64 ≤ length pixels.now }
+    requires others { 64 ≤ length others.now }
+    ensures { (k : ℕ) → k < 64 → bit_at result k ≡ (if slice_index pixels.now k == slice_index others.now k then 1 else 0) }
+{
+    u32x64::from_slice(pixels)
+        .simd_eq(u32x64::from_slice(others))
+        .to_bitmask()
 }
 
 /// How many pixels from a place on have a colour.

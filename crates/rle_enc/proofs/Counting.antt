@@ -1,19 +1,22 @@
 -- Counting from the front, one place at a time.
-use Rattle.std.proofs.Common.{◌≡◌, ℕ, zero, suc, ◌+◌, ◌-◌, ◌<◌, ◌≤◌, ◌≢◌, Bool, true, false, cond, List, [], ◌∷◌, ◌++◌, length, take, drop, replicate, get_or, refl, ap, sym, ◌∙◌, arith, append_assoc, append-nil}
+use Rattle.std.proofs.Common.{◌≡◌, ℕ, zero, suc, ◌+◌, ◌-◌, ◌*◌, ◌<◌, ◌≤◌, ◌≢◌, Bool, true, false, cond, List, [], ◌∷◌, ◌++◌, length, take, drop, replicate, get_or, refl, ap, sym, ◌∙◌, arith, append_assoc, append-nil}
 use Rattle.std.specs.Prelude.{IsFalse, ◌==◌, zip, flat_map, nat_le, ◌&&◌, Option, Some, None}
 use Rattle.std.specs.List.{common_prefix_len, prefix_len}
 use Rattle.std.proofs.lemmas.Bool.Decides.{nat_tests}
-use Rattle.std.proofs.lemmas.List.{drop_more, drop_all, take_more, take_all, length-replicate}
+use Rattle.std.proofs.lemmas.List.{length-append, drop_more, drop_all, take_more, take_all, length-replicate}
 use Rattle.run_lengths.specs.Packer.{Spot, background_count, color_count, chosen_run}
 use Rattle.run_lengths.specs.RunLength.Run.{Background, Color, Image}
-use Rattle.rle_enc.specs.Stretch.{leading, HasItems, spots_in}
+use Rattle.px_core.specs.declared.depth.Depth.TheVariants.{Bits24}
+use Rattle.px_core.specs.Pixels.{pixel_bytes}
+use Rattle.std.proofs.Math.Seq.{take-append-add}
+use Rattle.rle_enc.specs.Stretch.{leading, literal_bytes, HasItems, spots_in}
 use Rattle.run_lengths.proofs.Runs.{pixels}
 use Rattle.run_lengths.proofs.Stretches.{pixels-zip}
 
-same_test : (a b : ℕ) → a ≡ b → (a == b) ≡ true
+pub same_test : (a b : ℕ) → a ≡ b → (a == b) ≡ true
 same_test a b e = grind (arith, nat_tests, e)
 
-other_test : (a b : ℕ) → a ≢ b → (a == b) ≡ false
+pub other_test : (a b : ℕ) → a ≢ b → (a == b) ≡ false
 other_test a b e = grind (arith, nat_tests, e)
 
 pub leading_more : (c i x : ℕ) (xs : List ℕ) → i < length xs → get_or xs i 0 ≡ x → x ≡ c → leading c xs ≡ i + leading c (drop i xs) → leading c xs ≡ (i + 1) + leading c (drop (i + 1) xs)
@@ -199,3 +202,37 @@ piece_color row ps b c x h e f l m = sym (chosen_color b c x l m) ∙ chosen_sam
 
 pub piece_literal : (row : Option (List ℕ)) (ps : List ℕ) (b c x : ℕ) → HasItems (length ps) row → b ≡ background_count (spots_in row ps) → c ≡ leading x ps → b < 1 → c < 2 → Image (x ∷ []) ≡ chosen_run (background_count (spots_in row ps)) (color_count x (spots_in row ps)) x
 piece_literal row ps b c x h e f l m = sym (chosen_literal b c x l m) ∙ chosen_same row ps b c x h e f
+
+-- ---- some of four pixels
+
+take_of_take : (m n : ℕ) (xs : List ℕ) → m ≤ n → take m (take n xs) ≡ take m xs
+take_of_take zero n xs h = refl
+take_of_take (suc m) zero xs h = absurd (omega (arith, h))
+take_of_take (suc m) (suc n) [] h = refl
+take_of_take (suc m) (suc n) (x ∷ xs) h = ap (λ us. x ∷ us) (take_of_take m n xs (omega (arith, h)))
+
+-- the bytes of all four
+abbrev four_bytes : List ℕ → List ℕ
+four_bytes ps = pixel_bytes Bits24 (get_or ps 0 0) ++ pixel_bytes Bits24 (get_or ps 1 0) ++ pixel_bytes Bits24 (get_or ps 2 0) ++ pixel_bytes Bits24 (get_or ps 3 0)
+
+some_bytes : (n : ℕ) (ps : List ℕ) → 1 ≤ n → n ≤ 4 → 4 ≤ length ps → take (1 + 3 * n) ((128 + n) ∷ four_bytes ps) ≡ literal_bytes Bits24 (take n ps)
+some_bytes zero ps l h m = absurd (omega (arith, l))
+some_bytes (suc zero) (a ∷ b ∷ c ∷ d ∷ ps) l h m = refl
+some_bytes (suc (suc zero)) (a ∷ b ∷ c ∷ d ∷ ps) l h m = refl
+some_bytes (suc (suc (suc zero))) (a ∷ b ∷ c ∷ d ∷ ps) l h m = refl
+some_bytes (suc (suc (suc (suc zero)))) (a ∷ b ∷ c ∷ d ∷ ps) l h m = refl
+some_bytes (suc (suc (suc (suc (suc n))))) ps l h m = absurd (omega (arith, h))
+some_bytes n [] l h m = absurd (omega (arith, m))
+some_bytes n (a ∷ []) l h m = absurd (omega (arith, m))
+some_bytes n (a ∷ b ∷ []) l h m = absurd (omega (arith, m))
+some_bytes n (a ∷ b ∷ c ∷ []) l h m = absurd (omega (arith, m))
+
+-- those of the first are left where the rest is dropped
+pub some_of_four : {code : ℕ} (n len : ℕ) (p q r bs ps : List ℕ) → 1 ≤ n → n ≤ 4 → 4 ≤ length ps → length bs ≡ 16
+    → take 13 bs ≡ code ∷ (pixel_bytes Bits24 (get_or ps 0 0) ++ pixel_bytes Bits24 (get_or ps 1 0) ++ pixel_bytes Bits24 (get_or ps 2 0) ++ pixel_bytes Bits24 (get_or ps 3 0))
+    → q ≡ p ++ bs → r ≡ take (len - (15 - 3 * n)) q → len ≡ length q → code ≡ 128 + n → r ≡ p ++ literal_bytes Bits24 (take n ps)
+some_of_four n len p q r bs ps some few four long bytes e f all is =
+    let end : len - (15 - 3 * n) ≡ length p + (1 + 3 * n) = omega (arith, all, ap length e, length-append p bs, long, some, few) in
+    f ∙ (λ i. take (end i) (e i))
+    ∙ take-append-add p bs (1 + 3 * n)
+    ∙ ap (λ us. p ++ us) (sym (take_of_take (1 + 3 * n) 13 bs (omega (arith, few))) ∙ ap (take (1 + 3 * n)) (bytes ∙ ap (λ x. x ∷ four_bytes ps) is) ∙ some_bytes n ps some few four)

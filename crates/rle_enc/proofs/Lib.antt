@@ -1,4 +1,5 @@
 pub mod Bound
 pub mod Counting
 pub mod Pending
+pub mod Telling
 pub mod Whole

@@ -6,7 +6,9 @@ use Rattle.px_core.specs.declared.depth.Depth.{Depth}
 use Rattle.run_lengths.specs.RunLength.{Run, run_size}
 use Rattle.run_lengths.specs.RunLength.Run.{Background, Foreground, Mask, Color, Image, Dithered}
 use Rattle.run_lengths.specs.Packer.{Spot, background_count, color_count, chosen_run, first_run, runs_past, onto_runs, joined_images, packed_runs, run_bytes}
-use Rattle.rle_enc.specs.Stretch.{StandAlone, StartsRun, after_literals, leading, literal_bytes, spots_in, HasItems, dropped}
+use Rattle.rle_enc.specs.declared.counts.Piece.{Piece}
+use Rattle.rle_enc.specs.declared.counts.Piece.TheVariants.{Background as PieceBackground, Color as PieceColor}
+use Rattle.rle_enc.specs.Stretch.{StandAlone, StartsRun, after_literals, bytes_from, leading, literal_bytes, piece_run, piece_size, spots_in, HasItems, dropped}
 use Rattle.run_lengths.proofs.Runs.{pixels, pixels-drop, length-pixels, drop_first, chosen}
 use Rattle.rle_enc.proofs.Counting.{piece_literal, pixels_of_spots}
 
@@ -194,6 +196,37 @@ literals_end depth row ps at lits p q whole end h e w =
 -- the end of a stretch
 pub stretch_end : (depth : Depth) (row : Option (List ℕ)) (ps : List ℕ) (at : ℕ) (p whole : List ℕ) → length ps ≤ at → HasItems (length ps) row → p ++ flat_map (run_bytes depth) (packed_runs (drop at (spots_in row ps))) ≡ whole → p ≡ whole
 stretch_end depth row ps at p whole end h w = sym (append-nil p) ∙ ap (λ ss. p ++ flat_map (run_bytes depth) (packed_runs ss)) (sym (none_behind row ps at end h)) ∙ w
+
+-- ---- what comes first from a place on, once it is written
+
+-- pixels that stand for themselves and the run behind them
+pub step_packed : (depth : Depth) (row : Option (List ℕ)) (ps : List ℕ) (at l x : ℕ) (piece : Piece) (p p1 q : List ℕ) → at + l < length ps → HasItems (length ps) row → x ≡ get_or ps (at + l) 0 → StandAlone l (drop at ps) (drop at (spots_in row ps)) →
+    piece_run x piece ≡ chosen_run (background_count (spots_in (dropped (at + l) row) (drop (at + l) ps))) (color_count x (spots_in (dropped (at + l) row) (drop (at + l) ps))) x →
+    p1 ≡ p ++ literal_bytes depth (take l (drop at ps)) → q ≡ p1 ++ run_bytes depth (piece_run x piece) →
+    q ++ bytes_from depth (at + l + piece_size piece) (spots_in row ps) ≡ p ++ bytes_from depth at (spots_in row ps)
+step_packed depth row ps at l x piece p p1 q lt h e alone f g i =
+    let front : packed_runs (drop at (spots_in row ps)) ≡ after_literals (take l (drop at ps)) (packed_runs (drop (at + l) (spots_in row ps))) = alone ∙ ap (λ ss. after_literals (take l (drop at ps)) (packed_runs ss)) (drop-drop l at (spots_in row ps)) in
+    by_piece piece f i (ap (λ rs. p ++ flat_map (run_bytes depth) rs) (sym front))
+  where
+    whole : List ℕ
+    whole = p ++ bytes_from depth at (spots_in row ps)
+
+    by_piece : (r : Piece) → piece_run x r ≡ chosen_run (background_count (spots_in (dropped (at + l) row) (drop (at + l) ps))) (color_count x (spots_in (dropped (at + l) row) (drop (at + l) ps))) x → q ≡ p1 ++ run_bytes depth (piece_run x r) →
+        p ++ flat_map (run_bytes depth) (after_literals (take l (drop at ps)) (packed_runs (drop (at + l) (spots_in row ps)))) ≡ whole →
+        q ++ bytes_from depth (at + l + piece_size r) (spots_in row ps) ≡ whole
+    by_piece (PieceBackground n) f i w = background_step depth row ps (at + l) x n (take l (drop at ps)) p p1 q whole lt h e f g i w
+    by_piece (PieceColor n) f i w = color_step depth row ps (at + l) x n (take l (drop at ps)) p p1 q whole lt h e f g i w
+
+-- the last pixels of a stretch
+pub rest_packed : (depth : Depth) (row : Option (List ℕ)) (ps : List ℕ) (at l : ℕ) (p q : List ℕ) → length ps ≤ at + l → HasItems (length ps) row → StandAlone l (drop at ps) (drop at (spots_in row ps)) → q ≡ p ++ literal_bytes depth (take l (drop at ps)) →
+    q ++ bytes_from depth (at + l) (spots_in row ps) ≡ p ++ bytes_from depth at (spots_in row ps)
+rest_packed depth row ps at l p q end h alone g =
+    let front : packed_runs (drop at (spots_in row ps)) ≡ after_literals (take l (drop at ps)) (packed_runs (drop (at + l) (spots_in row ps))) = alone ∙ ap (λ ss. after_literals (take l (drop at ps)) (packed_runs ss)) (drop-drop l at (spots_in row ps)) in
+    literals_end depth row ps (at + l) (take l (drop at ps)) p q (p ++ bytes_from depth at (spots_in row ps)) end h g (ap (λ rs. p ++ flat_map (run_bytes depth) rs) (sym front))
+
+-- what stands alone at the front of the slices does so in the whole
+pub alone_there : (row rows : Option (List ℕ)) (ps qs : List ℕ) (at l : ℕ) → rows ≡ dropped at row → qs ≡ drop at ps → StandAlone l qs (spots_in rows qs) → StandAlone l (drop at ps) (drop at (spots_in row ps))
+alone_there row rows ps qs at l e d alone = subst (λ ss. StandAlone l (drop at ps) ss) (spots_there row rows ps qs at e d) (subst (λ us. StandAlone l us (spots_in rows qs)) d alone)
 
 -- what an Ok says may be said otherwise
 pub on_ok_as : {T E : Type 0} (P Q : Type 0) (r : Result T E) → OnOk r P → (P → Q) → OnOk r Q

@@ -1,2 +1,3 @@
 pub mod Stretch
+pub mod Words
 pub mod Result

@@ -1,5 +1,5 @@
 -- A stretch of pixels and the row before it, as the packer's code has them.
-use Rattle.std.specs.Prelude.{◌≡◌, ℕ, suc, ◌≤◌, ◌==◌, List, [], ◌∷◌, length, take, drop, replicate, slice_index, zip, Option, Some, None, if◌then◌else◌}
+use Rattle.std.specs.Prelude.{◌≡◌, ℕ, suc, ◌≤◌, ◌==◌, List, [], ◌∷◌, ◌++◌, flat_map, length, take, drop, replicate, slice_index, zip, Option, Some, None, if◌then◌else◌}
 use denote.Ref.{Bor}
 use Rattle.px_core.specs.declared.depth.Depth.{Depth}
 use Rattle.run_lengths.specs.RunLength as runs
@@ -49,6 +49,15 @@ after_literals (c ∷ cs) rs = onto_runs (runs.Run.Image (c ∷ cs)) rs
 abbrev pub StandAlone : ℕ → List ℕ → List Spot → Type 0
 StandAlone n pixels spots = packed_runs spots ≡ after_literals (take n pixels) (packed_runs (drop n spots))
 
+-- the bytes of the runs of a stretch from a place on
+abbrev pub bytes_from : Depth → ℕ → List Spot → List ℕ
+bytes_from depth at spots = flat_map (run_bytes depth) (packed_runs (drop at spots))
+
+-- what was written goes on to a place of a stretch with just the bytes that it went on with before, from a place that is no later
+pub record IsPackedTo (depth : Depth) (spots : List Spot) (from : ℕ) (old new : List ℕ) (to : ℕ) : Type 0 where
+  pub packed : new ++ bytes_from depth to spots ≡ old ++ bytes_from depth from spots
+  pub forward : from ≤ to
+
 -- a run starts a stretch: its first pixel is background, or the next one has its colour
 abbrev pub StartsRun : List ℕ → List Spot → Type 0
 StartsRun pixels spots = background_count spots ≡ 0 → 2 ≤ leading (slice_index pixels 0) pixels
@@ -57,10 +66,14 @@ StartsRun pixels spots = background_count spots ≡ 0 → 2 ≤ leading (slice_i
 abbrev pub run_there : ℕ → List Spot → runs.Run
 run_there color spots = chosen_run (background_count spots) (color_count color spots) color
 
+-- a piece of this colour as a run
+abbrev pub piece_run : ℕ → Piece → runs.Run
+piece_run color (Background n) = runs.Run.Background n
+piece_run color (Color n) = runs.Run.Color n color
+
 -- a piece is what is packed first of the pixels of a stretch
 abbrev pub IsFirst : Piece → List ℕ → List Spot → Type 0
-IsFirst (Background n) pixels spots = runs.Run.Background n ≡ run_there (slice_index pixels 0) spots
-IsFirst (Color n) pixels spots = runs.Run.Color n (slice_index pixels 0) ≡ run_there (slice_index pixels 0) spots
+IsFirst piece pixels spots = piece_run (slice_index pixels 0) piece ≡ run_there (slice_index pixels 0) spots
 
 -- the bytes of pixels that stand for themselves
 abbrev pub literal_bytes : Depth → List ℕ → List ℕ

@@ -19,6 +19,9 @@ pub enum Packed {
     Raw,
 }
 
+/// The most bytes that are written behind an order and dropped.
+const BEHIND: usize = 12;
+
 /// Packs pixels in rows of `w`, the bottom row first, each below 2^24 as 65536 * red + 256 * green + blue (profile).
 pub fn pack(alloc: Global, pixels: &[u32], w: usize) -> Result<Packed, OutOfMemory>
     requires wide { 1 ≤ w }
@@ -45,8 +48,8 @@ pub fn pack_at(alloc: Global, pixels: &[u32], w: usize, depth: Depth) -> Result<
     ensures bound { IfOk result (IsBounded depth w pixels.now) }
 {
     let raw = bytes_in(depth) * pixels.len();
-    // What is packed finds room there; only pixels that go raw may ask for more.
-    let mut out = Vec::with_capacity(alloc, raw)?;
+    // What is packed finds room there, with what is written behind it and dropped; only pixels that go raw may ask for more.
+    let mut out = Vec::with_capacity(alloc, raw + BEHIND)?;
     let (first, rest) = pixels.split_at(w);
     pack_stretch(&mut out, first, None, depth)?;
     pack_stretch(&mut out, rest, Some(pixels), depth)?;

@@ -3,6 +3,7 @@ ghost use Rattle.std.specs.Prelude.{◌≡◌, ◌<◌, ◌≤◌, IsFalse, IsTr
 ghost use Rattle.run_lengths.specs.Packer.{background_count};
 ghost use Rattle.rle_enc.specs.Stretch.{HasRow, IsFirst, StandAlone, StandsIn, StartsRun, dropped, leading, piece_size, row_of, spots_of};
 
+use crate::words::{WORD, Words};
 use lane_rop::{back_run, same_run};
 
 /// A run that is packed as one.
@@ -99,7 +100,47 @@ pub fn count_alone(pixels: &[u32], aboves: Option<&[u32]>) -> usize
 {
     let mut n = 0;
     while n < pixels.len() && is_alone(&pixels[n..], rows_from(aboves, n)) {
-        n += 1;
+        n = count_alone_past(pixels, aboves, n + 1);
+    }
+    n
+}
+
+/// Some that are neither, where so many are known to be: those and more, by words, where the known are near ones.
+#[inline(always)]
+fn count_alone_past(pixels: &[u32], aboves: Option<&[u32]>, known: usize) -> usize
+    requires row { HasRow aboves pixels.now }
+    requires within { known ≤ length pixels.now }
+    requires alone { StandAlone known pixels.now (spots_of aboves pixels.now) }
+    ensures alone { StandAlone result pixels.now (spots_of aboves.entry pixels.now) }
+    ensures within { result ≤ length pixels.now }
+    ensures past { known ≤ result }
+{
+    if known != NEAR {
+        return known;
+    }
+    match aboves {
+        Some(row) => count_alone_far(pixels, row, known),
+        None => known,
+    }
+}
+
+/// The same by the pixels one row earlier, until a word tells of a run.
+#[inline(never)]
+fn count_alone_far(pixels: &[u32], row: &[u32], known: usize) -> usize
+    requires row { length pixels.now ≤ length row.now }
+    requires within { known ≤ length pixels.now }
+    requires alone { StandAlone known pixels.now (zip pixels.now row.now) }
+    ensures alone { StandAlone result pixels.now (zip pixels.now row.now) }
+    ensures within { result ≤ length pixels.now }
+    ensures past { known ≤ result }
+{
+    let mut n = known;
+    while pixels.len() - n > WORD {
+        let more = Words::new(&pixels[n..], &row[n..]).alone();
+        n += more;
+        if more < WORD {
+            return n;
+        }
     }
     n
 }

@@ -5,6 +5,7 @@ mod bitmap;
 mod counts;
 mod orders;
 mod stretch;
+mod words;
 
 pub use bitmap::{Packed, pack, pack_at};
 pub use wire_num::OutOfMemory;

@@ -1,12 +1,14 @@
 //! Writes the orders of the packer: background runs, colour runs and colour images.
-ghost use Rattle.std.specs.Prelude.{◌≡◌, ◌/◌, ◌%◌, ◌<◌, ◌≤◌, [], ◌∷◌, ◌++◌, OnOk, length};
+ghost use Rattle.std.specs.Prelude.{◌≡◌, ◌/◌, ◌%◌, ◌<◌, ◌≤◌, [], ◌∷◌, ◌++◌, OnOk, length, take};
 ghost use Rattle.run_lengths.specs.Packer.{length_bytes, run_bytes};
+ghost use Rattle.px_core.specs.declared.depth.Depth.TheVariants.{Bits24};
 ghost use Rattle.px_core.specs.Pixels.{pixel_bytes, pixels_bytes};
 ghost use Rattle.rle_enc.specs.Stretch.{literal_bytes};
 ghost use Rattle.run_lengths.specs.RunLength as runs;
 
 use px_core::Depth;
 use std::alloc::AllocError;
+use std::simd::prelude::*;
 
 const BACKGROUND_RUN: u8 = 0x00;
 
@@ -24,6 +26,15 @@ const LONG_COLOR_IMAGE: u8 = 0xF4;
 const NEXT_BYTE: usize = 32;
 
 const NEXT_TWO_BYTES: usize = 288;
+
+/// How many pixels are read at once.
+const FOUR: usize = 4;
+
+/// The places of the lowest three bytes of each of four words, and four places more.
+const LOWEST_THREE: [usize; 16] = [0, 1, 2, 4, 5, 6, 8, 9, 10, 12, 13, 14, 0, 0, 0, 0];
+
+/// The same behind a first place, and three places more.
+const BEHIND_ONE: [usize; 16] = [0, 0, 1, 2, 4, 5, 6, 8, 9, 10, 12, 13, 14, 0, 0, 0];
 
 /// A code and a length, in the shortest of its three forms.
 #[inline(always)]
@@ -75,6 +86,7 @@ fn third_byte(color: u32) -> u8
 }
 
 /// A pixel.
+#[inline(always)]
 fn write_pixel(out: &mut Vec<u8>, color: u32, depth: Depth) -> Result<(), AllocError>
     ensures { OnOk result (out.new.items ≡ out.old.items ++ pixel_bytes depth color) }
 {
@@ -87,6 +99,7 @@ fn write_pixel(out: &mut Vec<u8>, color: u32, depth: Depth) -> Result<(), AllocE
 }
 
 /// A code and a pixel.
+#[inline(always)]
 fn write_coded(out: &mut Vec<u8>, code: u8, color: u32, depth: Depth) -> Result<(), AllocError>
     ensures { OnOk result (out.new.items ≡ out.old.items ++ code ∷ pixel_bytes depth color) }
 {
@@ -102,6 +115,7 @@ fn write_coded(out: &mut Vec<u8>, code: u8, color: u32, depth: Depth) -> Result<
 }
 
 /// A background run, which is the same at each depth.
+#[inline(always)]
 pub fn write_background(out: &mut Vec<u8>, n: usize) -> Result<(), AllocError>
     requires { n < 65536 }
     ensures { OnOk result (out.new.items ≡ out.old.items ++ length_bytes 0x00 0xF0 n) }
@@ -110,6 +124,7 @@ pub fn write_background(out: &mut Vec<u8>, n: usize) -> Result<(), AllocError>
 }
 
 /// A colour run.
+#[inline(always)]
 pub fn write_color(out: &mut Vec<u8>, n: usize, color: u32, depth: Depth) -> Result<(), AllocError>
     requires { n < 65536 }
     ensures { OnOk result (out.new.items ≡ out.old.items ++ run_bytes depth (runs.Run.Color n color)) }
@@ -122,6 +137,7 @@ pub fn write_color(out: &mut Vec<u8>, n: usize, color: u32, depth: Depth) -> Res
 }
 
 /// A colour image of pixels, or nothing where there are none; one of few pixels, as most are, is appended at once.
+#[inline(always)]
 pub fn write_literals(out: &mut Vec<u8>, pixels: &[u32], depth: Depth) -> Result<(), AllocError>
     requires { length pixels.now < 65536 }
     ensures { OnOk result (out.new.items ≡ out.old.items ++ literal_bytes depth pixels.now) }
@@ -135,7 +151,66 @@ pub fn write_literals(out: &mut Vec<u8>, pixels: &[u32], depth: Depth) -> Result
     }
 }
 
+/// The same of the first pixels of a slice of four at least, so many.
+#[inline(always)]
+pub fn write_first(
+    out: &mut Vec<u8>,
+    pixels: &[u32],
+    n: usize,
+    depth: Depth,
+) -> Result<(), AllocError>
+    requires within { n ≤ length pixels.now }
+    requires four { 4 ≤ length pixels.now }
+    requires few { length pixels.now < 65536 }
+    ensures { OnOk result (out.new.items ≡ out.old.items ++ literal_bytes depth (take n pixels.now)) }
+{
+    if n == 0 {
+        return Ok(());
+    }
+    match depth {
+        Depth::Bits24 => write_colors(out, pixels, n),
+        Depth::Bits16 => write_literals(out, &pixels[..n], depth),
+    }
+}
+
+/// The same of 24 bits, where there are any.
+#[inline(always)]
+fn write_colors(out: &mut Vec<u8>, pixels: &[u32], n: usize) -> Result<(), AllocError>
+    requires some { 1 ≤ n }
+    requires within { n ≤ length pixels.now }
+    requires four { 4 ≤ length pixels.now }
+    requires few { length pixels.now < 65536 }
+    ensures { OnOk result (out.new.items ≡ out.old.items ++ literal_bytes Bits24 (take n pixels.now)) }
+{
+    if n <= FOUR {
+        write_some_of_four(out, pixels, n)
+    } else {
+        write_image(out, &pixels[..n], Depth::Bits24)
+    }
+}
+
+/// The same of four at most: the bytes of all four are written, and what is too much is dropped.
+#[inline(always)]
+fn write_some_of_four(out: &mut Vec<u8>, pixels: &[u32], n: usize) -> Result<(), AllocError>
+    requires some { 1 ≤ n }
+    requires few { n ≤ 4 }
+    requires four { 4 ≤ length pixels.now }
+    ensures { OnOk result (out.new.items ≡ out.old.items ++ literal_bytes Bits24 (take n pixels.now)) }
+{
+    let coded = coded_lowest_three(
+        COLOR_IMAGE + n as u8,
+        pixels[0],
+        pixels[1],
+        pixels[2],
+        pixels[3],
+    );
+    out.extend_from_slice(&coded)?;
+    out.truncate(out.len() - (15 - 3 * n));
+    Ok(())
+}
+
 /// A colour image of two pixels.
+#[inline(always)]
 fn write_two(out: &mut Vec<u8>, a: u32, b: u32, depth: Depth) -> Result<(), AllocError>
     ensures { OnOk result (out.new.items ≡ out.old.items ++ literal_bytes depth (a ∷ b ∷ [])) }
 {
@@ -160,6 +235,7 @@ fn write_two(out: &mut Vec<u8>, a: u32, b: u32, depth: Depth) -> Result<(), Allo
 }
 
 /// A colour image of three pixels.
+#[inline(always)]
 fn write_three(out: &mut Vec<u8>, a: u32, b: u32, c: u32, depth: Depth) -> Result<(), AllocError>
     ensures { OnOk result (out.new.items ≡ out.old.items ++ literal_bytes depth (a ∷ b ∷ c ∷ [])) }
 {
@@ -233,20 +309,7 @@ fn write_four(
     ensures { OnOk result (out.new.items ≡ out.old.items ++ (pixel_bytes depth a ++ pixel_bytes depth b ++ pixel_bytes depth c ++ pixel_bytes depth d)) }
 {
     match depth {
-        Depth::Bits24 => out.extend_from_slice(&[
-            first_byte(a),
-            second_byte(a),
-            third_byte(a),
-            first_byte(b),
-            second_byte(b),
-            third_byte(b),
-            first_byte(c),
-            second_byte(c),
-            third_byte(c),
-            first_byte(d),
-            second_byte(d),
-            third_byte(d),
-        ]),
+        Depth::Bits24 => out.extend_from_slice(&lowest_three(a, b, c, d)[..12]),
         Depth::Bits16 => out.extend_from_slice(&[
             first_byte(a),
             second_byte(a),
@@ -258,4 +321,33 @@ fn write_four(
             second_byte(d),
         ]),
     }
+}
+
+/// A code and the bytes of four pixels of 24 bits, and three bytes more.
+#[inline(always)]
+fn coded_lowest_three(code: u8, a: u32, b: u32, c: u32, d: u32) -> [u8; 16]
+    ensures long { length result ≡ 16 }
+    ensures bytes { take 13 result ≡ code ∷ (pixel_bytes Bits24 a ++ pixel_bytes Bits24 b ++ pixel_bytes Bits24 c ++ pixel_bytes Bits24 d) }
+{
+    let mut bytes = [0; 16];
+    u32x4::from_array([a, b, c, d])
+        .to_le_bytes()
+        .swizzle(BEHIND_ONE)
+        .copy_to_slice(&mut bytes);
+    bytes[0] = code;
+    bytes
+}
+
+/// The bytes of four pixels of 24 bits, and four bytes more.
+#[inline(always)]
+fn lowest_three(a: u32, b: u32, c: u32, d: u32) -> [u8; 16]
+    ensures long { length result ≡ 16 }
+    ensures bytes { take 12 result ≡ pixel_bytes Bits24 a ++ pixel_bytes Bits24 b ++ pixel_bytes Bits24 c ++ pixel_bytes Bits24 d }
+{
+    let mut bytes = [0; 16];
+    u32x4::from_array([a, b, c, d])
+        .to_le_bytes()
+        .swizzle(LOWEST_THREE)
+        .copy_to_slice(&mut bytes);
+    bytes
 }
