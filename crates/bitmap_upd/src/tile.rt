@@ -1,13 +1,13 @@
 //! The body of a Bitmap update of one rectangle ([MS-RDPBCGR] 2.2.9.1.1.3.1.2): what `head` has, and the pixels from the bottom row up, packed or as they are.
 
-ghost use Rattle.std.specs.Prelude.{◌≡◌, ◌≤◌, ◌*◌, ◌++◌, [], length, List, ℕ, IfOk, OnOk, OnErr, IsTrue};
+ghost use Rattle.std.specs.Prelude.{◌≡◌, ◌≤◌, ◌*◌, ◌++◌, [], length, List, ℕ, option_copied, option_map, IfOk, OnOk, OnErr, IsTrue};
 ghost use Rattle.wire_num.specs.Written.{AppendsFront};
 ghost use Rattle.px_core.specs.declared.depth.Depth.TheVariants.{Bits24};
 ghost use Rattle.px_core.specs.Colors.{are_colors};
 ghost use Rattle.px_core.specs.Depth.{bytes_in, shown_colors};
 ghost use Rattle.px_core.specs.Pixels.{pixels_bytes};
 ghost use Rattle.order_means.specs.WirePixels.{data_of, turned_over};
-ghost use Rattle.bitmap_upd.specs.Packed.{data_with};
+ghost use Rattle.bitmap_upd.specs.Packed.{data_given, IsTilePacked};
 ghost use Rattle.order_means.specs.UpdateBodies.{tile_body};
 ghost use Rattle.bitmap_upd.specs.Place.{IsUpdated};
 
@@ -18,7 +18,7 @@ use std::alloc::Global;
 use std::marker::Model;
 
 /// The packed pixels of a tile, whose colours go row by row from the top and are shown at a depth; `None` where they go as they are.
-fn packed_tile(
+pub fn packed_tile(
     alloc: Global,
     pixels: &[u32],
     w: usize,
@@ -32,8 +32,7 @@ fn packed_tile(
     requires low { h ≤ 64 }
     requires number { length pixels.now ≡ w * h }
     requires colors { IsTrue (are_colors pixels.now) }
-    ensures value { IfOk result (λ packed. data_with packed (pixels_bytes depth (shown_colors depth (turned_over w h pixels.now))) ≡ data_of depth no_header w (shown_colors depth (turned_over w h pixels.now))) }
-    ensures bound { IfOk result (λ packed. length (data_with packed []).bytes ≤ 12288) }
+    ensures { IfOk result (λ packed. IsTilePacked depth no_header w h pixels.now (option_map (λ bytes. bytes.items) packed)) }
 {
     if !no_header {
         return Ok(None);
@@ -43,7 +42,7 @@ fn packed_tile(
 }
 
 /// The body of a Bitmap update of one rectangle at a depth, before it is written: what stands before the pixels, the session's pixels row
-/// by row from the top, and their packed bytes, where they go packed.
+/// by row from the top, and their packed bytes, where they go packed. All but what stands before them it borrows.
 #[derive(Drop)]
 pub struct TileBody<'a> {
     head: [u8; 22],
@@ -51,41 +50,39 @@ pub struct TileBody<'a> {
     w: usize,
     h: usize,
     depth: Depth,
-    packed: Option<Vec<u8>>,
+    packed: Option<&'a [u8]>,
 }
 
 impl<'a> Model for TileBody<'a> {
-    ghost use Rattle.std.specs.Prelude.{◌≡◌, ◌≤◌, ◌*◌, ◌++◌, List, [], ℕ, length};
+    ghost use Rattle.std.specs.Prelude.{◌≡◌, ◌≤◌, ◌*◌, ◌++◌, List, [], ℕ, length, option_copied};
     ghost use Rattle.px_core.specs.Depth.{shown_colors};
     ghost use Rattle.px_core.specs.Pixels.{pixels_bytes};
     ghost use Rattle.order_means.specs.WirePixels.{turned_over};
-    ghost use Rattle.bitmap_upd.specs.Packed.{data_with};
+    ghost use Rattle.bitmap_upd.specs.Packed.{data_given};
 
     ghost Value = { List ℕ };
 
-    ghost view = { λ s. s.head ++ (data_with s.packed (pixels_bytes s.depth (shown_colors s.depth (turned_over s.w s.h s.pixels.now)))).bytes };
+    ghost view = { λ s. s.head ++ (data_given (option_copied s.packed) (pixels_bytes s.depth (shown_colors s.depth (turned_over s.w s.h s.pixels.now)))).bytes };
 
-    ghost invariant = { λ s. (length s.head ≡ 22) × (length s.pixels.now ≡ s.w * s.h) × (length s.pixels.now ≤ 4096) × (length (data_with s.packed []).bytes ≤ 12288) };
+    ghost invariant = { λ s. (length s.head ≡ 22) × (length s.pixels.now ≡ s.w * s.h) × (length s.pixels.now ≤ 4096) × (length (data_given (option_copied s.packed) []).bytes ≤ 12288) };
 }
 
 impl<'a> TileBody<'a> {
-    /// The body of a rectangle's pixels, which go row by row from the top and are shown at a depth; `no_header` says whether the viewer
-    /// takes packed pixels without a header.
-    pub fn new(
-        alloc: Global,
+    /// The body of a rectangle's colours, which go row by row from the top and are shown at a depth, and of the packed bytes that they go as,
+    /// where they go packed.
+    pub fn of(
         r: Rect,
         pixels: &'a [u32],
+        packed: Option<&'a [u8]>,
         no_header: bool,
         depth: Depth,
-    ) -> Result<TileBody<'a>, OutOfMemory>
+    ) -> TileBody<'a>
         requires place { IsUpdated r }
         requires number { length pixels.now ≡ r.w * r.h }
-        requires colors { IsTrue (are_colors pixels.now) }
-        ensures { IfOk result (λ body. body ≡ tile_body depth no_header r pixels.now) }
+        requires packed { IsTilePacked depth no_header r.w r.h pixels.now (option_copied packed) }
+        ensures { result ≡ tile_body depth no_header r pixels.now }
     {
-        let (w, h) = (r.w as usize, r.h as usize);
-        let packed = packed_tile(alloc, pixels, w, h, no_header, depth)?;
-        let size = bytes_of(&packed, pixels.len(), depth);
+        let size = bytes_of(packed, pixels.len(), depth);
         let head = tile_head(
             place(r.x),
             place(r.y),
@@ -95,21 +92,21 @@ impl<'a> TileBody<'a> {
             size,
             depth,
         );
-        Ok(TileBody {
+        TileBody {
             head,
             pixels,
-            w,
-            h,
+            w: r.w as usize,
+            h: r.h as usize,
             depth,
             packed,
-        })
+        }
     }
 
     /// How many bytes it has.
     pub fn size(&self) -> u16
         ensures { result ≡ length self.now }
     {
-        self.head.len() as u16 + bytes_of(&self.packed, self.pixels.len(), self.depth)
+        self.head.len() as u16 + bytes_of(self.packed, self.pixels.len(), self.depth)
     }
 
     /// Writes it at the end. An `Err` is want of memory and leaves a front of the body there.
@@ -117,8 +114,8 @@ impl<'a> TileBody<'a> {
         ensures ok { OnOk result (out.new.items ≡ out.old.items ++ self.now) }
         ensures memory { OnErr result (AppendsFront out.old.items self.now out.new.items) }
     {
-        match &self.packed {
-            Some(bytes) => put_both(out, &self.head, bytes.as_slice()),
+        match self.packed {
+            Some(bytes) => put_both(out, &self.head, bytes),
             None => put_raw(out, &self.head, self.pixels, self.w, self.h, self.depth),
         }
     }
@@ -162,15 +159,16 @@ pub fn write_tile_at(
     ensures ok { OnOk result (out.new.items ≡ out.old.items ++ tile_body depth no_header r pixels.now) }
     ensures memory { OnErr result (AppendsFront out.old.items (tile_body depth no_header r pixels.now) out.new.items) }
 {
-    let body = TileBody::new(alloc, r, pixels, no_header, depth)?;
+    let packed = packed_tile(alloc, pixels, r.w as usize, r.h as usize, no_header, depth)?;
+    let body = TileBody::of(r, pixels, packed.as_deref(), no_header, depth);
     body.put(out)
 }
 
 /// How many bytes so many pixels of a depth go as, of which the packed bytes may be there.
-fn bytes_of(packed: &Option<Vec<u8>>, pixels: usize, depth: Depth) -> u16
+fn bytes_of(packed: Option<&[u8]>, pixels: usize, depth: Depth) -> u16
     requires few { pixels ≤ 4096 }
-    requires short { length (data_with packed.now []).bytes ≤ 12288 }
-    ensures value { (raw : List ℕ) → length raw ≡ bytes_in depth * pixels → result ≡ length (data_with packed.now raw).bytes }
+    requires short { length (data_given (option_copied packed) []).bytes ≤ 12288 }
+    ensures value { (raw : List ℕ) → length raw ≡ bytes_in depth * pixels → result ≡ length (data_given (option_copied packed.entry) raw).bytes }
     ensures bound { result ≤ 12288 }
 {
     match packed {
