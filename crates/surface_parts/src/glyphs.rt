@@ -31,7 +31,7 @@ pub struct Bits<'a> {
 }
 
 /// Gives the pixels of a part one colour whose bit is one.
-fn draw_bits(pixels: &mut [u32], size: Size, part: Part, bits: Bits, color: u32)
+pub fn draw_bits(pixels: &mut [u32], size: Size, part: Part, bits: Bits, color: u32)
     requires canvas { IsCanvas size pixels.old }
     requires inside { IsInside size part }
     requires bits { HasBits part bits }

@@ -24,7 +24,7 @@ mod window;
 
 pub use block::{Block, black_pixels};
 pub use fault::DrawFault;
-pub use glyphs::{Bits, cell_of, draw_bit_row, draw_glyph};
+pub use glyphs::{Bits, cell_of, draw_bit_row, draw_bits, draw_glyph};
 pub use line::{Course, Dot, Ends, course_of, distance, draw_course, draw_line, risen, towards};
 pub use loaded_brush::LoadedBrush;
 pub use loaded_glyph::LoadedGlyph;

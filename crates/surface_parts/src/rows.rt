@@ -7,6 +7,7 @@ ghost use Rattle.surface_parts.specs.Textures.{texture_color, CoversPart};
 use crate::OutOfMemory;
 use crate::part::{Part, part_of};
 use crate::texture::Texture;
+use lane_rop::copy_lanes;
 use px_core::{Rect, Size};
 use std::alloc::Global;
 
@@ -36,7 +37,10 @@ pub fn paste_part(pixels: &mut [u32], size: Size, part: Part, texture: Texture)
     for y in part.y..part.y + part.h {
         let at = width * y + part.x;
         let from = texture.w * (texture.y + (y - part.y)) + texture.x;
-        pixels[at..at + part.w].copy_from_slice(&texture.pixels[from..from + part.w]);
+        copy_lanes(
+            &texture.pixels[from..from + part.w],
+            &mut pixels[at..at + part.w],
+        );
     }
 }
 

@@ -1,8 +1,10 @@
 pub mod Tiled
 pub mod Owning
 pub mod Writings
+pub mod Pasted
 pub mod Filled
 pub mod Changed
+pub mod Pieces
 pub mod Readings
 pub mod RowByRow
 pub mod Lending

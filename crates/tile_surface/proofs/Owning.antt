@@ -1,12 +1,13 @@
 -- What stays the surface's own, and what a drawing leaves.
-use Rattle.std.proofs.Common.{◌≡◌, ℕ, ◌+◌, ◌<◌, ◌≤◌, List, length, map, set, refl, sym, subst, ◌∙◌, arith, inl, inr, true}
+use Rattle.std.proofs.Common.{◌≡◌, ℕ, ◌+◌, ◌<◌, ◌≤◌, List, length, get_or, map, set, refl, sym, subst, ◌∙◌, arith, inl, inr, true}
 use Rattle.std.specs.Prelude.{pos}
-use Rattle.std.proofs.lemmas.List.{length-set, get_or-set_other, set_past}
+use Rattle.std.proofs.lemmas.List.{length-set, get_or-set_other, get_or_default, set_past}
 use Rattle.std.proofs.lemmas.Grind.{get_or-set_at}
 use Rattle.std.proofs.lemmas.Bool.{cases_eq, cases_lt}
 use Rattle.std.proofs.lemmas.Bool.Decides.{nat_tests}
 use Rattle.px_core.specs.declared.surface.Size.{Size}
 use Rattle.px_core.specs.Picture.{Area}
+use Rattle.px_core.specs.Tiles.{tile_number}
 use Rattle.surface_parts.specs.declared.part.Part.{Part}
 use Rattle.surface_parts.specs.Parts.{in_part, part_at, IsInside}
 use Rattle.tile_surface.specs.declared.cell.Cell.{Cell}
@@ -74,6 +75,11 @@ owns_row cells part y low high owns = record { own = λ u v is. owns.own u v (in
   where
     inside : (u v : ℕ) → in_part (part_at part.x y part.w 1) u v ≡ true → in_part part u v ≡ true
     inside u v is = grind (arith, nat_tests, is, low, high)
+
+-- the tile of a pixel of such a part, as it was read from the cells
+pub owns_there : (old cur : List Cell) (other : Cell) (part : Part) (x y tile : ℕ) → StaysOwn old cur → OwnsPart old part → tile ≡ tile_number x y → tile < length cur → in_part part x y ≡ true → IsOwn (get_or cur tile other)
+owns_there old cur other part x y tile stays owns is below inside =
+    subst IsOwn (sym (get_or_default cur tile other Blank below)) (subst (λ (t : ℕ). IsOwn (cell_at cur t)) (sym is) (stays.own (tile_number x y) (owns.own x y inside)))
 
 -- the pixels past the picture stay black
 pub black_still : (size : Size) (old new : List Cell) → KeepsRest size old new → IsBlackPast size old → IsBlackPast size new

@@ -1,6 +1,5 @@
 -- Pictures that are kept as tiles of 64 by 64 pixels, each in a cell of its own.
 use Rattle.std.specs.Prelude.{◌≡◌, ℕ, ◌/◌, ◌%◌, List, length, get_or, replicate}
-use Rattle.std.specs.Arc.{arc_value}
 use Rattle.px_core.specs.declared.surface.Size.{Size}
 use Rattle.px_core.specs.Picture.{listed, pixel_at, pixel_count}
 use Rattle.px_core.specs.Tiles.{tile_number}
@@ -16,7 +15,7 @@ tile_sides = record { w = 64; h = 64 }
 abbrev pub cell_pixels : Cell → List ℕ
 cell_pixels Blank = replicate 4096 0
 cell_pixels (Own tile) = tile
-cell_pixels (Shared shared) = arc_value shared
+cell_pixels (Shared lent) = lent
 
 -- the cell of a tile; past the last one a blank cell
 abbrev pub cell_at : List Cell → ℕ → Cell

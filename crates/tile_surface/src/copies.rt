@@ -1,5 +1,5 @@
 //! Copies within the picture, row by row, on tiles that are the surface's own.
-ghost use Rattle.std.specs.Prelude.{◌≡◌, ℕ, ◌+◌, ◌<◌, ◌≤◌, None, length, IsTrue};
+ghost use Rattle.std.specs.Prelude.{◌≡◌, ℕ, ◌+◌, ◌*◌, ◌<◌, ◌≤◌, None, length, IsTrue};
 ghost use Rattle.px_core.specs.Colors.{are_colors};
 ghost use Rattle.px_core.specs.Picture.{both, rows_of};
 ghost use Rattle.px_core.specs.Rectangle.{in_clip, in_rect, boxed, is_inside, IsPlaced};
@@ -15,9 +15,16 @@ ghost use Rattle.tile_surface.specs.Rows.{HasColoredPixels};
 ghost use Rattle.tile_surface.specs.Ownership.{KeepsRest, OwnsArea, OwnsPart};
 
 use crate::cell::Cell;
-use crate::rows::{mix_row, read_row};
+use crate::cuts::cut_part;
+use crate::mixes::blend_part;
+use crate::pastes::paste_part;
+use crate::rows::{SRCCOPY, mix_row, read_row};
+use crate::tile::TILE_SIDE;
 use px_core::{Rect, Size};
-use surface_parts::{Part, PictureCopy, Window, ready_pattern, source_place, visible};
+use surface_parts::{Part, PictureCopy, Texture, Window, ready_pattern, source_place, visible};
+
+/// The most pixels that are read at once, which one row for an operand has room for.
+const FEW: usize = 2_048;
 
 /// The raster operation of a code on a rectangle, with the picture itself, from (sx, sy) on, as its source. The two rows are for the
 /// operands of one row.
@@ -50,22 +57,115 @@ pub(crate) fn copy_rect(
                 x: source_place(part.x, rect.x, sx),
                 y: source_place(part.y, rect.y, sy),
             };
-            copy_part(
-                cells,
-                window.size,
-                part,
-                copy,
-                &mut pattern[..part.w],
-                &mut source[..part.w],
-            )
+            copy_part(cells, window.size, part, copy, pattern, source)
         }
     }
+}
+
+/// Makes each pixel of a part what a raster operation makes of it. The two rows are for its operands.
+///
+/// A few pixels are read at once, and then written tile by tile.
+fn copy_part(
+    cells: &mut [Cell],
+    size: Size,
+    part: Part,
+    copy: PictureCopy,
+    pattern: &mut [u32],
+    source: &mut [u32],
+)
+    requires tiled { IsTiled size cells.old }
+    requires colors { HasColoredPixels size (picture_of size cells.old) }
+    requires inside { IsInside size part }
+    requires from { IsSourceInside size part copy }
+    requires own { OwnsPart cells.old part }
+    requires pattern { 2048 ≤ length pattern.old }
+    requires source { 2048 ≤ length source.old }
+    ensures painted { IsRepainted size (in_part part) (copied_color size (picture_of size cells.old) part copy) (picture_of size cells.old) (picture_of size cells.new) }
+    ensures kept { KeepsRest size cells.old cells.new }
+{
+    let count = part.w * part.h;
+    if count > FEW {
+        copy_rows(
+            cells,
+            size,
+            part,
+            copy,
+            &mut pattern[..part.w],
+            &mut source[..part.w],
+        )
+    } else if copy.rop == SRCCOPY {
+        copy_few(cells, size, part, copy, &mut source[..count])
+    } else {
+        mix_few(cells, size, part, copy, pattern, &mut source[..count])
+    }
+}
+
+/// Copies the pixels of a part, all of which are read, into a list of as many, before any is written.
+fn copy_few(cells: &mut [Cell], size: Size, part: Part, copy: PictureCopy, read: &mut [u32])
+    requires tiled { IsTiled size cells.old }
+    requires colors { HasColoredPixels size (picture_of size cells.old) }
+    requires inside { IsInside size part }
+    requires from { IsSourceInside size part copy }
+    requires code { copy.rop ≡ 0xCC }
+    requires own { OwnsPart cells.old part }
+    requires room { length read.old ≡ part.w * part.h }
+    ensures painted { IsRepainted size (in_part part) (copied_color size (picture_of size cells.old) part copy) (picture_of size cells.old) (picture_of size cells.new) }
+    ensures kept { KeepsRest size cells.old cells.new }
+{
+    let from = Part {
+        x: copy.x,
+        y: copy.y,
+        ..part
+    };
+    cut_part(cells, size, from, read);
+    let texture = Texture {
+        pixels: read,
+        w: part.w,
+        x: 0,
+        y: 0,
+    };
+    paste_part(cells, size, part, texture);
+}
+
+/// Makes each pixel of a part what a raster operation makes of it, where all pixels of its source are read, into a list of as many, before
+/// any is written. The row is for the operands of one row of a tile.
+fn mix_few(
+    cells: &mut [Cell],
+    size: Size,
+    part: Part,
+    copy: PictureCopy,
+    row: &mut [u32],
+    read: &mut [u32],
+)
+    requires tiled { IsTiled size cells.old }
+    requires inside { IsInside size part }
+    requires from { IsSourceInside size part copy }
+    requires own { OwnsPart cells.old part }
+    requires row { 2048 ≤ length row.old }
+    requires room { length read.old ≡ part.w * part.h }
+    ensures painted { IsRepainted size (in_part part) (copied_color size (picture_of size cells.old) part copy) (picture_of size cells.old) (picture_of size cells.new) }
+    ensures kept { KeepsRest size cells.old cells.new }
+{
+    let from = Part {
+        x: copy.x,
+        y: copy.y,
+        ..part
+    };
+    cut_part(cells, size, from, read);
+    let texture = Texture {
+        pixels: read,
+        w: part.w,
+        x: 0,
+        y: 0,
+    };
+    let (pattern, source) = row.split_at_mut(TILE_SIDE);
+    blend_part(cells, size, part, copy.rop, None, texture, pattern, source);
 }
 
 /// Makes each pixel of a part what a raster operation makes of it. Two rows of the part's width are for the operands of one row.
 ///
 /// Where the source lies above the part, the lowest row goes first, so that no row is read after it was painted.
-fn copy_part(
+fn copy_rows(
     cells: &mut [Cell],
     size: Size,
     part: Part,

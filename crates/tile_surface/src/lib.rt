@@ -6,13 +6,19 @@
 
 mod cell;
 mod copies;
+mod cuts;
 mod draw;
 mod draw_all;
 mod fills;
+mod inks;
+mod lent;
 mod lines;
+mod mixes;
 mod own;
 mod own_all;
+mod packed;
 mod paint;
+mod pastes;
 mod rects;
 mod rows;
 mod saves;
@@ -20,6 +26,8 @@ mod texts;
 mod tile;
 mod tiles;
 
+pub use lent::LentTile;
+pub use packed::PackedTile;
 pub use surface_parts::{DrawFault, LoadedBrush, LoadedGlyph, LoadedImage};
 pub use tile::Tile;
 pub use tiles::Tiles;

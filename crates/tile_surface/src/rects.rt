@@ -15,7 +15,9 @@ ghost use Rattle.tile_surface.specs.Ownership.{KeepsRest, OwnsArea, OwnsPart};
 
 use crate::cell::Cell;
 use crate::fills::fill_part;
-use crate::rows::{mix_row, write_row};
+use crate::mixes::blend_part;
+use crate::pastes::paste_part;
+use crate::rows::{SRCCOPY, mix_row};
 use draw_ops::Image;
 use px_core::{Rect, Size};
 use surface_parts::{
@@ -68,14 +70,7 @@ pub(crate) fn mix_rect(
                 brush: blend.brush,
                 texture,
             };
-            mix_part(
-                cells,
-                window.size,
-                part,
-                mix,
-                &mut pattern[..part.w],
-                &mut source[..part.w],
-            )
+            mix_part(cells, window.size, part, mix, pattern, source)
         }
     }
 }
@@ -129,23 +124,82 @@ fn paste_block(cells: &mut [Cell], window: Window, block: &Block, x: i32, y: i32
     }
 }
 
-/// Gives every pixel of a part the colour that a texture has for it.
-fn paste_part(cells: &mut [Cell], size: Size, part: Part, texture: Texture)
+/// Makes each pixel of a part what a raster operation makes of it. The two rows are for the operands of one row.
+fn mix_part(
+    cells: &mut [Cell],
+    size: Size,
+    part: Part,
+    mix: Mix,
+    pattern: &mut [u32],
+    source: &mut [u32],
+)
     requires tiled { IsTiled size cells.old }
     requires inside { IsInside size part }
     requires own { OwnsPart cells.old part }
-    requires texture { CoversPart part texture }
-    ensures painted { IsRepainted size (in_part part) (texture_color part texture.entry) (picture_of size cells.old) (picture_of size cells.new) }
+    requires texture { IfSome mix.texture (CoversPart part) }
+    requires brush_colors { (x y : ℕ) → pattern_of (option_copied mix.brush) (pos x) (pos y) < 2 ^ 24 }
+    requires source_colors { (x y : ℕ) → IsTrue (in_part part x y) → source_color part mix.texture x y < 2 ^ 24 }
+    requires pattern { 2048 ≤ length pattern.old }
+    requires source { 2048 ≤ length source.old }
+    ensures painted { IsRepainted size (in_part part) (mixed_color size (picture_of size cells.old) part mix.entry) (picture_of size cells.old) (picture_of size cells.new) }
     ensures kept { KeepsRest size cells.old cells.new }
 {
-    for y in part.y..part.y + part.h {
-        let from = texture.w * (texture.y + (y - part.y)) + texture.x;
-        write_row(cells, size, part.x, y, &texture.pixels[from..from + part.w]);
+    match copied_texture(mix) {
+        None => mix_other(cells, size, part, mix, pattern, source),
+        Some(texture) => paste_part(cells, size, part, texture),
     }
 }
 
-/// Makes each pixel of a part what a raster operation makes of it. Two rows of the part's width are for the operands of one row.
-fn mix_part(
+/// The texture that a raster operation copies, if that is all it does.
+fn copied_texture<'a>(mix: Mix<'a>) -> Option<Texture<'a>>
+    ensures { IfSome result (λ texture. (mix.entry.rop ≡ 0xCC) × (mix.entry.texture ≡ Some texture)) }
+{
+    if mix.rop != SRCCOPY {
+        return None;
+    }
+    match mix.texture {
+        None => None,
+        Some(texture) => Some(texture),
+    }
+}
+
+/// The same of any operation: with a texture tile by tile, else row by row. The two rows are for the operands of one row.
+fn mix_other(
+    cells: &mut [Cell],
+    size: Size,
+    part: Part,
+    mix: Mix,
+    pattern: &mut [u32],
+    source: &mut [u32],
+)
+    requires tiled { IsTiled size cells.old }
+    requires inside { IsInside size part }
+    requires own { OwnsPart cells.old part }
+    requires texture { IfSome mix.texture (CoversPart part) }
+    requires brush_colors { (x y : ℕ) → pattern_of (option_copied mix.brush) (pos x) (pos y) < 2 ^ 24 }
+    requires source_colors { (x y : ℕ) → IsTrue (in_part part x y) → source_color part mix.texture x y < 2 ^ 24 }
+    requires pattern { 2048 ≤ length pattern.old }
+    requires source { 2048 ≤ length source.old }
+    ensures painted { IsRepainted size (in_part part) (mixed_color size (picture_of size cells.old) part mix.entry) (picture_of size cells.old) (picture_of size cells.new) }
+    ensures kept { KeepsRest size cells.old cells.new }
+{
+    match mix.texture {
+        None => mix_rows(
+            cells,
+            size,
+            part,
+            mix,
+            &mut pattern[..part.w],
+            &mut source[..part.w],
+        ),
+        Some(texture) => blend_part(
+            cells, size, part, mix.rop, mix.brush, texture, pattern, source,
+        ),
+    }
+}
+
+/// The same, row by row. Two rows of the part's width are for the operands of one row.
+fn mix_rows(
     cells: &mut [Cell],
     size: Size,
     part: Part,

@@ -5,10 +5,11 @@ ghost use Rattle.px_core.specs.Rectangle.{cut_out, is_inside};
 ghost use Rattle.px_core.specs.Tiles.{tile_number};
 ghost use Rattle.surface_parts.specs.Parts.{in_part, part_at, IsRepainted};
 ghost use Rattle.tile_surface.specs.Cells.{picture_of, IsTiled};
-ghost use Rattle.tile_surface.specs.Rows.{row_inked, row_mixed, IsColored};
+ghost use Rattle.tile_surface.specs.Rows.{row_mixed, IsColored};
 ghost use Rattle.tile_surface.specs.Ownership.{IsOwnAt, KeepsRest, OwnsPart};
 
 use crate::cell::Cell;
+use crate::cuts::cut_part;
 use crate::tile::TILE_SIDE;
 use px_core::{Rect, Size};
 use surface_parts::part_of;
@@ -17,7 +18,7 @@ use surface_parts::part_of;
 pub(crate) const TILES_IN_ROW: usize = px_core::TILES_IN_ROW as usize;
 
 /// `SRCCOPY`: the source.
-const SRCCOPY: u8 = 0xCC;
+pub(crate) const SRCCOPY: u8 = 0xCC;
 
 /// `PATCOPY`: the pattern.
 const PATCOPY: u8 = 0xF0;
@@ -130,36 +131,6 @@ fn mix_tiles(
     }
 }
 
-/// Gives those of n pixels of row y of the picture from column x on a colour whose bit, from a column of the bytes on, is one.
-pub(crate) fn ink_row(
-    cells: &mut [Cell],
-    size: Size,
-    x: usize,
-    y: usize,
-    n: usize,
-    bytes: &[u8],
-    column: usize,
-    color: u32,
-)
-    requires tiled { IsTiled size cells.old }
-    requires columns { x + n ≤ size.w }
-    requires row { y < size.h }
-    requires bits { column + n ≤ 8 * length bytes.now }
-    requires few { length bytes.now ≤ 65536 }
-    requires own { OwnsPart cells.old (part_at x y n 1) }
-    ensures painted { IsRepainted size (in_part (part_at x y n 1)) (row_inked size (picture_of size cells.old) bytes.now column color x) (picture_of size cells.old) (picture_of size cells.new) }
-    ensures kept { KeepsRest size cells.old cells.new }
-{
-    let mut done = 0;
-    while done < n {
-        let left = (x + done) % TILE_SIDE;
-        let few = (TILE_SIDE - left).min(n - done);
-        let tile = tile_number(x + done, y);
-        cells[tile].ink(left, y % TILE_SIDE, few, bytes, column + done, color);
-        done += few;
-    }
-}
-
 /// Gives pixel (x, y) of the picture a colour.
 pub(crate) fn write_dot(cells: &mut [Cell], size: Size, x: usize, y: usize, color: u32)
     requires tiled { IsTiled size cells.old }
@@ -180,9 +151,5 @@ pub(crate) fn cut_rect(cells: &[Cell], size: Size, rect: Rect, out: &mut [u32])
     requires room { length out.old ≡ rect.w * rect.h }
     ensures { out.new ≡ cut_out size (picture_of size cells.now) 0 rect }
 {
-    let part = part_of(size, rect);
-    for row in 0..part.h {
-        let at = part.w * row;
-        read_row(cells, size, part.x, part.y + row, &mut out[at..at + part.w]);
-    }
+    cut_part(cells, size, part_of(size, rect), out);
 }

@@ -6,22 +6,20 @@ ghost use Rattle.rop3_core.specs.Palette.{session_colors};
 ghost use Rattle.draw_ops.specs.Drawing.{writing};
 ghost use Rattle.draw_ops.specs.Fits.{clip_rule, glyph_rule};
 ghost use Rattle.draw_ops.specs.Formulas.{glyph_area, picture_after, solid};
-ghost use Rattle.surface_parts.specs.Bits.{ink_color, HasBits, IsPenNear};
-ghost use Rattle.surface_parts.specs.Parts.{in_part, IsInside, IsRepainted};
+ghost use Rattle.surface_parts.specs.Bits.{IsPenNear};
 ghost use Rattle.surface_parts.specs.Pens.{IsPenAtStart};
 ghost use Rattle.surface_parts.specs.Surfaces.{AllInSlots};
 ghost use Rattle.surface_parts.specs.Texts.{glyphs_held};
 ghost use Rattle.tile_surface.specs.Cells.{cell_pixels, picture_of, IsTiled};
 ghost use Rattle.tile_surface.specs.Needed.{OwnsGlyph, OwnsRun};
-ghost use Rattle.tile_surface.specs.Ownership.{KeepsRest, OwnsPart, StaysOwn};
+ghost use Rattle.tile_surface.specs.Ownership.{KeepsRest, StaysOwn};
 
 use crate::cell::Cell;
+use crate::inks::ink_part;
 use crate::own::own_rect;
-use crate::rows::ink_row;
 use draw_ops::Glyph;
-use px_core::Size;
 use std::alloc::Global;
-use surface_parts::{Bits, Part, Script, Slots, Window, cell_of, source_place, visible};
+use surface_parts::{Bits, Script, Slots, Window, cell_of, source_place, visible};
 use wire_num::OutOfMemory;
 
 /// The bits of a byte.
@@ -166,23 +164,7 @@ fn draw_glyph(cells: &mut [Cell], window: Window, glyph: &Glyph, pen: Script)
                 column: source_place(part.x, cell.x, 0),
                 row: source_place(part.y, cell.y, 0),
             };
-            draw_bits(cells, window.size, part, bits, pen.color)
+            ink_part(cells, window.size, part, bits, pen.color)
         }
-    }
-}
-
-/// Gives the pixels of a part one colour whose bit is one.
-fn draw_bits(cells: &mut [Cell], size: Size, part: Part, bits: Bits, color: u32)
-    requires tiled { IsTiled size cells.old }
-    requires inside { IsInside size part }
-    requires bits { HasBits part bits }
-    requires own { OwnsPart cells.old part }
-    ensures painted { IsRepainted size (in_part part) (ink_color size (picture_of size cells.old) part bits.entry color) (picture_of size cells.old) (picture_of size cells.new) }
-    ensures kept { KeepsRest size cells.old cells.new }
-{
-    for y in part.y..part.y + part.h {
-        let from = bits.row_bytes * (bits.row + (y - part.y));
-        let bytes = &bits.bytes[from..from + bits.row_bytes];
-        ink_row(cells, size, part.x, y, part.w, bytes, bits.column, color);
     }
 }

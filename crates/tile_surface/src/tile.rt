@@ -1,14 +1,19 @@
 //! A tile: 64 by 64 pixels of a picture.
-ghost use Rattle.std.specs.Prelude.{◌≡◌, ℕ, ◌+◌, ◌*◌, ◌-◌, ◌≤◌, ◌<◌, IfOk, length, get_or, replicate};
+ghost use Rattle.std.specs.Prelude.{◌≡◌, ℕ, ◌+◌, ◌*◌, ◌-◌, ◌≤◌, ◌<◌, IfOk, length, get_or, replicate, option_copied};
 ghost use Rattle.px_core.specs.Picture.{pixel_at};
-ghost use Rattle.surface_parts.specs.Parts.{in_part, part_at, IsInside, IsRepainted};
+ghost use Rattle.surface_parts.specs.Bits.{ink_color, HasBits};
+ghost use Rattle.surface_parts.specs.Parts.{in_part, part_at, IsCanvas, IsInside, IsRepainted};
+ghost use Rattle.surface_parts.specs.Textures.{texture_color, CoversPart};
+ghost use Rattle.tile_surface.specs.Blended.{blended_color};
 ghost use Rattle.tile_surface.specs.Cells.{tile_sides};
-ghost use Rattle.tile_surface.specs.Rows.{row_inked, row_mixed};
+ghost use Rattle.tile_surface.specs.Rows.{row_mixed};
 
-use lane_rop::rop_lanes;
+use draw_ops::Brush;
+use lane_rop::{copy_lanes, fill_lanes, rop_lanes};
+use px_core::Size;
 use std::alloc::Global;
 use std::marker::Model;
-use surface_parts::{Part, draw_bit_row};
+use surface_parts::{Bits, Mix, Part, Texture, draw_bits, mix_part, paste_part};
 use wire_num::OutOfMemory;
 
 /// The columns, and the rows, of a tile.
@@ -16,6 +21,12 @@ pub(crate) const TILE_SIDE: usize = px_core::TILE_SIDE as usize;
 
 /// The pixels of a tile.
 const TILE_PIXELS: usize = 4_096;
+
+/// The sides of a tile as a picture of its own.
+const SIDES: Size = Size {
+    w: px_core::TILE_SIDE,
+    h: px_core::TILE_SIDE,
+};
 
 /// The colours of 64 by 64 pixels, row by row from the top; those that lie past the surface are black.
 #[derive(Drop)]
@@ -74,7 +85,25 @@ impl Tile {
         ensures { (k : ℕ) → k < length out.old → get_or out.new k 0 ≡ pixel_at tile_sides self.now 0 (x + k) y }
     {
         let at = TILE_SIDE * y + x;
-        out.copy_from_slice(&self.pixels[at..at + out.len()]);
+        copy_lanes(&self.pixels[at..at + out.len()], out);
+    }
+
+    /// Copies the pixels from column x and row y of the tile on to a spot of a picture of these sides.
+    #[inline(always)]
+    pub(crate) fn cut(&self, x: usize, y: usize, spot: Part, sides: Size, out: &mut [u32])
+        requires columns { x + spot.w ≤ 64 }
+        requires rows { y + spot.h ≤ 64 }
+        requires canvas { IsCanvas sides out.old }
+        requires inside { IsInside sides spot }
+        ensures { IsRepainted sides (in_part spot) (λ u v. pixel_at tile_sides self.now 0 (x + (u - spot.x)) (y + (v - spot.y))) out.old out.new }
+    {
+        let texture = Texture {
+            pixels: self.pixels(),
+            w: TILE_SIDE,
+            x,
+            y,
+        };
+        paste_part(out, sides, spot, texture);
     }
 
     /// Gives the pixels of row y from column x on the colours of `row`.
@@ -85,7 +114,7 @@ impl Tile {
         ensures { IsRepainted tile_sides (in_part (part_at x y (length row.now) 1)) (λ u v. get_or row.now (u - x) 0) self.old self.new }
     {
         let at = TILE_SIDE * y + x;
-        self.pixels[at..at + row.len()].copy_from_slice(row);
+        copy_lanes(row, &mut self.pixels[at..at + row.len()]);
     }
 
     /// Gives the pixels of a piece of the tile one colour.
@@ -101,6 +130,49 @@ impl Tile {
         }
     }
 
+    /// Gives the pixels of a piece of the tile the colours that a texture has for them.
+    #[inline(always)]
+    pub(crate) fn paste(&mut self, piece: Part, texture: Texture)
+        requires inside { IsInside tile_sides piece }
+        requires texture { CoversPart piece texture }
+        ensures { IsRepainted tile_sides (in_part piece) (texture_color piece texture.entry) self.old self.new }
+    {
+        paste_part(self.pixels.as_mut_slice(), SIDES, piece, texture);
+    }
+
+    /// Makes each pixel of a piece of the tile what the raster operation of a code makes of it and of a texture. Two rows of the
+    /// piece's width are for the operands of one row.
+    #[inline(always)]
+    pub(crate) fn blend(
+        &mut self,
+        piece: Part,
+        rop: u8,
+        brush: Option<&Brush>,
+        texture: Texture,
+        pattern: &mut [u32],
+        source: &mut [u32],
+    )
+        requires inside { IsInside tile_sides piece }
+        requires texture { CoversPart piece texture }
+        requires pattern { length pattern.old ≡ piece.w }
+        requires source { length source.old ≡ piece.w }
+        ensures { IsRepainted tile_sides (in_part piece) (blended_color tile_sides self.old piece rop (option_copied brush.entry) texture.entry) self.old self.new }
+    {
+        let mix = Mix {
+            rop,
+            brush,
+            texture: Some(texture),
+        };
+        mix_part(
+            self.pixels.as_mut_slice(),
+            SIDES,
+            piece,
+            mix,
+            pattern,
+            source,
+        );
+    }
+
     /// The raster operation of a code on the pixels of row y from column x on, as many as the rows of its operands have.
     #[inline(always)]
     pub(crate) fn mix(&mut self, x: usize, y: usize, rop: u8, pattern: &[u32], source: &[u32])
@@ -114,25 +186,14 @@ impl Tile {
         rop_lanes(rop, pattern, source, pixels);
     }
 
-    /// Gives those of n pixels of row y from column x on a colour whose bit, from a column of the bytes on, is one.
+    /// Gives the pixels of a piece of the tile one colour whose bit is one.
     #[inline(always)]
-    pub(crate) fn ink(
-        &mut self,
-        x: usize,
-        y: usize,
-        n: usize,
-        bytes: &[u8],
-        column: usize,
-        color: u32,
-    )
-        requires columns { x + n ≤ 64 }
-        requires row { y < 64 }
-        requires bits { column + n ≤ 8 * length bytes.now }
-        requires few { length bytes.now ≤ 65536 }
-        ensures { IsRepainted tile_sides (in_part (part_at x y n 1)) (row_inked tile_sides self.old bytes.now column color x) self.old self.new }
+    pub(crate) fn ink(&mut self, piece: Part, bits: Bits, color: u32)
+        requires inside { IsInside tile_sides piece }
+        requires bits { HasBits piece bits }
+        ensures { IsRepainted tile_sides (in_part piece) (ink_color tile_sides self.old piece bits.entry color) self.old self.new }
     {
-        let at = TILE_SIDE * y + x;
-        draw_bit_row(&mut self.pixels[at..at + n], bytes, column, color);
+        draw_bits(self.pixels.as_mut_slice(), SIDES, piece, bits, color);
     }
 }
 
@@ -144,7 +205,7 @@ fn fill_whole_rows(pixels: &mut [u32], y: usize, h: usize, color: u32)
     ensures { IsRepainted tile_sides (in_part (part_at 0 y 64 h)) (λ u v. color) pixels.old pixels.new }
 {
     let at = TILE_SIDE * y;
-    pixels[at..at + TILE_SIDE * h].fill(color);
+    fill_lanes(&mut pixels[at..at + TILE_SIDE * h], color);
 }
 
 /// Gives the pixels of a piece of a tile one colour, row by row.
@@ -156,6 +217,6 @@ fn fill_stretches(pixels: &mut [u32], piece: Part, color: u32)
 {
     for y in piece.y..piece.y + piece.h {
         let at = TILE_SIDE * y + piece.x;
-        pixels[at..at + piece.w].fill(color);
+        fill_lanes(&mut pixels[at..at + piece.w], color);
     }
 }

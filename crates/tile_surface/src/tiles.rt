@@ -1,6 +1,5 @@
 //! The surface: its tiles, its slots, and the number of its drawings.
 ghost use Rattle.std.specs.Prelude.{◌≡◌, ◌≤◌, ◌<◌, ◌^◌, IfOk, IsTrue, length, map, replicate, option_copied, option_map};
-ghost use Rattle.std.specs.Arc.{arc_value};
 ghost use Rattle.px_core.specs.Colors.{are_colors};
 ghost use Rattle.px_core.specs.Picture.{pixel_at};
 ghost use Rattle.px_core.specs.Rectangle.{is_inside, is_session_size, cut_out, whole};
@@ -13,14 +12,13 @@ ghost use Rattle.tile_surface.specs.Cells.{cell_at, cell_pixels};
 ghost use Rattle.tile_surface.specs.declared.cell.Cell.TheVariants.{Blank};
 
 use crate::cell::Cell;
+use crate::lent::LentTile;
 use crate::rows::{cut_rect, read_row};
-use crate::tile::Tile;
 use draw_ops::Drawing;
 use px_core::{Rect, Size};
 use std::alloc::Global;
 use std::marker::Model;
 use std::mem;
-use std::sync::Arc;
 use surface_parts::{DrawFault, LoadedBrush, LoadedGlyph, LoadedImage, Slots, black_pixels};
 use wire_num::OutOfMemory;
 
@@ -84,9 +82,9 @@ impl Tiles {
     }
 
     /// A handle of tile t, which has a pixel on the surface, for as long as its holder wants. The surface is as it was, also after an `Err`.
-    pub fn lend(&mut self, t: u32) -> Result<Arc<Tile>, OutOfMemory>
+    pub fn lend(&mut self, t: u32) -> Result<LentTile, OutOfMemory>
         requires { IsTrue (tiles_of self.old.size (whole self.old.size) t) }
-        ensures lent { IfOk result (λ tile. arc_value tile ≡ cut_out self.old.size self.old.state.picture 0 (tile_rect t)) }
+        ensures lent { IfOk result (λ tile. tile ≡ cut_out self.old.size self.old.state.picture 0 (tile_rect t)) }
         ensures unchanged { self.new ≡ self.old }
     {
         lend_tile(self.cells.as_mut_slice(), self.alloc, t as usize)
@@ -183,11 +181,11 @@ impl Tiles {
 }
 
 /// A handle of a tile, whose colours stay, as do all others, also after an `Err`.
-fn lend_tile(cells: &mut [Cell], alloc: Global, tile: usize) -> Result<Arc<Tile>, OutOfMemory>
+fn lend_tile(cells: &mut [Cell], alloc: Global, tile: usize) -> Result<LentTile, OutOfMemory>
     requires tile { tile < length cells.old }
     ensures same { map cell_pixels cells.new ≡ map cell_pixels cells.old }
-    ensures lent { IfOk result (λ lent. arc_value lent ≡ cell_pixels (cell_at cells.old tile)) }
-    ensures sized { IfOk result (λ lent. length (arc_value lent) ≡ 4096) }
+    ensures lent { IfOk result (λ lent. lent ≡ cell_pixels (cell_at cells.old tile)) }
+    ensures sized { IfOk result (λ lent. length lent ≡ 4096) }
 {
     let cell = mem::replace(&mut cells[tile], Cell::Blank);
     let (cell, lent) = cell.lent(alloc);

@@ -10,11 +10,10 @@ use draw_ops::{Drawing, OutOfMemory, valid};
 use px_core::{Rect, Size, TileSet, is_inside, is_session_size};
 use std::alloc::Global;
 use std::process::Abort;
-use std::sync::Arc;
 use std::test::Fail;
 use surface_flat::Surface;
 use surface_parts::DrawFault;
-use tile_surface::{Tile, Tiles};
+use tile_surface::{LentTile, Tiles};
 
 const SIZE: Size = Size { w: 200, h: 130 };
 
@@ -104,7 +103,7 @@ fn is_on(size: Size, tile: u32) -> bool
 }
 
 /// A handle of a tile that has a pixel on the surface.
-fn lent(rt: &impl Abort, tiles: &mut Tiles, tile: u32) -> Result<Arc<Tile>, OutOfMemory> {
+fn lent(rt: &impl Abort, tiles: &mut Tiles, tile: u32) -> Result<LentTile, OutOfMemory> {
     let size = tiles.size();
     assert!(rt; is_session_size(size.w, size.h));
     assert!(rt; is_on(size, tile));
@@ -116,7 +115,7 @@ fn all_lent(
     rt: &impl Abort,
     alloc: Global,
     tiles: &mut Tiles,
-) -> Result<Vec<Arc<Tile>>, OutOfMemory> {
+) -> Result<Vec<LentTile>, OutOfMemory> {
     let mut held = Vec::new(alloc);
     for tile in TILES {
         held.push(lent(rt, tiles, tile)?)?;

@@ -1,4 +1,4 @@
-use Rattle.std.proofs.Common.{◌≡◌, ◌+◌, ◌*◌, ◌-◌, ◌<◌, length, get_or, refl, ◌∙◌, ap, arith}
+use Rattle.std.proofs.Common.{◌≡◌, ◌+◌, ◌*◌, ◌-◌, ◌<◌, get_or, refl, ◌∙◌, ap, arith}
 use Rattle.surface_parts.specs.Textures.{texture_color}
 use Rattle.surface_parts.proofs.Repaint.{stretch_fits, length_mid, mid_item, no_rows, all_rows, next_row_down}
 use Rattle.surface_parts.proofs.rows.paste_part.Goals as goal
@@ -13,9 +13,9 @@ loop-y-preserved c = let p = c.args.part in let t = c.args.texture in let size =
     let n = size.w * y + p.x in
     let from = t.w * (t.y + (y - p.y)) + t.x in
     let fits = stretch_fits size p.x y p.w cur whole high c.requires.inside.columns in
-    let long : length c.copy_from_slice.new.self ≡ p.w = c.copy_from_slice.ensures.len ∙ length_mid n ((n + p.w) - n) p.w cur fits (omega arith) in
-    next_row_down size p.x p.y p.w (texture_color p t) c.args.pixels.now cur c.copy_from_slice.new.self y n ((n + p.w) - n) c.loop-y.invariant whole c.loop-y.auto.y high c.requires.inside.columns refl (omega arith) long
-    (λ i below. ap (λ xs. get_or xs i 0) c.copy_from_slice.ensures.after ∙ mid_item from ((from + p.w) - from) t.pixels.now i (omega (arith, below))
+    let wide = length_mid n ((n + p.w) - n) p.w cur fits (omega arith) in
+    next_row_down size p.x p.y p.w (texture_color p t) c.args.pixels.now cur c.copy_lanes.new.to y n ((n + p.w) - n) c.loop-y.invariant whole c.loop-y.auto.y high c.requires.inside.columns refl (omega arith) (c.copy_lanes.auto.to ∙ wide)
+    (λ i below. c.copy_lanes.ensures i (omega (arith, below, wide)) ∙ mid_item from ((from + p.w) - from) t.pixels.now i (omega (arith, below))
     ∙ ap (λ k. get_or t.pixels.now k 0) (let column : i ≡ (p.x + i) - p.x = omega arith in omega (arith, column)))
 
 pub returns : goal.returns

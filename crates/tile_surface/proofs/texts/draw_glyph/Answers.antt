@@ -17,8 +17,8 @@ use Rattle.tile_surface.proofs.texts.draw_glyph.Goals as goal
 rows_fit : (w a h : ℕ) → a ≤ h → w * a ≤ w * h
 rows_fit w a h le = grind (arith, le)
 
-pub draw_bits-requires-clause-bits : goal.draw_bits-requires-clause-bits
-draw_bits-requires-clause-bits c = let g = c.args.glyph.now in let k = glyph_keeps g c.requires.rule in let p = c.in-Some.part in let within = c.in-Some.ensures.within in
+pub ink_part-requires-clause-bits : goal.ink_part-requires-clause-bits
+ink_part-requires-clause-bits c = let g = c.args.glyph.now in let k = glyph_keeps g c.requires.rule in let p = c.in-Some.part in let within = c.in-Some.ensures.within in
     let ew : c.cell_of-cell.result.w ≡ g.cx = ap (λ (r : Rect). r.w) c.cell_of-cell.ensures.cell in
     let eh : c.cell_of-cell.result.h ≡ g.cy = ap (λ (r : Rect). r.h) c.cell_of-cell.ensures.cell in
     let cx : c.from.result ≡ g.cx = c.from.ensures ∙ c.cx.ensures in
@@ -32,8 +32,8 @@ draw_bits-requires-clause-bits c = let g = c.args.glyph.now in let k = glyph_kee
       low = omega (arith, low, k.high);
     }
 
-pub draw_bits-requires-clause-own : goal.draw_bits-requires-clause-own
-draw_bits-requires-clause-own c = let g = c.args.glyph.now in
+pub ink_part-requires-clause-own : goal.ink_part-requires-clause-own
+ink_part-requires-clause-own c = let g = c.args.glyph.now in
     let ex : to_z w32 (of_z w32 c.args.pen.x) ≡ c.args.pen.x = search (rules, to_z-of_z) in
     let ey : to_z w32 (of_z w32 c.args.pen.y) ≡ c.args.pen.y = search (rules, to_z-of_z) in
     let cell : c.cell_of-cell.result ≡ glyph_cell g c.args.pen.x c.args.pen.y = simp (ex, ey) at c.cell_of-cell.ensures.cell in
@@ -49,12 +49,12 @@ returns-in-None-clause-painted c = let g = c.args.glyph.now in let size = c.args
     (glyph_unseen size (in_clip c.args.window.clip) c.cell_of-cell.result g.bits c.args.pen.color old (tiled_length size c.args.cells.now) (λ x y left above. c.in-None.ensures.pixels x y left above))
 
 pub returns-in-Some-clause-painted : goal.returns-in-Some-clause-painted
-returns-in-Some-clause-painted c = let g = c.args.glyph.now in let size = c.args.window.size in let old = picture_of size c.args.cells.now in let new = picture_of size c.draw_bits.new.cells in
+returns-in-Some-clause-painted c = let g = c.args.glyph.now in let size = c.args.window.size in let old = picture_of size c.args.cells.now in let new = picture_of size c.ink_part.new.cells in
     let ex : to_z w32 (of_z w32 c.args.pen.x) ≡ c.args.pen.x = search (rules, to_z-of_z) in
     let ey : to_z w32 (of_z w32 c.args.pen.y) ≡ c.args.pen.y = search (rules, to_z-of_z) in
     let cell : c.cell_of-cell.result ≡ glyph_cell g c.args.pen.x c.args.pen.y = simp (ex, ey) at c.cell_of-cell.ensures.cell in
     let b : Bits = record { bytes = c.bits.result; row_bytes = (c.from.result + 7) / 8; column = c.source_place.result; row = c.source_place-in-Some.result } in
     let ew : c.from.result ≡ c.cell_of-cell.result.w = c.from.ensures ∙ c.cx.ensures ∙ sym (ap (λ (r : Rect). r.w) cell) in
     subst (λ (r : Rect). new ≡ painted size (both (in_clip c.args.window.clip) (inked r g.bits)) (solid session_colors c.args.pen.color) old) cell
-    (glyph_drawn size (in_clip c.args.window.clip) c.cell_of-cell.result g.bits c.args.pen.color old (tiled_length size c.args.cells.now) c.in-Some.part b new c.draw_bits.ensures.painted
+    (glyph_drawn size (in_clip c.args.window.clip) c.cell_of-cell.result g.bits c.args.pen.color old (tiled_length size c.args.cells.now) c.in-Some.part b new c.ink_part.ensures.painted
     (λ x y left above. c.in-Some.ensures.pixels x y left above) c.bits.ensures (ap (λ n. (n + 7) / 8) ew) (omega (arith, ints, c.source_place.ensures)) (omega (arith, ints, c.source_place-in-Some.ensures)))

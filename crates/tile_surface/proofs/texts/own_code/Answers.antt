@@ -1,6 +1,5 @@
-use Rattle.std.proofs.Common.{◌≡◌, subst, w32, to_z, of_z, rules}
-use Rattle.std.specs.Prelude.{Option, Some, ℤ, OnOk}
-use Rattle.std.proofs.lemmas.Int.{to_z-of_z}
+use Rattle.std.proofs.Common.{subst}
+use Rattle.std.specs.Prelude.{Option, Some, OnOk}
 use Rattle.px_core.specs.Rectangle.{in_clip}
 use Rattle.draw_ops.specs.Content.{GlyphOf}
 use Rattle.draw_ops.specs.Slots.{Loaded}

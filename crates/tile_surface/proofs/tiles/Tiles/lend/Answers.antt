@@ -1,6 +1,5 @@
 use Rattle.std.proofs.Common.{◌≡◌, ℕ, List, length, true, map, refl, sym, subst, ap, ◌∙◌, arith}
 use Rattle.std.specs.Vec.{with_items}
-use Rattle.std.specs.Arc.{arc_value}
 use Rattle.std.proofs.lemmas.List.{with_items_is}
 use Rattle.std.specs.Prelude.{IfOk}
 use Rattle.px_core.specs.Rectangle.{cut_out, whole}
@@ -35,8 +34,8 @@ pub returns-clause-lent : goal.returns-clause-lent
 returns-clause-lent c = let i = c.self.inside in
     let has : tiles_of i.size (whole i.size) c.args.t ≡ true = subst (λ (v : SurfaceOf). tiles_of v.size (whole v.size) c.args.t ≡ true) (sym c.self.view_is) c.requires in
     let below = tile_below i.size (whole i.size) c.args.t (small_session i.size c.self.invariant.0.session) has in
-    subst (λ (v : SurfaceOf). IfOk c.lend_tile.result (λ tile. arc_value tile ≡ cut_out v.size v.state.picture 0 (tile_rect c.args.t))) c.self.view_is
-    (if_ok_both c.lend_tile.result _ _ _ (λ tile is sized. tile_is i.size i.cells.items c.self.invariant.2 c.args.t 4096 (arc_value tile) below refl refl (is ∙ ap (λ (cells : List Cell). cell_pixels (cell_at cells c.args.t)) c.as_mut_slice.ensures.value) sized)
+    subst (λ (v : SurfaceOf). IfOk c.lend_tile.result (λ tile. tile ≡ cut_out v.size v.state.picture 0 (tile_rect c.args.t))) c.self.view_is
+    (if_ok_both c.lend_tile.result _ _ _ (λ tile is sized. tile_is i.size i.cells.items c.self.invariant.2 c.args.t 4096 tile below refl refl (is ∙ ap (λ (cells : List Cell). cell_pixels (cell_at cells c.args.t)) c.as_mut_slice.ensures.value) sized)
     c.lend_tile.ensures.lent c.lend_tile.ensures.sized)
 
 pub returns-clause-unchanged : goal.returns-clause-unchanged

@@ -5,7 +5,7 @@ use Rattle.surface_parts.specs.Parts.{part_at, in_part, IsRepainted}
 use Rattle.surface_parts.specs.Textures.{mixed_color}
 use Rattle.tile_surface.specs.Cells.{picture_of}
 use Rattle.tile_surface.specs.Ownership.{KeepsRest}
-use Rattle.tile_surface.proofs.rects.mix_part.Given as goal
+use Rattle.tile_surface.proofs.rects.mix_rows.Given as goal
 
 -- the rows so far are mixed, and the row of a missing pattern stays blank
 abbrev pub invariant-loop-y : goal.invariant-loop-y
