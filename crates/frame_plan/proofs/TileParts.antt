@@ -3,7 +3,7 @@ use Rattle.std.proofs.Common.{◌≡◌, ℕ, zero, suc, ◌+◌, ◌*◌, ◌/�
 use Rattle.std.specs.Prelude.{All, ℤ, pos, negsuc, ◌+ℤ◌, ◌-ℤ◌, ◌≤ℤ◌}
 use Rattle.std.specs.Int.{int_min, int_max}
 use Rattle.std.proofs.lemmas.Int.{ints, clamps}
-use Rattle.std.proofs.lemmas.List.{length-take-le}
+use Rattle.std.proofs.lemmas.List.{length-take-le, take_all}
 use Rattle.std.proofs.lemmas.List.Elements.{All-filter, filter_passes}
 use Rattle.std.proofs.lemmas.Nat.{div_below, mod-mul-add, div-mul-add, mul-le}
 use Rattle.px_core.specs.declared.surface.Size.{Size}
@@ -109,6 +109,10 @@ part_length pixels w h = length-listed (w * h) 0 (pixel_of (rows_of tile_sides.w
 pub whole_is_wide : (w h : ℕ) → w ≤ 64 → h ≤ 64 → w * h ≡ 4096 → w ≡ 64
 whole_is_wide w h narrow low all = omega (arith, narrow, all, mul-le w h w 64 (omega arith) low)
 
+-- and as high
+pub whole_is_high : (w h : ℕ) → w ≤ 64 → h ≤ 64 → w * h ≡ 4096 → h ≡ 64
+whole_is_high w h narrow low all = whole_is_wide h w low narrow (mul_comm h w ∙ all)
+
 -- the first rows of a picture, cut out of it
 pub rows_in_place : (size : Size) (ps : List ℕ) (w h n : ℕ) → w ≡ size.w → h ≤ size.h → n ≡ w * h → n ≤ length ps → take n ps ≡ cut_out size ps 0 (boxed (pos 0) (pos 0) w h)
 rows_in_place size ps w h n wide low is within =
@@ -125,6 +129,12 @@ rows_in_place size ps w h n wide low is within =
     ∙ ap (λ v. item ps (size.w * v + (0 + k % w)) 0) (sym (from_zero (k / w)))
     ∙ sym (pixel_from size ps (pos 0) (pos 0) 0 0 (k % w) (k / w) refl refl (omega (arith, left, wide)) (omega (arith, above, low)))
     ∙ ap f (sym (from_zero k)) ∙ sym (item-listed (w * h) 0 f k 0 below))
+
+-- the part of a tile that is as great as the tile
+pub all_of_tile : (tile : List ℕ) (w h : ℕ) → w ≡ 64 → h ≡ 64 → length tile ≡ 4096 → tile ≡ part_of_tile tile w h
+all_of_tile tile w h wide high sized =
+    sym (take_all 4096 tile (omega (arith, sized))) ∙ rows_in_place tile_sides tile 64 64 4096 refl (omega arith) refl (omega (arith, sized))
+    ∙ ap (λ v. part_of_tile tile v 64) (sym wide) ∙ ap (part_of_tile tile w) (sym high)
 
 -- the tiles of a set that lie on a picture have a pixel there
 pub all_on : (size : Size) (set : Tiles) → All (IsOnPicture size) (tiles_in size set)

@@ -4,10 +4,9 @@ ghost use Rattle.frame_plan.specs.TileParts.{part_of_tile};
 
 use crate::OutOfMemory;
 use px_core::{Rect, Size, TILE_SIDE};
-use session_core::Tile;
+use session_core::LentTile;
 use std::alloc::Global;
 use std::marker::Model;
-use std::sync::Arc;
 use surface_parts::cut_pixels;
 
 /// A tile that goes as a bitmap: its number, the sides in pixels of its part on the picture, and a handle of the session's own tile.
@@ -18,31 +17,29 @@ pub struct TakenTile {
     number: u32,
     w: u32,
     h: u32,
-    tile: Arc<Tile>,
+    tile: LentTile,
 }
 
 impl Model for TakenTile {
     ghost use Rattle.std.specs.Prelude.{ℕ, ◌≤◌, List};
-    ghost use Rattle.std.specs.Arc.{arc_value};
     ghost use Rattle.frame_plan.specs.TileParts.{part_of_tile};
 
     ghost Value = { ℕ × List ℕ };
 
-    ghost view = { λ s. (s.number, part_of_tile (arc_value s.tile) s.w s.h) };
+    ghost view = { λ s. (s.number, part_of_tile s.tile s.w s.h) };
 
     ghost invariant = { λ s. (s.w ≤ 64) × (s.h ≤ 64) };
 }
 
 impl TakenTile {
     ghost use Rattle.std.specs.Prelude.{◌≡◌, ◌≤◌, length, IfOk, IfSome, IsSome};
-    ghost use Rattle.std.specs.Arc.{arc_value};
     ghost use Rattle.frame_plan.specs.TileParts.{part_of_tile};
 
     /// A tile with the sides of its part on the picture.
-    pub(crate) fn new(number: u32, w: u32, h: u32, tile: Arc<Tile>) -> TakenTile
+    pub(crate) fn new(number: u32, w: u32, h: u32, tile: LentTile) -> TakenTile
         requires wide { w ≤ 64 }
         requires high { h ≤ 64 }
-        ensures { result ≡ (number, part_of_tile (arc_value tile) w h) }
+        ensures { result ≡ (number, part_of_tile tile w h) }
     {
         TakenTile { number, w, h, tile }
     }
@@ -61,6 +58,19 @@ impl TakenTile {
         ensures whole { length self.now.1 ≡ 4096 → IsSome result }
     {
         rows_in_place(self.tile.pixels(), self.w, self.h)
+    }
+
+    /// What the session lent, for a tile that lies on the picture whole; `None` for one that the picture's right or lower edge cuts.
+    pub fn whole(&self) -> Option<&LentTile>
+        ensures pixels { IfSome result (λ lent. lent.now ≡ self.now.1) }
+        ensures whole { length self.now.1 ≡ 4096 → IsSome result }
+    {
+        self.tile.recall_sized();
+        if self.w == TILE_SIDE && self.h == TILE_SIDE {
+            Some(&self.tile)
+        } else {
+            None
+        }
     }
 
     /// Its pixels on the picture, row by row from the top, in a list of their own.

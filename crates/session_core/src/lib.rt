@@ -23,4 +23,4 @@ pub use pending_core::{Pending, SeenDrawing, SeenDrawings};
 pub use session::Session;
 pub use session_rules::{Entry, Event, Role};
 pub use surface_parts::{LoadedBrush, LoadedGlyph, LoadedImage};
-pub use tile_surface::{Tile, Tiles};
+pub use tile_surface::{LentTile, Tiles};

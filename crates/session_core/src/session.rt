@@ -1,7 +1,6 @@
 //! The session, in its public calls.
 
 ghost use Rattle.std.specs.Prelude.{◌≡◌, ◌≢◌, ℕ, ◌+◌, ◌≤◌, ◌<◌, [], ◌∷◌, ◌++◌, length, IsTrue, IfOk, OnErr, Some, true, false, slice_get};
-ghost use Rattle.std.specs.Arc.{arc_value};
 ghost use Rattle.px_core.specs.Rectangle.{is_session_size, cut_out, whole, IsPlaced};
 ghost use Rattle.px_core.specs.Tiles.{no_tiles, either_tiles, tile_rect, tiles_of};
 ghost use Rattle.px_core.specs.TileFlags.{tiles};
@@ -41,8 +40,7 @@ use session_rules::Entry;
 use std::alloc::Global;
 use std::marker::Model;
 use std::slice;
-use std::sync::Arc;
-use tile_surface::{Tile, Tiles};
+use tile_surface::{LentTile, Tiles};
 
 /// A session: its journal, which only grows, and what the journal has reached.
 #[derive(Drop)]
@@ -249,9 +247,9 @@ impl Session {
 
     /// A handle of tile t, which has a pixel on the picture, for as long as its holder wants: its colours as the whole journal leaves them,
     /// and black past the picture. The session is as it was, also after an `Err`.
-    pub fn lend(&mut self, t: u32) -> Result<Arc<Tile>, OutOfMemory>
+    pub fn lend(&mut self, t: u32) -> Result<LentTile, OutOfMemory>
         requires { IsTrue (tiles_of self.old.head.size (whole self.old.head.size) t) }
-        ensures lent { IfOk result (λ tile. arc_value tile ≡ cut_out self.old.head.size (state_after self.old.head.size self.old.journal (length self.old.journal)).surface.picture 0 (tile_rect t)) }
+        ensures lent { IfOk result (λ tile. tile ≡ cut_out self.old.head.size (state_after self.old.head.size self.old.journal (length self.old.journal)).surface.picture 0 (tile_rect t)) }
         ensures unchanged { self.new ≡ self.old }
     {
         self.standing.surface.lend(t)

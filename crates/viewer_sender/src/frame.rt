@@ -1,5 +1,5 @@
 //! A frame in bytes: its orders gathered into updates, a bitmap update for each tile, and the mark's own update.
-ghost use Rattle.std.specs.Prelude.{◌≡◌, ◌*◌, ◌&&◌, ◌++◌, [], length, IfOk, OnOk, IsTrue, flat_map};
+ghost use Rattle.std.specs.Prelude.{◌≡◌, ◌*◌, ◌&&◌, ◌++◌, [], length, true, IfOk, OnOk, IsTrue, flat_map};
 ghost use Rattle.px_core.specs.Colors.{are_colors};
 ghost use Rattle.px_core.specs.Rectangle.{is_session_size, whole};
 ghost use Rattle.px_core.specs.Tiles.{tile_on};
@@ -27,6 +27,7 @@ use crate::writer::FrameWriter;
 use frame_plan::{Take, TakenTile};
 use px_core::{Depth, Rect, Size, tile_on, whole};
 use std::alloc::Global;
+use tile_surface::{LentTile, PackedTile};
 
 /// The packets of a take's frame.
 pub(crate) fn write_frame(
@@ -118,7 +119,8 @@ fn put_tiles(
     Ok(())
 }
 
-/// Writes the packet of a tile: of its pixels where the session keeps them, or of a copy where the picture's right edge cuts the tile.
+/// Writes the packet of a tile: of its packed bytes, which the takes that share it make once, where the viewer takes these and it lies on the
+/// picture whole; else of its pixels where the session keeps them, or of a copy where the picture's right edge cuts it.
 fn put_tile(
     alloc: Global,
     updates: &mut Updates,
@@ -132,6 +134,11 @@ fn put_tile(
     requires colors { IsTrue (are_colors tile.now.1) }
     ensures { OnOk result (updates.new ≡ with_packet updates.old (tile_packet depth updates.old.fast no_header r tile.now.1)) }
 {
+    if no_header {
+        if let Some(lent) = tile.whole() {
+            return put_whole(alloc, updates, r, lent, depth);
+        }
+    }
     match tile.pixels_in_place() {
         Some(pixels) => updates.put_tile(alloc, r, pixels, no_header, depth),
         None => {
@@ -139,6 +146,40 @@ fn put_tile(
             updates.put_tile(alloc, r, pixels.as_slice(), no_header, depth)
         }
     }
+}
+
+/// Writes the packet of a whole tile for a viewer who takes packed pixels without a header: of the bytes that another take left, or of its own,
+/// which it then leaves for the others.
+fn put_whole(
+    alloc: Global,
+    updates: &mut Updates,
+    r: Rect,
+    lent: &LentTile,
+    depth: Depth,
+) -> Result<(), OutOfMemory>
+    requires place { IsUpdated r }
+    requires number { length lent.now ≡ r.w * r.h }
+    requires colors { IsTrue (are_colors lent.now) }
+    ensures { OnOk result (updates.new ≡ with_packet updates.old (tile_packet depth updates.old.fast true r lent.now)) }
+{
+    match lent.packed(depth) {
+        Some(packed) => put_packed(updates, r, packed),
+        None => {
+            let packed = lent.pack(alloc, depth)?;
+            put_packed(updates, r, &packed)?;
+            lent.keep(alloc, packed);
+            Ok(())
+        }
+    }
+}
+
+/// Writes the packet of a tile that is packed.
+fn put_packed(updates: &mut Updates, r: Rect, packed: &PackedTile) -> Result<(), OutOfMemory>
+    requires place { IsUpdated r }
+    requires number { length packed.now.pixels ≡ r.w * r.h }
+    ensures { OnOk result (updates.new ≡ with_packet updates.old (tile_packet packed.now.depth updates.old.fast true r packed.now.pixels)) }
+{
+    updates.put_packed_tile(r, packed.pixels(), packed.bytes(), true, packed.depth())
 }
 
 /// Writes the mark's own update behind the packets that are whole; no update is begun.

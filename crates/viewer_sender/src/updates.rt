@@ -3,20 +3,21 @@
 //! An order is written where it stays: behind the orders of the update that is begun. Only where it doesn't fit there is it moved, to the front of
 //! the next one.
 
-ghost use Rattle.std.specs.Prelude.{◌≡◌, ◌==◌, ◌+◌, ◌*◌, ◌≤◌, [], false, length, drop, OnOk, IfOk, IsTrue, None};
+ghost use Rattle.std.specs.Prelude.{◌≡◌, ◌==◌, ◌+◌, ◌*◌, ◌≤◌, [], false, length, drop, option_copied, OnOk, IfOk, IsTrue, None};
 ghost use Rattle.px_core.specs.Colors.{are_colors};
 ghost use Rattle.draw_ops.specs.Fits.{image_rule, glyph_rule};
 ghost use Rattle.order_fields.specs.OrderTable.{FitBounds, registers_after};
 ghost use Rattle.order_fields.specs.OrderDelta.{order_bytes, edges_of_optional};
 ghost use Rattle.order_means.specs.UpdateBodies.{tile_packet, synchronize_packet};
 ghost use Rattle.order_means.specs.CacheOrders.{cache_bitmap_bytes, cache_glyph_bytes, cache_brush_bytes, frame_marker_bytes};
+ghost use Rattle.bitmap_upd.specs.Packed.{IsTilePacked};
 ghost use Rattle.bitmap_upd.specs.Place.{IsUpdated};
 ghost use Rattle.viewer_sender.specs.Gathering.{Gathering, gathering, nothing_gathered, closed, packets_if, packets_of, with_order, after_order, with_packet, orders_in, most_room};
 ghost use Rattle.viewer_sender.specs.Framings.{is_fast};
 
 use crate::OutOfMemory;
 use crate::framing::{BEFORE_ORDERS, Framing};
-use bitmap_upd::TileBody;
+use bitmap_upd::{TileBody, packed_tile};
 use draw_ops::{Brush, Glyph, Image};
 use order_fields::{Fields, Regs, write_order};
 use order_second::{cache_bitmap_at, cache_brush_at, cache_glyph, frame_marker};
@@ -157,7 +158,6 @@ impl Updates {
     }
 
     /// Writes the packet of a tile, whose pixels go row by row from the top and are shown at a depth, behind the packets that are whole.
-    #[tactic(auto, using(crate::proofs::TileShort::tile_short))]
     pub fn put_tile(
         &mut self,
         alloc: Global,
@@ -171,7 +171,26 @@ impl Updates {
         requires colors { IsTrue (are_colors pixels.now) }
         ensures { OnOk result (self.new ≡ with_packet self.old (tile_packet depth self.old.fast no_header r pixels.now)) }
     {
-        let body = TileBody::new(alloc, r, pixels, no_header, depth)?;
+        let packed = packed_tile(alloc, pixels, r.w as usize, r.h as usize, no_header, depth)?;
+        self.put_packed_tile(r, pixels, packed.as_deref(), no_header, depth)
+    }
+
+    /// Writes the packet of a tile of which the packed bytes are there, where it goes packed, behind the packets that are whole.
+    #[tactic(auto, using(crate::proofs::TileShort::tile_short))]
+    pub fn put_packed_tile(
+        &mut self,
+        r: Rect,
+        pixels: &[u32],
+        packed: Option<&[u8]>,
+        no_header: bool,
+        depth: Depth,
+    ) -> Result<(), OutOfMemory>
+        requires place { IsUpdated r }
+        requires number { length pixels.now ≡ r.w * r.h }
+        requires packed { IsTilePacked depth no_header r.w r.h pixels.now (option_copied packed) }
+        ensures { OnOk result (self.new ≡ with_packet self.old (tile_packet depth self.old.fast no_header r pixels.now)) }
+    {
+        let body = TileBody::of(r, pixels, packed, no_header, depth);
         let size = body.size();
         self.framing.put_tile_headers(&mut self.packets, size)?;
         body.put(&mut self.packets)

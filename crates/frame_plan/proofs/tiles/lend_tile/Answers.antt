@@ -1,5 +1,4 @@
 use Rattle.std.proofs.Common.{◌≡◌, ◌≤◌, ℕ, List, ap, sym, subst, ◌∙◌}
-use Rattle.std.specs.Arc.{arc_value}
 use Rattle.px_core.specs.declared.surface.Size.{Size}
 use Rattle.px_core.specs.declared.rectangle.Rect.{Rect}
 use Rattle.px_core.specs.Rectangle.{whole}
@@ -21,5 +20,5 @@ new-requires-clause-high c = subst (λ (r : Rect). r.h ≤ 64) (sym c.tile_on-pa
 pub returns-clause-lent : goal.returns-clause-lent
 returns-clause-lent c = let s = c.args.session.now in
     let part : c.tile_on-part.result ≡ tile_on s.head.size c.args.tile = c.tile_on-part.ensures ∙ ap (λ (z : Size). tile_on z c.args.tile) c.size.ensures in
-    let pixels = arc_value c.in_ok-lent.lent in
+    let pixels = c.in_ok-lent.lent in
     c.new.ensures ∙ ap (λ (ps : List ℕ). (c.args.tile, ps)) (ap (λ (r : Rect). part_of_tile pixels r.w r.h) part ∙ part_is s.head.size (picture_by s) pixels c.args.tile c.in_ok-lent.ensures.lent)

@@ -7,4 +7,4 @@ pub returns : goal.returns
 returns c =
     let i = c.self.inside in
     subst (λ (ps : List ℕ). IfOk c.copied_part.result (λ pixels. pixels.items ≡ ps))
-    (ap (λ (ps : List ℕ). part_of_tile ps i.w i.h) (c.pixels.ensures.pixels ∙ c.deref.ensures) ∙ ap (λ (v : ℕ × List ℕ). v.1) c.self.view_is) c.copied_part.ensures
+    (ap (λ (ps : List ℕ). part_of_tile ps i.w i.h) c.pixels.ensures.pixels ∙ ap (λ (v : ℕ × List ℕ). v.1) c.self.view_is) c.copied_part.ensures

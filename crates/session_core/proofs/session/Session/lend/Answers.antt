@@ -1,6 +1,5 @@
 use Rattle.std.proofs.Common.{◌≡◌, true, ap, sym, subst, ◌∙◌}
 use Rattle.std.specs.Prelude.{IfOk}
-use Rattle.std.specs.Arc.{arc_value}
 use Rattle.std.specs.Vec.{vec_len, vec_capacity}
 use Rattle.px_core.specs.declared.surface.Size.{Size}
 use Rattle.px_core.specs.Rectangle.{cut_out, whole}
@@ -21,5 +20,5 @@ invariant_of-self c = let i = c.self.inside in
 
 pub returns-clause-lent : goal.returns-clause-lent
 returns-clause-lent c = let i = c.self.inside in
-    subst (λ (f : SurfaceOf). IfOk c.lend.result (λ tile. arc_value tile ≡ cut_out f.size f.state.picture 0 (tile_rect c.args.t)))
+    subst (λ (f : SurfaceOf). IfOk c.lend.result (λ tile. tile ≡ cut_out f.size f.state.picture 0 (tile_rect c.args.t)))
     (looked_at i.head i.standing i.kept.items _ c.self.invariant.is_session c.self.view_is) c.lend.ensures.lent
