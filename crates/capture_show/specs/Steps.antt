@@ -50,24 +50,22 @@ ReadsOn client come meaning (stage.Refused at) = (refusal : Refusal) × ((meanin
 ReadsOn client come meaning stage.NotJoined = ⊥
 ReadsOn client come meaning (stage.Broken line) = ⊥
 
--- a client behind a sieve got bytes
-abbrev pub FeedsBehind : ClientOf → PacketStage → List ℕ → Stage → Type 0
-FeedsBehind client sieve bytes next = let cut = pieces_from sieve bytes in (r : ClientReading) → IsReading r client
-    → ReadsOn client cut.next (read_on client.viewer.confirmed client.viewer.pictures.size r (kept_pieces cut.pieces)) next
+-- a client behind a sieve got bytes, and so the sieve has come further
+abbrev pub FeedsBehind : ClientOf → PacketStage → List ℕ → ClientOf → PacketStage → Option ℕ → Type 0
+FeedsBehind client sieve bytes fed come refused = let cut = pieces_from sieve bytes in (come ≡ cut.next) × ((r : ClientReading) → IsReading r client
+    → Meets client fed (read_on client.viewer.confirmed client.viewer.pictures.size r (kept_pieces cut.pieces)) refused)
 
 -- the viewer got bytes
 abbrev pub Feeds : Stage → List ℕ → Stage → Type 0
-Feeds (stage.Reads client sieve) bytes next = FeedsBehind client sieve bytes next
+Feeds (stage.Reads client sieve) bytes next = let cut = pieces_from sieve bytes in (r : ClientReading) → IsReading r client
+    → ReadsOn client cut.next (read_on client.viewer.confirmed client.viewer.pictures.size r (kept_pieces cut.pieces)) next
 Feeds stage.NotJoined bytes next = next ≡ stage.NotJoined
 Feeds (stage.Refused at) bytes next = next ≡ stage.Refused at
 Feeds (stage.Broken line) bytes next = next ≡ stage.Broken line
 
 -- no bytes are left, and an unfinished packet is read as it stands
-abbrev pub FinishesBehind : ClientOf → PacketStage → Stage → Type 0
-FinishesBehind client sieve next = (r : ClientReading) → IsReading r client → ReadsOn client sieve (read_on client.viewer.confirmed client.viewer.pictures.size r (held_in sieve)) next
-
 abbrev pub Finishes : Stage → Stage → Type 0
-Finishes (stage.Reads client sieve) next = FinishesBehind client sieve next
+Finishes (stage.Reads client sieve) next = (r : ClientReading) → IsReading r client → ReadsOn client sieve (read_on client.viewer.confirmed client.viewer.pictures.size r (held_in sieve)) next
 Finishes stage.NotJoined next = next ≡ stage.NotJoined
 Finishes (stage.Refused at) next = next ≡ stage.Refused at
 Finishes (stage.Broken line) next = next ≡ stage.Broken line

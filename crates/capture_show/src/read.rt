@@ -22,12 +22,16 @@ pub(crate) fn read_capture<R: Wait, S: Source>(
 {
     let mut reader = CaptureReader::new(alloc, viewer)?;
     let mut stage = Stage::NotJoined;
+    let mut kept = Vec::new(alloc);
     for _ in rt.forever() {
         let told = reader.next_line(input)?;
         match told {
-            Told::End => return Ok(finish(stage)?),
+            Told::End => {
+                finish(&mut stage)?;
+                return Ok(stage);
+            }
             Told::Failed => return Err(ShowFault::ReadFault),
-            _ => stage = advance(alloc, stage, told, reader.bytes())?,
+            _ => advance(alloc, &mut stage, told, reader.bytes(), &mut kept)?,
         }
     }
     unreachable!()

@@ -1,6 +1,6 @@
 //! How far a capture was read for a viewer.
-ghost use Rattle.std.specs.Prelude.{◌≡◌, IfOk};
-ghost use Rattle.capture_show.specs.Steps.{Joins, FeedsClient, FeedsBehind, Feeds, FinishesBehind, Finishes, Breaks, Advances, place_of};
+ghost use Rattle.std.specs.Prelude.{◌≡◌, IfOk, OnOk};
+ghost use Rattle.capture_show.specs.Steps.{Joins, FeedsClient, FeedsBehind, Feeds, Finishes, Breaks, Advances, place_of};
 
 use crate::OutOfMemory;
 use crate::capture_reader::Told;
@@ -23,87 +23,81 @@ pub(crate) enum Stage {
     Broken { line: u64 },
 }
 
-/// The stage after a line that told this; where it gave the viewer bytes, they are these.
+/// The stage after a line that told this; where it gave the viewer bytes, they are these. `kept` is room for those that the sieve hands on.
 pub(crate) fn advance(
     alloc: Global,
-    stage: Stage,
+    stage: &mut Stage,
     told: Told,
     bytes: &[u8],
-) -> Result<Stage, OutOfMemory>
-    ensures { IfOk result (λ next. Advances told stage bytes.now next) }
+    kept: &mut Vec<u8>,
+) -> Result<(), OutOfMemory>
+    ensures { OnOk result (Advances told stage.old bytes.now stage.new) }
 {
     match told {
         Told::Joined { size, confirmed } => join(alloc, stage, size, confirmed),
-        Told::Bytes => feed(alloc, stage, bytes),
-        Told::Broken { line } => Ok(broken(stage, line)),
-        Told::Other | Told::End | Told::Failed => Ok(stage),
+        Told::Bytes => feed(stage, bytes, kept),
+        Told::Broken { line } => {
+            break_at(stage, line);
+            Ok(())
+        }
+        Told::Other | Told::End | Told::Failed => Ok(()),
     }
 }
 
 /// The stage after the viewer has joined.
-fn join(alloc: Global, stage: Stage, size: Size, confirmed: Confirmed) -> Result<Stage, OutOfMemory>
-    ensures { IfOk result (λ next. Joins stage size confirmed next) }
+fn join(
+    alloc: Global,
+    stage: &mut Stage,
+    size: Size,
+    confirmed: Confirmed,
+) -> Result<(), OutOfMemory>
+    ensures { OnOk result (Joins stage.old size confirmed stage.new) }
 {
-    match stage {
-        Stage::NotJoined => Ok(Stage::Reads {
+    if matches!(stage, Stage::NotJoined) {
+        *stage = Stage::Reads {
             client: Client::new(alloc, confirmed, size)?,
             sieve: PacketSieve::new(alloc),
-        }),
-        joined => Ok(joined),
+        };
     }
+    Ok(())
 }
 
 /// The stage after the viewer has got bytes.
-fn feed(alloc: Global, stage: Stage, bytes: &[u8]) -> Result<Stage, OutOfMemory>
-    ensures { IfOk result (λ next. Feeds stage bytes.now next) }
+fn feed(stage: &mut Stage, bytes: &[u8], kept: &mut Vec<u8>) -> Result<(), OutOfMemory>
+    ensures { OnOk result (Feeds stage.old bytes.now stage.new) }
 {
-    match stage {
-        Stage::Reads { client, sieve } => feed_behind(alloc, client, sieve, bytes),
-        unread => Ok(unread),
+    if let Stage::Reads { client, sieve } = stage {
+        if let Some(at) = feed_behind(client, sieve, bytes, kept)? {
+            *stage = Stage::Refused { at };
+        }
     }
+    Ok(())
 }
 
-/// The stage after a client behind a sieve has got bytes.
+/// Gives a client behind a sieve bytes, and says at which place it refuses them.
 fn feed_behind(
-    alloc: Global,
-    client: Client,
-    sieve: PacketSieve,
+    client: &mut Client,
+    sieve: &mut PacketSieve,
     bytes: &[u8],
-) -> Result<Stage, OutOfMemory>
-    ensures { IfOk result (λ next. FeedsBehind client sieve bytes.now next) }
+    kept: &mut Vec<u8>,
+) -> Result<Option<u64>, OutOfMemory>
+    ensures { IfOk result (λ at. FeedsBehind client.old sieve.old bytes.now client.new sieve.new at) }
 {
-    let mut fed = client;
-    let mut come = sieve;
-    let mut kept = Vec::new(alloc);
-    come.sieve(bytes, &mut kept)?;
-    match feed_client(&mut fed, &kept)? {
-        Some(at) => Ok(Stage::Refused { at }),
-        None => Ok(Stage::Reads {
-            client: fed,
-            sieve: come,
-        }),
-    }
+    kept.clear();
+    sieve.sieve(bytes, kept)?;
+    feed_client(client, kept)
 }
 
 /// The stage where no bytes are left: an unfinished packet is read as it stands.
-pub(crate) fn finish(stage: Stage) -> Result<Stage, OutOfMemory>
-    ensures { IfOk result (λ next. Finishes stage next) }
+pub(crate) fn finish(stage: &mut Stage) -> Result<(), OutOfMemory>
+    ensures { OnOk result (Finishes stage.old stage.new) }
 {
-    match stage {
-        Stage::Reads { client, sieve } => finish_behind(client, sieve),
-        unread => Ok(unread),
+    if let Stage::Reads { client, sieve } = stage {
+        if let Some(at) = feed_client(client, sieve.held())? {
+            *stage = Stage::Refused { at };
+        }
     }
-}
-
-/// The same of a client behind a sieve.
-fn finish_behind(client: Client, sieve: PacketSieve) -> Result<Stage, OutOfMemory>
-    ensures { IfOk result (λ next. FinishesBehind client sieve next) }
-{
-    let mut fed = client;
-    match feed_client(&mut fed, sieve.held())? {
-        Some(at) => Ok(Stage::Refused { at }),
-        None => Ok(Stage::Reads { client: fed, sieve }),
-    }
+    Ok(())
 }
 
 /// Gives a client bytes, and says at which place it refuses them.
@@ -132,11 +126,11 @@ fn place_of(fault: ClientFault) -> Option<u64>
 }
 
 /// The stage after a line that breaks the rules, which counts where it is the first.
-fn broken(stage: Stage, line: u64) -> Stage
-    ensures { Breaks stage line result }
+fn break_at(stage: &mut Stage, line: u64)
+    ensures { Breaks stage.old line stage.new }
 {
     match stage {
-        Stage::Broken { line: first } => Stage::Broken { line: first },
-        _ => Stage::Broken { line },
+        Stage::Broken { .. } => {}
+        _ => *stage = Stage::Broken { line },
     }
 }

@@ -19,7 +19,7 @@ one_map whole f (Ok v) = refl
 one_map whole f (Err left) = refl
 
 -- so many bytes of a field that began before them
-taken_as : (u w : List ℕ) (n : ℕ) (bs : List ℕ) → as_one_field u (taken w n bs) ≡ taken u n bs
+pub taken_as : (u w : List ℕ) (n : ℕ) (bs : List ℕ) → as_one_field u (taken w n bs) ≡ taken u n bs
 taken_as u w zero bs = refl
 taken_as u w (suc n) [] = refl
 taken_as u w (suc n) (b ∷ bs) = one_map u (λ xs. b ∷ xs) (taken w n bs) ∙ ap (map_read (λ xs. b ∷ xs)) (taken_as u w n bs)

@@ -6,5 +6,9 @@ pub mod FastJudged
 pub mod Found
 pub mod Pushed
 pub mod Taken
+pub mod Begun
 pub mod KindFound
 pub mod Sieved
+pub mod WholePieces
+pub mod KindByte
+pub mod McsThere

@@ -23,7 +23,7 @@ sieves_more xs ys s t u before mid after first second =
     }
 
 -- nothing was handed on, whatever was before
-nothing_handed : (xs : List ℕ) (s t : PacketStage) (before : List ℕ) → Sieves xs s t [] [] → Sieves xs s t before before
+pub nothing_handed : (xs : List ℕ) (s t : PacketStage) (before : List ℕ) → Sieves xs s t [] [] → Sieves xs s t before before
 nothing_handed xs s t before h = record { handed = sym (append-nil before) ∙ ap (λ (bs : List ℕ). before ++ bs) h.handed; stage = h.stage }
 
 -- ---- bytes within a packet
@@ -65,11 +65,16 @@ front_more zero m xs = let same : 0 + m ≡ m = omega arith in ap (λ (k : ℕ).
 front_more (suc n) m [] = front_none (suc n + m) ∙ sym (front_none m)
 front_more (suc n) m (x ∷ xs) = let same : suc n + m ≡ suc (n + m) = omega arith in ap (λ (k : ℕ). take k (x ∷ xs)) same ∙ ap (λ (ys : List ℕ). x ∷ ys) (front_more n m xs)
 
--- bytes behind those so far were held
-pub held_further : (i n : ℕ) (xs : List ℕ) (s t u : PacketStage) (before mid : List ℕ) → Sieves (take i xs) s t before mid → Sieves (take n (drop i xs)) t u [] [] → Sieves (take (i + n) xs) s u before mid
-held_further i n xs s t u before mid so_far held =
-    subst (λ (front : List ℕ). Sieves front s u before mid) (sym (front_more i n xs))
-    (sieves_more (take i xs) (take n (drop i xs)) s t u before mid mid so_far (nothing_handed (take n (drop i xs)) t u mid held))
+-- bytes behind those so far went through
+pub passed_further : (i n : ℕ) (xs : List ℕ) (s t u : PacketStage) (before mid after : List ℕ) → Sieves (take i xs) s t before mid → Sieves (take n (drop i xs)) t u mid after → Sieves (take (i + n) xs) s u before after
+passed_further i n xs s t u before mid after so_far next =
+    subst (λ (front : List ℕ). Sieves front s u before after) (sym (front_more i n xs)) (sieves_more (take i xs) (take n (drop i xs)) s t u before mid after so_far next)
+
+-- none did
+pub none_further : (i n : ℕ) (xs : List ℕ) (s t u : PacketStage) (before mid after : List ℕ) → n ≡ 0 → Sieves (take i xs) s t before mid → Sieves (take n (drop i xs)) t u mid after → Sieves (take i xs) s u before after
+none_further i n xs s t u before mid after none so_far next =
+    let same : i + n ≡ i = omega (arith, none) in
+    subst (λ (k : ℕ). Sieves (take k xs) s u before after) same (passed_further i n xs s t u before mid after so_far next)
 
 -- a byte behind them was taken
 pub byte_further : (i : ℕ) (xs : List ℕ) (s t u : PacketStage) (before mid after : List ℕ) → i < length xs → Sieves (take i xs) s t before mid → Sieves (get_or xs i 0 ∷ []) t u mid after → Sieves (take (i + 1) xs) s u before after

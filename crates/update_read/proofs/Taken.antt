@@ -9,11 +9,11 @@ use Rattle.update_read.specs.Cutters.{fast_length, fast_stage, stage_of, length_
 use Rattle.update_read.proofs.Judged.{goes_on}
 use Rattle.update_read.proofs.FastJudged.{fast_goes_on, length_stays}
 
-abbrev gone : ℕ → List ℕ → Updates
+abbrev pub gone : ℕ → List ℕ → Updates
 gone s packet = updates [] (cutting (s + length packet) (stage_of packet))
 
 -- bytes that don't end a packet, of which the header is there
-slow_from : (fast : Bool) (s a b h l : ℕ) (rest xs : List ℕ) → 5 + length rest + length xs ≤ 256 * h + l → 256 * h + l ≤ 65535 →
+pub slow_from : (fast : Bool) (s a b h l : ℕ) (rest xs : List ℕ) → 5 + length rest + length xs ≤ 256 * h + l → 256 * h + l ≤ 65535 →
     updates_from fast (cutting (s + length (suc a ∷ b ∷ h ∷ l ∷ rest)) (stage_of (suc a ∷ b ∷ h ∷ l ∷ rest))) xs ≡ gone s (suc a ∷ b ∷ h ∷ l ∷ (rest ++ xs))
 slow_from fast s a b h l rest [] fits most = ap (λ (r : List ℕ). gone s (suc a ∷ b ∷ h ∷ l ∷ r)) (sym (append-nil rest))
 slow_from fast s a b h l rest (x ∷ xs) fits most =
@@ -26,7 +26,7 @@ slow_from fast s a b h l rest (x ∷ xs) fits most =
     ∙ ap (λ (r : List ℕ). gone s (suc a ∷ b ∷ h ∷ l ∷ r)) (append_assoc rest (x ∷ []) xs)
 
 -- the same of one of the fast path
-fast_from : (fast : Bool) (s : ℕ) (bs xs : List ℕ) (m : ℕ × ℕ) → fast_length (zero ∷ bs) ≡ Some m → IsOpen (zero ∷ bs) → length (zero ∷ bs) + 1 + length xs ≤ m.1 → m.1 ≤ 32767 →
+pub fast_from : (fast : Bool) (s : ℕ) (bs xs : List ℕ) (m : ℕ × ℕ) → fast_length (zero ∷ bs) ≡ Some m → IsOpen (zero ∷ bs) → length (zero ∷ bs) + 1 + length xs ≤ m.1 → m.1 ≤ 32767 →
     (updates_from fast (cutting (s + length (zero ∷ bs)) (stage_of (zero ∷ bs))) xs ≡ gone s (zero ∷ (bs ++ xs))) × IsOpen (zero ∷ (bs ++ xs))
 fast_from fast s bs [] m e sound fits most = (ap (λ (r : List ℕ). gone s (zero ∷ r)) (sym (append-nil bs)), subst (λ (r : List ℕ). IsOpen (zero ∷ r)) (sym (append-nil bs)) sound)
 fast_from fast s bs (x ∷ xs) m e sound fits most =

@@ -1,5 +1,5 @@
 -- How far a cutter has come, and what a byte gives.
-use Rattle.std.specs.Prelude.{◌≡◌, ◌≤◌, ℕ, zero, suc, ◌+◌, ◌-◌, ◌*◌, ◌^◌, min, nat_lt, Bool, true, false, List, [], ◌∷◌, length, take, drop, slice_index, Option, Some, None, ⊤}
+use Rattle.std.specs.Prelude.{◌≡◌, ◌≤◌, ℕ, zero, suc, ◌+◌, ◌-◌, ◌*◌, ◌^◌, min, nat_lt, nat_le, ◌==◌, ◌&&◌, ◌||◌, if◌then◌else◌, Bool, true, false, List, [], ◌∷◌, length, take, drop, slice_index, Option, Some, None, ⊤}
 use Rattle.wire_num.specs.declared.range.Range.{Range}
 use Rattle.wire_num.specs.Cursor.{CursorOf}
 use Rattle.order_means.specs.WirePixels.{turned}
@@ -138,6 +138,29 @@ behind_first u = updates (drop 1 u.bodies) u.next
 -- so many bytes of a packet are missing before its last one
 abbrev pub IsMissing : List ℕ → ℕ → Type 0
 IsMissing packet n = length packet + 1 + n ≤ length_in packet
+
+-- a byte begins a packet of a viewer that takes the fast path or not
+abbrev pub begins_with : Bool → ℕ → Bool
+begins_with fast b = (b == 3) || (fast && (b == 0))
+
+-- how many bytes of the packet with which these begin are there before its last one, where its header is there and its length is at least 7; else 0
+abbrev pub begun_size : Bool → List ℕ → ℕ
+begun_size fast bytes = if begins_with fast (slice_index bytes 0) && nat_le 7 (length_in bytes) then min (length_in bytes - 1) (length bytes) else 0
+
+-- so many are there
+pub record IsBegun (fast : Bool) (bytes : List ℕ) (n : ℕ) : Type 0 where
+  pub begins : begins_with fast (slice_index bytes 0) ≡ true
+  pub least : 7 ≤ length_in bytes
+  pub most : length_in bytes ≤ 65535
+  pub fast_most : slice_index bytes 0 ≡ 0 → length_in bytes ≤ 32767
+  pub size : n ≡ min (length_in bytes - 1) (length bytes)
+
+-- no packet has begun
+abbrev pub is_between : State → ℕ → Bool
+is_between Open count = count == 0
+is_between (Whole found) count = false
+is_between Ended count = true
+is_between (RefusedAt at) count = false
 
 -- bytes give no update, refuse nothing, and the cutter has come as far
 abbrev pub GoesOn : Cutting → Updates → CutterOf → Type 0

@@ -4,3 +4,4 @@ pub mod PacketParts
 pub mod Forms
 pub mod Cutters
 pub mod Sieves
+pub mod Wholes

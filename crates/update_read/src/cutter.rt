@@ -1,10 +1,10 @@
-ghost use Rattle.std.specs.Prelude.{◌≡◌, ◌≤◌, ◌<◌, ◌+◌, ◌++◌, ◌∷◌, [], take, length, IfOk};
+ghost use Rattle.std.specs.Prelude.{◌≡◌, ◌≤◌, ◌<◌, ◌+◌, ◌++◌, ◌∷◌, [], true, take, length, IfOk};
 ghost use Rattle.order_means.specs.Updates.{Cutting, cutting, Updates, updates_by, updates_from};
 ghost use Rattle.order_means.specs.Updates.Stage.{Between};
 ghost use Rattle.update_read.specs.declared.state.State.TheVariants.{Open};
-ghost use Rattle.update_read.specs.Cutters.{Stands, Gives, GoesOn, IsMissing, behind_first, pending, step_of, step_by, body_by, place_after};
+ghost use Rattle.update_read.specs.Cutters.{Stands, Gives, GoesOn, IsMissing, is_between, begun_size, IsBegun, behind_first, pending, step_of, step_by, body_by, place_after};
 
-use crate::judge::{judge, judge_behind, length_in};
+use crate::judge::{LEAST_LENGTH, begins_with, judge, judge_behind, length_in};
 use crate::state::State;
 use crate::{OutOfMemory, Step};
 use std::alloc::Global;
@@ -87,6 +87,39 @@ impl Cutter {
         ensures cut { (c : Cutting) → Stands c self.old → GoesOn c (updates_from self.old.fast c (take result bytes.now)) self.new }
         ensures fast { self.new.fast ≡ self.old.fast }
     {
+        if is_between(self.state, self.count) {
+            self.begin(bytes)
+        } else {
+            self.go_further(bytes)
+        }
+    }
+
+    /// The same where no packet has begun: the front of one, where its header is there.
+    fn begin(&mut self, bytes: &[u8]) -> usize
+        requires { is_between self.old.state (length self.old.packet) ≡ true }
+        ensures count { result ≡ begun_size self.old.fast bytes.now }
+        ensures most { result ≤ length bytes.now }
+        ensures cut { (c : Cutting) → Stands c self.old → GoesOn c (updates_from self.old.fast c (take result bytes.now)) self.new }
+        ensures fast { self.new.fast ≡ self.old.fast }
+    {
+        let count = begun_size(self.fast, bytes);
+        if count == 0 {
+            return 0;
+        }
+        let (start, _) = place_after(self.state, self.start, self.count);
+        put_behind(&mut self.bytes, 0, &bytes[..count]);
+        self.start = start;
+        self.count = count;
+        self.state = State::Open;
+        count
+    }
+
+    /// The same within a packet.
+    fn go_further(&mut self, bytes: &[u8]) -> usize
+        ensures count { result ≤ length bytes.now }
+        ensures cut { (c : Cutting) → Stands c self.old → GoesOn c (updates_from self.old.fast c (take result bytes.now)) self.new }
+        ensures fast { self.new.fast ≡ self.old.fast }
+    {
         let count = sure(self.state, &self.bytes[..self.count]).min(bytes.len());
         if count == 0 {
             return 0;
@@ -105,6 +138,32 @@ impl Cutter {
             _ => &[],
         }
     }
+}
+
+/// Whether no packet has begun.
+fn is_between(state: State, count: usize) -> bool
+    ensures { result ≡ is_between state count }
+{
+    match state {
+        State::Ended => true,
+        State::Open => count == 0,
+        State::Update(_) | State::Refused(_) => false,
+    }
+}
+
+/// How many bytes of the packet with which these begin are there before its last one; 0 where its header isn't there, or it is a small one.
+fn begun_size(fast: bool, bytes: &[u8]) -> usize
+    ensures value { result ≡ begun_size fast bytes.now }
+    ensures begun { 0 < result → IsBegun fast bytes.now result }
+{
+    if bytes.is_empty() || !begins_with(fast, bytes[0]) {
+        return 0;
+    }
+    let length = length_in(bytes);
+    if length < LEAST_LENGTH {
+        return 0;
+    }
+    (length - 1).min(bytes.len())
 }
 
 /// How many bytes of a packet that goes on are missing before its last one, where its length is there.

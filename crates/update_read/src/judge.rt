@@ -12,7 +12,7 @@
 ghost use Rattle.std.specs.Prelude.{◌≡◌, ◌≤◌, ◌<◌, ◌+◌, ◌*◌, ◌∷◌, ◌++◌, [], ℕ, suc, Bool, List, length, drop, slice_index};
 ghost use Rattle.order_means.specs.Updates.{Updates, updates_by, fast_update_at, more_updates, then_updates, whole_fast};
 ghost use Rattle.order_means.specs.Updates.Stage.{Between};
-ghost use Rattle.update_read.specs.Cutters.{capped, fast_length, stage_of, length_in, IsOpen, IsWhole, IsSoundBy, Tells, behind_first, pending_by};
+ghost use Rattle.update_read.specs.Cutters.{capped, fast_length, stage_of, length_in, begins_with, IsOpen, IsWhole, IsSoundBy, Tells, behind_first, pending_by};
 
 use crate::BodyForm;
 use crate::fast::{fast_length, read_fast_update};
@@ -47,7 +47,9 @@ pub(crate) fn length_of(high: u8, low: u8) -> usize
 /// The length of a packet of either kind; 0 where it isn't all there.
 #[tactic(auto, using(crate::proofs::Judged::none_in, crate::proofs::Judged::fast_in, crate::proofs::Judged::few_in, crate::proofs::Judged::slow_in))]
 pub fn length_in(packet: &[u8]) -> usize
-    ensures { result ≡ length_in packet.now }
+    ensures value { result ≡ length_in packet.now }
+    ensures most { result ≤ 65535 }
+    ensures fast { slice_index packet.now 0 ≡ 0 → result ≤ 32767 }
 {
     if packet.is_empty() {
         return 0;
@@ -84,11 +86,18 @@ fn read_packet(start: u64, packet: &[u8]) -> State
     }
 }
 
+/// Whether this byte begins a packet.
+pub(crate) fn begins_with(fast: bool, first: u8) -> bool
+    ensures { result ≡ begins_with fast first }
+{
+    first == VERSION || fast && first == FAST
+}
+
 /// What a packet is with its first byte.
 fn judge_first(fast: bool, start: u64, first: u8) -> State
     ensures { (s : ℕ) → start ≡ capped s → Tells result (updates_by fast s Between first) s (first ∷ []) }
 {
-    if first == VERSION || fast && first == FAST {
+    if begins_with(fast, first) {
         State::Open
     } else {
         State::Refused(start)

@@ -16,6 +16,7 @@ mod state;
 mod step;
 mod tile;
 mod update;
+mod whole;
 
 pub use content::find_content;
 pub use cutter::Cutter;

@@ -29,8 +29,25 @@ const CHANNEL: [u8; 2] = [0x03, 0xEB];
 
 const PRIORITY: [u8; 1] = [0x70];
 
-/// Reads the headers up to the length.
+/// The bytes of all these.
+const MCS_SIZE: usize = 9;
+
+/// Reads the headers up to the length. Where all stand there, they are one comparison.
+#[tactic(auto, using(crate::proofs::McsThere::mcs_there))]
 fn read_mcs(cursor: &mut Cursor<'_>) -> Result<(), Short>
+    ensures { ReadsFieldsAs (λ _. []) mcs_at result cursor.old cursor.new }
+{
+    match cursor.rest() {
+        [0x02, 0xF0, 0x80, 0x68, 0x00, 0x01, 0x03, 0xEB, 0x70, ..] => {
+            cursor.bytes(MCS_SIZE)?;
+            Ok(())
+        }
+        _ => read_mcs_fields(cursor),
+    }
+}
+
+/// Reads the headers up to the length, field by field.
+fn read_mcs_fields(cursor: &mut Cursor<'_>) -> Result<(), Short>
     ensures { ReadsFieldsAs (λ _. []) mcs_at result cursor.old cursor.new }
 {
     cursor.expect(&X224_DATA)?;

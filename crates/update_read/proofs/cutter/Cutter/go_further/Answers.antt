@@ -4,7 +4,7 @@ use Rattle.std.proofs.lemmas.List.{with_items_is}
 use Rattle.order_means.specs.Updates.{Cutting, updates_from}
 use Rattle.update_read.specs.Cutters.{CutterOf, Stands, GoesOn}
 use Rattle.update_read.proofs.Taken.{taken_by}
-use Rattle.update_read.proofs.cutter.Cutter.take.Goals as goal
+use Rattle.update_read.proofs.cutter.Cutter.go_further.Goals as goal
 
 pub returns-then-count-eq0-clause-cut : goal.returns-then-count-eq0-clause-cut
 returns-then-count-eq0-clause-cut c = λ k stands. (refl, stands, λ none. none)
