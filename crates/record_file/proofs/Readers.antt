@@ -17,7 +17,7 @@ use Rattle.wire_num.proofs.Content.{rest_of_content}
 use Rattle.wire_num.specs.Number.{big_value}
 use Rattle.px_core.specs.Colors.{are_colors}
 use Rattle.px_core.proofs.Colors.{pushed_are_colors}
-use Rattle.wire_num.specs.Field.{Read, then_read, map_read, bytes_at}
+use Rattle.wire_num.specs.Field.{Read, bytes_at}
 use Rattle.wire_num.specs.Caused.{Caused, caused, then_caused, before_caused}
 use Rattle.wire_num.specs.Cursor.{CursorOf, rest}
 use Rattle.record_rules.specs.Reading.{Lack, colors_in, counted_at, body_at, framed_at, row_at, rows_at}

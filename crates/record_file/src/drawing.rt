@@ -19,7 +19,7 @@
 //! A rectangle has x 2 and y 2 (signed), w 2 and h 2; other coordinates have 2 bytes, signed; a colour has 3 bytes; codes, fonts and
 //! slots have 1.
 
-ghost use Rattle.std.specs.Prelude.{◌≡◌, ◌++◌, ◌∷◌, [], length, OnOk, OnErr, IsTrue, ◌≤◌};
+ghost use Rattle.std.specs.Prelude.{◌≡◌, ◌+◌, ◌++◌, ◌∷◌, [], length, OnOk, OnErr, IsTrue, ◌≤◌};
 ghost use Rattle.wire_num.specs.Written.{AppendsFront};
 ghost use Rattle.draw_ops.specs.declared.shape.Shape.TheVariants.{Copy, Blit, Blit3};
 ghost use Rattle.record_rules.specs.declared.field.Field.TheVariants.{Byte, SignedShort, Short};
@@ -27,6 +27,7 @@ ghost use Rattle.record_rules.specs.Fields.{fields_bytes, are_in_place};
 ghost use Rattle.record_rules.specs.Tables.{clip_fields, shape_fields, shape_rest};
 
 use crate::OutOfMemory;
+use crate::gathered::Gathered;
 use crate::put::{put_bytes, put_colors, put_fields, put_pairs};
 use draw_ops::{Drawing, Shape};
 use px_core::Rect;
@@ -144,11 +145,12 @@ fn blit3_fields(r: Rect, rop: u8, image: u8, sx: i32, sy: i32, brush: u8) -> [Fi
     ]
 }
 
-/// Writes the flag of a clip, and the clip, at the end. An `Err` leaves a front of them there.
-fn put_clip(out: &mut Vec<u8>, clip: Option<Rect>) -> Result<(), OutOfMemory>
-    requires { IsTrue (are_in_place (clip_fields clip)) }
-    ensures ok { OnOk result (out.new.items ≡ out.old.items ++ fields_bytes (clip_fields clip)) }
-    ensures memory { OnErr result (AppendsFront out.old.items (fields_bytes (clip_fields clip)) out.new.items) }
+/// Puts the flag of a clip, and the clip, behind the others.
+fn put_clip(out: &mut Gathered, clip: Option<Rect>)
+    requires place { IsTrue (are_in_place (clip_fields clip)) }
+    requires room { length out.old ≤ 52 }
+    ensures fields { out.new ≡ out.old ++ fields_bytes (clip_fields clip) }
+    ensures size { length out.new ≤ length out.old + 20 }
 {
     match clip {
         None => put_fields(out, &[Field::Byte(0)]),
@@ -169,11 +171,11 @@ fn clip_length(clip: Option<Rect>) -> usize
     }
 }
 
-/// Writes a shape's number and its fields at the end, up to what stands behind them. An `Err` leaves a front of them there.
-fn put_shape_fields(out: &mut Vec<u8>, shape: &Shape) -> Result<(), OutOfMemory>
-    requires { IsTrue (are_in_place (shape_fields shape.now)) }
-    ensures ok { OnOk result (out.new.items ≡ out.old.items ++ fields_bytes (shape_fields shape.now)) }
-    ensures memory { OnErr result (AppendsFront out.old.items (fields_bytes (shape_fields shape.now)) out.new.items) }
+/// Puts a shape's number and its fields behind the others, up to what stands behind them.
+fn put_shape_fields(out: &mut Gathered, shape: &Shape)
+    requires place { IsTrue (are_in_place (shape_fields shape.now)) }
+    requires room { length out.old ≤ 32 }
+    ensures { out.new ≡ out.old ++ fields_bytes (shape_fields shape.now) }
 {
     match shape {
         Shape::Fill { rect, color } => {
@@ -339,14 +341,14 @@ fn rest_length(shape: &Shape) -> usize
     }
 }
 
-/// Writes the fields of a drawing at the end, up to what stands behind them. An `Err` leaves a front of them there.
-pub fn put_drawing_fields(out: &mut Vec<u8>, d: &Drawing) -> Result<(), OutOfMemory>
-    requires { IsTrue (are_in_place (clip_fields d.now.clip ++ shape_fields d.now.shape)) }
-    ensures ok { OnOk result (out.new.items ≡ out.old.items ++ fields_bytes (clip_fields d.now.clip ++ shape_fields d.now.shape)) }
-    ensures memory { OnErr result (AppendsFront out.old.items (fields_bytes (clip_fields d.now.clip ++ shape_fields d.now.shape)) out.new.items) }
+/// Puts the fields of a drawing behind the others, up to what stands behind them.
+pub fn put_drawing_fields(out: &mut Gathered, d: &Drawing)
+    requires place { IsTrue (are_in_place (clip_fields d.now.clip ++ shape_fields d.now.shape)) }
+    requires room { length out.old ≤ 12 }
+    ensures { out.new ≡ out.old ++ fields_bytes (clip_fields d.now.clip ++ shape_fields d.now.shape) }
 {
-    put_clip(out, d.clip)?;
-    put_shape_fields(out, &d.shape)
+    put_clip(out, d.clip);
+    put_shape_fields(out, &d.shape);
 }
 
 /// How many bytes a drawing has.

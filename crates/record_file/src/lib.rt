@@ -3,6 +3,7 @@
 
 mod course;
 mod drawing;
+mod gathered;
 pub mod laws;
 mod name;
 mod play;

@@ -1,14 +1,14 @@
-//! Fields at the end of a record.
+//! Fields that are gathered, and what is written at the end of a record.
 
-ghost use Rattle.std.specs.Prelude.{◌≡◌, ◌++◌, ◌∷◌, [], OnOk, OnErr, IsTrue};
+ghost use Rattle.std.specs.Prelude.{◌≡◌, ◌+◌, ◌*◌, ◌++◌, ◌≤◌, ◌∷◌, [], length, OnOk, OnErr, IsTrue};
 ghost use Rattle.byteorder.specs.Endian.{big_bytes};
 ghost use Rattle.wire_num.specs.Number.{unsigned};
 ghost use Rattle.wire_num.specs.Written.{AppendsFront};
 ghost use Rattle.record_rules.specs.Fields.{field_bytes, fields_bytes, colors_bytes, pairs_bytes, is_in_place, are_in_place, is_i8, is_i16};
 
 use crate::OutOfMemory;
+use crate::gathered::Gathered;
 use record_rules::Field;
-use wire_num::{put_u16_le, put_u32_le};
 
 /// The byte of a signed number.
 fn signed_byte(z: i32) -> u8
@@ -28,50 +28,49 @@ fn signed_short(z: i32) -> u16
     number as u16
 }
 
-/// Writes a byte at the end. An `Err` leaves nothing there.
-fn put_byte(out: &mut Vec<u8>, byte: u8) -> Result<(), OutOfMemory>
-    ensures ok { OnOk result (out.new.items ≡ out.old.items ++ byte ∷ []) }
-    ensures memory { OnErr result (AppendsFront out.old.items (byte ∷ []) out.new.items) }
+/// The three bytes of a colour: red, green, blue.
+fn color_bytes(color: u32) -> [u8; 3]
+    ensures { result ≡ big_bytes 3 color }
 {
-    out.push(byte)?;
-    Ok(())
+    let [_, red, green, blue] = color.to_be_bytes();
+    [red, green, blue]
 }
 
-/// Writes a colour at the end: red, green, blue. An `Err` leaves a front of it there.
+/// Puts a field behind the others.
+fn put_field(out: &mut Gathered, field: Field)
+    requires place { IsTrue (is_in_place field) }
+    requires room { length out.old ≤ 68 }
+    ensures field { out.new ≡ out.old ++ field_bytes field }
+    ensures size { length out.new ≤ length out.old + 4 }
+{
+    match field {
+        Field::Byte(n) => out.put(&[n as u8]),
+        Field::Short(n) => out.put(&(n as u16).to_le_bytes()),
+        Field::Long(n) => out.put(&n.to_le_bytes()),
+        Field::SignedByte(z) => out.put(&[signed_byte(z)]),
+        Field::SignedShort(z) => out.put(&signed_short(z).to_le_bytes()),
+        Field::Color(color) => out.put(&color_bytes(color)),
+    }
+}
+
+/// Puts fields behind the others, one after the other.
+pub fn put_fields(out: &mut Gathered, fields: &[Field])
+    requires place { IsTrue (are_in_place fields.now) }
+    requires room { length out.old + 4 * length fields.now ≤ 72 }
+    ensures fields { out.new ≡ out.old ++ fields_bytes fields.now }
+    ensures size { length out.new ≤ length out.old + 4 * length fields.now }
+{
+    for field in fields {
+        put_field(out, *field);
+    }
+}
+
+/// Writes a colour at the end. An `Err` leaves a front of it there.
 fn put_color(out: &mut Vec<u8>, color: u32) -> Result<(), OutOfMemory>
     ensures ok { OnOk result (out.new.items ≡ out.old.items ++ big_bytes 3 color) }
     ensures memory { OnErr result (AppendsFront out.old.items (big_bytes 3 color) out.new.items) }
 {
-    let [_, red, green, blue] = color.to_be_bytes();
-    out.extend_from_slice(&[red, green, blue])?;
-    Ok(())
-}
-
-/// Writes a field at the end. An `Err` leaves a front of it there.
-fn put_field(out: &mut Vec<u8>, field: Field) -> Result<(), OutOfMemory>
-    requires { IsTrue (is_in_place field) }
-    ensures ok { OnOk result (out.new.items ≡ out.old.items ++ field_bytes field) }
-    ensures memory { OnErr result (AppendsFront out.old.items (field_bytes field) out.new.items) }
-{
-    match field {
-        Field::Byte(n) => put_byte(out, n as u8),
-        Field::Short(n) => put_u16_le(out, n as u16),
-        Field::Long(n) => put_u32_le(out, n),
-        Field::SignedByte(z) => put_byte(out, signed_byte(z)),
-        Field::SignedShort(z) => put_u16_le(out, signed_short(z)),
-        Field::Color(color) => put_color(out, color),
-    }
-}
-
-/// Writes fields at the end, one after the other. An `Err` leaves a front of them there.
-pub fn put_fields(out: &mut Vec<u8>, fields: &[Field]) -> Result<(), OutOfMemory>
-    requires { IsTrue (are_in_place fields.now) }
-    ensures ok { OnOk result (out.new.items ≡ out.old.items ++ fields_bytes fields.now) }
-    ensures memory { OnErr result (AppendsFront out.old.items (fields_bytes fields.now) out.new.items) }
-{
-    for field in fields {
-        put_field(out, *field)?;
-    }
+    out.extend_from_slice(&color_bytes(color))?;
     Ok(())
 }
 

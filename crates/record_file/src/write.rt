@@ -22,7 +22,8 @@
 //! | 1 | clip | of a Draw: 0, or 1 and a rectangle |
 //! | | shape | of a Draw |
 
-ghost use Rattle.std.specs.Prelude.{◌≡◌, ◌++◌, ◌∷◌, [], length, OnOk, OnErr, IsTrue};
+ghost use Rattle.std.specs.Prelude.{◌≡◌, ◌++◌, ◌≤◌, ◌∷◌, [], length, OnOk, OnErr, IsTrue};
+ghost use Rattle.byteorder.specs.Endian.{little_bytes};
 ghost use Rattle.wire_num.specs.Written.{AppendsFront};
 ghost use Rattle.draw_ops.specs.Ranges.{is_u16};
 ghost use Rattle.session_rules.specs.declared.entry.Entry.TheVariants.{Draw};
@@ -32,6 +33,7 @@ ghost use Rattle.record_rules.specs.Tables.{role_number, row_bytes, rows_bytes, 
 ghost use Rattle.script_rules.specs.Script.{is_name};
 
 use crate::drawing::{drawing_length, put_drawing_fields, put_shape_rest};
+use crate::gathered::Gathered;
 use crate::put::{put_bytes, put_fields};
 use crate::{Entry, Invite, OutOfMemory};
 use draw_ops::Drawing;
@@ -39,7 +41,6 @@ use input_pdu::Event;
 use px_core::Size;
 use record_rules::Field;
 use session_rules::Role;
-use wire_num::put_u16_le;
 
 /// The kinds of entries.
 pub const JOIN: u32 = 1;
@@ -79,13 +80,15 @@ fn put_row(out: &mut Vec<u8>, row: &Invite) -> Result<(), OutOfMemory>
     ensures memory { OnErr result (AppendsFront out.old.items (row_bytes (record { name = row.now.name; role = row.now.role })) out.new.items) }
 {
     let name = row.name.bytes();
+    let mut fields = Gathered::new();
     put_fields(
-        out,
+        &mut fields,
         &[
             Field::Byte(role_number(row.role)),
             Field::Byte(name.len() as u32),
         ],
-    )?;
+    );
+    put_bytes(out, fields.bytes())?;
     put_bytes(out, name)
 }
 
@@ -107,8 +110,9 @@ pub fn write_head(out: &mut Vec<u8>, size: Size, rows: &[Invite]) -> Result<(), 
     ensures ok { OnOk result (out.new.items ≡ out.old.items ++ head_bytes (record { size = size; rows = rows_of rows.now })) }
     ensures memory { OnErr result (AppendsFront out.old.items (head_bytes (record { size = size; rows = rows_of rows.now })) out.new.items) }
 {
+    let mut fields = Gathered::new();
     put_fields(
-        out,
+        &mut fields,
         &[
             Field::Byte(0x52),
             Field::Byte(0x44),
@@ -120,7 +124,8 @@ pub fn write_head(out: &mut Vec<u8>, size: Size, rows: &[Invite]) -> Result<(), 
             Field::Short(size.h),
             Field::Byte(rows.len() as u32),
         ],
-    )?;
+    );
+    put_bytes(out, fields.bytes())?;
     put_rows(out, rows)
 }
 
@@ -137,21 +142,21 @@ fn event_numbers(event: Event) -> (u32, u32, u32, u32)
     }
 }
 
-/// Writes the fields of a Draw at the end, up to what stands behind them. An `Err` leaves a front of them there.
-fn put_draw_fields(out: &mut Vec<u8>, by: u32, d: &Drawing) -> Result<(), OutOfMemory>
-    requires { IsTrue (are_in_place (entry_fields (Draw by d.now))) }
-    ensures ok { OnOk result (out.new.items ≡ out.old.items ++ fields_bytes (entry_fields (Draw by d.now))) }
-    ensures memory { OnErr result (AppendsFront out.old.items (fields_bytes (entry_fields (Draw by d.now))) out.new.items) }
+/// Puts the fields of a Draw behind the others, up to what stands behind them.
+fn put_draw_fields(out: &mut Gathered, by: u32, d: &Drawing)
+    requires place { IsTrue (are_in_place (entry_fields (Draw by d.now))) }
+    requires room { length out.old ≤ 4 }
+    ensures { out.new ≡ out.old ++ fields_bytes (entry_fields (Draw by d.now)) }
 {
-    put_fields(out, &[Field::Byte(DRAW), Field::Long(by)])?;
-    put_drawing_fields(out, d)
+    put_fields(out, &[Field::Byte(DRAW), Field::Long(by)]);
+    put_drawing_fields(out, d);
 }
 
-/// Writes the fields of an entry at the end, up to what stands behind them. An `Err` leaves a front of them there.
-fn put_entry_fields(out: &mut Vec<u8>, e: &Entry) -> Result<(), OutOfMemory>
-    requires { IsTrue (are_in_place (entry_fields e.now)) }
-    ensures ok { OnOk result (out.new.items ≡ out.old.items ++ fields_bytes (entry_fields e.now)) }
-    ensures memory { OnErr result (AppendsFront out.old.items (fields_bytes (entry_fields e.now)) out.new.items) }
+/// Puts the fields of an entry behind the others, up to what stands behind them.
+fn put_entry_fields(out: &mut Gathered, e: &Entry)
+    requires place { IsTrue (are_in_place (entry_fields e.now)) }
+    requires room { length out.old ≤ 4 }
+    ensures { out.new ≡ out.old ++ fields_bytes (entry_fields e.now) }
 {
     match e {
         Entry::Join { v, role } => put_fields(
@@ -215,14 +220,16 @@ fn body_length(e: &Entry) -> u16
     length as u16
 }
 
-/// Writes the body of an entry at the end. An `Err` leaves a front of it there.
-fn put_body(out: &mut Vec<u8>, e: &Entry) -> Result<(), OutOfMemory>
-    requires { IsTrue (are_in_place (entry_fields e.now)) }
-    ensures ok { OnOk result (out.new.items ≡ out.old.items ++ body_bytes e.now) }
-    ensures memory { OnErr result (AppendsFront out.old.items (body_bytes e.now) out.new.items) }
+/// The length of an entry that a record can hold, and its fields, up to what stands behind them.
+fn gather_fields(e: &Entry) -> Gathered
+    requires { IsTrue (is_recordable e.now) }
+    ensures { result ≡ little_bytes 2 (length (body_bytes e.now)) ++ fields_bytes (entry_fields e.now) }
 {
-    put_entry_fields(out, e)?;
-    put_entry_rest(out, e)
+    let mut fields = Gathered::new();
+    let length = u32::from(body_length(e));
+    put_fields(&mut fields, &[Field::Short(length)]);
+    put_entry_fields(&mut fields, e);
+    fields
 }
 
 /// Writes an entry that a record can hold at the end, behind its length. An `Err` leaves a front of it there.
@@ -231,6 +238,7 @@ pub fn write_entry(out: &mut Vec<u8>, e: &Entry) -> Result<(), OutOfMemory>
     ensures ok { OnOk result (out.new.items ≡ out.old.items ++ entry_bytes e.now) }
     ensures memory { OnErr result (AppendsFront out.old.items (entry_bytes e.now) out.new.items) }
 {
-    put_u16_le(out, body_length(e))?;
-    put_body(out, e)
+    let fields = gather_fields(e);
+    put_bytes(out, fields.bytes())?;
+    put_entry_rest(out, e)
 }

@@ -1,4 +1,3 @@
-use Rattle.std.proofs.Common.{◌∙◌, ap, sym}
 use Rattle.record_file.proofs.Readers.{framed_broken}
 use Rattle.record_file.proofs.read_entry.read_framed.Goals as goal
 
