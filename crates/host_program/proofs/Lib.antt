@@ -5,3 +5,4 @@ pub mod Arguments
 pub mod Invited
 pub mod Rowed
 pub mod Asked
+mod LineRows

@@ -2,7 +2,6 @@ mod EventRows
 mod EndRows
 mod LinkRows
 mod GateRows
-mod LineRows
 mod PassRows
 mod EntryRows
 mod RefusedRows
