@@ -28,13 +28,18 @@ cat "$work/output"
 many_memory=$(memory /dev/null "$rdp_host" demo "$seed" $((4 * steps)))
 many_entries=$(entries)
 cat "$work/output"
-awk -v steps="$steps" -v few="$few" -v many="$many" -v fm="$few_memory" -v mm="$many_memory" -v fe="$few_entries" -v me="$many_entries" 'BEGIN {
+awk -v steps="$steps" -v few="$few" -v many="$many" -v fm="$few_memory" -v mm="$many_memory" 'BEGIN {
     printf "%d steps: %.2f s of processor time, %d bytes at most; %d steps: %.2f s, %d bytes\n", steps, few / 1000, fm, 4 * steps, many / 1000, mm
-    printf "ratio of the times: %.2f (wanted: 4.4)\n", many / few
-    printf "bytes for each of %d entries between: %.1f (wanted: 1000)\n", me - fe, (mm - fm) / (me - fe)
 }'
+ratio=$(awk -v few="$few" -v many="$many" 'BEGIN { printf "%.2f", many / few }')
+bytes=$(awk -v more=$((many_memory - few_memory)) -v entries=$((many_entries - few_entries)) 'BEGIN { printf "%.1f", more / entries }')
+echo "ratio of the times: $ratio (wanted: 4.4)"
+echo "bytes for each of $((many_entries - few_entries)) entries between: $bytes (wanted: 1000)"
+want "$ratio" 4.4 'ratio of the times'
+want "$bytes" 1000 'bytes for each entry'
 if command -v valgrind >/dev/null; then
     total=$(instructions /dev/null "$rdp_host" demo "$seed" "$steps")
     echo "the ten functions that take most of $total instructions, of $steps steps:"
     callgrind_annotate "$work/profile" | grep -v '^--' | grep '%' | sed -n '2,11p'
 fi
+met

@@ -1,12 +1,14 @@
 # What the benches share. To be sourced with the bench's name in `bench`: it has where the programs stand, the folder $work for what
-# a run reads and writes, and the functions below. A program is that of another place where RDP_HOST, RDP_LOOK or RDP_VIEW names one.
+# a run reads and writes, and the functions below. PROGRAMS names another folder of programs, and RDP_HOST, RDP_LOOK and RDP_VIEW one of
+# them each. A wish that docs/performance.md shows as met, and that isn't met any more, makes a bench end with 1; one that was never met is
+# `open`, and only printed.
 set -eu
 LC_ALL=C
 export LC_ALL
 here=$(CDPATH= cd -- "$(dirname -- "$0")/.." && pwd)
-rdp_host=${RDP_HOST:-$here/crates/rdp_host/out/rdp_host}
-rdp_look=${RDP_LOOK:-$here/crates/rdp_look/out/rdp_look}
-rdp_view=${RDP_VIEW:-$here/crates/rdp_view/out/rdp_view}
+rdp_host=${RDP_HOST:-${PROGRAMS:-$here/crates/rdp_host/out}/rdp_host}
+rdp_look=${RDP_LOOK:-${PROGRAMS:-$here/crates/rdp_look/out}/rdp_look}
+rdp_view=${RDP_VIEW:-${PROGRAMS:-$here/crates/rdp_view/out}/rdp_view}
 work=$(mktemp -d)
 trap 'rm -rf "$work"' EXIT
 
@@ -62,5 +64,28 @@ least() {
     if [ "$1" -lt "$2" ]; then echo "$1"; else echo "$2"; fi
 }
 
-# A row of a table: a text, a number, and what is wanted of it, where that is said.
-row() { printf '| %-52s | %12s | %12s |\n' "$1" "$2" "${3-}"; }
+# A wish that was met: where the figure is above it now, that is said, and `met`, a bench's last line, ends it with 1.
+unmet=
+want() {
+    awk -v figure="$1" -v most="$2" 'BEGIN { exit !(figure <= most) }' || {
+        echo "$bench: $3: $1, and at most $2 is wanted" >&2
+        unmet=1
+    }
+}
+met() { [ -z "$unmet" ]; }
+
+# Looks at a figure, by its name: what is wanted of it, if anything; `open` where that was never met; and then maybe an older wish that is met.
+judge() {
+    most=$3
+    [ "${4-}" != open ] || most=${5-}
+    [ -z "$most" ] || want "$2" "$most" "$1"
+}
+
+# The head of a table of rows: what they tell of, and in what.
+table() { printf '| %-52s | %12s | %12s |\n|---|---:|---:|\n' "$1" "$2" wanted; }
+
+# A row of a table: a text, a number, and the words of `judge`.
+row() {
+    printf '| %-52s | %12s | %12s |\n' "$1" "$2" "${3-}${4:+ $4}"
+    judge "$1" "$2" "${3-}" "${4-}" "${5-}"
+}

@@ -71,7 +71,14 @@ part() {
         exec "$rdp_host" serve "$port" $size "$links" ann bob cy+ </dev/null >"$work/lines"
     ) &
     host=$!
-    clients "$1" "$port" "$host" "$work/wanted"
+    # with 3 the clients say that something isn't as wanted, once all is done
+    ended=0
+    clients "$1" "$port" "$host" "$work/wanted" || ended=$?
+    case $ended in
+    0) ;;
+    3) unmet=1 ;;
+    *) exit 1 ;;
+    esac
     ended=0
     wait "$host" || ended=$?
     host=
@@ -86,3 +93,4 @@ for name in "$@"; do
     part "$name"
     [ "$name" != crowd ] || part scarce
 done
+met

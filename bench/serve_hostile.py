@@ -25,7 +25,7 @@ import time
 import serve_load
 from sample_answers import packets, sharedata
 from serve_load import (ANSWERS, BAD_PACKET, BYE, HIGH, INVERT, LEFT, MOST, NOT_INVITED, PATIENCE, READ_FAULT, REFUSED, ROOM_FULL, TRUNCATED,
-                        WIDE, WRITE_FAULT, GivenUp, Link, Room, click, milliseconds, quiet, row, spread)
+                        WIDE, WRITE_FAULT, GivenUp, Link, Room, click, clicked, milliseconds, quiet, row)
 
 # How long a part may take, in seconds.
 LIMIT = 900
@@ -125,7 +125,7 @@ class Hall(Room):
         self.before = self.memory()
         self.seen('before')
 
-    def seen(self, when): row(f'{self.what}: from a click to the last mark, {when}: median, 19 of 20', spread(self.times_of_clicks(100)), 'median below 5 ms')
+    def seen(self, when): clicked(f'{self.what}: from a click to the last mark, {when}', self.times_of_clicks(100))
 
     def close(self):
         """One more viewer comes, if there is room; all see a click and leave; and what they were sent is looked at."""
@@ -336,7 +336,7 @@ def stay(room, what):
     spent, took = room.processor(), 10
     crowd.look_for(took)
     spent = room.processor() - spent
-    row(f'{what}: processor time of the host over {took} s beside them', f'{100 * spent / took:.2f}% of a processor', 'below 1%')
+    row(f'{what}: processor time of the host over {took} s beside them', f'{100 * spent / took:.2f}% of a processor', 'below 1%', spent < took / 100)
     descriptors, clicks = 0, []
 
     def draw():
@@ -362,7 +362,7 @@ def stay(room, what):
     row(f'{what}: the host had ended by then; had said their byte', f'{len(crowd.ended)}; {crowd.have_said}')
     row(f'{what}: descriptors of the host with two viewers; at most', f'{alone}; {descriptors}', f'at most {most}')
     if descriptors > most: raise ValueError('too many links at a time')
-    row(f'{what}: from a click to the last mark, meanwhile: median, 19 of 20', spread(clicks), 'median below 5 ms')
+    clicked(f'{what}: from a click to the last mark, meanwhile', clicks)
     crowd.leave()
     room.seen('when the crowd has gone')
     room.close()
@@ -479,6 +479,7 @@ def main():
             PARTS[part][0](room)
         with open(file, 'w') as it:
             for line in room.lines: it.write(f'^{line}$\n')
+        if serve_load.missed: sys.exit(serve_load.MISSED)
 
 
 if __name__ == '__main__': main()

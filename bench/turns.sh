@@ -2,11 +2,13 @@
 # Counts, by valgrind's callgrind, what a take costs while the session is locked for it, and what sharing tiles costs those who draw:
 # a late joiner behind N entries; a take of all tiles of the largest picture, for each tile; a drawing on tiles that were lent and given
 # back; and the memory of a new session of the largest picture. A count is the difference of two runs: of all instructions, or of what the
-# profile gives for a function with all that it calls (`Sender::take`, which is what a turn does, and `Session::draw`).
+# profile gives for a function with all that it calls (`Sender::take`, which is what a turn does, and `Session::draw`). Then what it costs that
+# sixteen viewers watch a window full of text, who are sent it as packed tiles or as orders.
 #
 # usage: sh bench/turns.sh      (it needs valgrind)
 bench=turns
 . "$(dirname "$0")/programs.sh"
+. "$here/bench/inputs.sh"
 needs "$rdp_host"
 
 # A picture of one tile, so many fills of a pixel by its owner; a viewer who joins late and takes, or nobody.
@@ -37,20 +39,13 @@ drawn() {
     }'
 }
 
-# The instructions of rdp_host over a generated script.
-script_instructions() {
-    "$@" >"$work/script"
-    instructions "$work/script" "$rdp_host" script
-}
-
 # The instructions of a function in the same run.
 within() {
     script_instructions "$@" >/dev/null
     inclusive "$function"
 }
 
-row 'a late joiner: its join and its first frame' instructions wanted
-printf '|---|---:|---:|\n'
+table 'a late joiner: its join and its first frame' instructions
 for entries in 1000 100000 1000000; do
     alone=$(script_instructions late "$entries" 0)
     joined=$(script_instructions late "$entries" 1)
@@ -59,8 +54,7 @@ for entries in 1000 100000 1000000; do
     row "behind $entries entries" $((joined - alone)) "$wanted"
 done
 echo
-row 'a turn' instructions wanted
-printf '|---|---:|---:|\n'
+table 'a turn' instructions
 function='Sender::take'
 once=$(within whole 1)
 twice=$(within whole 2)
@@ -79,3 +73,15 @@ printf 'size 2048 2048\ntake\n' >"$work/large"
 small=$(memory "$work/small" "$rdp_host" script)
 large=$(memory "$work/large" "$rdp_host" script)
 row 'bytes more of a new session of 2,048 by 2,048' $((large - small)) 1048576
+echo
+table 'sixteen viewers of a window full of text' instructions
+few=$(script_instructions window 16 change 2)
+many=$(script_instructions window 16 change 4)
+row 'all of it changes, and goes to each as 192 tiles' $(((many - few) / 2)) 25000000 open
+alone=$(script_instructions window 15 joiner 0)
+joined=$(script_instructions window 15 joiner 1)
+row 'the last of them joins behind the others, a tile' $(((joined - alone) / 192)) 15000
+few=$(script_instructions window 16 'ten fills' 10)
+many=$(script_instructions window 16 'ten fills' 20)
+row 'ten fills, and a take of each' $(((many - few) / 10)) 110000 open
+met
