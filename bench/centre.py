@@ -373,7 +373,7 @@ def over_tls(centre, maths):
 
 
 def through_stunnel(centre, maths):
-    """By stunnel on the client's side, with the file that docs/operating.md tells, where it is there. It makes its link of `maths` either way."""
+    """By stunnel on the client's side, with what examples/tunnel/client.conf has, where stunnel is there. It makes its link of `maths` either way."""
     heard = maths.hear(2)
     port = centre.port
     if shutil.which('stunnel'):
@@ -386,7 +386,7 @@ def through_stunnel(centre, maths):
         wait_until(lambda: is_listening(port), 'stunnel opens no port')
     Client(port).join('cy').leave()
     heard()
-    row('cy through stunnel, by its own file of docs/operating.md: in the room maths', 'so' if port != centre.port else 'not run: no stunnel here', 'so')
+    row('cy through stunnel, as by examples/tunnel/client.conf: in the room maths', 'so' if port != centre.port else 'not run: no stunnel here', 'so')
 
 
 # The links of `maths` up to here: three viewers, the streams, two of whom one isn't let in, one by TLS, and one through stunnel.

@@ -1,5 +1,5 @@
 #!/usr/bin/env python3
-"""A model of session records apart from the crates: it was written from the tables of docs/session.md, and shares nothing with their code or
+"""A model of session records apart from the crates: it was written from the tables of crates/record_rules/README.md, and shares nothing with their code or
 definitions. What of a script is refused it takes from the script's capture.
 
 python3 bench/record_model.py SCRIPT CAPTURE

@@ -1,6 +1,6 @@
 #!/usr/bin/env python3
-"""Checks that docs/index.md is up to date, that what other pages of docs/ cite is there, and that each wrong meaning stands above an example.
-Its reader of contracts is that of index.py, too.
+"""Checks that docs/index.md is up to date, that what other pages of docs/ cite is there, that each wrong meaning stands above an example, and
+what docs/crates.py says of crates.txt and of wrong edits. Its reader of contracts is that of index.py, too.
 
 Public calls are the functions that a crate exports, the methods of the types and the calls of the traits that it exports, and of what
 those types have of the standard's traits `clone` alone, since nothing else of it may refuse. A function that does nothing and has a
@@ -12,6 +12,7 @@ names by crates must be theirs. A field of a record to which clauses of links co
 
 python3 docs/check_calls.py
 """
+import functools
 import pathlib
 import re
 import sys
@@ -32,11 +33,12 @@ QUOTED = re.compile(r"b?'(\\.[^']*|[^'\\])'")
 
 
 class Call:
-    """A call of a source file: where its name stands; its type or trait, or None; the trait that it is of, or None; what it gives; labels
-    of its clauses, and the text of these."""
-    def __init__(self, file, place, owner, kind, of, name, public, gives, labels, contract, is_law):
+    """A call of a source file: where its name stands; its type or trait, or None; the trait that it is of, or None; its head behind the
+    name, and what it gives; labels of its clauses, and the text of these; its body, or an empty text."""
+    def __init__(self, file, place, owner, kind, of, name, public, head, labels, contract, body, is_law):
         self.file, self.place, self.owner, self.kind, self.of, self.name = file, place, owner, kind, of, name
-        self.public, self.gives, self.labels, self.contract, self.is_law = public, gives, labels, contract, is_law
+        self.public, self.head, self.labels, self.contract, self.body, self.is_law = public, head, labels, contract, body, is_law
+        self.gives = head.rsplit('->', 1)[1].strip() if '->' in head else ''
 
     def path(self):
         return f'{self.owner}::{self.name}' if self.owner else self.name
@@ -90,9 +92,8 @@ def head_of(text, i):
 
 
 def function(text, i):
-    """What a function from i on gives, its labels, its clauses, its body or None, and where it ends."""
+    """A function's head from i on, its labels, its clauses, its body or None, and where it ends."""
     start = end = head_of(text, i)
-    gives = text[i:end].rsplit('->', 1)[1].strip() if '->' in text[i:end] else ''
     labels = []
     while True:
         clause = CLAUSE.match(text, end)
@@ -105,9 +106,9 @@ def function(text, i):
     while text[end].isspace():
         end += 1
     if text[end] == ';':
-        return gives, labels, contract, None, end + 1
+        return text[i:start], labels, contract, None, end + 1
     close = closing(text, end)
-    return gives, labels, contract, text[end + 1:close], close + 1
+    return text[i:start], labels, contract, text[end + 1:close], close + 1
 
 
 def without_generics(head):
@@ -128,10 +129,10 @@ def calls_in(file, text, low, high, owner=None, kind='function', of=None):
         if found is None:
             return
         if found.group('call'):
-            gives, labels, contract, body, low = function(text, found.end())
+            head, labels, contract, body, low = function(text, found.end())
             public = bool(found.group('pub')) and not found.group('within')
             is_law = body is not None and not body.strip() and bool(labels) and owner is None
-            yield Call(file, found.start('call'), owner, kind, of, found.group('call'), public, gives, labels, contract, is_law)
+            yield Call(file, found.start('call'), owner, kind, of, found.group('call'), public, head, labels, contract, body or '', is_law)
             continue
         stop = found.end() - 1
         while text[stop] not in '{;':
@@ -157,27 +158,45 @@ def exports(text):
     return names, set(re.findall(r'\bpub\s+mod\s+(\w+)', text))
 
 
+@functools.lru_cache(maxsize=None)
+def all_calls(crate):
+    """The calls of all files of a crate's src, each with the module that its file is of."""
+    source, found = TOP / 'crates' / crate / 'src', []
+    for path in sorted(source.rglob('*.rt')):
+        text = blanked(path.read_text())
+        module = path.relative_to(source).parts[0].removesuffix('.rt')
+        found.extend((module, call) for call in calls_in(path, text, 0, len(text)))
+    return found
+
+
 def public_calls(crate):
     """The public calls of a crate, by their paths."""
-    source = TOP / 'crates' / crate / 'src'
-    root = source / 'lib.rt'
+    root = TOP / 'crates' / crate / 'src' / 'lib.rt'
     if not root.exists():
         return {}
     names, modules = exports(blanked(root.read_text()))
     found = {}
-    for path in sorted(source.rglob('*.rt')):
-        text = blanked(path.read_text())
-        module = path.relative_to(source).parts[0].removesuffix('.rt')
-        for call in calls_in(path, text, 0, len(text)):
-            if call.kind == 'function':
-                reached = call.public and (module in modules or names.get(call.name) == module or path == root)
-            elif call.kind == 'of a trait':
-                reached = call.of == 'Clone' and call.owner in names
-            else:
-                reached = (call.public or call.kind == 'trait') and (call.owner in names or module in modules)
-            if reached:
-                found[call.path()] = call
+    for module, call in all_calls(crate):
+        if call.kind == 'function':
+            reached = call.public and (module in modules or names.get(call.name) == module or call.file == root)
+        elif call.kind == 'of a trait':
+            reached = call.of == 'Clone' and call.owner in names
+        else:
+            reached = (call.public or call.kind == 'trait') and (call.owner in names or module in modules)
+        if reached:
+            found[call.path()] = call
     return found
+
+
+def run_by(crate, named):
+    """Which of the crates that a program names it runs: those that its tests alone name are none."""
+    source = TOP / 'crates' / crate / 'src'
+    if crate not in PROGRAMS or not source.exists():
+        return named
+    root = (source / 'main.rt').read_text()
+    tests = set(re.findall(r'#\[cfg\(test\)\]\s*mod (\w+);', root))
+    text = ' '.join(path.read_text() for path in source.rglob('*.rt') if path.stem not in tests)
+    return [other for other in named if re.search(rf'\b{other}::', text)]
 
 
 def stood_on(crates, tops=PROGRAMS):
@@ -187,7 +206,7 @@ def stood_on(crates, tops=PROGRAMS):
         crate = left.pop()
         if crate not in found:
             found.add(crate)
-            left.extend(other for other in crates[crate] if other in crates)
+            left.extend(other for other in run_by(crate, crates[crate]) if other in crates)
     return found
 
 
@@ -253,6 +272,7 @@ def listed_crates():
 
 
 def main():
+    import crates as crates_txt
     import index
     import records
     import wrong_meanings
@@ -262,6 +282,7 @@ def main():
     faults = [fault for page in CITING for fault in citations(page, calls, run)] + list(laws_named(calls))
     faults.extend(fields_named(records.records_of(calls)))
     faults.extend(wrong_meanings.misplaced())
+    faults.extend(crates_txt.faults(crates, calls))
     if not index.is_written():
         faults.append("docs/index.md isn't up to date: python3 docs/index.py")
     for fault in faults:
@@ -271,4 +292,6 @@ def main():
 
 
 if __name__ == '__main__':
-    sys.exit(main())
+    # (as the module that the others import, so that each source is read once)
+    import check_calls
+    sys.exit(check_calls.main())

@@ -4,7 +4,7 @@ import re
 
 from check_calls import TOP
 
-CRATES = ['serve_rules', 'viewer_run', 'link_run', 'gate_run']
+CRATES = ['serve_rules', 'viewer_run', 'gate_run']
 
 USE = re.compile(r'^\s*(?:ghost )?use Rattle\.(\w+)\.specs\.(\w+)\.\{([^}]*)\}', re.M)
 DEFINED = re.compile(r'( *)(?:abbrev pub|abbrev|unfoldable pub|pub data|pub (record)) (\w+)\b')

@@ -89,11 +89,12 @@ for page in rdp_host rdp_look rdp_view; do
     pack "$here/docs/$page.1" "$root/usr/share/man/man1/$page.1.gz"
 done
 put usr/lib/systemd/system "$here/packaging/rdp-host@.service"
-put usr/share/doc/pelzsukan "$here/docs/operating.md" "$here/docs/session.md" "$here/docs/errors.md" "$here/docs/signs.png" "$here/packaging/copyright"
+put usr/share/doc/pelzsukan "$here/docs/operating.md" "$here/docs/session.md" "$here/docs/errors.md" "$here/docs/signs.png" "$here/docs/pointers.png" "$here/packaging/copyright"
 changelog >"$work/changelog"
 pack "$work/changelog" "$doc/changelog.gz"
 put usr/share/doc/pelzsukan/examples "$here/examples/"*.script
 put usr/share/doc/pelzsukan/examples/centre "$here/examples/centre/"*
+put usr/share/doc/pelzsukan/examples/tunnel "$here/examples/tunnel/"*
 
 depends=$(depends)
 [ -n "$depends" ] || fail "dpkg-shlibdeps doesn't say what the programs want of the system"

@@ -1,5 +1,5 @@
 /* The packer of tiles in plain C: the same bytes as `rle_enc::pack` gives for rows of 64 pixels at 24 bits ('Run-length bitmaps' in
- * docs/protocol.md). Three masks of 64 bits a row say where a run may begin and how far it goes. */
+ * crates/run_lengths/README.md). Three masks of 64 bits a row say where a run may begin and how far it goes. */
 #ifndef PACKER_H
 #define PACKER_H
 #include <emmintrin.h>

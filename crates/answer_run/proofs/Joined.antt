@@ -19,13 +19,13 @@ use Rattle.session_core.specs.declared.faults.JoinFault.TheVariants as fault
 use Rattle.session_core.specs.Faults.{join_answer}
 use Rattle.session_core.specs.Outcomes.{IsAnswered}
 use Rattle.frame_rules.specs.Encoder.{first_encoder}
-use Rattle.viewer_sender.specs.Senders.{SenderModel, StandsFor}
-use Rattle.pointer_share.specs.Desk.{DeskOf, IsDeskOf}
+use Rattle.viewer_sender.specs.Seats.{SeatModel, IsNewSeat}
+use Rattle.viewer_sender.proofs.SeatSends.{new_follows}
 use Rattle.script_rules.specs.Script.{is_invited}
 use Rattle.script_rules.specs.CaptureText.{run_at_first, run_by, encoder_frames}
 use Rattle.answer_run.specs.Asking.{owners_head, client, asks_to_join}
-use Rattle.answer_run.specs.Seats.{IsRunOf, Joins, IsLetIn}
-use Rattle.answer_run.proofs.Seated.{seat_of, reached_grown}
+use Rattle.answer_run.specs.Solos.{IsRunOf, Joins, IsLetIn}
+use Rattle.answer_run.proofs.Seated.{solo_of, reached_grown}
 
 -- the role of the owner's name, and what comes of a join by it
 abbrev role_if : Bool → Option Role
@@ -66,37 +66,30 @@ turned_away size owner name joined number old e l none a =
     not_owner size owner (is_same_word name owner) joined number l none
     (subst (λ o. IsAnswered (join_answer joined) (answer_at o.head (reached_by o) (JoinStep name))) e a)
 
--- what is known of the session before and after, of the sender and of the desk
-pub record JoinFacts (size : Size) (owner name : List ℕ) (c : Confirmed) (v : ℕ) (old new : SessionModel) (s : SenderModel) (d : Option DeskOf) : Type 0 where
+-- what is known of the session before and after, and of the seat
+pub record JoinFacts (size : Size) (owner name : List ℕ) (c : Confirmed) (v : ℕ) (old new : SessionModel) (s : SeatModel) : Type 0 where
   pub head : new.head ≡ old.head
   pub answer : Joined v ≡ answer_at old.head (reached_by old) (JoinStep name)
   pub journal : new.journal ≡ old.journal ++ option_to_list (entry_of_step old.head (reached_by old) (JoinStep name))
   pub asked : asked_by new v ≡ no_tiles
   pub suppressed : is_suppressed new v ≡ false
-  pub viewer : s.v ≡ v
-  pub confirmed : s.confirmed ≡ c
-  pub number : s.number ≡ 0
-  pub held : s.held ≡ []
-  pub taken : s.taken ≡ 0
-  pub encoded : s.encoded ≡ 0
-  pub sound : s.spent ≡ false
-  pub stands : StandsFor s first_encoder
-  pub desk : IsDeskOf c [] d
+  pub seat : IsNewSeat v c s
 
-module _ (size : Size) (owner name : List ℕ) (c : Confirmed) (v : ℕ) (new : SessionModel) (s : SenderModel) (d : Option DeskOf) where
+module _ (size : Size) (owner name : List ℕ) (c : Confirmed) (v : ℕ) (new : SessionModel) (s : SeatModel) where
   abbrev IsRunBy : Bool → Type 0
-  IsRunBy b = IsRunOf (owners_head size owner) (seat_of new s d)
+  IsRunBy b = IsRunOf (owners_head size owner) (solo_of new s)
       (run_by encoder_frames size (run_at_first encoder_frames size) (asks_to_join name c) (joins_by size owner b))
 
   -- a new session
-  seated_first : JoinFacts size owner name c v (new_session (owners_head size owner)) new s d → Joins (owners_head size owner) name c (Some (seat_of new s d))
+  seated_first : JoinFacts size owner name c v (new_session (owners_head size owner)) new s → Joins (owners_head size owner) name c (Some (solo_of new s))
   seated_first f =
       let head = owners_head size owner in
       let old = new_session head in
       let is = is_owner size owner v (is_same_word name owner) f.answer in
       let journal : new.journal ≡ [] ++ (Join client Owner ∷ []) = f.journal ∙ ap (λ b. option_to_list (joins_by size owner b).entry) is.0 in
       let grown = reached_grown old new (Join client Owner ∷ []) f.head journal in
-      let number = f.number in
+      let g = f.seat in
+      let number = g.number in
       let asked : asked_by new client ≡ no_tiles = ap (asked_by new) (sym is.1) ∙ f.asked in
       let suppressed : is_suppressed new client ≡ false = ap (is_suppressed new) (sym is.1) ∙ f.suppressed in
       let run : IsRunBy true = record {
@@ -105,20 +98,19 @@ module _ (size : Size) (owner name : List ℕ) (c : Confirmed) (v : ℕ) (new : 
         reached = sym grown;
         asked = sym asked;
         suppressed = sym suppressed;
-        confirmed = f.confirmed;
-        taken = sym f.number;
-        follows = (f.stands, f.held);
-        desk = f.desk;
+        confirmed = g.confirmed;
+        taken = sym g.number;
+        follows = new_follows v c s g;
       } in (
         ap (λ b. is_some (role_if b)) is.0,
         record {
           here = ap (λ (r : Reached). is_present client r.viewers) grown;
-          number = f.viewer ∙ is.1;
+          number = g.viewer ∙ is.1;
           seen = omega (arith, number);
-          idle = record { all = f.encoded ∙ sym f.taken; sound = f.sound };
+          idle = record { all = g.encoded ∙ sym g.taken; sound = g.sound };
         },
         subst IsRunBy (sym is.0) run,
       )
 
-  pub joined : (old : SessionModel) → old ≡ new_session (owners_head size owner) → JoinFacts size owner name c v old new s d → Joins (owners_head size owner) name c (Some (seat_of new s d))
-  joined old e f = seated_first (subst (λ o. JoinFacts size owner name c v o new s d) e f)
+  pub joined : (old : SessionModel) → old ≡ new_session (owners_head size owner) → JoinFacts size owner name c v old new s → Joins (owners_head size owner) name c (Some (solo_of new s))
+  joined old e f = seated_first (subst (λ o. JoinFacts size owner name c v o new s) e f)

@@ -232,12 +232,12 @@ closed_same head s bytes more (Away e) far = away_same head s bytes more e far
 not_away : (head : Head) (new : Visitor) (g : Guest) (run : Run Encoder) (refusal word : Option Ending) → IsGuest head new g run → end_of_piece g refusal word ≡ end_if true refusal word
 not_away head (visitor.Coming name) (Coming other) run None word i = refl
 not_away head (visitor.Coming name) (Coming other) run (Some r) word i = refl
-not_away head (visitor.Viewing seat) (Coming other) run refusal word i = absurd i
+not_away head (visitor.Viewing solo) (Coming other) run refusal word i = absurd i
 not_away head (visitor.Coming name) Viewing run refusal word i = absurd i
-not_away head (visitor.Viewing seat) Viewing run None word i = refl
-not_away head (visitor.Viewing seat) Viewing run (Some r) word i = refl
+not_away head (visitor.Viewing solo) Viewing run None word i = refl
+not_away head (visitor.Viewing solo) Viewing run (Some r) word i = refl
 not_away head (visitor.Coming name) TurnedAway run refusal word i = absurd i
-not_away head (visitor.Viewing seat) TurnedAway run refusal word i = absurd i
+not_away head (visitor.Viewing solo) TurnedAway run refusal word i = absurd i
 
 -- a fault at the replies, and at the frames
 pub replies_stop : (why : AnswerFault) (head : Head) (replies : List ℕ) (steps : List ConnStep) (refusal : Option Ending) (old new : Visitor) (told telling : Option (List ℕ))

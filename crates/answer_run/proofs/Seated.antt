@@ -1,4 +1,4 @@
--- A seat after what its client asks for.
+-- A solo after what its client asks for.
 use Rattle.std.proofs.Common.{◌≡◌, ℕ, List, [], ◌∷◌, ◌++◌, length, refl, ap, sym, ◌∙◌, subst, arith, append-nil, length-append}
 use Rattle.std.specs.Prelude.{Bool, true, false, ⊤, Option, Some, None, option_to_list, if◌then◌else◌}
 use Rattle.px_core.specs.declared.surface.Size.{Size}
@@ -24,19 +24,17 @@ use Rattle.session_core.specs.declared.faults.InputRefusal.{InputRefusal}
 use Rattle.session_core.specs.declared.faults.InputRefusal.TheVariants as refusal
 use Rattle.session_core.proofs.Sessions.{reached_at_end}
 use Rattle.std.specs.Prelude.{Result, Ok, Err}
-use Rattle.caps_sets.specs.declared.confirmed.Confirmed.{Confirmed}
 use Rattle.frame_rules.specs.Encoder.{Encoder}
-use Rattle.viewer_sender.specs.Senders.{SenderModel, Follows}
-use Rattle.pointer_share.specs.Desk.{DeskOf, IsDeskOf}
+use Rattle.viewer_sender.specs.Seats.{SeatModel, SeatFollows}
 use Rattle.script_rules.specs.Script.{Asked, without_preset}
 use Rattle.script_rules.specs.Capture.{viewer_of}
 use Rattle.script_rules.specs.CaptureText.{Run, run_after, confirmed_after, encoders_after, encoder_frames}
 use Rattle.answer_run.specs.Asking.{client}
-use Rattle.answer_run.specs.Seats.{IsSeated, IsRunOf, Does, IsSettled}
-use Rattle.answer_run.specs.declared.seat.Seat.{Seat}
+use Rattle.answer_run.specs.Solos.{IsSeated, IsRunOf, Does, IsSettled}
+use Rattle.answer_run.specs.declared.solo.Solo.{Solo}
 
-abbrev pub seat_of : SessionModel → SenderModel → Option DeskOf → Seat
-seat_of session sender desk = record { session = session; sender = sender; desk = desk }
+abbrev pub solo_of : SessionModel → SeatModel → Solo
+solo_of session seat = record { session = session; seat = seat }
 
 -- ---- what is reached
 
@@ -129,7 +127,7 @@ settled_journal (Err refusal.JournalFull) entry old new s g = g.0 ∙ sym (appen
 settled_journal (Err refusal.OutOfMemory) entry old new s g = absurd s
 
 -- of any head that is the session's
-for_head : (a : Asked) (old new : Seat) → ((run : Run Encoder) → IsRunOf old.session.head old run → IsRunOf old.session.head new (run_after encoder_frames old.session.head run a)) → Does a old new
+for_head : (a : Asked) (old new : Solo) → ((run : Run Encoder) → IsRunOf old.session.head old run → IsRunOf old.session.head new (run_after encoder_frames old.session.head run a)) → Does a old new
 for_head a old new all = λ head run r. subst (λ h. IsRunOf h new (run_after encoder_frames h run a)) r.of_head (all run (subst (λ h. IsRunOf h old run) (sym r.of_head) r))
 
 asked_same : (old new : SessionModel) → new.asked ≡ old.asked → asked_by new client ≡ asked_by old client
@@ -138,19 +136,12 @@ asked_same old new h = ap (λ kept. tiles (kept_for [] kept client)) h
 suppressed_same : (old new : SessionModel) → new.suppressed ≡ old.suppressed → is_suppressed new client ≡ is_suppressed old client
 suppressed_same old new h = ap (λ kept. kept_for false kept client) h
 
--- a desk stays the client's where what it confirmed and its encoder stay
-desk_same : (cs ds : PerViewer Confirmed) (es fs : PerViewer Encoder) (desk : Option DeskOf) → ds ≡ cs → fs ≡ es → IsDeskOf (cs client) (es client).told desk
-    → IsDeskOf (ds client) (fs client).told desk
-desk_same cs ds es fs desk confirmed encoders h =
-    subst (λ (k : PerViewer Confirmed). IsDeskOf (k client) (fs client).told desk) (sym confirmed)
-    (subst (λ (k : PerViewer Encoder). IsDeskOf (cs client) (k client).told desk) (sym encoders) h)
-
-module _ (old new : SessionModel) (s : SenderModel) (d : Option DeskOf) where
+module _ (old new : SessionModel) (s : SeatModel) where
   -- ---- an input event
 
   module _ (e : Event) (head : new.head ≡ old.head)
       (journal : new.journal ≡ old.journal ++ option_to_list (entry_of_step old.head (reached_by old) (InputStep client e))) where
-    pub input_seated : IsSeated (seat_of old s d) → IsSeated (seat_of new s d)
+    pub input_seated : IsSeated (solo_of old s) → IsSeated (solo_of new s)
     input_seated h =
         let count = ap length journal in
         let longer = length-append old.journal (option_to_list (entry_of_step old.head (reached_by old) (InputStep client e))) in
@@ -162,8 +153,8 @@ module _ (old new : SessionModel) (s : SenderModel) (d : Option DeskOf) where
           idle = h.idle;
         }
 
-    pub input_done : new.asked ≡ old.asked → new.suppressed ≡ old.suppressed → Does (without_preset (InputStep client e)) (seat_of old s d) (seat_of new s d)
-    input_done asked suppressed = for_head (without_preset (InputStep client e)) (seat_of old s d) (seat_of new s d) (λ run r.
+    pub input_done : new.asked ≡ old.asked → new.suppressed ≡ old.suppressed → Does (without_preset (InputStep client e)) (solo_of old s) (solo_of new s)
+    input_done asked suppressed = for_head (without_preset (InputStep client e)) (solo_of old s) (solo_of new s) (λ run r.
         let o = outcome old.head run.play (InputStep client e) in
         let k = input_keeps old.head run (without_preset (InputStep client e)) client e in
         let entry : o.entry ≡ entry_of_step old.head (reached_by old) (InputStep client e) =
@@ -177,14 +168,12 @@ module _ (old new : SessionModel) (s : SenderModel) (d : Option DeskOf) where
           suppressed = ap (λ f. f client) k.suppressed ∙ (r.suppressed ∙ sym (suppressed_same old new suppressed));
           confirmed = r.confirmed ∙ sym (ap (λ f. f client) k.confirmed);
           taken = ap (λ f. f client) k.taken ∙ r.taken;
-          follows = subst (λ (es : PerViewer Encoder). Follows s (es client)) (sym k.encoders) r.follows;
-          desk = desk_same run.confirmed (confirmed_after run.confirmed (without_preset (InputStep client e)) o.answer) run.encoders
-              (encoders_after encoder_frames old.head.size run client o.answer) d k.confirmed k.encoders r.desk;
+          follows = subst (λ (es : PerViewer Encoder). SeatFollows s (es client)) (sym k.encoders) r.follows;
         })
 
   -- ---- requests
 
-  pub same_seated : new.head ≡ old.head → new.journal ≡ old.journal → IsSeated (seat_of old s d) → IsSeated (seat_of new s d)
+  pub same_seated : new.head ≡ old.head → new.journal ≡ old.journal → IsSeated (solo_of old s) → IsSeated (solo_of new s)
   same_seated head journal h =
       let count = ap length journal in
       let seen = h.seen in
@@ -197,8 +186,8 @@ module _ (old new : SessionModel) (s : SenderModel) (d : Option DeskOf) where
 
   pub refresh_done : (area : Rect) → new.head ≡ old.head → new.journal ≡ old.journal
       → asked_by new ≡ replaced_for client (either_tiles (asked_by old client) (tiles_of old.head.size area)) (asked_by old)
-      → new.suppressed ≡ old.suppressed → Does (without_preset (RefreshStep client area)) (seat_of old s d) (seat_of new s d)
-  refresh_done area head journal asked suppressed = for_head (without_preset (RefreshStep client area)) (seat_of old s d) (seat_of new s d) (λ run r. record {
+      → new.suppressed ≡ old.suppressed → Does (without_preset (RefreshStep client area)) (solo_of old s) (solo_of new s)
+  refresh_done area head journal asked suppressed = for_head (without_preset (RefreshStep client area)) (solo_of old s) (solo_of new s) (λ run r. record {
     of_head = head;
     journal = append-nil run.journal ∙ (r.journal ∙ sym journal);
     reached = r.reached ∙ sym (same_reached old new head journal);
@@ -207,12 +196,11 @@ module _ (old new : SessionModel) (s : SenderModel) (d : Option DeskOf) where
     confirmed = r.confirmed;
     taken = r.taken;
     follows = r.follows;
-    desk = r.desk;
   })
 
   pub suppress_done : (stop : Bool) → new.head ≡ old.head → new.journal ≡ old.journal → new.asked ≡ old.asked
-      → is_suppressed new ≡ replaced_for client stop (is_suppressed old) → Does (without_preset (SuppressStep client stop)) (seat_of old s d) (seat_of new s d)
-  suppress_done stop head journal asked suppressed = for_head (without_preset (SuppressStep client stop)) (seat_of old s d) (seat_of new s d) (λ run r. record {
+      → is_suppressed new ≡ replaced_for client stop (is_suppressed old) → Does (without_preset (SuppressStep client stop)) (solo_of old s) (solo_of new s)
+  suppress_done stop head journal asked suppressed = for_head (without_preset (SuppressStep client stop)) (solo_of old s) (solo_of new s) (λ run r. record {
     of_head = head;
     journal = append-nil run.journal ∙ (r.journal ∙ sym journal);
     reached = r.reached ∙ sym (same_reached old new head journal);
@@ -221,5 +209,4 @@ module _ (old new : SessionModel) (s : SenderModel) (d : Option DeskOf) where
     confirmed = r.confirmed;
     taken = r.taken;
     follows = r.follows;
-    desk = r.desk;
   })

@@ -31,7 +31,7 @@ use Rattle.answer_run.specs.Serves.{fault_of, IsAnswerOf, Tells, ServesStream, R
 use Rattle.answer_run.specs.Serves.StopsHeard.{Before, AtEnd}
 use Rattle.frame_rules.specs.Encoder.{Encoder}
 use Rattle.script_rules.specs.CaptureText.{Run}
-use Rattle.answer_run.specs.declared.seat.Seat.{Seat}
+use Rattle.answer_run.specs.declared.solo.Solo.{Solo}
 use Rattle.answer_run.specs.declared.serving.Serving.{Serving}
 use Rattle.answer_run.specs.declared.visitor.Visitor.{Visitor}
 use Rattle.answer_run.specs.declared.visitor.Visitor.TheVariants as visitor
@@ -284,21 +284,21 @@ coming_by head name h (Coming other) run i u = coming_end h.stage (length h.part
 coming_by head name h Viewing run i u = absurd i
 coming_by head name h TurnedAway run i u = absurd i
 
-viewing_by : (head : Head) (seat : Seat) (h : Hearing) (g : Guest) (run : Run Encoder) → IsGuest head (visitor.Viewing seat) g run → IsUnrefused h.stage
+viewing_by : (head : Head) (solo : Solo) (h : Hearing) (g : Guest) (run : Run Encoder) → IsGuest head (visitor.Viewing solo) g run → IsUnrefused h.stage
     → heard h [] ≡ silent h → ending_by g (end_of h) None ≡ end_of_part (length h.part)
-viewing_by head seat h (Coming other) run i u still = absurd i
-viewing_by head seat h Viewing run i u still = viewing_end h.stage (length h.part) u (over_part h still)
-viewing_by head seat h TurnedAway run i u still = absurd i
+viewing_by head solo h (Coming other) run i u still = absurd i
+viewing_by head solo h Viewing run i u still = viewing_end h.stage (length h.part) u (over_part h still)
+viewing_by head solo h TurnedAway run i u still = absurd i
 
 pub coming_last : (old : Serving) (name : List ℕ) → old.visitor ≡ visitor.Coming name → (head : Head) (s : Service) → IsServiceOf head old s → ending.Truncated ≡ ending_of head s []
 coming_last old name e head s i =
     sym (last_is head s i.still ∙ coming_by head name s.hearing s.guest s.run (subst (λ v. IsGuest head v s.guest s.run) e i.visitor) i.unrefused)
 
-pub viewing_last : (old : Serving) (seat : Seat) (part : ℕ) (how : Ending) → old.visitor ≡ visitor.Viewing seat → part ≡ length old.conn.hearing.part → how ≡ end_of_part part
+pub viewing_last : (old : Serving) (solo : Solo) (part : ℕ) (how : Ending) → old.visitor ≡ visitor.Viewing solo → part ≡ length old.conn.hearing.part → how ≡ end_of_part part
     → (head : Head) (s : Service) → IsServiceOf head old s → how ≡ ending_of head s []
-viewing_last old seat part how e n is head s i =
+viewing_last old solo part how e n is head s i =
     is ∙ (ap end_of_part (n ∙ ap (λ (h : Hearing). length h.part) i.hearing)
-    ∙ sym (last_is head s i.still ∙ viewing_by head seat s.hearing s.guest s.run (subst (λ v. IsGuest head v s.guest s.run) e i.visitor) i.unrefused i.still))
+    ∙ sym (last_is head s i.still ∙ viewing_by head solo s.hearing s.guest s.run (subst (λ v. IsGuest head v s.guest s.run) e i.visitor) i.unrefused i.still))
 
 -- such an end has no ultimatum
 no_ultimatum_by : (g : Guest) (e : StreamEnd) → (g ≡ TurnedAway → ⊥) → ((k at : ℕ) → e ≡ RefusedAt k at → ⊥) → ultimatum_of (ending_by g e None) ≡ []
@@ -326,11 +326,11 @@ unrefused_end (stage.Refused j place) n k at u e = u
 
 guest_is_here : (head : Head) (who : Visitor) (g : Guest) (run : Run Encoder) → IsGuest head who g run → g ≡ TurnedAway → ⊥
 guest_is_here head (visitor.Coming name) (Coming other) run i e = cc e
-guest_is_here head (visitor.Viewing seat) (Coming other) run i e = cc e
+guest_is_here head (visitor.Viewing solo) (Coming other) run i e = cc e
 guest_is_here head (visitor.Coming name) Viewing run i e = cc e
-guest_is_here head (visitor.Viewing seat) Viewing run i e = cc e
+guest_is_here head (visitor.Viewing solo) Viewing run i e = cc e
 guest_is_here head (visitor.Coming name) TurnedAway run i e = i
-guest_is_here head (visitor.Viewing seat) TurnedAway run i e = i
+guest_is_here head (visitor.Viewing solo) TurnedAway run i e = i
 
 last_text : (head : Head) (old : Serving) (s : Service) → IsServiceOf head old s → answer_of head s [] ≡ []
 last_text head old s i =

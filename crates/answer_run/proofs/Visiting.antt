@@ -22,9 +22,9 @@ use Rattle.conn_rules.specs.declared.conn_step.ConnStep.{ConnStep}
 use Rattle.conn_rules.specs.declared.conn_step.ConnStep.TheVariants as step
 use Rattle.answer_run.specs.Asking.{Guest, client, asks_to_join, asks_for_frame, asked_at_ready, guest_if, asked_from, guest_after, guest_after_all}
 use Rattle.answer_run.specs.Asking.Guest.{Coming, Viewing, TurnedAway}
-use Rattle.answer_run.specs.Seats.{Does, Takes, Joins}
+use Rattle.answer_run.specs.Solos.{Does, Takes, Joins}
 use Rattle.answer_run.specs.Visits.{IsGuest, frames_by, run_by_steps, DoesSteps, Visits, Comes, Asks}
-use Rattle.answer_run.specs.declared.seat.Seat.{Seat}
+use Rattle.answer_run.specs.declared.solo.Solo.{Solo}
 use Rattle.answer_run.specs.declared.visitor.Visitor.{Visitor}
 use Rattle.answer_run.specs.declared.visitor.Visitor.TheVariants as visitor
 use Rattle.answer_run.specs.declared.fault.AnswerFault.{AnswerFault}
@@ -63,37 +63,37 @@ event_sends head run e = append-nil (bytes_of_answer encoder_frames head.size ru
 nothing_written : (told : Option (List ℕ)) (text : List ℕ) → text ≡ [] → Appends told told text
 nothing_written told text e = subst (Appends told told) (sym e) (Appends-nil told)
 
-pub event_asked : (e : Event) (old new : Seat) (told : Option (List ℕ)) → Does (without_preset (InputStep client e)) old new → Asks (Ok tt) (step.Event e) old new told told
+pub event_asked : (e : Event) (old new : Solo) (told : Option (List ℕ)) → Does (without_preset (InputStep client e)) old new → Asks (Ok tt) (step.Event e) old new told told
 event_asked e old new told d = λ head run r. (d head run r, nothing_written told (frames_by head Viewing run (step.Event e ∷ [])) (event_sends head run e))
 
-pub area_asked : (area : Rect) (old new : Seat) (told : Option (List ℕ)) → Does (without_preset (RefreshStep client area)) old new → Asks (Ok tt) (step.Refresh area) old new told told
+pub area_asked : (area : Rect) (old new : Solo) (told : Option (List ℕ)) → Does (without_preset (RefreshStep client area)) old new → Asks (Ok tt) (step.Refresh area) old new told told
 area_asked area old new told d = λ head run r. (d head run r, Appends-nil told)
 
-pub stop_asked : (stop : Bool) (old new : Seat) (told : Option (List ℕ)) → Does (without_preset (SuppressStep client stop)) old new → Asks (Ok tt) (step.Suppress stop) old new told told
+pub stop_asked : (stop : Bool) (old new : Solo) (told : Option (List ℕ)) → Does (without_preset (SuppressStep client stop)) old new → Asks (Ok tt) (step.Suppress stop) old new told told
 stop_asked stop old new told d = λ head run r. (d head run r, Appends-nil told)
 
-pub memory_asked : (why : AnswerFault) (one : ConnStep) (old new : Seat) (told : Option (List ℕ)) → Asks (Err why) one old new told told
+pub memory_asked : (why : AnswerFault) (one : ConnStep) (old new : Solo) (told : Option (List ℕ)) → Asks (Err why) one old new told told
 memory_asked why one old new told = λ head run r. front_none told (frames_by head Viewing run (one ∷ []))
 
 -- steps that ask for nothing
-pub named_asked : (name : List ℕ) (old : Seat) (told : Option (List ℕ)) → Asks (Ok tt) (step.Named name) old old told told
+pub named_asked : (name : List ℕ) (old : Solo) (told : Option (List ℕ)) → Asks (Ok tt) (step.Named name) old old told told
 named_asked name old told = λ head run r. (r, Appends-nil told)
 
-pub ready_asked : (c : Confirmed) (old : Seat) (told : Option (List ℕ)) → Asks (Ok tt) (step.Ready c) old old told told
+pub ready_asked : (c : Confirmed) (old : Solo) (told : Option (List ℕ)) → Asks (Ok tt) (step.Ready c) old old told told
 ready_asked c old told = λ head run r. (r, Appends-nil told)
 
-pub shutdown_asked : (old : Seat) (told : Option (List ℕ)) → Asks (Ok tt) step.Shutdown old old told told
+pub shutdown_asked : (old : Solo) (told : Option (List ℕ)) → Asks (Ok tt) step.Shutdown old old told told
 shutdown_asked old told = λ head run r. (r, Appends-nil told)
 
-pub bye_asked : (old : Seat) (told : Option (List ℕ)) → Asks (Ok tt) step.Bye old old told told
+pub bye_asked : (old : Solo) (told : Option (List ℕ)) → Asks (Ok tt) step.Bye old old told told
 bye_asked old told = λ head run r. (r, Appends-nil told)
 
 -- a frame
-pub frame_asked : (bytes : List ℕ) (old new : Seat) (told telling : Option (List ℕ)) → Takes bytes old new → Appends told telling bytes → Asks (Ok tt) step.Packet old new told telling
+pub frame_asked : (bytes : List ℕ) (old new : Solo) (told telling : Option (List ℕ)) → Takes bytes old new → Appends told telling bytes → Asks (Ok tt) step.Packet old new told telling
 frame_asked bytes old new told telling t w = λ head run r.
     let d = t head run r in (d.0, subst (Appends told telling) (d.1 ∙ sym (append-nil (sent_by encoder_frames head run asks_for_frame client))) w)
 
-pub frame_stopped : (why : AnswerFault) (bytes : List ℕ) (old new : Seat) (told telling : Option (List ℕ)) → Takes bytes old new → WritesFront told telling bytes
+pub frame_stopped : (why : AnswerFault) (bytes : List ℕ) (old new : Solo) (told telling : Option (List ℕ)) → Takes bytes old new → WritesFront told telling bytes
     → Asks (Err why) step.Packet old new told telling
 frame_stopped why bytes old new told telling t w = λ head run r.
     let d = t head run r in subst (WritesFront told telling) (d.1 ∙ sym (append-nil (sent_by encoder_frames head run asks_for_frame client))) w
@@ -104,22 +104,22 @@ abbrev first_run : Head → Run Encoder
 first_run head = run_at_first encoder_frames head.size
 
 -- a client that is ready, by whether it is let in
-abbrev ReadyIn : Head → List ℕ → Confirmed → Seat → (told telling : Option (List ℕ)) → Bool → Type 0
+abbrev ReadyIn : Head → List ℕ → Confirmed → Solo → (told telling : Option (List ℕ)) → Bool → Type 0
 ReadyIn head name c new told telling b =
     IsGuest head (visitor.Viewing new) (guest_if b) (run_after_all encoder_frames head (first_run head) (asked_at_ready b name c ++ []))
     × Appends told telling (sent_from encoder_frames head (first_run head) (asked_at_ready b name c ++ []) client)
 
-pub ready_comes : (head : Head) (name : List ℕ) (c : Confirmed) (seat new : Seat) (told telling : Option (List ℕ)) → Joins head name c (Some seat)
-    → Asks (Ok tt) step.Packet seat new told telling → Comes (Ok (Some (visitor.Viewing new))) head name (step.Ready c) told telling
-ready_comes head name c seat new told telling j a =
+pub ready_comes : (head : Head) (name : List ℕ) (c : Confirmed) (solo new : Solo) (told telling : Option (List ℕ)) → Joins head name c (Some solo)
+    → Asks (Ok tt) step.Packet solo new told telling → Comes (Ok (Some (visitor.Viewing new))) head name (step.Ready c) told telling
+ready_comes head name c solo new told telling j a =
     subst (ReadyIn head name c new told telling) (sym j.0) (a head (run_after encoder_frames head (first_run head) (asks_to_join name c)) j.2)
 
 abbrev ReadyStops : Head → List ℕ → Confirmed → (told telling : Option (List ℕ)) → Bool → Type 0
 ReadyStops head name c told telling b = WritesFront told telling (sent_from encoder_frames head (first_run head) (asked_at_ready b name c ++ []) client)
 
-pub ready_stops : (why : AnswerFault) (head : Head) (name : List ℕ) (c : Confirmed) (seat new : Seat) (told telling : Option (List ℕ)) → Joins head name c (Some seat)
-    → Asks (Err why) step.Packet seat new told telling → Comes (Err why) head name (step.Ready c) told telling
-ready_stops why head name c seat new told telling j a =
+pub ready_stops : (why : AnswerFault) (head : Head) (name : List ℕ) (c : Confirmed) (solo new : Solo) (told telling : Option (List ℕ)) → Joins head name c (Some solo)
+    → Asks (Err why) step.Packet solo new told telling → Comes (Err why) head name (step.Ready c) told telling
+ready_stops why head name c solo new told telling j a =
     subst (ReadyStops head name c told telling) (sym j.0) (a head (run_after encoder_frames head (first_run head) (asks_to_join name c)) j.2)
 
 abbrev ReadyOut : Head → List ℕ → Confirmed → (told : Option (List ℕ)) → Bool → Type 0
@@ -165,7 +165,7 @@ newcomer_visits result head name steps new told telling d = by
     by Viewing run i = absurd i
     by TurnedAway run i = absurd i
 
-pub viewer_visits : (head : Head) (one : ConnStep) (old new : Seat) (told telling : Option (List ℕ)) → Asks (Ok tt) one old new told telling
+pub viewer_visits : (head : Head) (one : ConnStep) (old new : Solo) (told telling : Option (List ℕ)) → Asks (Ok tt) one old new told telling
     → Visits (Ok true) head (one ∷ []) (visitor.Viewing old) (visitor.Viewing new) told telling
 viewer_visits head one old new told telling a = by
   where
@@ -174,7 +174,7 @@ viewer_visits head one old new told telling a = by
     by Viewing run i = a head run i
     by TurnedAway run i = absurd i
 
-pub viewer_stops : (why : AnswerFault) (head : Head) (one : ConnStep) (old new : Seat) (told telling : Option (List ℕ)) → Asks (Err why) one old new told telling
+pub viewer_stops : (why : AnswerFault) (head : Head) (one : ConnStep) (old new : Solo) (told telling : Option (List ℕ)) → Asks (Err why) one old new told telling
     → Visits (Err why) head (one ∷ []) (visitor.Viewing old) (visitor.Viewing new) told telling
 viewer_stops why head one old new told telling a = by
   where

@@ -1,6 +1,6 @@
 pub mod Asking
 pub mod Service
-pub mod Seats
+pub mod Solos
 pub mod Visits
 pub mod Cut
 pub mod Serves

@@ -23,7 +23,8 @@ use Rattle.conn_rules.specs.Progress.{Progress, progress_of}
 use Rattle.conn_rules.specs.Progress.Progress.{Connecting, Ready, Ended}
 use Rattle.answer_run.specs.Asking.{Guest, owners_head, guest_after_all}
 use Rattle.answer_run.specs.Asking.Guest.{Coming, Viewing, TurnedAway}
-use Rattle.answer_run.specs.Service.{Service, heard_of, last_word, asked_of, written_of, service_after, ultimatum_of, ending_of, answer_of, asked_of_stream, ending_of_stream, answer_of_stream}
+use Rattle.answer_run.specs.Service.{Service, heard_of, last_word, asked_of, written_of, service_after}
+use Rattle.answer_run.specs.Service.{ultimatum_of, ending_of, answer_of, asked_of_stream, ending_of_stream, answer_of_stream}
 use Rattle.answer_run.specs.Cut.{read_room, WritesHandedBytes, WritesAFront}
 use Rattle.answer_run.specs.Visits.{IsGuest, IsReady, frames_by, run_by_steps}
 use Rattle.answer_run.specs.declared.visitor.Visitor.{Visitor}
@@ -71,21 +72,22 @@ abbrev pub Tells : Option (List ℕ) → (List ℕ → Type 0) → Type 0
 Tells None says = ⊤
 Tells (Some bytes) says = says bytes
 
--- a client was served by all of its stream: what was written is its answer, and by that it is told why; what was written behind the replies, but for a last
--- ultimatum, is the client's frames and the pointers before them: without the pointers they aren't refused and leave no rest, and their marks show the pictures after
--- exactly as many entries of the journal as its takes found; with them the pointers after those
+-- a client was served by all of its stream: what was written is its answer, and by that it is told why; what was written behind the replies, but for
+-- a last ultimatum, is the client's frames and the pointers before them: without the pointers they aren't refused and leave no rest, and their marks
+-- show the pictures after exactly as many entries of the journal as its takes found; with them the pointers after those
 pub record ServesStream (size : Size) (owner : List ℕ) (why : Option AnswerFault) (stream : List ℕ) (told telling : Option (List ℕ)) : Type 0 where
   pub ends : fault_of (ending_of_stream size owner stream) ≡ why
   pub written : Appends told telling (answer_of_stream size owner stream)
   pub shows_journal : EveryViewerSeesTheJournal (owners_head size owner) (asked_of_stream size owner stream)
       (sent_from encoder_frames (owners_head size owner) (run_at_first encoder_frames size) (asked_of_stream size owner stream))
 
--- what was done where the input tells the client's stream, of which it has this left: all of its answer was written, and this is how it ends. After a failed read
--- exactly what is due for the bytes that were handed out stands there; after a failed write, or want of memory, what is due for those before the last read, and then a
--- front of what is due for the bytes of that read
+-- what was done where the input tells the client's stream, of which it has this left: all of its answer was written, and this is how it ends. After a
+-- failed read exactly what is due for the bytes that were handed out stands there; after a failed write, or want of memory, what is due for those
+-- before the last read, and then a front of what is due for the bytes of that read
 abbrev pub RunsAnswer : Result (Unit {0}) AnswerFault → Size → List ℕ → (left rest told telling : Option (List ℕ)) → Type 0
 RunsAnswer (Ok x) size owner left rest told telling = Tells left (λ stream. ServesStream size owner None stream told telling)
-RunsAnswer (Err (fault.Refused k at)) size owner left rest told telling = Tells left (λ stream. ServesStream size owner (Some (fault.Refused k at)) stream told telling)
+RunsAnswer (Err (fault.Refused k at)) size owner left rest told telling = Tells left
+    (λ stream. ServesStream size owner (Some (fault.Refused k at)) stream told telling)
 RunsAnswer (Err fault.Truncated) size owner left rest told telling = Tells left (λ stream. ServesStream size owner (Some fault.Truncated) stream told telling)
 RunsAnswer (Err fault.NotInvited) size owner left rest told telling = Tells left (λ stream. ServesStream size owner (Some fault.NotInvited) stream told telling)
 RunsAnswer (Err fault.ReadFault) size owner left rest told telling = Tells left (λ stream. WritesHandedBytes size owner stream rest told telling)
@@ -232,18 +234,21 @@ abbrev pub end_of_heard : Head → Guest → List ConnStep → Option Ending →
 end_of_heard head g steps refusal = end_of_piece (guest_after_all head g steps) refusal (last_word steps)
 
 -- it was done up to an end, of which a front was written
-pub record StopsAtEnd (head : Head) (g : Guest) (run : Run Encoder) (replies : List ℕ) (steps : List ConnStep) (refusal : Option Ending) (told telling : Option (List ℕ)) : Type 0 where
+pub record StopsAtEnd (head : Head) (g : Guest) (run : Run Encoder) (replies : List ℕ) (steps : List ConnStep) (refusal : Option Ending)
+    (told telling : Option (List ℕ)) : Type 0 where
   pub how : Ending
   pub is : end_of_heard head g steps refusal ≡ Some how
   pub front : WritesFront told telling (heard_text head g run replies steps ++ ultimatum_of how)
 
 -- a front of what is due was written
-pub data StopsHeard (head : Head) (g : Guest) (run : Run Encoder) (replies : List ℕ) (steps : List ConnStep) (refusal : Option Ending) (told telling : Option (List ℕ)) : Type 0 where
+pub data StopsHeard (head : Head) (g : Guest) (run : Run Encoder) (replies : List ℕ) (steps : List ConnStep) (refusal : Option Ending)
+    (told telling : Option (List ℕ)) : Type 0 where
   Before : WritesFront told telling (heard_text head g run replies steps) → StopsHeard head g run replies steps refusal told telling
   AtEnd : StopsAtEnd head g run replies steps refusal told telling → StopsHeard head g run replies steps refusal told telling
 
 -- what was heard was done
-abbrev pub HeardDone : Result (Option Ending) AnswerFault → Head → Guest → Run Encoder → List ℕ → List ConnStep → Option Ending → Visitor → (told telling : Option (List ℕ)) → Type 0
+abbrev pub HeardDone : Result (Option Ending) AnswerFault → Head → Guest → Run Encoder → List ℕ → List ConnStep → Option Ending → Visitor
+    → (told telling : Option (List ℕ)) → Type 0
 HeardDone (Ok None) head g run replies steps refusal new told telling = (end_of_heard head g steps refusal ≡ None)
     × IsGuest head new (guest_after_all head g steps) (run_by_steps head g run steps) × Appends told telling (heard_text head g run replies steps)
 HeardDone (Ok (Some how)) head g run replies steps refusal new told telling = (end_of_heard head g steps refusal ≡ Some how)
@@ -251,7 +256,8 @@ HeardDone (Ok (Some how)) head g run replies steps refusal new told telling = (e
 HeardDone (Err why) head g run replies steps refusal new told telling = StopsHeard head g run replies steps refusal told telling
 
 -- whatever client the code's one is, and whatever run it stands for
-abbrev pub DoesHeard : Result (Option Ending) AnswerFault → Head → List ℕ → List ConnStep → Option Ending → (old new : Visitor) → (told telling : Option (List ℕ)) → Type 0
+abbrev pub DoesHeard : Result (Option Ending) AnswerFault → Head → List ℕ → List ConnStep → Option Ending → (old new : Visitor)
+    → (told telling : Option (List ℕ)) → Type 0
 DoesHeard result head replies steps refusal old new told telling =
     (g : Guest) (run : Run Encoder) → IsGuest head old g run → HeardDone result head g run replies steps refusal new told telling
 

@@ -102,7 +102,8 @@ end_so_far head s bytes = end_met (guest_after_all head s.guest (heard_of s byte
 
 -- how the service ends where these are the last bytes
 abbrev pub ending_of : Head → Service → List ℕ → Ending
-ending_of head s bytes = ending_by (guest_after_all head s.guest (heard_of s bytes).steps) (end_of (heard_of s bytes).after) (last_word (heard_of s bytes).steps)
+ending_of head s bytes = ending_by (guest_after_all head s.guest (heard_of s bytes).steps) (end_of (heard_of s bytes).after)
+    (last_word (heard_of s bytes).steps)
 
 -- all that is written then
 abbrev pub answer_of : Head → Service → List ℕ → List ℕ

@@ -15,8 +15,8 @@ use Rattle.conn_rules.specs.declared.conn_step.ConnStep.{ConnStep}
 use Rattle.conn_rules.specs.declared.conn_step.ConnStep.TheVariants as step
 use Rattle.answer_run.specs.Asking.{Guest, client, asked_from, guest_after_all}
 use Rattle.answer_run.specs.Asking.Guest.{Coming, Viewing, TurnedAway}
-use Rattle.answer_run.specs.Seats.{IsSeated, IsRunOf}
-use Rattle.answer_run.specs.declared.seat.Seat.{Seat}
+use Rattle.answer_run.specs.Solos.{IsSeated, IsRunOf}
+use Rattle.answer_run.specs.declared.solo.Solo.{Solo}
 use Rattle.answer_run.specs.declared.visitor.Visitor.{Visitor}
 use Rattle.answer_run.specs.declared.visitor.Visitor.TheVariants as visitor
 use Rattle.answer_run.specs.declared.fault.AnswerFault.{AnswerFault}
@@ -27,14 +27,14 @@ abbrev pub IsGuest : Head → Visitor → Guest → Run Encoder → Type 0
 IsGuest head (visitor.Coming name) (Coming other) run = (name ≡ other) × (run ≡ run_at_first encoder_frames head.size)
 IsGuest head (visitor.Coming name) Viewing run = ⊥
 IsGuest head (visitor.Coming name) TurnedAway run = ⊥
-IsGuest head (visitor.Viewing seat) (Coming other) run = ⊥
-IsGuest head (visitor.Viewing seat) Viewing run = IsRunOf head seat run
-IsGuest head (visitor.Viewing seat) TurnedAway run = ⊥
+IsGuest head (visitor.Viewing solo) (Coming other) run = ⊥
+IsGuest head (visitor.Viewing solo) Viewing run = IsRunOf head solo run
+IsGuest head (visitor.Viewing solo) TurnedAway run = ⊥
 
 -- one that views is seated
 abbrev pub IsReady : Visitor → Type 0
 IsReady (visitor.Coming name) = ⊤
-IsReady (visitor.Viewing seat) = IsSeated seat
+IsReady (visitor.Viewing solo) = IsSeated solo
 
 -- the frames that steps give
 abbrev pub frames_by : Head → Guest → Run Encoder → List ConnStep → List ℕ
@@ -64,13 +64,13 @@ Comes (Ok None) head name one told telling =
 Comes (Err why) head name one told telling = WritesFront told telling (frames_by head (Coming name) (run_at_first encoder_frames head.size) (one ∷ []))
 
 -- a step of a viewer was done, and its frame written; or a front of the frame was
-abbrev pub DoesAsked : Result (Unit {0}) AnswerFault → Head → Run Encoder → ConnStep → Seat → (told telling : Option (List ℕ)) → Type 0
+abbrev pub DoesAsked : Result (Unit {0}) AnswerFault → Head → Run Encoder → ConnStep → Solo → (told telling : Option (List ℕ)) → Type 0
 DoesAsked (Ok x) head run one new told telling =
     IsRunOf head new (run_by_steps head Viewing run (one ∷ [])) × Appends told telling (frames_by head Viewing run (one ∷ []))
 DoesAsked (Err why) head run one new told telling = WritesFront told telling (frames_by head Viewing run (one ∷ []))
 
 -- whatever run it stands for
-abbrev pub Asks : Result (Unit {0}) AnswerFault → ConnStep → (old new : Seat) → (told telling : Option (List ℕ)) → Type 0
+abbrev pub Asks : Result (Unit {0}) AnswerFault → ConnStep → (old new : Solo) → (told telling : Option (List ℕ)) → Type 0
 Asks result one old new told telling = (head : Head) (run : Run Encoder) → IsRunOf head old run → DoesAsked result head run one new told telling
 
 -- what is confirmed has all caches

@@ -8,6 +8,7 @@ ghost use Rattle.answer_run.specs.Cut.{read_room};
 ghost use Rattle.answer_run.specs.Visits.{WritesCause, ReadsCause};
 ghost use Rattle.answer_run.specs.Serves.{IsAnswerOf, IsServiceOf, IsNumberedFault, RunsAnswer};
 
+use crate::host::Host;
 use crate::serving::{Serving, serve_next};
 use crate::visitor::Visitor;
 use crate::{AnswerFault, Ending};
@@ -49,6 +50,11 @@ pub fn run_answer<S: Source, K: Sink>(
     ensures read { ReadsCause result (S.faults input.old) (S.faults input.new) }
     ensures write { WritesCause result (K.faults output.old) (K.faults output.new) }
 {
+    let host = Host {
+        alloc,
+        size,
+        owner: *owner,
+    };
     let Ok(mut serving) = start(alloc, size) else {
         return Err(AnswerFault::OutOfMemory);
     };
@@ -56,7 +62,7 @@ pub fn run_answer<S: Source, K: Sink>(
         return Err(AnswerFault::OutOfMemory);
     };
     for _ in 0..u64::MAX {
-        match serve_next(alloc, size, owner, &mut serving, &mut buffer, input, output) {
+        match serve_next(&host, &mut serving, &mut buffer, input, output) {
             Ok(None) => {}
             Ok(Some(how)) => return answer_of(how),
             Err(fault) => return Err(fault),

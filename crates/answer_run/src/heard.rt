@@ -9,33 +9,31 @@ ghost use Rattle.answer_run.specs.Service.{last_word};
 ghost use Rattle.answer_run.specs.Visits.{IsReady, HasCaches, WritesCause, IsWriteFault};
 ghost use Rattle.answer_run.specs.Serves.{DoesHeard, EndsHeard, end_if};
 
+use crate::host::Host;
 use crate::put::{put, put_last};
 use crate::visitor::{Visitor, do_steps};
 use crate::{AnswerFault, Ending};
 use caps_sets::Confirmed;
 use conn_rules::ConnStep;
 use edge_io::Sink;
-use info_lic::Name;
-use px_core::Size;
 use std::alloc::Global;
 
 /// Writes the replies, does the steps, and writes an ultimatum where the service ends with one; says how it ends, if it does. The stream
 /// may be refused behind these steps. An `Err` leaves a front of what is due.
 pub fn do_heard<K: Sink>(
-    alloc: Global,
-    size: Size,
-    owner: &Name,
+    host: &Host,
     visitor: &mut Visitor,
     replies: &[u8],
     steps: &[ConnStep],
     refusal: Option<Ending>,
     output: &mut K,
 ) -> Result<Option<Ending>, AnswerFault>
-    requires size { IsTrue (is_session_size size.w size.h) }
-    requires owner { owner.now ≢ [] }
+    requires size { IsTrue (is_session_size host.now.size.w host.now.size.h) }
+    requires owner { host.now.owner ≢ [] }
     requires ready { IsReady visitor.old }
     requires placed { ArePlaced steps.now }
-    ensures done { DoesHeard result (owners_head size owner.now) replies.now steps.now refusal visitor.old visitor.new (K.told output.old) (K.told output.new) }
+    ensures done { DoesHeard result (owners_head host.now.size host.now.owner) replies.now steps.now refusal visitor.old visitor.new (K.told output.old)
+        (K.told output.new) }
     ensures ready { IfOk result (λ how. how ≡ None → IsReady visitor.new) }
     ensures fault { IfErr result IsWriteFault }
     ensures cause { WritesCause result (K.faults output.old) (K.faults output.new) }
@@ -44,8 +42,12 @@ pub fn do_heard<K: Sink>(
         Ok(()) => {}
         Err(fault) => return Err(fault),
     }
-    match do_steps(alloc, size, owner, visitor, steps, output) {
-        Ok(let_in) => end_heard(alloc, end_of(let_in, refusal, last_word(steps)), output),
+    match do_steps(host, visitor, steps, output) {
+        Ok(let_in) => end_heard(
+            host.alloc,
+            end_of(let_in, refusal, last_word(steps)),
+            output,
+        ),
         Err(fault) => Err(fault),
     }
 }

@@ -6,9 +6,10 @@ mod answer;
 mod ending;
 mod fault;
 mod heard;
+mod host;
 mod put;
-mod seat;
 mod serving;
+mod solo;
 mod visitor;
 
 pub use answer::run_answer;

@@ -12,13 +12,11 @@ ghost use Rattle.answer_run.specs.Visits.{IsReady, WritesCause, ReadsCause, IsWr
 ghost use Rattle.answer_run.specs.Serves.{IsServiceOf, IsRefusal, end_of_part, ServedPiece, ServedNext};
 
 use crate::heard::{do_heard, have_caches};
+use crate::host::Host;
 use crate::visitor::Visitor;
 use crate::{AnswerFault, Ending};
 use conn_core::{Conn, ConnFault};
 use edge_io::{Got, Sink, Source};
-use info_lic::Name;
-use px_core::Size;
-use std::alloc::Global;
 use wire_num::OutOfMemory;
 
 /// A client's service: its connection, and who it is.
@@ -31,20 +29,19 @@ pub struct Serving {
 /// Reads what comes next of the stream into a buffer, and does it; says how the service ends, if it does. A failed read writes nothing;
 /// another `Err` leaves a front of what is due for the bytes that were read.
 pub fn serve_next<S: Source, K: Sink>(
-    alloc: Global,
-    size: Size,
-    owner: &Name,
+    host: &Host,
     serving: &mut Serving,
     buffer: &mut [u8],
     input: &mut S,
     output: &mut K,
 ) -> Result<Option<Ending>, AnswerFault>
-    requires size { IsTrue (is_session_size size.w size.h) }
-    requires owner { owner.now ≢ [] }
+    requires size { IsTrue (is_session_size host.now.size.w host.now.size.h) }
+    requires owner { host.now.owner ≢ [] }
     requires ready { IsReady serving.old.visitor }
     requires part { AreBytes serving.old.conn.hearing.part }
     requires room { length buffer.old ≡ read_room }
-    ensures done { (s : Service) → IsServiceOf (owners_head size owner.now) serving.old s → ServedNext result (owners_head size owner.now) s serving.new
+    ensures done { (s : Service) → IsServiceOf (owners_head host.now.size host.now.owner) serving.old s
+        → ServedNext result (owners_head host.now.size host.now.owner) s serving.new
         (outside_of S.Source K.Sink input.old output.old) (outside_of S.Source K.Sink input.new output.new) }
     ensures room { length buffer.new ≡ length buffer.old }
     ensures fault { IfErr result IsFault }
@@ -52,7 +49,7 @@ pub fn serve_next<S: Source, K: Sink>(
     ensures write { WritesCause result (K.faults output.old) (K.faults output.new) }
 {
     match input.read(buffer) {
-        Got::Bytes(n) => serve_piece(alloc, size, owner, serving, &buffer[..n], output),
+        Got::Bytes(n) => serve_piece(host, serving, &buffer[..n], output),
         Got::End => Ok(Some(last_ending(serving))),
         Got::Failed => Err(AnswerFault::ReadFault),
     }
@@ -60,32 +57,28 @@ pub fn serve_next<S: Source, K: Sink>(
 
 /// Does what these bytes of the stream ask for; says how the service ends with them, if it does.
 fn serve_piece<K: Sink>(
-    alloc: Global,
-    size: Size,
-    owner: &Name,
+    host: &Host,
     serving: &mut Serving,
     bytes: &[u8],
     output: &mut K,
 ) -> Result<Option<Ending>, AnswerFault>
-    requires size { IsTrue (is_session_size size.w size.h) }
-    requires owner { owner.now ≢ [] }
+    requires size { IsTrue (is_session_size host.now.size.w host.now.size.h) }
+    requires owner { host.now.owner ≢ [] }
     requires ready { IsReady serving.old.visitor }
     requires part { AreBytes serving.old.conn.hearing.part }
-    ensures done { (s : Service) → IsServiceOf (owners_head size owner.now) serving.old s
-        → ServedPiece result (owners_head size owner.now) s bytes.now serving.new (K.told output.old) (K.told output.new) }
+    ensures done { (s : Service) → IsServiceOf (owners_head host.now.size host.now.owner) serving.old s
+        → ServedPiece result (owners_head host.now.size host.now.owner) s bytes.now serving.new (K.told output.old) (K.told output.new) }
     ensures fault { IfErr result IsWriteFault }
     ensures cause { WritesCause result (K.faults output.old) (K.faults output.new) }
 {
-    let mut replies = Vec::new(alloc);
-    let mut steps = Vec::new(alloc);
+    let mut replies = Vec::new(host.alloc);
+    let mut steps = Vec::new(host.alloc);
     let fed = serving.conn.feed(bytes, &mut replies, &mut steps);
     match refusal_of(fed) {
         Ok(refusal) => {
             have_caches(&steps);
             do_heard(
-                alloc,
-                size,
-                owner,
+                host,
                 &mut serving.visitor,
                 &replies,
                 &steps,

@@ -4,16 +4,16 @@ ghost use Rattle.std.specs.Prelude.{◌≡◌, ◌≢◌, [], ◌∷◌, IsTrue,
 ghost use Rattle.px_core.specs.Rectangle.{is_session_size};
 ghost use Rattle.conn_rules.specs.Placed.{IsStepPlaced, ArePlaced};
 ghost use Rattle.answer_run.specs.Asking.{owners_head};
-ghost use Rattle.answer_run.specs.Seats.{IsSeated};
+ghost use Rattle.answer_run.specs.Solos.{IsSeated};
 ghost use Rattle.answer_run.specs.Visits.{IsReady, Visits, Comes, Asks, WritesCause, IsWriteFault};
 
 use crate::AnswerFault;
+use crate::host::Host;
 use crate::put::put;
-use crate::seat::{Seat, input, join, refresh, suppress, take};
+use crate::solo::{Solo, input, join, refresh, suppress, take};
 use conn_rules::ConnStep;
 use edge_io::Sink;
 use info_lic::Name;
-use px_core::Size;
 use std::alloc::Global;
 use wire_num::OutOfMemory;
 
@@ -23,30 +23,28 @@ pub enum Visitor {
     /// It isn't ready, and gave this name last.
     Coming { name: Name },
     /// It was let in.
-    Viewing { seat: Seat },
+    Viewing { solo: Solo },
 }
 
 /// Does steps one after the other, and writes their frames; says whether the client is let in, so far as it came. An `Err` leaves a
 /// front of the frames there.
 pub fn do_steps<K: Sink>(
-    alloc: Global,
-    size: Size,
-    owner: &Name,
+    host: &Host,
     visitor: &mut Visitor,
     steps: &[ConnStep],
     output: &mut K,
 ) -> Result<bool, AnswerFault>
-    requires size { IsTrue (is_session_size size.w size.h) }
-    requires owner { owner.now ≢ [] }
+    requires size { IsTrue (is_session_size host.now.size.w host.now.size.h) }
+    requires owner { host.now.owner ≢ [] }
     requires ready { IsReady visitor.old }
     requires placed { ArePlaced steps.now }
-    ensures done { Visits result (owners_head size owner.now) steps.now visitor.old visitor.new (K.told output.old) (K.told output.new) }
+    ensures done { Visits result (owners_head host.now.size host.now.owner) steps.now visitor.old visitor.new (K.told output.old) (K.told output.new) }
     ensures ready { OnOk result (IsReady visitor.new) }
     ensures fault { IfErr result IsWriteFault }
     ensures cause { WritesCause result (K.faults output.old) (K.faults output.new) }
 {
     for step in steps {
-        match do_step(alloc, size, owner, visitor, *step, output) {
+        match do_step(host, visitor, *step, output) {
             Ok(true) => {}
             Ok(false) => return Ok(false),
             Err(fault) => return Err(fault),
@@ -57,18 +55,16 @@ pub fn do_steps<K: Sink>(
 
 /// Does a step, and writes its frame; says whether the client is let in, so far as it came.
 fn do_step<K: Sink>(
-    alloc: Global,
-    size: Size,
-    owner: &Name,
+    host: &Host,
     visitor: &mut Visitor,
     step: ConnStep,
     output: &mut K,
 ) -> Result<bool, AnswerFault>
-    requires size { IsTrue (is_session_size size.w size.h) }
-    requires owner { owner.now ≢ [] }
+    requires size { IsTrue (is_session_size host.now.size.w host.now.size.h) }
+    requires owner { host.now.owner ≢ [] }
     requires ready { IsReady visitor.old }
     requires placed { IsStepPlaced step }
-    ensures done { Visits result (owners_head size owner.now) (step ∷ []) visitor.old visitor.new (K.told output.old) (K.told output.new) }
+    ensures done { Visits result (owners_head host.now.size host.now.owner) (step ∷ []) visitor.old visitor.new (K.told output.old) (K.told output.new) }
     ensures ready { OnOk result (IsReady visitor.new) }
     ensures fault { IfErr result IsWriteFault }
     ensures cause { WritesCause result (K.faults output.old) (K.faults output.new) }
@@ -76,7 +72,7 @@ fn do_step<K: Sink>(
     match visitor {
         Visitor::Coming { name } => {
             let name = *name;
-            match come(alloc, size, owner, &name, step, output) {
+            match come(host, &name, step, output) {
                 Ok(Some(came)) => {
                     *visitor = came;
                     Ok(true)
@@ -85,7 +81,7 @@ fn do_step<K: Sink>(
                 Err(fault) => Err(fault),
             }
         }
-        Visitor::Viewing { seat } => match ask(alloc, seat, step, output) {
+        Visitor::Viewing { solo } => match ask(host.alloc, solo, step, output) {
             Ok(()) => Ok(true),
             Err(fault) => Err(fault),
         },
@@ -94,25 +90,23 @@ fn do_step<K: Sink>(
 
 /// Does a step of a client that isn't ready: what it is then, with its first frame written where it is let in; `None` where it isn't.
 fn come<K: Sink>(
-    alloc: Global,
-    size: Size,
-    owner: &Name,
+    host: &Host,
     name: &Name,
     step: ConnStep,
     output: &mut K,
 ) -> Result<Option<Visitor>, AnswerFault>
-    requires size { IsTrue (is_session_size size.w size.h) }
-    requires owner { owner.now ≢ [] }
-    ensures done { Comes result (owners_head size owner.now) name.now step (K.told output.old) (K.told output.new) }
+    requires size { IsTrue (is_session_size host.now.size.w host.now.size.h) }
+    requires owner { host.now.owner ≢ [] }
+    ensures done { Comes result (owners_head host.now.size host.now.owner) name.now step (K.told output.old) (K.told output.new) }
     ensures ready { IfOk result (λ came. IfSome came IsReady) }
     ensures fault { IfErr result IsWriteFault }
     ensures cause { WritesCause result (K.faults output.old) (K.faults output.new) }
 {
     match step {
         ConnStep::Named(other) => Ok(Some(Visitor::Coming { name: other })),
-        ConnStep::Ready(confirmed) => match join(alloc, size, owner, name, confirmed) {
-            Ok(Some(mut seat)) => match show(alloc, &mut seat, output) {
-                Ok(()) => Ok(Some(Visitor::Viewing { seat })),
+        ConnStep::Ready(confirmed) => match join(host, name, confirmed) {
+            Ok(Some(mut solo)) => match show(host.alloc, &mut solo, output) {
+                Ok(()) => Ok(Some(Visitor::Viewing { solo })),
                 Err(fault) => Err(fault),
             },
             Ok(None) => Ok(None),
@@ -130,31 +124,31 @@ fn come<K: Sink>(
 /// Does what a viewer asks for by a step.
 fn ask<K: Sink>(
     alloc: Global,
-    seat: &mut Seat,
+    solo: &mut Solo,
     step: ConnStep,
     output: &mut K,
 ) -> Result<(), AnswerFault>
-    requires seated { IsSeated seat.old }
+    requires seated { IsSeated solo.old }
     requires placed { IsStepPlaced step }
-    ensures done { Asks result step seat.old seat.new (K.told output.old) (K.told output.new) }
-    ensures seated { OnOk result (IsSeated seat.new) }
+    ensures done { Asks result step solo.old solo.new (K.told output.old) (K.told output.new) }
+    ensures seated { OnOk result (IsSeated solo.new) }
     ensures fault { IfErr result IsWriteFault }
     ensures cause { WritesCause result (K.faults output.old) (K.faults output.new) }
 {
     match step {
-        ConnStep::Event(event) => match input(seat, event) {
+        ConnStep::Event(event) => match input(solo, event) {
             Ok(()) => Ok(()),
             Err(OutOfMemory) => Err(AnswerFault::OutOfMemory),
         },
         ConnStep::Refresh(area) => {
-            refresh(seat, area);
+            refresh(solo, area);
             Ok(())
         }
         ConnStep::Suppress(stop) => {
-            suppress(seat, stop);
+            suppress(solo, stop);
             Ok(())
         }
-        ConnStep::Packet => show(alloc, seat, output),
+        ConnStep::Packet => show(alloc, solo, output),
         ConnStep::Named(_) => Ok(()),
         ConnStep::Ready(_) => Ok(()),
         ConnStep::Shutdown => Ok(()),
@@ -163,14 +157,14 @@ fn ask<K: Sink>(
 }
 
 /// Writes the frame that is due.
-fn show<K: Sink>(alloc: Global, seat: &mut Seat, output: &mut K) -> Result<(), AnswerFault>
-    requires { IsSeated seat.old }
-    ensures done { Asks result ConnStep.Packet seat.old seat.new (K.told output.old) (K.told output.new) }
-    ensures seated { OnOk result (IsSeated seat.new) }
+fn show<K: Sink>(alloc: Global, solo: &mut Solo, output: &mut K) -> Result<(), AnswerFault>
+    requires { IsSeated solo.old }
+    ensures done { Asks result ConnStep.Packet solo.old solo.new (K.told output.old) (K.told output.new) }
+    ensures seated { OnOk result (IsSeated solo.new) }
     ensures fault { IfErr result IsWriteFault }
     ensures cause { WritesCause result (K.faults output.old) (K.faults output.new) }
 {
-    match take(alloc, seat) {
+    match take(alloc, solo) {
         Ok(bytes) => put(output, &bytes),
         Err(OutOfMemory) => Err(AnswerFault::OutOfMemory),
     }

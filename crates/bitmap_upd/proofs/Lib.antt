@@ -1,5 +1,1 @@
 pub mod Body
-pub mod Turned
-pub mod Shorter
-pub mod Bytes
-pub mod InPlace

@@ -17,7 +17,7 @@
 
 ghost use Rattle.std.specs.Prelude.{◌≡◌, ◌≤◌, ◌++◌, ◌∷◌, length, List, ℕ, pos, ◌≤ℤ◌};
 ghost use Rattle.px_core.specs.Picture.{nat_of};
-ghost use Rattle.order_means.specs.WirePixels.{pixel_data};
+ghost use Rattle.run_lengths.specs.WirePixels.{pixel_data};
 ghost use Rattle.order_means.specs.UpdateBodies.{tile_flags, tile_data_bytes};
 
 use px_core::{Depth, bits_in};

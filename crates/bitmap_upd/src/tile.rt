@@ -1,45 +1,23 @@
 //! The body of a Bitmap update of one rectangle ([MS-RDPBCGR] 2.2.9.1.1.3.1.2): what `head` has, and the pixels from the bottom row up, packed or as they are.
 
-ghost use Rattle.std.specs.Prelude.{◌≡◌, ◌≤◌, ◌*◌, ◌++◌, [], length, List, ℕ, option_copied, option_map, IfOk, OnOk, OnErr, IsTrue};
+ghost use Rattle.std.specs.Prelude.{◌≡◌, ◌≤◌, ◌*◌, ◌++◌, [], length, List, ℕ, option_copied, OnOk, OnErr, IsTrue};
 ghost use Rattle.wire_num.specs.Written.{AppendsFront};
 ghost use Rattle.px_core.specs.declared.depth.Depth.TheVariants.{Bits24};
 ghost use Rattle.px_core.specs.Colors.{are_colors};
 ghost use Rattle.px_core.specs.Depth.{bytes_in, shown_colors};
 ghost use Rattle.px_core.specs.Pixels.{pixels_bytes};
-ghost use Rattle.order_means.specs.WirePixels.{data_of, turned_over};
-ghost use Rattle.bitmap_upd.specs.Packed.{data_given, IsTilePacked};
+ghost use Rattle.px_core.specs.Picture.{turned_over};
+ghost use Rattle.run_lengths.specs.WirePixels.{data_of};
+ghost use Rattle.rle_enc.specs.Packed.{data_given, IsTilePacked};
 ghost use Rattle.order_means.specs.UpdateBodies.{tile_body};
 ghost use Rattle.bitmap_upd.specs.Place.{IsUpdated};
 
+use crate::OutOfMemory;
 use crate::head::{place, tile_head};
-use crate::{OutOfMemory, packed_pixels, put_both, put_turned, show_all, turn_over};
 use px_core::{Depth, Rect, bytes_in};
+use rle_enc::{packed_tile, put_both, put_turned};
 use std::alloc::Global;
 use std::marker::Model;
-
-/// The packed pixels of a tile, whose colours go row by row from the top and are shown at a depth; `None` where they go as they are.
-pub fn packed_tile(
-    alloc: Global,
-    pixels: &[u32],
-    w: usize,
-    h: usize,
-    no_header: bool,
-    depth: Depth,
-) -> Result<Option<Vec<u8>>, OutOfMemory>
-    requires wide { 1 ≤ w }
-    requires narrow { w ≤ 64 }
-    requires tall { 1 ≤ h }
-    requires low { h ≤ 64 }
-    requires number { length pixels.now ≡ w * h }
-    requires colors { IsTrue (are_colors pixels.now) }
-    ensures { IfOk result (λ packed. IsTilePacked depth no_header w h pixels.now (option_map (λ bytes. bytes.items) packed)) }
-{
-    if !no_header {
-        return Ok(None);
-    }
-    let wire = show_all(turn_over(alloc, pixels, w, h)?, depth);
-    packed_pixels(alloc, &wire, w, true, depth)
-}
 
 /// The body of a Bitmap update of one rectangle at a depth, before it is written: what stands before the pixels, the session's pixels row
 /// by row from the top, and their packed bytes, where they go packed. All but what stands before them it borrows.
@@ -57,14 +35,16 @@ impl<'a> Model for TileBody<'a> {
     ghost use Rattle.std.specs.Prelude.{◌≡◌, ◌≤◌, ◌*◌, ◌++◌, List, [], ℕ, length, option_copied};
     ghost use Rattle.px_core.specs.Depth.{shown_colors};
     ghost use Rattle.px_core.specs.Pixels.{pixels_bytes};
-    ghost use Rattle.order_means.specs.WirePixels.{turned_over};
-    ghost use Rattle.bitmap_upd.specs.Packed.{data_given};
+    ghost use Rattle.px_core.specs.Picture.{turned_over};
+    ghost use Rattle.rle_enc.specs.Packed.{data_given};
 
     ghost Value = { List ℕ };
 
-    ghost view = { λ s. s.head ++ (data_given (option_copied s.packed) (pixels_bytes s.depth (shown_colors s.depth (turned_over s.w s.h s.pixels.now)))).bytes };
+    ghost view = { λ s. s.head
+        ++ (data_given (option_copied s.packed) (pixels_bytes s.depth (shown_colors s.depth (turned_over s.w s.h s.pixels.now)))).bytes };
 
-    ghost invariant = { λ s. (length s.head ≡ 22) × (length s.pixels.now ≡ s.w * s.h) × (length s.pixels.now ≤ 4096) × (length (data_given (option_copied s.packed) []).bytes ≤ 12288) };
+    ghost invariant = { λ s. (length s.head ≡ 22) × (length s.pixels.now ≡ s.w * s.h) × (length s.pixels.now ≤ 4096)
+        × (length (data_given (option_copied s.packed) []).bytes ≤ 12288) };
 }
 
 impl<'a> TileBody<'a> {
@@ -189,7 +169,8 @@ fn put_raw(
 ) -> Result<(), OutOfMemory>
     requires { length colors.now ≡ w * h }
     ensures ok { OnOk result (out.new.items ≡ out.old.items ++ (head.now ++ pixels_bytes depth (shown_colors depth (turned_over w h colors.now)))) }
-    ensures memory { OnErr result (AppendsFront out.old.items (head.now ++ pixels_bytes depth (shown_colors depth (turned_over w h colors.now))) out.new.items) }
+    ensures memory { OnErr result (AppendsFront out.old.items
+        (head.now ++ pixels_bytes depth (shown_colors depth (turned_over w h colors.now))) out.new.items) }
 {
     out.extend_from_slice(head)?;
     put_turned(out, colors, w, h, depth)

@@ -2,7 +2,8 @@
 
 ghost use Rattle.std.specs.Prelude.{◌≡◌, ◌<◌, ◌≤◌, ◌+◌, ◌-◌, ◌&&◌, nat_le, min, max, pos, IfOk, IsTrue, option_map, option_to_list};
 ghost use Rattle.px_core.specs.Rectangle.{within};
-ghost use Rattle.session_rules.specs.Board.{has_bit, is_down, is_button_1, is_button_2, is_move, point_on, idle, closing, dotting, lifting, opening, popup_place, stroke, stroking, chosen_ink, mouse_lines, first_fitting, mouse_reaction, popup_removal};
+ghost use Rattle.session_rules.specs.Board.{has_bit, is_down, is_button_1, is_button_2, is_move, point_on, idle, closing, dotting, lifting, opening};
+ghost use Rattle.session_rules.specs.Board.{popup_place, stroke, stroking, chosen_ink, mouse_lines, first_fitting, mouse_reaction, popup_removal};
 ghost use Rattle.board_app.specs.Boards.{board_of, point_of, Makes};
 
 use crate::OutOfMemory;

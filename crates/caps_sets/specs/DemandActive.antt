@@ -14,7 +14,8 @@ abbrev pub numbers : List ℕ → List ℕ
 numbers [] = []
 numbers (n ∷ ns) = little_bytes 2 n ++ numbers ns
 
--- osMajorType; osMinorType; protocolVersion; pad2octetsA; generalCompressionTypes; extraFlags, with FASTPATH_OUTPUT_SUPPORTED and NO_BITMAP_COMPRESSION_HDR; updateCapabilityFlag;
+-- osMajorType; osMinorType; protocolVersion; pad2octetsA; generalCompressionTypes; extraFlags, with FASTPATH_OUTPUT_SUPPORTED and NO_BITMAP_COMPRESSION_HDR;
+-- updateCapabilityFlag;
 -- remoteUnshareFlag; generalCompressionLevel; refreshRectSupport; suppressOutputSupport (2.2.7.1.1)
 abbrev pub general_set : List ℕ
 general_set = capability_set 1 (numbers (1 ∷ 3 ∷ 512 ∷ 0 ∷ 0 ∷ 1025 ∷ 0 ∷ 0 ∷ 0 ∷ []) ++ (1 ∷ 1 ∷ []))
@@ -46,7 +47,8 @@ order_set =
 abbrev pub pointer_set : List ℕ
 pointer_set = capability_set 8 (numbers (1 ∷ 25 ∷ 25 ∷ []))
 
--- inputFlags, with INPUT_FLAG_SCANCODES, INPUT_FLAG_MOUSEX, INPUT_FLAG_FASTPATH_INPUT, INPUT_FLAG_UNICODE and INPUT_FLAG_FASTPATH_INPUT2; pad2octetsA; keyboardLayout; keyboardType; keyboardSubType;
+-- inputFlags, with INPUT_FLAG_SCANCODES, INPUT_FLAG_MOUSEX, INPUT_FLAG_FASTPATH_INPUT, INPUT_FLAG_UNICODE and INPUT_FLAG_FASTPATH_INPUT2; pad2octetsA;
+-- keyboardLayout; keyboardType; keyboardSubType;
 -- keyboardFunctionKey; imeFileName (2.2.7.1.6)
 abbrev pub input_set : List ℕ
 input_set = capability_set 13 (numbers (61 ∷ 0 ∷ []) ++ (replicate 16 0 ++ replicate 64 0))

@@ -6,7 +6,8 @@ use Rattle.caps_sets.specs.declared.confirmed.Confirmed.{Confirmed}
 use Rattle.caps_sets.specs.declared.set_kind.SetKind.{SetKind}
 use Rattle.caps_sets.specs.declared.set_kind.SetKind.TheVariants.{General, Bitmap, Order, BitmapCache, Pointer, Brush, GlyphCache, Other}
 use Rattle.caps_sets.specs.Confirmed.{sized}
-use Rattle.caps_sets.specs.CapabilitySets.{kind_of, least_length, says_cautious, says_no_header, says_fast, says_support, says_zero_bounds, says_marker, says_bitmaps, says_pointers, says_brush_level, takes_brushes, says_glyphs, says_glyph_level}
+use Rattle.caps_sets.specs.CapabilitySets.{kind_of, least_length, says_cautious, says_no_header, says_fast, says_support, says_zero_bounds}
+use Rattle.caps_sets.specs.CapabilitySets.{says_marker, says_bitmaps, says_pointers, says_brush_level, takes_brushes, says_glyphs, says_glyph_level}
 use Rattle.caps_sets.specs.ConfirmActive.{confirm_lengths, confirm_counts, set_header}
 
 -- a capability set: its type, and its content behind the header

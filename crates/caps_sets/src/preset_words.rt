@@ -19,7 +19,8 @@
 ghost use Rattle.std.specs.Prelude.{◌≡◌};
 ghost use Rattle.line_text.specs.Words.{parts_at, words_of};
 ghost use Rattle.caps_sets.specs.Confirmed.{sized, plain, bare, full, marked, with_bitmap_cache, with_glyph_cache};
-ghost use Rattle.caps_sets.specs.Presets.{presets, preset_named, size_by, with_cache, overridden, is_pointer_word, with_pointers, overridden_word, confirmed_by};
+ghost use Rattle.caps_sets.specs.Presets.{presets, preset_named, size_by, with_cache, overridden, is_pointer_word, with_pointers, overridden_word};
+ghost use Rattle.caps_sets.specs.Presets.{confirmed_by};
 
 use crate::pointer_set::MOST_POINTERS;
 use crate::{BITMAP_CACHES, CacheSize, Caches, Confirmed, GLYPH_CACHES};

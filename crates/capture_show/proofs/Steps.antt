@@ -17,7 +17,7 @@ use Rattle.order_means.specs.FrameMarks.{ClientReading, Refusal, read_stream, re
 use Rattle.order_means.specs.Packets.{PacketStage, Pieces, pieces_from, pieces_in, kept_piece, kept_pieces, held_in, without_pointers}
 use Rattle.order_means.specs.Packets.PacketStage.{Between}
 use Rattle.order_means.proofs.Pieces.{read_joined}
-use Rattle.packet_laws.proofs.PieceJoined.{pieces_joined}
+use Rattle.order_means.proofs.PieceJoined.{pieces_joined}
 use Rattle.client_view.specs.Clients.{ClientOf}
 use Rattle.capture_show.specs.declared.capture_reader.Told.{Told}
 use Rattle.capture_show.specs.declared.capture_reader.Told.TheVariants as told

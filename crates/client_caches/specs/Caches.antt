@@ -4,7 +4,7 @@ use Rattle.px_core.specs.declared.depth.Depth.{Depth}
 use Rattle.draw_ops.specs.Content.{ImageOf, GlyphOf}
 use Rattle.draw_ops.specs.Slots.{Slots, empty_slots}
 use Rattle.wire_num.specs.Field.{bind}
-use Rattle.order_means.specs.WirePixels.{turned_over}
+use Rattle.px_core.specs.Picture.{turned_over}
 use Rattle.caps_sets.specs.declared.confirmed.Confirmed.{Confirmed}
 use Rattle.order_means.specs.ClientState.{ClientState, Fault, empty_cache, brush_entries, wire_pixels}
 use Rattle.client_caches.specs.declared.obey_fault.ObeyFault.{ObeyFault}

@@ -4,7 +4,7 @@ ghost use Rattle.std.specs.Prelude.{◌≡◌, ◌≤◌, ◌<◌, ◌∷◌, []
 ghost use Rattle.order_means.specs.ClientState.{positions, are_apart, apart_from, block_at};
 ghost use Rattle.client_caches.specs.Blocks.{is_that, capped};
 
-use client_pixel::Pixel;
+use client_picture::Pixel;
 use std::alloc::Global;
 use std::marker::Model;
 use wire_num::OutOfMemory;

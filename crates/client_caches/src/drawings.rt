@@ -12,7 +12,7 @@ use crate::values::{
     byte, closed_rect_at, color_said, coordinate, is_cached_brush, is_cached_run, number, rect_at,
     short, side_of,
 };
-use client_pixel::Color;
+use client_picture::Color;
 use order_fields::{
     DST_BLT, Fields, GLYPH_INDEX, MEM_BLT, MEM3_BLT, OPAQUE_RECT, PAT_BLT, SAVE_BITMAP, SCR_BLT,
 };

@@ -1,4 +1,4 @@
-use client_pixel::Color;
+use client_picture::Color;
 use px_core::Rect;
 
 /// A drawing as a client sees it: rectangles, codes of raster operations, sources, and entries of caches. A run of glyphs is the counted bytes of its order.

@@ -7,7 +7,7 @@ ghost use Rattle.order_fields.specs.OrderTable.{fits_coordinate};
 ghost use Rattle.order_fields.specs.NamedDrawing.{value, number, rect_at, closed_rect_at, side_between, color_said, is_cached_brush, is_black, is_cached_run, are_zero};
 ghost use Rattle.client_caches.specs.Named.{FitsAt, FitBox, IsNumberAt};
 
-use client_pixel::Color;
+use client_picture::Color;
 use px_core::{Depth, Rect, cached_brush_style};
 
 /// The value at a place.

@@ -3,3 +3,4 @@ pub mod Parts
 pub mod Sources
 pub mod Bits
 pub mod Touched
+pub mod Words

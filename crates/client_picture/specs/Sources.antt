@@ -46,7 +46,8 @@ source_color part (Some t) x y = texture_color part t x y
 -- what a raster operation makes of a pixel of a part, over the old picture
 abbrev pub mixed_color : Size → List (Option ℕ) → Part → Mix → ℕ → ℕ → Option ℕ
 mixed_color size old part mix x y =
-    maybe_raster_at mix.depth mix.rop (brush_operand (option_copied mix.brush) (pos x) (pos y)) (Some (source_color part mix.texture x y)) (pixel_at size old None x y)
+    maybe_raster_at mix.depth mix.rop (brush_operand (option_copied mix.brush) (pos x) (pos y)) (Some (source_color part mix.texture x y))
+    (pixel_at size old None x y)
 
 -- what a copy makes of a pixel of a part, over the old picture
 abbrev pub copied_color : Depth → Size → List (Option ℕ) → Part → ℕ → Corner → ℕ → ℕ → Option ℕ

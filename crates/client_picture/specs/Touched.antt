@@ -13,7 +13,8 @@ pub record AreTouched (size : Size) (touched : List Bool) (picture marked : List
 
 -- beside a frame both pictures are the same
 abbrev pub AreSameBeside : Size → Frame → List (Option ℕ) → List (Option ℕ) → Type 0
-AreSameBeside size frame picture marked = (x y : ℕ) → x < size.w → y < size.h → in_frame frame x y ≡ false → pixel_at size picture None x y ≡ pixel_at size marked None x y
+AreSameBeside size frame picture marked = (x y : ℕ) → x < size.w → y < size.h → in_frame frame x y ≡ false
+    → pixel_at size picture None x y ≡ pixel_at size marked None x y
 
 -- two pictures of one size, and the rows and the frame in which they may differ
 pub record AreKept (size : Size) (touched : List Bool) (frame : Frame) (picture marked : List (Option ℕ)) : Type 0 where

@@ -4,10 +4,10 @@ ghost use Rattle.draw_ops.specs.Depths.{maybe_raster_at};
 ghost use Rattle.client_picture.specs.Parts.{in_part, part_at, IsCanvas, IsInside, IsRepainted};
 ghost use Rattle.client_picture.specs.Sources.{copied, copied_color, IsSourceInside};
 
+use crate::Pixel;
 use crate::corner::Corner;
 use crate::part::Part;
 use crate::pixel::{SOURCE_COPY, copied, mixed};
-use client_pixel::Pixel;
 use px_core::{Depth, Size};
 
 /// Makes each pixel of a part what the operation of a code makes of it, with the picture itself as its source, from a corner on. The row is for the

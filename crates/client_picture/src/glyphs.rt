@@ -12,7 +12,7 @@ use crate::corner::{Corner, place};
 use crate::frame::Frame;
 use crate::part::{Part, part_at};
 use crate::touched::touch_at;
-use client_pixel::{Color, Pixel};
+use crate::{Color, Pixel};
 use draw_ops::Glyph;
 use px_core::{Rect, Size};
 
@@ -50,7 +50,9 @@ fn draw_bit_row(row: &mut [Pixel], bits: Bits, at: usize, color: Color)
     requires columns { bits.from.x + length row.old ≤ 65535 }
     requires rows { at ≤ 65535 }
     requires narrow { bits.row_bytes ≤ 8192 }
-    ensures { (k : ℕ) → k < length row.old → get_or row.new k None ≡ (if is_ink bits.entry.bytes.now bits.entry.row_bytes (bits.entry.from.x + k) at then Some color else get_or row.old k None) }
+    ensures { (k : ℕ) → k < length row.old
+        → get_or row.new k None ≡ (if is_ink bits.entry.bytes.now bits.entry.row_bytes
+        (bits.entry.from.x + k) at then Some color else get_or row.old k None) }
 {
     let pixel = Pixel::known(color);
     for k in 0..row.len() {

@@ -6,10 +6,10 @@ ghost use Rattle.client_picture.specs.Parts.{in_part, IsCanvas, IsInside, IsRepa
 ghost use Rattle.client_picture.specs.Pictures.{brush_operand};
 ghost use Rattle.client_picture.specs.Sources.{copied, source_color, texture_color, mixed_color, CoversPart};
 
+use crate::Pixel;
 use crate::corner::Corner;
 use crate::part::Part;
 use crate::pixel::{SOURCE_COPY, copied_color, over_source};
-use client_pixel::Pixel;
 use draw_ops::Brush;
 use px_core::{Depth, Size};
 
@@ -54,7 +54,9 @@ fn mix_row(row: &mut [Pixel], part: Part, y: usize, mix: Mix)
     requires above { part.y ≤ y }
     requires below { y < part.y + part.h }
     requires texture { IfSome mix.texture (CoversPart part) }
-    ensures { (k : ℕ) → k < length row.old → get_or row.new k None ≡ maybe_raster_at mix.entry.depth mix.entry.rop (brush_operand (option_copied mix.entry.brush) (pos (part.x + k)) (pos y)) (Some (source_color part mix.entry.texture (part.x + k) y)) (get_or row.old k None) }
+    ensures { (k : ℕ) → k < length row.old
+        → get_or row.new k None ≡ maybe_raster_at mix.entry.depth mix.entry.rop (brush_operand (option_copied mix.entry.brush) (pos (part.x + k)) (pos y))
+        (Some (source_color part mix.entry.texture (part.x + k) y)) (get_or row.old k None) }
 {
     match mix.depth {
         Depth::Bits24 => mix_row_24(row, part, y, mix),
@@ -69,7 +71,9 @@ fn mix_row_24(row: &mut [Pixel], part: Part, y: usize, mix: Mix)
     requires above { part.y ≤ y }
     requires below { y < part.y + part.h }
     requires texture { IfSome mix.texture (CoversPart part) }
-    ensures { (k : ℕ) → k < length row.old → get_or row.new k None ≡ maybe_raster_at Bits24 mix.entry.rop (brush_operand (option_copied mix.entry.brush) (pos (part.x + k)) (pos y)) (Some (source_color part mix.entry.texture (part.x + k) y)) (get_or row.old k None) }
+    ensures { (k : ℕ) → k < length row.old
+        → get_or row.new k None ≡ maybe_raster_at Bits24 mix.entry.rop (brush_operand (option_copied mix.entry.brush) (pos (part.x + k)) (pos y))
+        (Some (source_color part mix.entry.texture (part.x + k) y)) (get_or row.old k None) }
 {
     match mix.texture {
         Some(texture) if mix.rop == SOURCE_COPY => copy_row(row, part, y, texture),
@@ -107,7 +111,9 @@ fn mix_pixels(row: &mut [Pixel], part: Part, y: usize, depth: Depth, mix: Mix)
     requires above { part.y ≤ y }
     requires below { y < part.y + part.h }
     requires texture { IfSome mix.texture (CoversPart part) }
-    ensures { (k : ℕ) → k < length row.old → get_or row.new k None ≡ maybe_raster_at depth mix.entry.rop (brush_operand (option_copied mix.entry.brush) (pos (part.x + k)) (pos y)) (Some (source_color part mix.entry.texture (part.x + k) y)) (get_or row.old k None) }
+    ensures { (k : ℕ) → k < length row.old
+        → get_or row.new k None ≡ maybe_raster_at depth mix.entry.rop (brush_operand (option_copied mix.entry.brush) (pos (part.x + k)) (pos y))
+        (Some (source_color part mix.entry.texture (part.x + k) y)) (get_or row.old k None) }
 {
     for k in 0..row.len() {
         let x = part.x + k;

@@ -10,14 +10,13 @@ ghost use Rattle.order_means.specs.ClientState.{mixing, no_operand, pairs_of, so
 ghost use Rattle.client_picture.specs.Bits.{IsPenNear};
 ghost use Rattle.client_picture.specs.Pictures.{first_pictures, painted_within, drawn_within, marked_now, brush_operand, source_operand, HasSource};
 
-use crate::OutOfMemory;
 use crate::frame::Frame;
 use crate::glyphs::{draw_glyph, touch_glyph};
 use crate::part::part_of;
 use crate::rects::{copy_rect, cut_rect, fill_rect, mix_rect, restore_rect, write_rect};
 use crate::source::Source;
 use crate::touched::{copy_touched, touch_found, touch_rect};
-use client_pixel::{Color, Pixel};
+use crate::{Color, OutOfMemory, Pixel};
 use draw_ops::{Brush, Glyph};
 use px_core::{Depth, Rect, Size};
 use std::alloc::Global;
@@ -36,7 +35,8 @@ const EMPTY: Frame = Frame {
 
 /// A client's picture, each pixel a colour or unknown, and the picture that it had at its last mark.
 ///
-/// Colours are those of its depth: `65536 * red + 256 * green + blue` or, at 16 bits, `2048 * red + 32 * green + blue`. Every list of pixels goes row by row from the top. `bounds` is the rectangle outside of
+/// Colours are those of its depth: `65536 * red + 256 * green + blue` or, at 16 bits, `2048 * red + 32 * green + blue`. Every list of pixels goes row by row
+/// from the top. `bounds` is the rectangle outside of
 /// which an order changes nothing. Only `new` and `save` take memory.
 #[derive(Drop)]
 pub struct ClientPicture {
@@ -112,7 +112,8 @@ impl ClientPicture {
         source: Option<Source<'_>>,
     )
         requires { IfSome source (HasSource rect) }
-        ensures { self.new ≡ painted_within bounds (mixing self.old.depth rect rop (brush_operand (option_copied brush.entry)) (source_operand rect source.entry)) self.old }
+        ensures { self.new ≡ painted_within bounds (mixing self.old.depth rect rop (brush_operand (option_copied brush.entry))
+            (source_operand rect source.entry)) self.old }
     {
         let pixels = self.picture.as_mut_slice();
         mix_rect(
@@ -125,7 +126,8 @@ impl ClientPicture {
     /// A raster operation on a rectangle, with the picture itself, from (sx, sy) on, as its source. It may overlap the rectangle.
     pub fn copy(&mut self, rect: Rect, bounds: Option<Rect>, rop: u8, sx: i32, sy: i32)
         requires { IsTrue (is_inside self.old.size (source_rect rect sx sy)) }
-        ensures { self.new ≡ painted_within bounds (mixing self.old.depth rect rop no_operand (shifted (rows_of self.old.size.w self.old.size.h self.old.picture) None rect sx sy)) self.old }
+        ensures { self.new ≡ painted_within bounds (mixing self.old.depth rect rop no_operand
+            (shifted (rows_of self.old.size.w self.old.size.h self.old.picture) None rect sx sy)) self.old }
     {
         copy_rect(
             self.picture.as_mut_slice(),
@@ -175,7 +177,8 @@ impl ClientPicture {
         run: &[u8],
     )
         requires short { length run.now ≤ 65535 }
-        ensures { (pairs : List (ℕ × ℕ)) → pairs_of run.now ≡ Some pairs → self.new ≡ painted_within bounds (writing (λ index. lookup index glyphs.now) x y color pairs) self.old }
+        ensures { (pairs : List (ℕ × ℕ)) → pairs_of run.now ≡ Some pairs
+            → self.new ≡ painted_within bounds (writing (λ index. lookup index glyphs.now) x y color pairs) self.old }
     {
         let mut moved = 0;
         for k in 0..run.len() / 2 {

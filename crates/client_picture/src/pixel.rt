@@ -3,7 +3,7 @@ ghost use Rattle.std.specs.Prelude.{◌≡◌, Some};
 ghost use Rattle.draw_ops.specs.Depths.{raster_at, maybe_raster_at};
 ghost use Rattle.client_picture.specs.Sources.{copied};
 
-use client_pixel::{Color, Pixel};
+use crate::{Color, Pixel};
 use px_core::Depth;
 use rop3_core::{needs_destination, needs_source, rop3};
 
@@ -30,7 +30,8 @@ pub(crate) fn copied_color(source: u32) -> Pixel
     Pixel::known(Color::low(source))
 }
 
-/// What the operation of this code on as many bits as the depth has makes of a known pattern and a source and a destination that may be unknown: unknown where the code depends on
+/// What the operation of this code on as many bits as the depth has makes of a known pattern and a source and a destination that may be unknown: unknown where
+/// the code depends on
 /// an operand that is unknown.
 #[inline(always)]
 pub(crate) fn mixed(depth: Depth, rop: u8, pattern: u32, source: Pixel, destination: Pixel) -> Pixel

@@ -17,7 +17,7 @@ use crate::part::{Part, part_of};
 use crate::pixel::SOURCE_COPY;
 use crate::rows::{fill_part, paste_part};
 use crate::source::Source;
-use client_pixel::{Color, Pixel};
+use crate::{Color, Pixel};
 use draw_ops::Brush;
 use px_core::{Depth, Rect, Size};
 
@@ -54,7 +54,8 @@ pub(crate) fn mix_rect(
 )
     requires canvas { IsCanvas size pixels.old }
     requires source { IfSome source (HasSource rect) }
-    ensures { pixels.new ≡ picture_after size (in_clip bounds) (mixing depth rect rop (brush_operand (option_copied brush.entry)) (source_operand rect source.entry)) pixels.old }
+    ensures { pixels.new ≡ picture_after size (in_clip bounds)
+        (mixing depth rect rop (brush_operand (option_copied brush.entry)) (source_operand rect source.entry)) pixels.old }
 {
     match part_of(size, rect, bounds) {
         None => {}
@@ -91,7 +92,8 @@ fn texture_of(source: Source<'_>, rect: Rect, part: Part) -> Texture<'_>
     requires small { IsOnSmall part }
     ensures covers { CoversPart part result }
     ensures bound { IsTrue (are_colors source.entry.pixels.now) → (x y : ℕ) → texture_color part result x y < 2 ^ 24 }
-    ensures colors { (x y : ℕ) → IsTrue (in_part part x y) → texture_color part result x y ≡ shifted (source_rows source.entry) 0 rect source.entry.sx source.entry.sy (pos x) (pos y) }
+    ensures colors { (x y : ℕ) → IsTrue (in_part part x y)
+        → texture_color part result x y ≡ shifted (source_rows source.entry) 0 rect source.entry.sx source.entry.sy (pos x) (pos y) }
 {
     Texture {
         pixels: source.pixels,
@@ -111,7 +113,8 @@ pub(crate) fn write_rect(
     requires canvas { IsCanvas size pixels.old }
     requires source { HasSource rect source }
     requires colors { IsTrue (are_colors source.pixels.now) }
-    ensures { pixels.new ≡ picture_after size (in_clip bounds) (over_rect rect (replaced (imaged client_colors (source_rows source.entry) rect source.entry.sx source.entry.sy))) pixels.old }
+    ensures { pixels.new ≡ picture_after size (in_clip bounds)
+        (over_rect rect (replaced (imaged client_colors (source_rows source.entry) rect source.entry.sx source.entry.sy))) pixels.old }
 {
     match part_of(size, rect, bounds) {
         None => {}
@@ -143,7 +146,8 @@ pub(crate) fn copy_rect(
     requires canvas { IsCanvas size pixels.old }
     requires inside { IsTrue (is_inside size (source_rect rect sx sy)) }
     requires row { length row.old ≡ size.w }
-    ensures { pixels.new ≡ picture_after size (in_clip bounds) (mixing depth rect rop no_operand (shifted (rows_of size.w size.h pixels.old) None rect sx sy)) pixels.old }
+    ensures { pixels.new ≡ picture_after size (in_clip bounds)
+        (mixing depth rect rop no_operand (shifted (rows_of size.w size.h pixels.old) None rect sx sy)) pixels.old }
 {
     match part_of(size, rect, bounds) {
         None => {}
@@ -165,7 +169,8 @@ pub(crate) fn restore_rect(
     requires canvas { IsCanvas size pixels.old }
     requires inside { IsTrue (is_inside size rect) }
     requires whole { length saved.now ≡ rect.w * rect.h }
-    ensures { pixels.new ≡ picture_after size (in_clip bounds) (over_rect rect (replaced (shifted (rows_of rect.w rect.h saved.now) None rect (pos 0) (pos 0)))) pixels.old }
+    ensures { pixels.new ≡ picture_after size (in_clip bounds)
+        (over_rect rect (replaced (shifted (rows_of rect.w rect.h saved.now) None rect (pos 0) (pos 0)))) pixels.old }
 {
     match part_of(size, rect, bounds) {
         None => {}

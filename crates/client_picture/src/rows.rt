@@ -5,7 +5,7 @@ ghost use Rattle.client_picture.specs.Sources.{pixel_from, Covers};
 
 use crate::corner::Corner;
 use crate::part::Part;
-use client_pixel::{Color, Pixel};
+use crate::{Color, Pixel};
 use px_core::Size;
 
 /// Gives every pixel of a part one colour. A part of one row, as a line or a point has, needs no loop.

@@ -5,9 +5,9 @@ ghost use Rattle.px_core.specs.Rectangle.{boxed, in_rect, in_clip};
 ghost use Rattle.client_picture.specs.Touched.{AreTouched, AreSameBeside, AddsRows, AddsPart, Widens};
 ghost use Rattle.client_picture.specs.Parts.{in_frame, in_part, in_optional_part, part_at, IsCanvas, IsInside, IsRepainted, LiesOn};
 
+use crate::Pixel;
 use crate::frame::Frame;
 use crate::part::{Part, earlier, later, part_at, part_of};
-use client_pixel::Pixel;
 use px_core::{Rect, Size};
 
 /// Remembers that the pixels of a rectangle may have been painted, within bounds: their rows, and a frame that has them all.

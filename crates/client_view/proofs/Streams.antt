@@ -7,7 +7,8 @@ use Rattle.wire_num.specs.Field.{bind, Read as Field}
 use Rattle.caps_sets.specs.declared.confirmed.Confirmed.{Confirmed}
 use Rattle.caps_sets.specs.Confirmed.{takes_fast}
 use Rattle.order_means.specs.ClientState.Fault.{Broken, Oversized, Empty}
-use Rattle.order_means.specs.Updates.{Body, BodyForm as Form, body_at, Updates, updates, before_updates, updates_by, updates_from, refusal_in}
+use Rattle.order_means.specs.Updates.{Body, BodyForm as Form, body_at, Cutting, cutting, Updates, updates, before_updates, updates_by, updates_from, refusal_in}
+use Rattle.order_means.specs.Updates.Stage.{Between}
 use Rattle.order_means.specs.FrameMarks.{View, Refusal, Update as Meaning, ClientReading, reading, reading_after, read_on, view_after_body, view_after_bodies, update_by_form, unless_refused_at}
 use Rattle.order_means.proofs.Pieces.{read_joined}
 use Rattle.update_read.specs.declared.form.BodyForm.{BodyForm}
@@ -15,7 +16,8 @@ use Rattle.update_read.specs.declared.state.State.{State}
 use Rattle.update_read.specs.declared.state.State.TheVariants.{Open, Update as Whole, Ended, Refused as RefusedAt}
 use Rattle.update_read.specs.declared.step.Step.TheVariants.{More, Update, Refused as RefusedStep}
 use Rattle.update_read.specs.Forms.{told_form}
-use Rattle.update_read.specs.Cutters.{CutterOf, Tells, Gives, GoesOn, behind_first, pending, pending_by, step_by, step_of, body_by}
+use Rattle.update_read.specs.Cutters.{CutterOf, Tells, Gives, Stands, GoesOn, behind_first, pending, pending_by, step_by, step_of, body_by}
+use Rattle.update_read.specs.Opens.{Ends, Opens}
 use Rattle.update_read.proofs.Taken.{open_stage}
 use Rattle.client_view.specs.declared.client_fault.ClientFault.{ClientFault}
 use Rattle.client_view.specs.declared.client_fault.ClientFault.TheVariants.{Refused, Named, OutOfMemory}
@@ -297,16 +299,9 @@ pub one_byte_less : (confirmed : Confirmed) (size : Size) (first : ClientReading
     → Reads (Ok tt) (read_on confirmed size l.here (b ∷ [])) n j → LeftBytes confirmed size first all bs n j
 one_byte_less confirmed size first all b bs left m n k j l e o = further confirmed size first all (b ∷ []) bs left m n k j l e o
 
--- those within the packet are read
-pub taken_left : (confirmed : Confirmed) (size : Size) (first : ClientReading) (all : List ℕ) (n : ℕ) (left : List ℕ) (m : Viewer) (k j : CutterOf) → (l : LeftBytes confirmed size first all left m k) → confirmed ≡ m.confirmed
-    → j.fast ≡ k.fast → GoesOn l.here.cut (updates_from k.fast l.here.cut (take n left)) j → LeftBytes confirmed size first all (drop n left) m j
-taken_left confirmed size first all n left m k j l same kept g =
-    further confirmed size first all (take n left) (drop n left) left m m k j l (sym (take-append-drop n left)) (reads_within confirmed size l.here (take n left) m k j same l.stand kept g)
-
-pub taken_behind : (confirmed : Confirmed) (size : Size) (first : ClientReading) (all : List ℕ) (n i : ℕ) (bytes : List ℕ) (m : Viewer) (k j : CutterOf) → (l : LeftBytes confirmed size first all (drop i bytes) m k) → confirmed ≡ m.confirmed → j.fast ≡ k.fast
-    → GoesOn l.here.cut (updates_from k.fast l.here.cut (take n (drop i bytes))) j → LeftBytes confirmed size first all (drop (i + n) bytes) m j
-taken_behind confirmed size first all n i bytes m k j l same kept g =
-    subst (λ (left : List ℕ). LeftBytes confirmed size first all left m j) (drop-drop n i bytes) (taken_left confirmed size first all n (drop i bytes) m k j l same kept g)
+pub first_less : (confirmed : Confirmed) (size : Size) (first : ClientReading) (all : List ℕ) (n : ℕ) (left : List ℕ) (m o : Viewer) (k j : CutterOf) → (l : LeftBytes confirmed size first all left m k)
+    → Reads (Ok tt) (read_on confirmed size l.here (take n left)) o j → LeftBytes confirmed size first all (drop n left) o j
+first_less confirmed size first all n left m o k j l e = further confirmed size first all (take n left) (drop n left) left m o k j l (sym (take-append-drop n left)) e
 
 pub one_byte_refused : (f : ClientFault) (confirmed : Confirmed) (size : Size) (first : ClientReading) (all : List ℕ) (b : ℕ) (bs left : List ℕ) (m : Viewer) (k : CutterOf) → (l : LeftBytes confirmed size first all left m k) → left ≡ b ∷ bs
     → RefusesAt f (read_on confirmed size l.here (b ∷ [])) → RefusesAt f (read_on confirmed size first all)
@@ -323,9 +318,145 @@ one_byte_stopped confirmed size first all b bs left m n k l e s = (
   s.2,
 )
 
+-- ---- what is left of them
+
+-- a refusal of what is left
+pub left_refused : (f : ClientFault) (confirmed : Confirmed) (size : Size) (first : ClientReading) (all left : List ℕ) (m : Viewer) (k : CutterOf) → (l : LeftBytes confirmed size first all left m k)
+    → RefusesAt f (read_on confirmed size l.here left) → RefusesAt f (read_on confirmed size first all)
+left_refused f confirmed size first all left m k l r =
+    refuses_through f (read_on confirmed size l.here left) (read_on confirmed size first all) (λ g h. same_read confirmed size first all left m k l ∙ h) r
+
+pub left_stops : (confirmed : Confirmed) (size : Size) (first : ClientReading) (all left : List ℕ) (m n : Viewer) (k : CutterOf) → (l : LeftBytes confirmed size first all left m k)
+    → Stops (ComesTo confirmed size l.here left) n → Stops (ComesTo confirmed size first all) n
+left_stops confirmed size first all left m n k l s =
+    let c = s.1 in (
+      s.0,
+      record {
+        front = l.front ++ c.front;
+        left = c.left;
+        whole = l.parts ∙ ap (λ (zs : List ℕ). l.front ++ zs) c.whole ∙ sym (append_assoc l.front c.front c.left);
+        here = c.here;
+        reads = read_joined confirmed size first l.front c.front ∙ ap (λ (x : Result ClientReading Refusal). bind x (λ y. read_on confirmed size y c.front)) l.reached ∙ c.reads;
+        there = c.there;
+      },
+      s.2,
+    )
+
+-- a refusal of the first bytes
+pub first_refused : (f : ClientFault) (confirmed : Confirmed) (size : Size) (r : ClientReading) (bytes xs ys : List ℕ) → bytes ≡ xs ++ ys → RefusesAt f (read_on confirmed size r xs) → RefusesAt f (read_on confirmed size r bytes)
+first_refused f confirmed size r bytes xs ys e refuses =
+    refuses_through f (read_on confirmed size r xs) (read_on confirmed size r bytes) (λ g h.
+    ap (read_on confirmed size r) e ∙ read_joined confirmed size r xs ys ∙ ap (λ (x : Result ClientReading Refusal). bind x (λ s. read_on confirmed size s ys)) h) refuses
+
+more_next : (confirmed : Confirmed) (size : Size) (r : ClientReading) (xs ys : List ℕ) (w : View) → ComesNext confirmed size r xs w → ComesNext confirmed size r (xs ++ ys) w
+more_next confirmed size r xs ys w (inl h) = inl h
+more_next confirmed size r [] ys w (inr h) = absurd h
+more_next confirmed size r (b ∷ xs) ys w (inr h) = inr h
+
+pub first_stops : (confirmed : Confirmed) (size : Size) (r : ClientReading) (bytes xs ys : List ℕ) (n : Viewer) → bytes ≡ xs ++ ys → Stops (ComesTo confirmed size r xs) n → Stops (ComesTo confirmed size r bytes) n
+first_stops confirmed size r bytes xs ys n e s =
+    let c = s.1 in (
+      s.0,
+      record {
+        front = c.front;
+        left = c.left ++ ys;
+        whole = e ∙ ap (λ (zs : List ℕ). zs ++ ys) c.whole ∙ append_assoc c.front c.left ys;
+        here = c.here;
+        reads = c.reads;
+        there = more_next confirmed size c.here c.left ys s.0 c.there;
+      },
+      s.2,
+    )
+
+-- a byte is read, or stops within its packet
+pub byte_comes : (confirmed : Confirmed) (size : Size) (r : ClientReading) (b : ℕ) (m n : Viewer) (k : CutterOf) → StandFor r m k → Stops (ComesNext confirmed size r (b ∷ [])) n → Stops (ComesTo confirmed size r (b ∷ [])) n
+unfolding all_bytes
+byte_comes confirmed size r b m n k s stops = one_byte_stopped confirmed size r (b ∷ []) b [] (b ∷ []) m n k (all_bytes confirmed size r (b ∷ []) m k s) refl stops
+
+-- none were taken
+pub none_taken : (r : ClientReading) (n : ℕ) (bytes : List ℕ) (m : Viewer) (k j : CutterOf) → n ≡ 0 → StandFor r m k → j.fast ≡ k.fast → GoesOn r.cut (updates_from k.fast r.cut (take n bytes)) j → StandFor r m j
+none_taken r n bytes m k j none s kept g =
+    let here : GoesOn r.cut (updates_from k.fast r.cut (take 0 bytes)) j = subst (λ (i : ℕ). GoesOn r.cut (updates_from k.fast r.cut (take i bytes)) j) none g in
+    record { view = s.view; cut = here.1; fast = kept ∙ s.fast; unrefused = s.unrefused }
+
+pub front_byte : (bytes : List ℕ) → 0 < length bytes → take 1 bytes ≡ get_or bytes 0 0 ∷ []
+front_byte [] some = absurd (omega (arith, some))
+front_byte (b ∷ bs) some = refl
+
 pub no_byte_left : (confirmed : Confirmed) (size : Size) (first : ClientReading) (all left : List ℕ) (m : Viewer) (k : CutterOf) → LeftBytes confirmed size first all left m k → left ≡ [] → Reads (Ok tt) (read_on confirmed size first all) m k
 no_byte_left confirmed size first all left m k l e = (
   l.here,
   same_read confirmed size first all left m k l ∙ ap (read_on confirmed size l.here) e ∙ ap (λ (o : Option ℕ). unless_refused_at o (reading l.here.view l.here.cut)) l.stand.unrefused,
   l.stand,
 )
+
+-- ---- a whole packet
+
+reads_front : (fast : Bool) (confirmed : Confirmed) (size : Size) (r : ClientReading) (xs : List ℕ) (m : Viewer) (old new : CutterOf) → fast ≡ takes_fast confirmed → confirmed ≡ m.confirmed → StandFor r m old → new.fast ≡ old.fast
+    → GoesOn r.cut (updates_from fast r.cut xs) new
+    → (read_on confirmed size r xs ≡ Ok (reading r.view (updates_from fast r.cut xs).next)) × StandFor (reading r.view (updates_from fast r.cut xs).next) m new
+unfolding reads_within
+reads_front fast confirmed size r xs m old new same c s kept g =
+    let is : old.fast ≡ fast = s.fast ∙ ap takes_fast (sym c) ∙ sym same in
+    let x = reads_within confirmed size r xs m old new c s kept (subst (λ (f : Bool). GoesOn r.cut (updates_from f r.cut xs) new) (sym is) g) in
+    subst (λ (f : Bool). (read_on confirmed size r xs ≡ Ok (reading r.view (updates_from f r.cut xs).next)) × StandFor (reading r.view (updates_from f r.cut xs).next) m new) (sym same) (x.1, x.2)
+
+-- all its bytes but the last one were read
+pub opened_left : (confirmed : Confirmed) (size : Size) (r : ClientReading) (packet : List ℕ) (m : Viewer) (k p : CutterOf) → confirmed ≡ m.confirmed → StandFor r m k → p.fast ≡ k.fast → (o : Opens r.cut packet p)
+    → LeftBytes confirmed size r packet (o.last ∷ []) m o.before
+opened_left confirmed size r packet m k p same s kept o =
+    let x = reads_front p.fast confirmed size r o.front m k o.before (kept ∙ s.fast ∙ ap takes_fast (sym same)) same s (o.fast ∙ kept) o.goes in
+    record { front = o.front; parts = o.whole; here = reading r.view (updates_from p.fast r.cut o.front).next; reached = x.0; stand = x.1 }
+
+-- the updates that a packet gives, with its last byte
+abbrev pub opened_updates : {c : Cutting} {packet : List ℕ} {p : CutterOf} → Opens c packet p → Cutting → Bool → Updates
+opened_updates o c fast = let next = (updates_from fast c o.front).next in updates_by fast next.place next.stage o.last
+
+-- they were obeyed, or one of them refused
+opened_read : (result : Result (Unit {0}) ClientFault) (confirmed : Confirmed) (size : Size) (r : ClientReading) (packet : List ℕ) (m n : Viewer) (k p q : CutterOf) (same : confirmed ≡ m.confirmed) (s : StandFor r m k) (kept : p.fast ≡ k.fast)
+    → (o : Opens r.cut packet p) → Reads result (reading_after confirmed size r.view (opened_updates o r.cut p.fast)) n q
+    → Reads result (read_on confirmed size (opened_left confirmed size r packet m k p same s kept o).here (o.last ∷ [])) n q
+unfolding opened_left
+opened_read result confirmed size r packet m n k p q same s kept o read =
+    byte_read result confirmed size (reading r.view (updates_from p.fast r.cut o.front).next) o.last p.fast n q (kept ∙ s.fast ∙ ap takes_fast (sym same)) read
+
+cut_by : (t : Result View Refusal) (o : Option ℕ) (u : Updates) (s : ClientReading) → bind t (λ w. goes w u o) ≡ Ok s → (s.cut ≡ u.next) × (o ≡ None)
+cut_by (Ok w) None u s e = let same : reading w u.next ≡ s = cc in (ap (λ (x : ClientReading). x.cut) (sym same), refl)
+cut_by (Ok w) (Some at) u s e = absurd (let no : ⊥ = cc in no)
+cut_by (Err f) o u s e = absurd (let no : ⊥ = cc in no)
+
+-- and the reading goes on behind the packet
+pub opened_ok : (confirmed : Confirmed) (size : Size) (r : ClientReading) (packet : List ℕ) (m n : Viewer) (k p q j : CutterOf) (same : confirmed ≡ m.confirmed) → confirmed ≡ n.confirmed → (s : StandFor r m k) (kept : p.fast ≡ k.fast)
+    → (o : Opens r.cut packet p) → Reads (Ok tt) (reading_after confirmed size r.view (opened_updates o r.cut p.fast)) n q → j.fast ≡ k.fast → Stands (cutting (r.cut.place + length packet) Between) j
+    → Reads (Ok tt) (read_on confirmed size r packet) n j
+opened_ok confirmed size r packet m n k p q j same also s kept o read fast past =
+    let l = opened_left confirmed size r packet m k p same s kept o in
+    let more = one_byte_less confirmed size r packet o.last [] (o.last ∷ []) m n o.before q l refl (opened_read (Ok tt) confirmed size r packet m n k p q same s kept o read) in
+    let all = no_byte_left confirmed size r packet [] n q more refl in
+    let takes : p.fast ≡ takes_fast confirmed = kept ∙ s.fast ∙ ap takes_fast (sym same) in
+    let u : Updates = updates_from (takes_fast confirmed) r.cut packet in
+    let cut = cut_by (view_after_bodies confirmed size r.view u.bodies) (refusal_in u.next.stage) u all.0 all.1 in
+    let ends : u.next ≡ cutting (r.cut.place + length packet) Between = subst (λ (f : Bool). Ends (r.cut.place + length packet) (updates_from f r.cut packet)) takes o.ends cut.1 in (
+      all.0,
+      all.1,
+      record {
+        view = all.2.view;
+        cut = subst (λ (x : Cutting). Stands x j) (sym (cut.0 ∙ ends)) past;
+        fast = fast ∙ s.fast ∙ ap takes_fast (sym same ∙ also);
+        unrefused = all.2.unrefused;
+      },
+    )
+
+pub opened_refused : (f : ClientFault) (confirmed : Confirmed) (size : Size) (r : ClientReading) (packet : List ℕ) (m n : Viewer) (k p q : CutterOf) (same : confirmed ≡ m.confirmed) (s : StandFor r m k) (kept : p.fast ≡ k.fast)
+    → (o : Opens r.cut packet p) → Reads (Err f) (reading_after confirmed size r.view (opened_updates o r.cut p.fast)) n q → RefusesAt f (read_on confirmed size r packet)
+opened_refused f confirmed size r packet m n k p q same s kept o read =
+    left_refused f confirmed size r packet (o.last ∷ []) m o.before (opened_left confirmed size r packet m k p same s kept o)
+    (opened_read (Err f) confirmed size r packet m n k p q same s kept o read)
+
+pub opened_stops : (f : ClientFault) (confirmed : Confirmed) (size : Size) (r : ClientReading) (packet : List ℕ) (m n : Viewer) (k p : CutterOf) (same : confirmed ≡ m.confirmed) (s : StandFor r m k) (kept : p.fast ≡ k.fast)
+    → (o : Opens r.cut packet p) → Stops (WithinPacket confirmed size r.view (opened_updates o r.cut p.fast).bodies) n → Stops (ComesTo confirmed size r packet) n
+unfolding opened_left
+opened_stops f confirmed size r packet m n k p same s kept o stops =
+    let l = opened_left confirmed size r packet m k p same s kept o in
+    one_byte_stopped confirmed size r packet o.last [] (o.last ∷ []) m n o.before l refl
+    (byte_stops (Err f) confirmed size (reading r.view (updates_from p.fast r.cut o.front).next) o.last p.fast n (kept ∙ s.fast ∙ ap takes_fast (sym same)) stops)

@@ -5,7 +5,7 @@ use Rattle.std.proofs.Math.Seq.{drop-cons}
 use Rattle.px_core.specs.declared.surface.Size.{Size}
 use Rattle.px_core.specs.declared.depth.Depth.{Depth}
 use Rattle.wire_num.specs.Field.{bind}
-use Rattle.order_means.specs.WirePixels.{turned_over}
+use Rattle.px_core.specs.Picture.{turned_over}
 use Rattle.order_means.specs.ClientState.{Fault, needs, after_painting, wire_pixels}
 use Rattle.order_means.specs.ClientState.Fault.{Broken}
 use Rattle.order_means.specs.FrameMarks.{View, Tile as Rectangle, is_tile, is_packed_tile, tile_pixels, showing, view_after_tile, view_after_tiles}

@@ -1,8 +1,10 @@
 -- A client in code, and which readings of a host's bytes it stands for.
-use Rattle.std.specs.Prelude.{◌≡◌, Option, Some, None, Result, Ok, Err}
+use Rattle.std.specs.Prelude.{◌≡◌, ℕ, List, take, Option, Some, None, Result, Ok, Err}
+use Rattle.px_core.specs.declared.surface.Size.{Size}
+use Rattle.caps_sets.specs.declared.confirmed.Confirmed.{Confirmed}
 use Rattle.caps_sets.specs.Confirmed.{takes_fast}
 use Rattle.order_means.specs.Updates.{refusal_in}
-use Rattle.order_means.specs.FrameMarks.{ClientReading, Refusal}
+use Rattle.order_means.specs.FrameMarks.{ClientReading, Refusal, read_on}
 use Rattle.update_read.specs.Cutters.{CutterOf, Stands}
 use Rattle.client_view.specs.declared.client_fault.ClientFault.{ClientFault}
 use Rattle.client_view.specs.declared.viewer.Viewer.{Viewer}
@@ -26,6 +28,11 @@ pub record StandFor (r : ClientReading) (m : Viewer) (k : CutterOf) : Type 0 whe
 abbrev pub Reads : Result (Unit {0}) ClientFault → Result ClientReading Refusal → Viewer → CutterOf → Type 0
 Reads (Ok done) meaning m k = (s : ClientReading) × (meaning ≡ Ok s) × StandFor s m k
 Reads (Err f) meaning m k = RefusesAt f meaning
+
+-- the same of so many of the bytes, or a refusal of them
+abbrev pub ReadsSome : Result ℕ ClientFault → Confirmed → Size → ClientReading → List ℕ → Viewer → CutterOf → Type 0
+ReadsSome (Ok n) confirmed size r bytes m k = Reads (Ok tt) (read_on confirmed size r (take n bytes)) m k
+ReadsSome (Err f) confirmed size r bytes m k = RefusesAt f (read_on confirmed size r bytes)
 
 -- a client stands for a reading
 pub record IsReading (r : ClientReading) (c : ClientOf) : Type 0 where

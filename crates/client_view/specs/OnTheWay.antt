@@ -6,7 +6,8 @@ use Rattle.caps_sets.specs.declared.confirmed.Confirmed.{Confirmed}
 use Rattle.order_fields.specs.OrderStream.{Order, Stream, orders_in}
 use Rattle.caps_sets.specs.Confirmed.{takes_fast}
 use Rattle.order_means.specs.Updates.{Body, BodyForm, updates_by}
-use Rattle.order_means.specs.FrameMarks.{View, Tile, Update, ClientReading, with_registers, view_after_orders, view_after_tiles, view_after_bodies, update_by_form, update_in, read_on}
+use Rattle.order_means.specs.FrameMarks.{View, Tile, Update, ClientReading, with_registers, view_after_orders, view_after_tiles, view_after_bodies}
+use Rattle.order_means.specs.FrameMarks.{update_by_form, update_in, read_on}
 use Rattle.order_means.specs.FrameMarks.Update.{Orders, Tiles, Synchronize}
 use Rattle.order_read.specs.Told.{Told}
 use Rattle.client_picture.specs.Pictures.{unknown_picture}

@@ -14,7 +14,9 @@ use Rattle.order_fields.specs.NamedDrawing.{NamedDrawing, drawing_of}
 use Rattle.order_fields.specs.NamedDrawing.NamedDrawing.{Dst, Pat, Scr, Opaque, SaveBlock, RestoreBlock, Mem, Mem3, Glyphs}
 use Rattle.order_read.specs.Told.{Told}
 use Rattle.order_read.specs.Told.Told.{Drawn, Stored}
-use Rattle.order_means.specs.ClientState.{ClientState, Fault, needs, found, cached, mixing, no_operand, brush_used, image_used, glyph_used, pairs_of, with_glyphs, writing, positions, block_at, block_of, with_block, restoring, source_rect, client_after_bitmap, client_after_glyph}
+use Rattle.order_means.specs.ClientState.{ClientState, Fault, needs, found, cached, mixing, no_operand, brush_used, image_used, glyph_used, pairs_of}
+use Rattle.order_means.specs.ClientState.{with_glyphs, writing, positions, block_at, block_of, with_block, restoring, source_rect}
+use Rattle.order_means.specs.ClientState.{client_after_bitmap, client_after_glyph}
 use Rattle.order_means.specs.ClientState.Fault.{Broken}
 use Rattle.order_means.specs.FrameMarks.{View, view_with, marked_if, is_mark}
 use Rattle.client_caches.specs.Stored.{client_after_upright_brush}
@@ -29,14 +31,16 @@ client_after_clipped confirmed size clip c (Dst r code) = Ok (clipped_painting s
 client_after_clipped confirmed size clip c (Pat r code entry) =
     bind (brush_used confirmed c entry) (λ brush. Ok (clipped_painting size clip (mixing c.depth r code (brushed client_colors brush) no_operand) c))
 client_after_clipped confirmed size clip c (Scr r code sx sy) =
-    needs (is_inside size (source_rect r sx sy)) Broken (Ok (clipped_painting size clip (mixing c.depth r code no_operand (shifted (rows_of size.w size.h c.picture) None r sx sy)) c))
+    needs (is_inside size (source_rect r sx sy)) Broken
+    (Ok (clipped_painting size clip (mixing c.depth r code no_operand (shifted (rows_of size.w size.h c.picture) None r sx sy)) c))
 client_after_clipped confirmed size clip c (Opaque r color) = Ok (clipped_painting size clip (over_rect r (solid client_colors color)) c)
 client_after_clipped confirmed size clip c (SaveBlock position r) =
     needs (is_inside size r && nat_le (position + positions r.w r.h) 57600) Broken (Ok (with_block (block_of size c position r) c))
 client_after_clipped confirmed size clip c (RestoreBlock position r) =
     needs (is_inside size r) Broken (bind (found (block_at position r.w r.h c.blocks) Broken) (λ b. Ok (clipped_painting size clip (restoring b r) c)))
 client_after_clipped confirmed size clip c (Mem cache index r code sx sy) =
-    bind (image_used confirmed c cache index (source_rect r sx sy)) (λ image. Ok (clipped_painting size clip (mixing c.depth r code no_operand (imaged client_colors (image_rows image) r sx sy)) c))
+    bind (image_used confirmed c cache index (source_rect r sx sy))
+    (λ image. Ok (clipped_painting size clip (mixing c.depth r code no_operand (imaged client_colors (image_rows image) r sx sy)) c))
 client_after_clipped confirmed size clip c (Mem3 cache index r code sx sy entry) =
     bind (image_used confirmed c cache index (source_rect r sx sy)) (λ image. bind (brush_used confirmed c entry) (λ brush.
     Ok (clipped_painting size clip (mixing c.depth r code (brushed client_colors brush) (imaged client_colors (image_rows image) r sx sy)) c)))

@@ -1,15 +1,16 @@
-//! A client: a host's stream in any pieces, and what it shows at its marks.
+//! A client: a host's stream in any pieces, or packet by packet, and what it shows at its marks.
 
-ghost use Rattle.std.specs.Prelude.{◌≡◌, ◌<◌, None, Err, length, IfOk, IfSome, OnErr};
+ghost use Rattle.std.specs.Prelude.{◌≡◌, ◌<◌, Some, None, Err, length, IfOk, IfSome, OnErr};
 ghost use Rattle.px_core.specs.Picture.{pixel_at};
 ghost use Rattle.order_means.specs.FrameMarks.{ClientReading, first_reading, read_on};
+ghost use Rattle.update_read.specs.Wholes.{IsWholePacket};
 ghost use Rattle.client_picture.specs.Pictures.{unknown_picture};
 ghost use Rattle.client_view.specs.Views.{capped, last_picture, SameViewer};
 ghost use Rattle.client_view.specs.Clients.{IsReading, Feeds};
 ghost use Rattle.client_view.specs.OnTheWay.{Stops, ComesTo};
 ghost use Rattle.client_view.specs.Widened.{widened_picture};
 
-use crate::reading::read_bytes;
+use crate::reading::{read_bytes, read_whole};
 use crate::viewer::Viewer;
 use crate::wide::widened;
 use crate::{ClientFault, OutOfMemory};
@@ -59,9 +60,11 @@ impl Client {
     /// is spent, and answers it again. After an `Err` nothing changes any more: the marks, the picture of the last one and the counts are
     /// those of a view that the reading came to: before an update, also behind others of its packet, or behind some of its orders or rectangles.
     pub fn feed(&mut self, bytes: &[u8]) -> Result<(), ClientFault>
-        ensures read { (r : ClientReading) → IsReading r self.old → Feeds result (read_on self.old.viewer.confirmed self.old.viewer.pictures.size r bytes.now) self.new }
+        ensures read { (r : ClientReading) → IsReading r self.old
+            → Feeds result (read_on self.old.viewer.confirmed self.old.viewer.pictures.size r bytes.now) self.new }
         ensures same { SameViewer self.old.viewer self.new.viewer }
-        ensures stopped { (r : ClientReading) → IsReading r self.old → OnErr result (Stops (ComesTo self.old.viewer.confirmed self.old.viewer.pictures.size r bytes.now) self.new.viewer) }
+        ensures stopped { (r : ClientReading) → IsReading r self.old
+            → OnErr result (Stops (ComesTo self.old.viewer.confirmed self.old.viewer.pictures.size r bytes.now) self.new.viewer) }
         ensures ended { IfSome self.old.end (λ fault. (result ≡ Err fault) × (self.new ≡ self.old)) }
     {
         if let Some(fault) = self.end {
@@ -69,11 +72,36 @@ impl Client {
         }
         match read_bytes(&mut self.viewer, &mut self.cutter, self.alloc, bytes) {
             Ok(()) => Ok(()),
-            Err(fault) => {
-                self.end = Some(fault);
-                Err(fault)
-            }
+            Err(fault) => Err(self.stop(fault)),
         }
+    }
+
+    /// Reads one whole packet of the stream, of either kind, as `feed` reads its bytes, but without copying it or looking for its end again.
+    pub fn feed_packet(&mut self, packet: &[u8]) -> Result<(), ClientFault>
+        requires { IsWholePacket packet.now }
+        ensures read { (r : ClientReading) → IsReading r self.old
+            → Feeds result (read_on self.old.viewer.confirmed self.old.viewer.pictures.size r packet.now) self.new }
+        ensures same { SameViewer self.old.viewer self.new.viewer }
+        ensures stopped { (r : ClientReading) → IsReading r self.old
+            → OnErr result (Stops (ComesTo self.old.viewer.confirmed self.old.viewer.pictures.size r packet.now) self.new.viewer) }
+        ensures ended { IfSome self.old.end (λ fault. (result ≡ Err fault) × (self.new ≡ self.old)) }
+    {
+        if let Some(fault) = self.end {
+            return Err(fault);
+        }
+        match read_whole(&mut self.viewer, &mut self.cutter, self.alloc, packet) {
+            Ok(()) => Ok(()),
+            Err(fault) => Err(self.stop(fault)),
+        }
+    }
+
+    /// Nothing is read behind a fault.
+    fn stop(&mut self, fault: ClientFault) -> ClientFault
+        ensures fault { result ≡ fault }
+        ensures ends { self.new ≡ record self.old { end = Some fault } }
+    {
+        self.end = Some(fault);
+        fault
     }
 
     /// How many marks there were, at most 2^64 - 1.

@@ -7,7 +7,8 @@ pub enum ClientFault {
     Refused {
         at: u64,
     },
-    /// An order names an entry of a cache that holds nothing or, where `oversized`, an index or a cell past the confirmed size. The caches are numbered 0 to 2 (bitmaps), 3 to 12 (glyphs) and 13 (brushes).
+    /// An order names an entry of a cache that holds nothing or, where `oversized`, an index or a cell past the confirmed size. The caches are numbered 0 to 2
+    /// (bitmaps), 3 to 12 (glyphs) and 13 (brushes).
     Named {
         at: u64,
         oversized: bool,

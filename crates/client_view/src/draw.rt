@@ -13,8 +13,7 @@ ghost use Rattle.client_view.specs.Views.{client_of, Draws, SamePlace, IsSourceO
 use crate::saved::{restore, save};
 use caps_sets::Confirmed;
 use client_caches::{ClientBlocks, ClientCaches, KeptImage, Named, ObeyFault, check_run};
-use client_picture::{ClientPicture, Source};
-use client_pixel::Color;
+use client_picture::{ClientPicture, Color, Source};
 use px_core::{Rect, is_inside};
 
 /// How many glyph caches there are.
@@ -31,7 +30,8 @@ pub(crate) fn draw(
     run: &[u8],
 ) -> Result<(), ObeyFault>
     requires { length run.now ≤ 65535 }
-    ensures drawn { Draws result (λ c. client_after_clipped confirmed.now pictures.old.size bounds c (drawing run.now named)) caches.now blocks.old blocks.new pictures.old pictures.new }
+    ensures drawn { Draws result (λ c. client_after_clipped confirmed.now pictures.old.size bounds c
+        (drawing run.now named)) caches.now blocks.old blocks.new pictures.old pictures.new }
     ensures place { SamePlace pictures.old pictures.new }
 {
     match named {
@@ -125,7 +125,9 @@ fn draw_pattern(
     rop: u8,
     entry: u8,
 ) -> Result<(), ObeyFault>
-    ensures drawn { (blocks : List Block) → Draws result (λ c. client_after_clipped confirmed.now pictures.old.size bounds c (Pat rect rop entry)) caches.now blocks blocks pictures.old pictures.new }
+    ensures drawn { (blocks : List Block)
+        → Draws result (λ c. client_after_clipped confirmed.now pictures.old.size bounds c
+        (Pat rect rop entry)) caches.now blocks blocks pictures.old pictures.new }
     ensures place { SamePlace pictures.old pictures.new }
 {
     let brush = caches.brush_used(confirmed, entry)?;
@@ -142,7 +144,8 @@ fn draw_copy(
     sx: i32,
     sy: i32,
 ) -> Result<(), ObeyFault>
-    ensures drawn { (confirmed : Confirmed) (caches : CachesOf) (blocks : List Block) → Draws result (λ c. client_after_clipped confirmed pictures.old.size bounds c (Scr rect rop sx sy)) caches blocks blocks pictures.old pictures.new }
+    ensures drawn { (confirmed : Confirmed) (caches : CachesOf) (blocks : List Block)
+        → Draws result (λ c. client_after_clipped confirmed pictures.old.size bounds c (Scr rect rop sx sy)) caches blocks blocks pictures.old pictures.new }
     ensures place { SamePlace pictures.old pictures.new }
 {
     if !is_inside(pictures.size(), source_rect(rect, sx, sy)) {
@@ -165,7 +168,9 @@ fn draw_image(
     sx: i32,
     sy: i32,
 ) -> Result<(), ObeyFault>
-    ensures drawn { (blocks : List Block) → Draws result (λ c. client_after_clipped confirmed.now pictures.old.size bounds c (Mem cache index rect rop sx sy)) caches.now blocks blocks pictures.old pictures.new }
+    ensures drawn { (blocks : List Block)
+        → Draws result (λ c. client_after_clipped confirmed.now pictures.old.size bounds c
+        (Mem cache index rect rop sx sy)) caches.now blocks blocks pictures.old pictures.new }
     ensures place { SamePlace pictures.old pictures.new }
 {
     let image = caches.image_used(confirmed, cache, index, source_rect(rect, sx, sy))?;
@@ -187,7 +192,9 @@ fn draw_mixed(
     sy: i32,
     entry: u8,
 ) -> Result<(), ObeyFault>
-    ensures drawn { (blocks : List Block) → Draws result (λ c. client_after_clipped confirmed.now pictures.old.size bounds c (Mem3 cache index rect rop sx sy entry)) caches.now blocks blocks pictures.old pictures.new }
+    ensures drawn { (blocks : List Block)
+        → Draws result (λ c. client_after_clipped confirmed.now pictures.old.size bounds c
+        (Mem3 cache index rect rop sx sy entry)) caches.now blocks blocks pictures.old pictures.new }
     ensures place { SamePlace pictures.old pictures.new }
 {
     let image = caches.image_used(confirmed, cache, index, source_rect(rect, sx, sy))?;
@@ -210,7 +217,9 @@ fn draw_run(
     run: &[u8],
 ) -> Result<(), ObeyFault>
     requires { length run.now ≤ 65535 }
-    ensures drawn { (blocks : List Block) → Draws result (λ c. client_after_clipped confirmed.now pictures.old.size bounds c (Glyphs cache x y color run.now)) caches.now blocks blocks pictures.old pictures.new }
+    ensures drawn { (blocks : List Block)
+        → Draws result (λ c. client_after_clipped confirmed.now pictures.old.size bounds c
+        (Glyphs cache x y color run.now)) caches.now blocks blocks pictures.old pictures.new }
     ensures place { SamePlace pictures.old pictures.new }
 {
     if GLYPH_CACHES <= cache {

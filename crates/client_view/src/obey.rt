@@ -34,7 +34,8 @@ fn one_more(count: u64) -> u64
 
 /// Obeys a primary order and counts it. Most are fills, which need no cache. An `Err` leaves the marks and the counts.
 fn obey_drawing(viewer: &mut Viewer, fields: &Fields, bounds: Option<Rect>) -> Result<(), ObeyFault>
-    ensures obeyed { (v : View) → StandsFor v viewer.old → Obeys result (view_after_told viewer.old.confirmed viewer.old.pictures.size v (Drawn fields.now bounds)) viewer.new }
+    ensures obeyed { (v : View) → StandsFor v viewer.old
+        → Obeys result (view_after_told viewer.old.confirmed viewer.old.pictures.size v (Drawn fields.now bounds)) viewer.new }
     ensures same { SameViewer viewer.old viewer.new }
     ensures kept { OnErr result (SameCounts viewer.old viewer.new) }
 {
@@ -52,7 +53,8 @@ fn obey_drawing(viewer: &mut Viewer, fields: &Fields, bounds: Option<Rect>) -> R
 /// Obeys a primary order by the drawing that it says, and counts it. An `Err` leaves the marks and the counts.
 #[inline(never)]
 fn obey_named(viewer: &mut Viewer, fields: &Fields, bounds: Option<Rect>) -> Result<(), ObeyFault>
-    ensures obeyed { (v : View) → StandsFor v viewer.old → Obeys result (view_after_told viewer.old.confirmed viewer.old.pictures.size v (Drawn fields.now bounds)) viewer.new }
+    ensures obeyed { (v : View) → StandsFor v viewer.old
+        → Obeys result (view_after_told viewer.old.confirmed viewer.old.pictures.size v (Drawn fields.now bounds)) viewer.new }
     ensures same { SameViewer viewer.old viewer.new }
     ensures kept { OnErr result (SameCounts viewer.old viewer.new) }
 {
@@ -74,7 +76,8 @@ fn obey_named(viewer: &mut Viewer, fields: &Fields, bounds: Option<Rect>) -> Res
 
 /// Obeys what is told of an order; its ranges are those of the body. An `Err` leaves the marks and the counts.
 fn obey(viewer: &mut Viewer, alloc: Global, body: &[u8], read: &Read) -> Result<(), ObeyFault>
-    ensures obeyed { (v : View) → StandsFor v viewer.old → Obeys result (view_after_told viewer.old.confirmed viewer.old.pictures.size v (told_read body.now read.now)) viewer.new }
+    ensures obeyed { (v : View) → StandsFor v viewer.old
+        → Obeys result (view_after_told viewer.old.confirmed viewer.old.pictures.size v (told_read body.now read.now)) viewer.new }
     ensures same { SameViewer viewer.old viewer.new }
     ensures kept { OnErr result (SameCounts viewer.old viewer.new) }
 {
@@ -134,9 +137,11 @@ pub(crate) fn obey_all(
     body: &[u8],
     reads: &[Read],
 ) -> Result<(), ObeyFault>
-    ensures obeyed { (v : View) → StandsFor v viewer.old → Obeys result (view_after_all_told viewer.old.confirmed viewer.old.pictures.size v (told_reads body.now reads.now)) viewer.new }
+    ensures obeyed { (v : View) → StandsFor v viewer.old
+        → Obeys result (view_after_all_told viewer.old.confirmed viewer.old.pictures.size v (told_reads body.now reads.now)) viewer.new }
     ensures same { SameViewer viewer.old viewer.new }
-    ensures stopped { (v : View) → StandsFor v viewer.old → OnErr result (Stops (AfterFirstTold viewer.old.confirmed viewer.old.pictures.size v (told_reads body.now reads.now)) viewer.new) }
+    ensures stopped { (v : View) → StandsFor v viewer.old
+        → OnErr result (Stops (AfterFirstTold viewer.old.confirmed viewer.old.pictures.size v (told_reads body.now reads.now)) viewer.new) }
 {
     for read in reads {
         obey(viewer, alloc, body, read)?;

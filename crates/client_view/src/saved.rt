@@ -22,7 +22,9 @@ pub(crate) fn save(
     position: u32,
     rect: Rect,
 ) -> Result<(), ObeyFault>
-    ensures { (confirmed : Confirmed) (bounds : Option Rect) (caches : CachesOf) → Draws result (λ c. client_after_clipped confirmed pictures.now.size bounds c (SaveBlock position rect)) caches blocks.old blocks.new pictures.now pictures.now }
+    ensures { (confirmed : Confirmed) (bounds : Option Rect) (caches : CachesOf)
+        → Draws result (λ c. client_after_clipped confirmed pictures.now.size bounds c
+        (SaveBlock position rect)) caches blocks.old blocks.new pictures.now pictures.now }
 {
     if !is_inside(pictures.size(), rect)
         || !ends_before(position, rect.w, rect.h, BLOCK_POSITIONS)
@@ -43,7 +45,9 @@ pub(crate) fn restore(
     position: u32,
     rect: Rect,
 ) -> Result<(), ObeyFault>
-    ensures drawn { (confirmed : Confirmed) (caches : CachesOf) → Draws result (λ c. client_after_clipped confirmed pictures.old.size bounds c (RestoreBlock position rect)) caches blocks.now blocks.now pictures.old pictures.new }
+    ensures drawn { (confirmed : Confirmed) (caches : CachesOf)
+        → Draws result (λ c. client_after_clipped confirmed pictures.old.size bounds c
+        (RestoreBlock position rect)) caches blocks.now blocks.now pictures.old pictures.new }
     ensures place { SamePlace pictures.old pictures.new }
 {
     if !is_inside(pictures.size(), rect) {

@@ -32,7 +32,8 @@ fn obey_orders(
     ensures shown { (v : View) (place : ℕ) (form : Form) → StandsFor v viewer.old → at ≡ capped place
         → Shows result (view_after_update viewer.old.confirmed viewer.old.pictures.size (body_at place form body.now) v (Orders count (drop from body.now))) viewer.new }
     ensures same { SameViewer viewer.old viewer.new }
-    ensures stopped { (v : View) → StandsFor v viewer.old → OnErr result (Stops (MidUpdate viewer.old.confirmed viewer.old.pictures.size v (Orders count (drop from body.now))) viewer.new) }
+    ensures stopped { (v : View) → StandsFor v viewer.old
+        → OnErr result (Stops (MidUpdate viewer.old.confirmed viewer.old.pictures.size v (Orders count (drop from body.now))) viewer.new) }
 {
     let orders = behind(body, from);
     let depth = viewer.pictures.depth();
@@ -63,7 +64,8 @@ pub(crate) fn obey_update(
     ensures shown { (v : View) (place : ℕ) → StandsFor v viewer.old → at ≡ capped place
         → Shows result (view_after_body viewer.old.confirmed viewer.old.pictures.size v (body_at place (told_form form) body.now)) viewer.new }
     ensures same { SameViewer viewer.old viewer.new }
-    ensures stopped { (v : View) → StandsFor v viewer.old → OnErr result (Stops (MidBody viewer.old.confirmed viewer.old.pictures.size v (told_form form) body.now) viewer.new) }
+    ensures stopped { (v : View) → StandsFor v viewer.old
+        → OnErr result (Stops (MidBody viewer.old.confirmed viewer.old.pictures.size v (told_form form) body.now) viewer.new) }
 {
     match read_update(alloc, form, body) {
         Ok(Update::Orders { count, from }) => obey_orders(viewer, alloc, at, body, from, count),

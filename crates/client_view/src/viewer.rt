@@ -11,7 +11,8 @@ use px_core::Size;
 use std::alloc::Global;
 use wire_num::OutOfMemory;
 
-/// What a viewer confirmed; its registers, its caches, its saved blocks, its pictures; and the counts of its marks, of primary orders and of rectangles of Bitmap updates, which stand still at 2^64 - 1.
+/// What a viewer confirmed; its registers, its caches, its saved blocks, its pictures; and the counts of its marks, of primary orders and of rectangles of
+/// Bitmap updates, which stand still at 2^64 - 1.
 #[derive(Drop)]
 pub(crate) struct Viewer {
     pub confirmed: Confirmed,

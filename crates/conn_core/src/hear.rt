@@ -191,8 +191,10 @@ fn hear_packet(
     requires wide { talk.old.size.w ≤ 65535 }
     requires high { talk.old.size.h ≤ 65535 }
     ensures heard { OnOk result (hearing talk.new [] ≡ (judged_heard (hearing talk.old []) packet.now (packet_judged talk.old.stage packet.now)).after) }
-    ensures appended { OnOk result (Appends (judged_heard (hearing talk.old []) packet.now (packet_judged talk.old.stage packet.now)) out.old.items out.new.items steps.old.items steps.new.items) }
-    ensures memory { OnErr result (AppendsSome (judged_heard (hearing talk.old []) packet.now (packet_judged talk.old.stage packet.now)) out.old.items out.new.items steps.old.items steps.new.items) }
+    ensures appended { OnOk result (Appends (judged_heard (hearing talk.old []) packet.now
+        (packet_judged talk.old.stage packet.now)) out.old.items out.new.items steps.old.items steps.new.items) }
+    ensures memory { OnErr result (AppendsSome (judged_heard (hearing talk.old []) packet.now
+        (packet_judged talk.old.stage packet.now)) out.old.items out.new.items steps.old.items steps.new.items) }
     ensures size { talk.new.size ≡ talk.old.size }
 {
     match judge_packet(talk.stage, packet, &mut room.found) {
@@ -217,9 +219,12 @@ fn hear_answer(
     requires wide { talk.old.size.w ≤ 65535 }
     requires high { talk.old.size.h ≤ 65535 }
     requires writable { IsWritable answer.reply }
-    ensures heard { OnOk result (hearing talk.new [] ≡ (judged_heard (hearing talk.old []) packet.now (Ok (telling answer (found_steps room.old.found.events.items room.old.found.areas.items)))).after) }
-    ensures appended { OnOk result (Appends (judged_heard (hearing talk.old []) packet.now (Ok (telling answer (found_steps room.old.found.events.items room.old.found.areas.items)))) out.old.items out.new.items steps.old.items steps.new.items) }
-    ensures memory { OnErr result (AppendsSome (judged_heard (hearing talk.old []) packet.now (Ok (telling answer (found_steps room.old.found.events.items room.old.found.areas.items)))) out.old.items out.new.items steps.old.items steps.new.items) }
+    ensures heard { OnOk result (hearing talk.new [] ≡ (judged_heard (hearing talk.old []) packet.now
+        (Ok (telling answer (found_steps room.old.found.events.items room.old.found.areas.items)))).after) }
+    ensures appended { OnOk result (Appends (judged_heard (hearing talk.old []) packet.now
+        (Ok (telling answer (found_steps room.old.found.events.items room.old.found.areas.items)))) out.old.items out.new.items steps.old.items steps.new.items) }
+    ensures memory { OnErr result (AppendsSome (judged_heard (hearing talk.old []) packet.now
+        (Ok (telling answer (found_steps room.old.found.events.items room.old.found.areas.items)))) out.old.items out.new.items steps.old.items steps.new.items) }
     ensures size { talk.new.size ≡ talk.old.size }
 {
     write_reply(out, talk.size, &mut room.body, answer.reply)?;

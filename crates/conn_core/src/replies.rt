@@ -1,6 +1,6 @@
 //! The host's replies, written as whole packets.
 
-ghost use Rattle.std.specs.Prelude.{◌≡◌, ◌≤◌, ◌++◌, [], OnOk, OnErr};
+ghost use Rattle.std.specs.Prelude.{◌≡◌, ◌≤◌, ◌+◌, ◌++◌, [], length, OnOk, OnErr};
 ghost use Rattle.wire_num.specs.Written.{AppendsFront};
 ghost use Rattle.mcs_ber.specs.ConnectResponse.{connect_response};
 ghost use Rattle.gcc_per.specs.ServerData.{create_response};
@@ -11,7 +11,7 @@ ghost use Rattle.share_pdu.specs.Final.{final_bytes};
 ghost use Rattle.conn_rules.specs.Replies.{resizes, reply_bytes};
 ghost use Rattle.conn_core.specs.Judges.{IsWritable};
 
-use caps_sets::write_demand_with;
+use caps_sets::{write_demand, write_demand_with};
 use conn_rules::{Client, Reply};
 use gcc_per::write_server;
 use info_lic::LICENCE;
@@ -110,8 +110,28 @@ fn demand(
     ensures memory { OnErr result (AppendsFront out.old.items (send_data_indication (demand_active size depth resizes)) out.new.items) }
 {
     body.clear();
-    write_demand_with(body, size, depth, resizes)?;
+    put_demand(body, size, depth, resizes)?;
     write_indication(out, body)
+}
+
+/// Writes a Demand Active's own bytes.
+fn put_demand(
+    body: &mut Vec<u8>,
+    size: Size,
+    depth: Depth,
+    resizes: bool,
+) -> Result<(), OutOfMemory>
+    requires wide { size.w ≤ 65535 }
+    requires high { size.h ≤ 65535 }
+    ensures ok { OnOk result (body.new.items ≡ body.old.items ++ demand_active size depth resizes) }
+    ensures size { OnOk result (length body.new.items ≡ length body.old.items + 288) }
+    ensures memory { OnErr result (AppendsFront body.old.items (demand_active size depth resizes) body.new.items) }
+{
+    if resizes {
+        write_demand_with(body, size, depth, true)
+    } else {
+        write_demand(body, size, depth)
+    }
 }
 
 /// Writes an answer of the finalisation.

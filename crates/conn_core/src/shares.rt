@@ -7,7 +7,8 @@ ghost use Rattle.share_pdu.specs.Bodies.{areas_of};
 ghost use Rattle.share_pdu.specs.ClientPdu.{share_pdu_of, HasBodyWithin};
 ghost use Rattle.conn_rules.specs.Answers.{telling};
 ghost use Rattle.conn_rules.specs.Told.{area_steps};
-ghost use Rattle.conn_rules.specs.Shares.{early_deed, order_of, due, finish_deed, ready_deed, plain_deed, sets_read, confirm_deed, input_deed, deed_of, read_deed};
+ghost use Rattle.conn_rules.specs.Shares.{early_deed, order_of, due, finish_deed, ready_deed, plain_deed, sets_read, confirm_deed, input_deed};
+ghost use Rattle.conn_rules.specs.Shares.{deed_of, read_deed};
 ghost use Rattle.conn_core.specs.Judges.{IsJudgedBeside, found_steps};
 
 use crate::fault::Fault;

@@ -13,7 +13,12 @@ use Rattle.conn_rules.specs.Domain.{own}
 use Rattle.conn_rules.specs.Numbers.{place_behind, bad_info}
 
 abbrev pub welcomed : Client → List ℕ → Judged
-welcomed client name = Ok (record { reply = reply.Welcome client; news = news.Step (step.Named name); next = stage.Shares client.channels (phase.Confirm client.depth) })
+welcomed client name = Ok (record {
+  reply = reply.Welcome client;
+  news = news.Step (step.Named name);
+  next = stage.Shares client.channels
+      (phase.Confirm client.depth);
+})
 
 -- what was read of a body from a place on, in data of this initiator
 abbrev pub info_judged : Client → ℕ → ℕ → ℕ → Result (List ℕ) InfoFault → Judged

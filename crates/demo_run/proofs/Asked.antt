@@ -18,11 +18,11 @@ use Rattle.script_lines.specs.declared.step.ViewerStep.{ViewerStep}
 use Rattle.script_lines.specs.declared.step.ViewerStep.TheVariants as asks
 use Rattle.script_lines.specs.Keywords.{step_of}
 use Rattle.script_lines.specs.Lines.{IsStepInRange}
-use Rattle.script_host.specs.declared.answer.StepAnswer.{StepAnswer}
-use Rattle.script_host.specs.declared.answer.StepAnswer.TheVariants as says
-use Rattle.script_host.specs.Answers.{Says, SaysOutcome}
-use Rattle.script_host.specs.Hosts.{HostModel}
-use Rattle.script_host.specs.Runs.{IsRunOf, IsInCourse}
+use Rattle.script_run.specs.declared.answer.StepAnswer.{StepAnswer}
+use Rattle.script_run.specs.declared.answer.StepAnswer.TheVariants as says
+use Rattle.script_run.specs.Answers.{Says, SaysOutcome}
+use Rattle.script_run.specs.Hosts.{HostModel}
+use Rattle.script_run.specs.Runs.{IsRunOf, IsInCourse}
 use Rattle.demo_run.specs.Scene.{demo_size, demo_head}
 use Rattle.demo_run.specs.Counts.{refused_count, kept}
 use Rattle.demo_run.specs.declared.watcher.Watcher.{Watcher}

@@ -6,7 +6,7 @@ use Rattle.caps_sets.specs.declared.confirmed.Confirmed.{Confirmed}
 use Rattle.caps_sets.specs.Confirmed.{pointer_cells}
 use Rattle.order_means.specs.PointerPackets.{is_pointer}
 use Rattle.order_means.specs.Packets.{held_in, kept_pieces, pieces_in, without_pointers, pointer_packets}
-use Rattle.packet_laws.proofs.PieceJoined.{joined}
+use Rattle.order_means.proofs.PieceJoined.{joined}
 use Rattle.session_rules.specs.declared.entry.Entry.{Entry}
 use Rattle.frame_rules.specs.Told.{told_packet, told_after, key_at}
 use Rattle.headline.specs.Pointed.{listed_packet, packets_told, SeesPointers}

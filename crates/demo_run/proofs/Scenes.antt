@@ -11,8 +11,8 @@ use Rattle.session_rules.specs.Steps.{Play, play_at_first, outcome, answers_of_s
 use Rattle.frame_rules.specs.Describes.{HasAllCaches}
 use Rattle.script_rules.specs.Script.{Asked, is_name, is_invited}
 use Rattle.headline.specs.Headline.{steps_of, AreByPresentFrom, AreByPresentViewers, ConfirmAllCaches, confirmed_in}
-use Rattle.script_host.specs.Hosts.{HostModel}
-use Rattle.script_host.specs.Runs.{IsRunOf}
+use Rattle.script_run.specs.Hosts.{HostModel}
+use Rattle.script_run.specs.Runs.{IsRunOf}
 use Rattle.demo_run.specs.Scene.{Preset, demo_size, demo_head, name_of, row_of, preset_of, join_of, joins}
 use Rattle.demo_run.specs.Counts.{sent_to, takes_of, refused_count, kept}
 use Rattle.demo_run.specs.Asks.{IsViewer}

@@ -63,7 +63,8 @@ pub record Counts : Type 0 where
   pub bytes : ℕ
   pub refused : ℕ
 
--- the counts of a run: the steps that were drawn, the entries of the journal, the takes with work, what the viewers' clients show, the bytes that they were sent,
+-- the counts of a run: the steps that were drawn, the entries of the journal, the takes with work, what the viewers' clients show, the bytes that they were
+-- sent,
 -- and the steps that were refused
 abbrev pub counts_of : ℕ → List Asked → Counts
 counts_of steps asked = record {
@@ -86,8 +87,10 @@ abbrev pub counted : List ℕ → ℕ → List ℕ
 counted word n = word ++ decimal (kept n)
 
 abbrev pub line_of : Counts → List ℕ
-line_of c = counted (codes "steps ") c.steps ++ (counted (codes " entries ") c.entries ++ (counted (codes " takes ") c.takes ++ (counted (codes " marks ") c.marks
-    ++ (counted (codes " orders ") c.orders ++ (counted (codes " tiles ") c.tiles ++ (counted (codes " bytes ") c.bytes ++ (counted (codes " refused ") c.refused
+line_of c = counted (codes "steps ") c.steps
+    ++ (counted (codes " entries ") c.entries ++ (counted (codes " takes ") c.takes ++ (counted (codes " marks ") c.marks
+    ++ (counted (codes " orders ") c.orders
+    ++ (counted (codes " tiles ") c.tiles ++ (counted (codes " bytes ") c.bytes ++ (counted (codes " refused ") c.refused
     ++ 10 ∷ [])))))))
 
 -- the line of a seed and a number of steps

@@ -1,4 +1,5 @@
--- All that the demonstration asks of its session: joins and loads, the steps that are drawn, each by who holds control then, and a last take of each viewer (profile).
+-- All that the demonstration asks of its session: joins and loads, the steps that are drawn, each by who holds control then, and a last take of each viewer
+-- (profile).
 use Rattle.std.specs.Prelude.{ℕ, zero, suc, List, [], ◌∷◌, ◌++◌}
 use Rattle.px_core.specs.Picture.{listed}
 use Rattle.session_rules.specs.Steps.{Step, Play, play_at_first, outcome, session_after}

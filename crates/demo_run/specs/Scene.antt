@@ -77,7 +77,8 @@ draw_by v shape = without_preset (DrawStep v (record { shape = shape; clip = Non
 
 -- eight images, four brushes and eight glyphs, by the first viewer
 abbrev pub loads : List Asked
-loads = listed 8 0 (λ slot. draw_by 1 (image_load slot)) ++ (listed 4 0 (λ slot. draw_by 1 (brush_load slot)) ++ listed 8 0 (λ code. draw_by 1 (glyph_load code)))
+loads = listed 8 0 (λ slot. draw_by 1 (image_load slot))
+    ++ (listed 4 0 (λ slot. draw_by 1 (brush_load slot)) ++ listed 8 0 (λ code. draw_by 1 (glyph_load code)))
 
 -- what is asked before the first step that is drawn
 abbrev pub beginning : List Asked

@@ -10,7 +10,7 @@ use Rattle.client_view.specs.Clients.{IsReading}
 use Rattle.script_rules.specs.Script.{Asked}
 use Rattle.script_rules.specs.CaptureText.{Run, run_at_first, run_after_all, encoder_frames}
 use Rattle.headline.specs.Headline.{steps_of, confirmed_in, AreByPresentViewers, ConfirmAllCaches}
-use Rattle.script_host.specs.Runs.{IsRunOf}
+use Rattle.script_run.specs.Runs.{IsRunOf}
 use Rattle.demo_run.specs.Scene.{demo_size, demo_head, viewer_count, role_of, preset_of, joins}
 use Rattle.demo_run.specs.Counts.{sent_to, takes_of, read_by, refused_count, kept}
 use Rattle.demo_run.specs.declared.watcher.Watcher.{Watcher}

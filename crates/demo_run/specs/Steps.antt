@@ -26,7 +26,8 @@ rect_drawn g = and_then (below 256 g) (λ x a. and_then (below 192 a) (λ y b. a
 
 -- a rectangle that lies on the picture; its sides are drawn first
 abbrev pub inner_drawn : Lcg → Drawn Rect
-inner_drawn g = and_then (sides_drawn g) (λ s a. and_then (below (257 - s.w) a) (λ x b. and_then (below (193 - s.h) b) (λ y c. drawn (boxed (pos x) (pos y) s.w s.h) c)))
+inner_drawn g = and_then (sides_drawn g) (λ s a. and_then (below (257 - s.w) a)
+    (λ x b. and_then (below (193 - s.h) b) (λ y c. drawn (boxed (pos x) (pos y) s.w s.h) c)))
 
 -- ---- drawings
 
@@ -61,7 +62,8 @@ blit_drawn g = and_then (below 256 g) (λ x a. and_then (below 192 a) (λ y b. a
 
 -- three glyphs, side by side
 abbrev pub text_drawn : Lcg → Drawn Shape
-text_drawn g = and_then (below 256 g) (λ x a. and_then (below 192 a) (λ y b. and_then (below 8 b) (λ k c. and_then (below 8 c) (λ m d. and_then (below 8 d) (λ n e.
+text_drawn g = and_then (below 256 g) (λ x a. and_then (below 192 a)
+    (λ y b. and_then (below 8 b) (λ k c. and_then (below 8 c) (λ m d. and_then (below 8 d) (λ n e.
     drawn (shape.Text (pos x) (pos y) 0xFFFFFF 0 ((k, 0) ∷ (m, 8) ∷ (n, 8) ∷ [])) e)))))
 
 abbrev pub save_drawn : Lcg → Drawn Shape
@@ -75,7 +77,8 @@ restore_drawn g = and_then (below 4 g) (λ slot a. drawn (shape.Restore slot (po
 -- which step one of sixteen numbers stands for
 abbrev pub kind_of : ℕ → StepKind
 kind_of n = if nat_le n 2 then Fill else (if n == 3 then Copy else (if n == 4 then Dst else (if n == 5 then Line else (if n == 6 then Pat
-    else (if nat_le n 8 then Blit else (if n == 9 then Text else (if n == 10 then Save else (if n == 11 then Restore else (if n == 12 then Give else Take)))))))))
+    else (if nat_le n 8 then Blit else (if n == 9 then Text else
+    (if n == 10 then Save else (if n == 11 then Restore else (if n == 12 then Give else Take)))))))))
 
 -- who holds control draws
 abbrev pub by_holder : ℕ → Drawn Shape → Drawn Step

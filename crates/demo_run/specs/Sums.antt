@@ -34,5 +34,6 @@ abbrev pub put : List ℕ → List ℕ → ℕ → List ℕ
 put line word n = line ++ (word ++ decimal n)
 
 abbrev pub line_of : Counts → List ℕ
-line_of c = put (put (put (put (put (put (put (put [] (codes "steps ") c.steps) (codes " entries ") c.entries) (codes " takes ") c.shown.takes) (codes " marks ") c.shown.marks)
+line_of c = put (put (put (put (put (put (put (put [] (codes "steps ") c.steps) (codes " entries ") c.entries) (codes " takes ") c.shown.takes)
+    (codes " marks ") c.shown.marks)
     (codes " orders ") c.shown.orders) (codes " tiles ") c.shown.tiles) (codes " bytes ") c.shown.bytes) (codes " refused ") c.refused ++ 10 ∷ []

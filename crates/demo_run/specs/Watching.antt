@@ -6,8 +6,8 @@ use Rattle.order_means.specs.FrameMarks.{ClientReading, Refusal, first_reading, 
 use Rattle.client_view.specs.Clients.{IsReading}
 use Rattle.client_view.specs.Views.{SameViewer}
 use Rattle.demo_run.specs.Counts.{kept}
-use Rattle.script_host.specs.declared.answer.StepAnswer.{StepAnswer}
-use Rattle.script_host.specs.declared.answer.StepAnswer.TheVariants as says
+use Rattle.script_run.specs.declared.answer.StepAnswer.{StepAnswer}
+use Rattle.script_run.specs.declared.answer.StepAnswer.TheVariants as says
 use Rattle.demo_run.specs.declared.watcher.Watcher.{Watcher}
 
 -- what the meaning makes of a frame behind a reading

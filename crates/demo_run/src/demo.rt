@@ -17,8 +17,8 @@ use crate::numbers::generator_of;
 use crate::seats::{OWNER, seated, watchers};
 use crate::stepping::{NextStep, VIEWERS, draw, next_step};
 use crate::watcher::Watcher;
-use script_host::{ScriptHost, StepAnswer};
 use script_lines::ViewerStep;
+use script_run::{ScriptHost, StepAnswer};
 use std::alloc::Global;
 
 /// How many images, brushes and glyphs are loaded.

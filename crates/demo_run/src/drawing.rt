@@ -3,7 +3,8 @@
 ghost use Rattle.std.specs.Prelude.{◌≡◌, ◌<◌, true, pos, IfOk, OnOk};
 ghost use Rattle.px_core.specs.Colors.{are_colors};
 ghost use Rattle.draw_ops.specs.Ranges.{colors_of};
-ghost use Rattle.demo_run.specs.Steps.{fill_drawn, copy_drawn, dst_drawn, line_or_pixel, line_drawn, pat_drawn, blit_drawn, text_drawn, save_drawn, restore_drawn};
+ghost use Rattle.demo_run.specs.Steps.{fill_drawn, copy_drawn, dst_drawn, line_or_pixel, line_drawn, pat_drawn, blit_drawn, text_drawn, save_drawn};
+ghost use Rattle.demo_run.specs.Steps.{restore_drawn};
 
 use crate::OutOfMemory;
 use crate::numbers::below;

@@ -7,7 +7,7 @@ ghost use Rattle.frame_rules.specs.Encoder.{Encoder};
 ghost use Rattle.px_core.specs.Picture.{listed};
 ghost use Rattle.script_rules.specs.Script.{is_name};
 ghost use Rattle.script_rules.specs.CaptureText.{Run, run_at_first, encoder_frames};
-ghost use Rattle.script_host.specs.Runs.{IsRunOf};
+ghost use Rattle.script_run.specs.Runs.{IsRunOf};
 ghost use Rattle.demo_run.specs.Scene.{demo_size, demo_head, name_of, role_of, preset_of, joins};
 ghost use Rattle.demo_run.specs.Asks.{IsViewer};
 ghost use Rattle.demo_run.specs.Standing.{run_of, AreNew};
@@ -18,7 +18,7 @@ use crate::watcher::Watcher;
 use caps_sets::{Confirmed, preset};
 use line_text::write_decimal;
 use px_core::Size;
-use script_host::ScriptHost;
+use script_run::ScriptHost;
 use session_rules::Role;
 use std::alloc::Global;
 

@@ -4,27 +4,25 @@ ghost use Rattle.std.specs.Prelude.{◌≡◌, ◌<◌, ◌^◌};
 ghost use Rattle.px_core.specs.Depth.{cut_color, wide_color};
 ghost use Rattle.order_fields.specs.NamedDrawing.{wire_color};
 
-use px_core::Depth;
+use px_core::{Depth, cut_color, wide_color};
 
 /// A colour of 24 bits cut to 16: the highest five bits of red, six of green and five of blue.
-#[tactic(auto, unfolding(px_core::specs::Depth::cut_color))]
 #[inline(always)]
 pub fn cut(c: u32) -> u32
     ensures is { result ≡ cut_color c }
     ensures bound { result < 2 ^ 24 }
     ensures below { c < 2 ^ 24 → result < 2 ^ 16 }
 {
-    bitmap_upd::cut(c)
+    cut_color(c)
 }
 
 /// A colour of 16 bits in 24; the bits that it doesn't have are 0.
-#[tactic(auto, unfolding(px_core::specs::Depth::wide_color))]
 #[inline(always)]
 pub fn wide(v: u32) -> u32
     requires { v < 2 ^ 24 }
     ensures { result ≡ wide_color v }
 {
-    65536 * (8 * (v / 2048)) + 256 * (4 * (v / 32 % 64)) + 8 * (v % 32)
+    wide_color(v)
 }
 
 /// A colour of 24 bits as it stands in a field's three bytes, the first one highest: red, green and blue, or at 16 bits the pixel's low

@@ -3,7 +3,7 @@ use Rattle.std.proofs.Common.{◌≡◌, ℕ, zero, suc, ◌+◌, ◌*◌, ◌%�
 use Rattle.std.specs.Prelude.{ℤ, pos, ◌+ℤ◌, ◌-ℤ◌, Option, Some, None, option_map}
 use Rattle.px_core.specs.declared.surface.Size.{Size}
 use Rattle.px_core.specs.declared.rectangle.Rect.{Rect}
-use Rattle.px_core.specs.Picture.{item, front, skipped, rows_of, nat_of, pixel_in, painted, Area}
+use Rattle.px_core.specs.Picture.{item, rows_of, nat_of, pixel_in, painted, Area}
 use Rattle.px_core.specs.Rectangle.{boxed, in_clip}
 use Rattle.rop3_core.specs.Palette.{session_colors}
 use Rattle.draw_ops.specs.declared.shape.Drawing.{Drawing}
@@ -20,6 +20,7 @@ use Rattle.draw_ops.specs.Forms.{formula_of, changed_operand, changed_form}
 use Rattle.draw_ops.specs.Forms.Form.{Copied, Mixed}
 use Rattle.draw_ops.specs.Shapes.{restored_form, form_of, shown_content, shown_state, shown_shape, shown_drawing, drawn_picture_at}
 use Rattle.px_core.proofs.Cut.{shown_black}
+use Rattle.px_core.proofs.Turned.{rows_of-map}
 use Rattle.draw_ops.proofs.Changed.{form_follows, picture_follows, session_changes}
 
 restored_is : (block : Option ImageOf) (x y : ℤ) → (restoring block x y).formula ≡ formula_of session_colors (restored_form block x y)
@@ -42,27 +43,12 @@ form_is size st (LoadImage slot image) = refl
 form_is size st (LoadBrush slot brush) = refl
 form_is size st (LoadGlyph font code glyph) = refl
 
--- ---- rows and items of changed lists
+-- ---- items and pixels of changed lists
 
 pub item-map : {A B : Type 0} (f : A → B) (xs : List A) (k : ℕ) (other : A) → item (map f xs) k (f other) ≡ f (item xs k other)
 item-map f [] k other = refl
 item-map f (x ∷ xs) zero other = refl
 item-map f (x ∷ xs) (suc k) other = item-map f xs k other
-
-front-map : {A B : Type 0} (f : A → B) (n : ℕ) (xs : List A) → front n (map f xs) ≡ map f (front n xs)
-front-map f zero xs = refl
-front-map f (suc n) [] = refl
-front-map f (suc n) (x ∷ xs) = ap (λ ys. f x ∷ ys) (front-map f n xs)
-
-skipped-map : {A B : Type 0} (f : A → B) (n : ℕ) (xs : List A) → skipped n (map f xs) ≡ map f (skipped n xs)
-skipped-map f zero xs = refl
-skipped-map f (suc n) [] = refl
-skipped-map f (suc n) (x ∷ xs) = skipped-map f n xs
-
-pub rows_of-map : {A B : Type 0} (f : A → B) (w h : ℕ) (xs : List A) → rows_of w h (map f xs) ≡ map (map f) (rows_of w h xs)
-rows_of-map f w zero xs = refl
-rows_of-map f w (suc h) xs = ap (λ r. r ∷ rows_of w h (skipped w (map f xs))) (front-map f w xs)
-    ∙ ap (λ ys. map f (front w xs) ∷ rows_of w h ys) (skipped-map f w xs) ∙ ap (λ rs. map f (front w xs) ∷ rs) (rows_of-map f w h (skipped w xs))
 
 pub pixel_in-map : {A B : Type 0} (f : A → B) (rows : List (List A)) (other : A) (x y : ℤ) → pixel_in (map (map f) rows) (f other) x y ≡ f (pixel_in rows other x y)
 pixel_in-map f rows other x y = ap (λ r. item r (nat_of x) (f other)) (item-map (map f) rows (nat_of y) []) ∙ item-map f (item rows (nat_of y) []) (nat_of x) other

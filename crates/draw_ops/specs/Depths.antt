@@ -19,7 +19,8 @@ raster_at Bits16 code p s o = raster_bits 16 code p s o
 -- the same over colours that may be unknown: unknown where the code depends on an operand that is unknown
 abbrev pub maybe_raster_at : Depth → ℕ → Option ℕ → Option ℕ → Option ℕ → Option ℕ
 maybe_raster_at d code p s o =
-    over_operand is_pattern_needed code p (λ m. over_operand is_source_needed code s (λ n. over_operand is_destination_needed code o (λ k. Some (raster_at d code m n k))))
+    over_operand is_pattern_needed code p (λ m. over_operand is_source_needed code s
+    (λ n. over_operand is_destination_needed code o (λ k. Some (raster_at d code m n k))))
 
 -- the colours of a client of this depth, and those of a session whose every colour is cut
 abbrev pub client_colors_at : Depth → Palette (Option ℕ)

@@ -10,7 +10,8 @@ use Rattle.draw_ops.specs.declared.shape.Shape.{Shape}
 use Rattle.draw_ops.specs.declared.shape.Shape.TheVariants.{Fill, Dst, Pat, Copy, Blit, Blit3, Text, Line, Save, Restore, LoadImage, LoadBrush, LoadGlyph}
 use Rattle.draw_ops.specs.Content.{ImageOf, GlyphOf}
 use Rattle.draw_ops.specs.Slots.{SurfaceState, Loaded, lookup, filled_slot, glyph_slot}
-use Rattle.draw_ops.specs.Formulas.{Operand, solid, rastered, replaced, absent, brushed, shifted, imaged, image_rows, run_area, run_cells, joint_of, line_area, line_rect, Painting, over_rect, no_painting, painted_area, picture_after}
+use Rattle.draw_ops.specs.Formulas.{Operand, solid, rastered, replaced, absent, brushed, shifted, imaged, image_rows, run_area, run_cells, joint_of}
+use Rattle.draw_ops.specs.Formulas.{line_area, line_rect, Painting, over_rect, no_painting, painted_area, picture_after}
 
 -- ---- operands from slots; the operand of an empty slot is absent
 
@@ -49,7 +50,8 @@ writing glyphs x y color run = record { rect = joint_of (run_cells glyphs x y ru
 -- a block's pixels, with the upper left one at (x, y)
 abbrev pub restoring : Option ImageOf → ℤ → ℤ → Painting ℕ
 restoring None x y = no_painting
-restoring (Some block) x y = over_rect (boxed x y block.w block.h) (replaced (imaged session_colors (image_rows block) (boxed x y block.w block.h) (pos 0) (pos 0)))
+restoring (Some block) x y = over_rect (boxed x y block.w block.h)
+    (replaced (imaged session_colors (image_rows block) (boxed x y block.w block.h) (pos 0) (pos 0)))
 
 -- what a shape paints over a state
 abbrev pub painting_of : Size → SurfaceState → Shape → Painting ℕ

@@ -1,5 +1,6 @@
 -- Which drawings are refused, and why: the nine rules that a drawing must keep on a surface of a size, and what the slots that it reads must hold.
-use Rattle.std.specs.Prelude.{◌≡◌, ℕ, ◌+◌, ◌*◌, ◌/◌, ◌==◌, nat_lt, nat_le, Bool, true, false, ◌&&◌, ◌||◌, not, ℤ, pos, negsuc, int_le, List, [], ◌∷◌, length, Option, Some, None, option_map, if◌then◌else◌}
+use Rattle.std.specs.Prelude.{◌≡◌, ℕ, ◌+◌, ◌*◌, ◌/◌, ◌==◌, nat_lt, nat_le, Bool, true, false, ◌&&◌, ◌||◌, not, ℤ, pos, negsuc, int_le, List, [], ◌∷◌}
+use Rattle.std.specs.Prelude.{length, Option, Some, None, option_map, if◌then◌else◌}
 use Rattle.std.specs.Ordering.{int_eq}
 use Rattle.px_core.specs.declared.surface.Size.{Size}
 use Rattle.px_core.specs.declared.rectangle.Rect.{Rect}
@@ -82,7 +83,8 @@ codes_rule (p ∷ ps) = first_some (code_limit_rule p.0 ∷ codes_rule ps ∷ []
 
 -- rule 6 of an image: its sides are 1 to 64, and it has a colour for each pixel
 abbrev pub image_rule : ImageOf → Option ℕ
-image_rule image = broken_if (not ((nat_le 1 image.w && nat_le image.w 64) && ((nat_le 1 image.h && nat_le image.h 64) && length image.pixels == image.w * image.h))) 6
+image_rule image = broken_if (not ((nat_le 1 image.w && nat_le image.w 64)
+    && ((nat_le 1 image.h && nat_le image.h 64) && length image.pixels == image.w * image.h))) 6
 
 abbrev pub is_offset : ℤ → Bool
 is_offset z = int_le (negsuc 63) z && int_le z (pos 64)

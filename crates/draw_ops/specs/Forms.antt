@@ -1,4 +1,5 @@
--- The forms of a new pixel, over any kind of colours: the old one, a colour that the drawing names, one that it copies, the raster operation of a pattern, a source and the old pixel.
+-- The forms of a new pixel, over any kind of colours: the old one, a colour that the drawing names, one that it copies, the raster operation of a pattern, a
+-- source and the old pixel.
 use Rattle.std.specs.Prelude.{◌≡◌, ℕ, ℤ}
 use Rattle.px_core.specs.Picture.{Formula}
 use Rattle.rop3_core.specs.Palette.{Palette}
@@ -16,7 +17,8 @@ formula_of palette (Named color) = solid palette color
 formula_of palette (Copied source) = replaced source
 formula_of palette (Mixed code pattern source) = rastered palette code pattern source
 
--- a change of colours: what becomes of a colour of the one kind, and of a colour that is named, so that the operation over changed operands is the changed operation
+-- a change of colours: what becomes of a colour of the one kind, and of a colour that is named, so that the operation over changed operands is the changed
+-- operation
 pub record Changes {A B : Type 0} (P : Palette A) (Q : Palette B) (colour : ℕ → ℕ) (pixel : A → B) : Type 0 where
   pub known : (c : ℕ) → pixel (P.known c) ≡ Q.known (colour c)
   pub mixed : (code : ℕ) (p s o : A) → pixel (P.mixed code p s o) ≡ Q.mixed code (pixel p) (pixel s) (pixel o)

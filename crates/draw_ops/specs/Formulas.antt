@@ -1,5 +1,6 @@
 -- What drawings make of pixels: formulas over any palette, the same for the session's picture and for the picture that a client has.
-use Rattle.std.specs.Prelude.{ℕ, ◌+◌, ◌-◌, ◌*◌, ◌/◌, ◌%◌, ◌^◌, ◌==◌, nat_le, Bool, ◌&&◌, ℤ, pos, ◌+ℤ◌, ◌-ℤ◌, nat_abs, int_le, List, [], ◌∷◌, Option, Some, None, if◌then◌else◌}
+use Rattle.std.specs.Prelude.{ℕ, ◌+◌, ◌-◌, ◌*◌, ◌/◌, ◌%◌, ◌^◌, ◌==◌, nat_le, Bool, ◌&&◌, ℤ, pos, ◌+ℤ◌, ◌-ℤ◌, nat_abs, int_le, List, [], ◌∷◌, Option}
+use Rattle.std.specs.Prelude.{Some, None, if◌then◌else◌}
 use Rattle.std.specs.Ordering.{int_eq}
 use Rattle.std.specs.Int.{int_min}
 use Rattle.px_core.specs.declared.surface.Size.{Size}

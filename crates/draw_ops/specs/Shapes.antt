@@ -72,4 +72,5 @@ shown_drawing d dr = record { shape = shown_shape d dr.shape; clip = dr.clip }
 
 -- the picture after a drawing over colours of this depth
 abbrev pub drawn_picture_at : Depth → Size → SurfaceState → Drawing → List ℕ
-drawn_picture_at d size st dr = painted size (painted_area (in_clip dr.clip) (painting_of size st dr.shape)) (formula_of (cut_colors_at d) (form_of size st dr.shape)) st.picture
+drawn_picture_at d size st dr = painted size (painted_area (in_clip dr.clip) (painting_of size st dr.shape))
+    (formula_of (cut_colors_at d) (form_of size st dr.shape)) st.picture

@@ -1,7 +1,9 @@
 //! The rules that a drawing must keep, one function each: what it answers is the rule's number where the rule is broken (profile).
 ghost use Rattle.std.specs.Prelude.{◌≡◌, ◌+◌, ◌*◌, ◌/◌, ◌&&◌, ◌||◌, nat_le};
 ghost use Rattle.std.specs.Ordering.{int_eq};
-ghost use Rattle.draw_ops.specs.Fits.{first_some, broken_if, is_corner, rect_rule, place_rule, clip_rule, no_clip_rule, code_rule, copied_rule, limit_rule, codes_rule, image_rule, is_offset, glyph_rule, line_rule, starts_at_0, deltas_are_small, run_rule, saved_rule};
+ghost use Rattle.draw_ops.specs.Fits.{first_some, broken_if, is_corner, rect_rule, place_rule, clip_rule, no_clip_rule, code_rule, copied_rule};
+ghost use Rattle.draw_ops.specs.Fits.{limit_rule, codes_rule, image_rule, is_offset, glyph_rule, line_rule, starts_at_0, deltas_are_small, run_rule};
+ghost use Rattle.draw_ops.specs.Fits.{saved_rule};
 
 use crate::glyph::Glyph;
 use crate::image::Image;

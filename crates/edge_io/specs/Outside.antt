@@ -43,4 +43,5 @@ module _ {L Reader Writer Spent : Type 0} (link : links.Ghosts L Reader Writer S
   -- as what a link is seen that came back
   abbrev pub outside_spent : Spent → Outside
   outside_spent x =
-      outside (record { left = link.spent_left x; faults = link.spent_reader_faults x }) (record { told = link.spent_told x; faults = link.spent_writer_faults x })
+      outside (record { left = link.spent_left x; faults = link.spent_reader_faults x })
+      (record { told = link.spent_told x; faults = link.spent_writer_faults x })

@@ -32,7 +32,8 @@ first_link (link ∷ links) = next.Link link
 
 -- the next link comes before the end, while fewer were given than were asked for, and there are some
 abbrev pub next_answer : PlannedGate → Next MemLink
-next_answer gate = if next_fails gate.plan then next.Failed else (if not gate.ended && has_room gate.asked (length gate.given) then first_link gate.waiting else next.End)
+next_answer gate = if next_fails gate.plan then next.Failed else (if not gate.ended
+    && has_room gate.asked (length gate.given) then first_link gate.waiting else next.End)
 
 -- a gate after it has answered so
 abbrev pub gate_after_answer : PlannedGate → Next MemLink → PlannedGate

@@ -26,4 +26,8 @@ planned_supply false count supply = supply_after_read count supply
 
 -- the source after a read into so much room
 abbrev pub source_after_read : PlannedSource → ℕ → PlannedSource
-source_after_read source room = record { supply = planned_supply (next_fails source.plan) (read_count source.supply room) source.supply; plan = plan_after_call source.plan }
+source_after_read source room = record {
+  supply = planned_supply (next_fails source.plan)
+      (read_count source.supply room) source.supply;
+  plan = plan_after_call source.plan;
+}

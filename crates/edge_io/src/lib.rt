@@ -38,6 +38,3 @@ pub use reader::{Found, LineReader};
 pub use sink::{Sink, Wrote};
 pub use source::{Got, Source};
 pub use wire_num::OutOfMemory;
-
-#[cfg(test)]
-mod checks;

@@ -102,38 +102,3 @@ impl Dial for MemDial {
         self.finished.push_reserved(spent);
     }
 }
-
-#[cfg(test)]
-mod tests {
-    use super::*;
-    use crate::checks::must_be;
-    use crate::{Got, Link, PlanSink, PlanSource, Sink, Source, Wrote};
-    use std::test::Fail;
-
-    #[test]
-    fn a_link_is_handed_out_once_and_comes_back(rt: HostRuntime) -> Result<(), Fail> {
-        let alloc = rt.alloc();
-        let link = MemLink {
-            reader: PlanSource::new(
-                Vec::from_slice(alloc, b"host")?,
-                Vec::new(alloc),
-                Vec::new(alloc),
-            ),
-            writer: PlanSink::new(alloc, Vec::new(alloc)),
-        };
-        let mut dial = MemDial::new(alloc, link, vec![in alloc; 1]?)?;
-        assert!(rt; dial.dial(3389).is_none());
-        let Some(link) = dial.dial(3389) else {
-            panic!(rt; "no link");
-        };
-        let (mut reader, mut writer) = link.split();
-        let mut buf = [0u8; 8];
-        must_be(&rt, &reader.read(&mut buf), &Got::Bytes(4));
-        must_be(&rt, &writer.write_all(b"ann"), &Wrote::All);
-        dial.done(MemLink::close(reader, writer));
-        assert!(rt; dial.dial(3389).is_none());
-        assert_eq!(rt; dial.finished().len(), 1);
-        assert_eq!(rt; dial.finished()[0].writer.bytes(), b"ann".as_slice());
-        Ok(())
-    }
-}

@@ -71,22 +71,3 @@ impl Sink for PlanSink {
         self.kept.write_all(bytes)
     }
 }
-
-#[cfg(test)]
-mod tests {
-    use super::*;
-    use std::test::Fail;
-
-    #[test]
-    fn only_the_listed_write_fails(rt: HostRuntime) -> Result<(), Fail> {
-        let mut output = PlanSink::new(rt.alloc(), vec![in rt.alloc(); 2]?);
-        let wrote = [
-            output.write_all(b"ab"),
-            output.write_all(b"cd"),
-            output.write_all(b"ef"),
-        ];
-        assert_eq!(rt; wrote, [Wrote::All, Wrote::Failed, Wrote::All]);
-        assert_eq!(rt; output.bytes(), b"abef".as_slice());
-        Ok(())
-    }
-}

@@ -23,7 +23,8 @@ use Rattle.caps_sets.specs.Confirmed.{cache_size}
 use Rattle.session_rules.specs.declared.entry.Entry.{Entry}
 use Rattle.wire_num.specs.Field.{bind}
 use Rattle.order_fields.specs.OrderDelta.{edges_of_optional}
-use Rattle.order_means.specs.WirePixels.{padded, padded_image, kept_image}
+use Rattle.run_lengths.specs.WirePixels.{padded}
+use Rattle.order_means.specs.KeptContent.{padded_image, kept_image}
 use Rattle.order_fields.specs.NamedDrawing.NamedDrawing.{Mem}
 use Rattle.order_means.specs.ClientState.{ClientState, Fault, found, needs, used, cached, image_used, source_rect, after_painting, mixing, no_operand, client_after_order}
 use Rattle.order_means.specs.ClientState.Fault.{Broken, Oversized, Empty}

@@ -23,7 +23,8 @@ use Rattle.order_fields.specs.OrderDelta.{edges_of_optional}
 use Rattle.order_fields.specs.OrderStream.{Order}
 use Rattle.order_fields.specs.OrderStream.Order.{Other}
 use Rattle.order_fields.specs.Secondary.Cached.{Brush}
-use Rattle.order_means.specs.WirePixels.{turned_over, kept_image}
+use Rattle.px_core.specs.Picture.{turned_over}
+use Rattle.order_means.specs.KeptContent.{kept_image}
 use Rattle.order_fields.specs.NamedDrawing.NamedDrawing.{Pat as PatBlt, Mem3}
 use Rattle.order_means.specs.ClientState.{ClientState, found, needs, used, cached, brush_entries, brush_used, image_used, source_rect, after_painting, mixing, no_operand, client_after_order}
 use Rattle.order_means.specs.ClientState.Fault.{Broken, Oversized, Empty}

@@ -13,7 +13,8 @@ use Rattle.caps_sets.specs.Confirmed.{cache_size}
 use Rattle.session_rules.specs.declared.entry.Entry.{Entry}
 use Rattle.wire_num.specs.Field.{bind}
 use Rattle.px_core.specs.Depth.{shown_colors}
-use Rattle.order_means.specs.WirePixels.{padded, kept_image, padded_glyph, glyph_cell_bytes}
+use Rattle.run_lengths.specs.WirePixels.{padded}
+use Rattle.order_means.specs.KeptContent.{kept_image, padded_glyph, glyph_cell_bytes}
 use Rattle.order_means.specs.ClientState.{ClientState, needs, holds, cached, with_cached, client_after_order}
 use Rattle.order_means.specs.ClientState.Fault.{Broken, Oversized}
 use Rattle.cache_plan.specs.CacheUse.{is_used, distinct_keys, misses, last_index, cache_index, uses_of}

@@ -6,7 +6,7 @@ use Rattle.std.proofs.lemmas.Bool.Decides.{nat_tests}
 use Rattle.px_core.specs.declared.depth.Depth.{Depth}
 use Rattle.px_core.specs.declared.surface.Size.{Size}
 use Rattle.px_core.specs.Depth.{bits_in, bytes_in, shown, shown_colors}
-use Rattle.px_core.specs.Picture.{item}
+use Rattle.px_core.specs.Picture.{item, turned_over}
 use Rattle.px_core.specs.Pixels.{are_pixels}
 use Rattle.draw_ops.specs.Content.{ImageOf}
 use Rattle.draw_ops.specs.Slots.{Slots, Loaded, lookup, filled_slot}
@@ -17,7 +17,8 @@ use Rattle.session_rules.specs.declared.entry.Entry.{Entry}
 use Rattle.wire_num.specs.Field.{bind}
 use Rattle.order_fields.specs.OrderStream.{Order}
 use Rattle.order_fields.specs.OrderStream.Order.{Other}
-use Rattle.order_means.specs.WirePixels.{turned_over, padded_image, kept_image, image_cell, PixelData, data_of}
+use Rattle.run_lengths.specs.WirePixels.{PixelData, data_of}
+use Rattle.order_means.specs.KeptContent.{padded_image, kept_image, image_cell}
 use Rattle.order_means.specs.ClientState.{ClientState, needs, is_bitmap, holds, bitmap_flags, wire_pixels, cached, with_cached, client_after_order}
 use Rattle.order_means.specs.ClientState.Fault.{Broken, Oversized}
 use Rattle.cache_plan.specs.CacheUse.{with_item, misses, last_index, cache_index, uses_of}
@@ -26,7 +27,7 @@ use Rattle.frame_rules.specs.FrameOrders.{Uses, Use, use_by, entries_of, image_u
 use Rattle.frame_rules.specs.FrameOrders.SentOrder.{CacheImage}
 use Rattle.frame_rules.specs.FrameRead.{cached_bitmap, as_read}
 use Rattle.frame_rules.specs.Describes.{image_loaded, CachesAgree, IsSized}
-use Rattle.frame_rules.proofs.TurnedMap.{turned_over-map}
+use Rattle.px_core.proofs.Turned.{turned_over-map}
 use Rattle.frame_laws.specs.Uses.{IsServed, ImageUsed, client_after_sent}
 use Rattle.frame_laws.proofs.TurnedOver.{turned_over_twice, length-turned_over, colors_turned_over, padded_facts}
 use Rattle.frame_laws.specs.Sound.{AreColors}

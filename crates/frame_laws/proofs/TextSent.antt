@@ -18,7 +18,8 @@ use Rattle.caps_sets.specs.Confirmed.{cache_size}
 use Rattle.session_rules.specs.declared.entry.Entry.{Entry}
 use Rattle.wire_num.specs.Field.{bind}
 use Rattle.order_fields.specs.OrderDelta.{edges_of_optional}
-use Rattle.order_means.specs.WirePixels.{padded, padded_glyph}
+use Rattle.run_lengths.specs.WirePixels.{padded}
+use Rattle.order_means.specs.KeptContent.{padded_glyph}
 use Rattle.order_fields.specs.NamedDrawing.NamedDrawing.{Glyphs}
 use Rattle.order_means.specs.ClientState.{ClientState, Fault, found, needs, cached, pairs_if, onto_pairs, pairs_of, with_glyphs, glyph_used, writing, after_painting, client_after_order}
 use Rattle.order_means.specs.ClientState.Fault.{Broken, Oversized, Empty}

@@ -9,7 +9,7 @@ use Rattle.px_core.specs.declared.surface.Size.{Size}
 use Rattle.px_core.specs.declared.rectangle.Rect.{Rect}
 use Rattle.px_core.specs.Depth.{bits_in, shown, shown_colors}
 use Rattle.px_core.specs.Pixels.{are_pixels}
-use Rattle.px_core.specs.Picture.{nat_of, rows_of, Area, painted}
+use Rattle.px_core.specs.Picture.{nat_of, rows_of, Area, painted, turned_over}
 use Rattle.px_core.specs.Rectangle.{boxed, in_rect, is_inside}
 use Rattle.rop3_core.specs.Palette.{client_colors}
 use Rattle.draw_ops.specs.Formulas.{replaced, imaged}
@@ -17,7 +17,7 @@ use Rattle.caps_sets.specs.declared.confirmed.Confirmed.{Confirmed}
 use Rattle.caps_sets.specs.Confirmed.{takes_fast}
 use Rattle.wire_num.specs.Field.{bind}
 use Rattle.wire_num.proofs.Numbers.{little_back}
-use Rattle.order_means.specs.WirePixels.{turned_over, PixelData, data_of}
+use Rattle.run_lengths.specs.WirePixels.{PixelData, data_of}
 use Rattle.order_means.specs.UpdateBodies.{tile_flags, tile_data_bytes, tile_body, tile_packet}
 use Rattle.order_means.specs.Updates.{Body, body_at}
 use Rattle.order_means.specs.Updates.BodyForm.{Slow, FastBitmap}
@@ -27,7 +27,7 @@ use Rattle.order_means.specs.FrameMarks.{View, Tile, tile_at, update_in, tile_re
 use Rattle.order_means.specs.FrameMarks.Update.{Tiles}
 use Rattle.frame_rules.specs.FrameRead.{Reads}
 use Rattle.frame_rules.proofs.TileLaws.{pos-nat_of}
-use Rattle.frame_rules.proofs.TurnedMap.{turned_over-map}
+use Rattle.px_core.proofs.Turned.{turned_over-map}
 use Rattle.wire_num.proofs.Bytes.{taken_all}
 use Rattle.frame_rules.proofs.UpdatesBack.{packet_obeyed, fast_obeyed}
 use Rattle.frame_laws.specs.Sound.{AreColors}

@@ -2,10 +2,11 @@
 use Rattle.std.proofs.Common.{◌≡◌, ℕ, zero, suc, ◌+◌, ◌*◌, ◌-◌, ◌<◌, ◌≤◌, List, [], ◌∷◌, ◌++◌, length, map, refl, ap, sym, ◌∙◌, arith, append-nil, length-append, replicate}
 use Rattle.std.specs.Prelude.{⊤, ◌^◌}
 use Rattle.std.proofs.lemmas.List.{length-replicate}
-use Rattle.px_core.specs.Picture.{item, front, skipped, rows_of}
+use Rattle.px_core.specs.Picture.{item, front, skipped, rows_of, turned, joined, turned_over}
 use Rattle.draw_ops.specs.Content.{ImageOf}
 use Rattle.draw_ops.specs.Formulas.{image_rows}
-use Rattle.order_means.specs.WirePixels.{turned, joined, turned_over, padded, padded_row, padded_image}
+use Rattle.run_lengths.specs.WirePixels.{padded, padded_row}
+use Rattle.order_means.specs.KeptContent.{padded_image}
 use Rattle.frame_laws.specs.Sound.{AreColors, IsSoundImage}
 
 -- ---- lists that are turned

@@ -14,7 +14,7 @@ use Rattle.px_core.proofs.Pixels.{length-pixels_bytes, shown_are_pixels}
 use Rattle.run_lengths.specs.Packer.{packed}
 use Rattle.run_lengths.proofs.Laws.{decompressed_is_unrle}
 use Rattle.run_lengths.proofs.Stretches.{packed_decompresses}
-use Rattle.order_means.specs.WirePixels.{PixelData, pixel_data, packed_if_shorter, data_of}
+use Rattle.run_lengths.specs.WirePixels.{PixelData, pixel_data, packed_if_shorter, data_of}
 use Rattle.order_means.specs.ClientState.{needs, unless_refused, wire_pixels}
 use Rattle.order_means.specs.ClientState.Fault.{Broken}
 use Rattle.frame_laws.specs.Sound.{AreColors}

@@ -7,7 +7,7 @@ use Rattle.caps_sets.specs.declared.confirmed.Confirmed.{Confirmed}
 use Rattle.caps_sets.specs.Confirmed.{cache_size}
 use Rattle.session_rules.specs.declared.entry.Entry.{Entry}
 use Rattle.px_core.specs.Depth.{shown_colors}
-use Rattle.order_means.specs.WirePixels.{kept_image, glyph_cell_bytes}
+use Rattle.order_means.specs.KeptContent.{kept_image, glyph_cell_bytes}
 use Rattle.order_means.specs.ClientState.{ClientState, Fault, cached, client_after_orders}
 use Rattle.frame_rules.specs.Support.{serves_image}
 use Rattle.frame_rules.specs.Frame.{Walk}

@@ -16,7 +16,7 @@ ghost use Rattle.px_core.specs.Depth.{shown_colors};
 ghost use Rattle.px_core.specs.Pixels.{are_pixels};
 ghost use Rattle.order_fields.specs.OrderTable.{Registers, Edges};
 ghost use Rattle.order_fields.specs.OrderDelta.{order_bytes};
-ghost use Rattle.order_means.specs.WirePixels.{data_of};
+ghost use Rattle.run_lengths.specs.WirePixels.{data_of};
 ghost use Rattle.order_means.specs.UpdateBodies.{tile_packet};
 ghost use Rattle.order_fields.specs.NamedDrawing.{NamedDrawing, drawing_fields};
 ghost use Rattle.order_fields.specs.NamedDrawing.NamedDrawing.{Pat as PatBlt, Mem, Mem3, Glyphs};
@@ -110,7 +110,8 @@ pub fn text_keeps_the_agreement()
         (bounds_of (painting_of size st (Text x y color font run)).rect clip) ∷ []) }
 {}
 
-/// The packet of a tile, of the kind that was confirmed, is read by a client of its depth: the client's picture has the tile's pixels as they are shown, packed or raw.
+/// The packet of a tile, of the kind that was confirmed, is read by a client of its depth: the client's picture has the tile's pixels as they are shown, packed
+/// or raw.
 pub fn tile_is_read()
     ensures { (size : Size) (depth : Depth) (no_header : Bool) (r : Rect) (pixels : List ℕ) → IsTileRect size r → length pixels ≡ r.w * r.h → AreColors pixels
         → (c : Confirmed) (v : View) (place : ℕ) → v.client.depth ≡ depth

@@ -25,9 +25,9 @@ use Rattle.frame_laws.specs.Drawings.{Suits, AllSound, drawings_between}
 use Rattle.frame_laws.proofs.Rules.{IsPlainRect, rules_kept, plain_rect, kept_test}
 use Rattle.frame_laws.proofs.Entries.{pending_between_is}
 use Rattle.frame_laws.proofs.Journals.{between_sound}
-use Rattle.frame_shows.proofs.SentKeeps.{GoodShape}
-use Rattle.frame_shows.proofs.SoundGood.{good_of}
-use Rattle.frame_shows.proofs.TextRect.{IsNear, text_near}
+use Rattle.frame_laws.proofs.SentKeeps.{GoodShape}
+use Rattle.frame_laws.proofs.SoundGood.{good_of}
+use Rattle.frame_laws.proofs.TextRect.{IsNear, text_near}
 use Rattle.frame_plan.specs.Cuts.{ReadsPlaced, CanMove, IsCuttable, AllCuttable}
 use Rattle.frame_plan.proofs.Cutting.{inside_placed}
 

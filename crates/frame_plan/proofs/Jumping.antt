@@ -9,8 +9,8 @@ use Rattle.px_core.proofs.Stretches.{same_test}
 use Rattle.draw_ops.specs.declared.shape.Shape.{Shape}
 use Rattle.draw_ops.specs.declared.shape.Shape.TheVariants.{Fill, Dst, Pat, Copy, Blit, Blit3, Text, Line, Save, Restore, LoadImage, LoadBrush, LoadGlyph}
 use Rattle.session_rules.specs.Pending.{Pending}
-use Rattle.pending_core.specs.Touching.{touched_by, saves_into, saved_by}
-use Rattle.pending_core.proofs.Adding.{or_false, and_false, or_true, and_true, below_more}
+use Rattle.session_core.specs.Touching.{touched_by, saves_into, saved_by}
+use Rattle.session_core.proofs.Adding.{or_false, and_false, or_true, and_true, below_more}
 use Rattle.save_plan.specs.Blocks.{Held, kept_if, without_slot}
 use Rattle.frame_rules.specs.Frame.{Walk, touched_tiles, jumped, jumped_one, jumped_shape}
 use Rattle.frame_plan.specs.declared.walk.Walker.{Walker}

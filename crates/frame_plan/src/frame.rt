@@ -146,7 +146,8 @@ fn walk_over(
     walker: &mut Walker,
 ) -> Result<Orders, OutOfMemory>
     requires { desk.now.number ≤ length session.now.journal }
-    ensures walked { IfOk result (λ sent. HasWalkedAll session.now.head.size desk.now.confirmed walker.old (pending_between session.now.head.size session.now.journal desk.now.number (length session.now.journal)) (drawings_in sent) walker.new) }
+    ensures walked { IfOk result (λ sent. HasWalkedAll session.now.head.size desk.now.confirmed walker.old
+        (pending_between session.now.head.size session.now.journal desk.now.number (length session.now.journal)) (drawings_in sent) walker.new) }
     ensures chosen { IfOk result (λ sent. AreChosen desk.now.confirmed sent) }
 {
     let mut orders = Orders::with_room(alloc, count)?;
@@ -168,7 +169,8 @@ fn walk_entry(
     orders: &mut Orders,
 ) -> Result<(), OutOfMemory>
     requires { entry < length session.now.journal }
-    ensures gone { OnOk result (HasGoneOver session.now.head.size desk.now.confirmed walker.old (drawings_in orders.old) (pending_between session.now.head.size session.now.journal entry (entry + 1)) walker.new (drawings_in orders.new)) }
+    ensures gone { OnOk result (HasGoneOver session.now.head.size desk.now.confirmed walker.old (drawings_in orders.old)
+        (pending_between session.now.head.size session.now.journal entry (entry + 1)) walker.new (drawings_in orders.new)) }
     ensures chosen { OnOk result (AreChosen desk.now.confirmed orders.old → AreChosen desk.now.confirmed orders.new) }
 {
     session.recall_legal();

@@ -3,12 +3,11 @@ ghost use Rattle.std.specs.Prelude.{◌≡◌, ℕ, ◌*◌, ◌&&◌, not, is_s
 ghost use Rattle.cache_plan.specs.CacheUse.{is_used};
 ghost use Rattle.caps_sets.specs.Confirmed.{first_cache};
 ghost use Rattle.frame_rules.specs.Support.{serves_image, greatest_cell, distinct_loads, image_cache, run_cache, has_glyph_level};
-ghost use Rattle.frame_plan.specs.Orders.{cache_for};
 
 use crate::needs::{Needs, first_cache};
 use caps_sets::Confirmed;
-use draw_ops::{Image, Shape};
-use session_core::{LoadedGlyph, LoadedImage, SeenDrawing};
+use draw_ops::Image;
+use session_core::{LoadedGlyph, LoadedImage};
 
 /// The most entries of a bitmap cache that are used.
 const BITMAP_ENTRIES: usize = 512;
@@ -22,19 +21,8 @@ const WORD: usize = 4;
 /// The bytes of a pixel in a cell.
 const PIXEL: usize = 3;
 
-/// The number of the cache that a drawing's image or its glyphs go to, where it has some and a cache serves. It is chosen here alone.
-pub(crate) fn cache_for(confirmed: &Confirmed, pending: &SeenDrawing<'_>) -> Option<u8>
-    ensures { result ≡ cache_for confirmed.now pending.now pending.now.drawing.shape }
-{
-    match &pending.drawing().shape {
-        Shape::Blit { .. } | Shape::Blit3 { .. } => cache_of_image(confirmed, pending.image()),
-        Shape::Text { .. } => cache_of_run(confirmed, pending.glyphs()),
-        _ => None,
-    }
-}
-
 /// The number of the bitmap cache that an image goes to, where there is one and one serves.
-fn cache_of_image(confirmed: &Confirmed, image: Option<&LoadedImage>) -> Option<u8>
+pub(crate) fn cache_of_image(confirmed: &Confirmed, image: Option<&LoadedImage>) -> Option<u8>
     ensures { result ≡ image_cache confirmed.now (option_copied image.entry) }
 {
     match image {
@@ -57,7 +45,7 @@ fn bitmap_cache(confirmed: &Confirmed, image: &Image) -> Option<u8>
 }
 
 /// The number of the glyph cache that glyphs of a run go to, where one serves.
-fn cache_of_run(confirmed: &Confirmed, glyphs: &[LoadedGlyph]) -> Option<u8>
+pub(crate) fn cache_of_run(confirmed: &Confirmed, glyphs: &[LoadedGlyph]) -> Option<u8>
     ensures { result ≡ run_cache confirmed.now glyphs.now }
 {
     let needs = Needs {

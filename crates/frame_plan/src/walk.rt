@@ -12,7 +12,7 @@ ghost use Rattle.frame_plan.specs.Walks.{walk_of, HasDecided, HasGone, HasGoneOv
 
 use crate::cached::cached_for;
 use crate::cut::{cut, is_cut};
-use crate::support::{cache_for, supports_text};
+use crate::support::{cache_of_image, cache_of_run, supports_text};
 use crate::{Orders, OutOfMemory, Planned};
 use caps_sets::Confirmed;
 use draw_ops::Shape;
@@ -80,7 +80,8 @@ impl Walker {
     ) -> Result<(), OutOfMemory>
         requires size { IsTrue (is_session_size size.w size.h) }
         requires cuttable { IsCuttable size pending.now }
-        ensures gone { OnOk result (HasGone (walked_pending size confirmed.now (walk_of self.old) pending.now) (drawings_in orders.old) self.new (drawings_in orders.new)) }
+        ensures gone { OnOk result (HasGone (walked_pending size confirmed.now (walk_of self.old) pending.now)
+            (drawings_in orders.old) self.new (drawings_in orders.new)) }
         ensures chosen { OnOk result (AreChosen confirmed.now orders.old → AreChosen confirmed.now orders.new) }
     {
         if is_uncut(confirmed, &pending.drawing().shape) {
@@ -106,11 +107,11 @@ impl Walker {
     ) -> Result<(), OutOfMemory>
         requires size { IsTrue (is_session_size size.w size.h) }
         requires walkable { IsWalkable pending.now }
-        ensures gone { OnOk result (HasGone (walked size confirmed.now (walk_of self.old) pending.now pending.now.drawing.shape) (drawings_in orders.old) self.new (drawings_in orders.new)) }
+        ensures gone { OnOk result (HasGone (walked size confirmed.now (walk_of self.old)
+            pending.now pending.now.drawing.shape) (drawings_in orders.old) self.new (drawings_in orders.new)) }
         ensures chosen { OnOk result (AreChosen confirmed.now orders.old → AreChosen confirmed.now orders.new) }
     {
-        let cache = cache_for(confirmed, pending);
-        let position = self.walk(size, confirmed, pending, cache)?;
+        let (position, cache) = self.walk(size, confirmed, pending)?;
         if let Some(position) = position {
             let pending = pending.share(alloc)?;
             let cached = cached_for(&pending, cache)?;
@@ -127,7 +128,8 @@ impl Walker {
     /// and each slot that a save names is given up. Each tile and each slot is looked at once, however many drawings there are.
     pub fn jump(&mut self, session: &Session, before: u64)
         requires { before ≤ length session.now.journal }
-        ensures { HasJumped self.old (jumped session.now.head.size (walk_of self.old) (pending_between session.now.head.size session.now.journal before (length session.now.journal))) self.new }
+        ensures { HasJumped self.old (jumped session.now.head.size (walk_of self.old)
+            (pending_between session.now.head.size session.now.journal before (length session.now.journal))) self.new }
     {
         session.recall_slots();
         session.add_touched(before, &mut self.dirty);
@@ -148,50 +150,60 @@ impl Walker {
             .add(clipped(pending.rect(), pending.drawing().clip), size);
     }
 
-    /// A drawing in its turn, with the cache that serves it: the position where it goes as an order, 0 where it needs none. Where it doesn't
-    /// go, its tiles are dirty then, but for a load.
+    /// A drawing in its turn: the position where it goes as an order, 0 where it needs none, and the number of the cache that its image or its
+    /// glyphs go to, where it has some and one serves; the cache is chosen here alone. Where the drawing doesn't go, its tiles are dirty then,
+    /// but for a load.
     fn walk(
         &mut self,
         size: Size,
         confirmed: &Confirmed,
         pending: &SeenDrawing<'_>,
-        cache: Option<u8>,
-    ) -> Result<Option<u32>, OutOfMemory>
+    ) -> Result<(Option<u32>, Option<u8>), OutOfMemory>
         requires size { IsTrue (is_session_size size.w size.h) }
         requires walkable { IsWalkable pending.now }
-        requires cache { cache ≡ cache_for confirmed.now pending.now pending.now.drawing.shape }
-        ensures { IfOk result (λ position. HasDecided (walked size confirmed.now (walk_of self.old) pending.now pending.now.drawing.shape) pending.now position self.new) }
+        ensures decided { IfOk result (λ both. HasDecided (walked size confirmed.now (walk_of self.old)
+            pending.now pending.now.drawing.shape) pending.now both.0 self.new) }
+        ensures cache { IfOk result (λ both. both.1 ≡ cache_for confirmed.now pending.now pending.now.drawing.shape) }
     {
         match &pending.drawing().shape {
-            Shape::Fill { .. } => Ok(self.order_if(confirmed.pat, size, pending)),
-            Shape::Dst { .. } => Ok(self.order_if(confirmed.dst, size, pending)),
+            Shape::Fill { .. } => Ok((self.order_if(confirmed.pat, size, pending), None)),
+            Shape::Dst { .. } => Ok((self.order_if(confirmed.dst, size, pending), None)),
             Shape::Pat { .. } => {
-                Ok(self.order_if(confirmed.pat && confirmed.brush, size, pending))
+                let goes = confirmed.pat && confirmed.brush;
+                Ok((self.order_if(goes, size, pending), None))
             }
             Shape::Copy { rect, sx, sy, .. } => {
                 let goes = confirmed.scr && self.is_clean(size, source_of(rect, *sx, *sy));
-                Ok(self.order_if(goes, size, pending))
+                Ok((self.order_if(goes, size, pending), None))
             }
             Shape::Blit { .. } => {
+                let cache = cache_of_image(confirmed, pending.image());
                 let goes = confirmed.mem && cache.is_some();
-                Ok(self.order_if(goes, size, pending))
+                Ok((self.order_if(goes, size, pending), cache))
             }
             Shape::Blit3 { .. } => {
+                let cache = cache_of_image(confirmed, pending.image());
                 let goes = confirmed.mem3 && (cache.is_some() && confirmed.brush);
-                Ok(self.order_if(goes, size, pending))
+                Ok((self.order_if(goes, size, pending), cache))
             }
             Shape::Text { .. } => {
-                Ok(self.order_if(supports_text(confirmed, cache), size, pending))
+                let cache = cache_of_run(confirmed, pending.glyphs());
+                let goes = supports_text(confirmed, cache);
+                Ok((self.order_if(goes, size, pending), cache))
             }
-            Shape::Line { .. } => Ok(self.order_if(false, size, pending)),
+            Shape::Line { .. } => Ok((self.order_if(false, size, pending), None)),
             Shape::Save { slot, rect } => {
                 let goes = confirmed.save && self.is_clean(size, *rect);
-                self.save(goes, size, pending, *slot, *rect)
+                let position = self.save(goes, size, pending, *slot, *rect)?;
+                Ok((position, None))
             }
             Shape::Restore { slot, .. } => {
-                Ok(self.restore(confirmed.save, size, pending, *slot))
+                let position = self.restore(confirmed.save, size, pending, *slot);
+                Ok((position, None))
             }
-            Shape::LoadImage { .. } | Shape::LoadBrush { .. } | Shape::LoadGlyph { .. } => Ok(None),
+            Shape::LoadImage { .. } | Shape::LoadBrush { .. } | Shape::LoadGlyph { .. } => {
+                Ok((None, None))
+            }
         }
     }
 
@@ -229,7 +241,8 @@ impl Walker {
     ) -> Result<Option<u32>, OutOfMemory>
         requires size { IsTrue (is_session_size size.w size.h) }
         requires walkable { IsWalkable pending.now }
-        ensures { IfOk result (λ position. HasDecided (saved_if goes size (given_up slot (walk_of self.old)) pending.now slot rect) pending.now position self.new) }
+        ensures { IfOk result (λ position. HasDecided (saved_if goes size (given_up slot
+            (walk_of self.old)) pending.now slot rect) pending.now position self.new) }
     {
         self.held.free(slot);
         if !goes {

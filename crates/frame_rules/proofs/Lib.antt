@@ -2,7 +2,6 @@ pub mod Paint
 pub mod TileLaws
 pub mod FrameLaws
 pub mod SecondaryBack
-pub mod TurnedMap
 pub mod RegistersKept
 pub mod OrdersBack
 pub mod RegistersApart

@@ -12,7 +12,9 @@ use Rattle.order_fields.specs.OrderDelta.{edges_of_optional}
 use Rattle.order_fields.specs.Secondary.Cached.{Bitmap}
 use Rattle.order_fields.proofs.OrderBack.{order_back}
 use Rattle.order_fields.specs.NamedDrawing.{drawing_fields}
-use Rattle.order_means.specs.WirePixels.{pixel_data, kept_image, padded_glyph, turned_over}
+use Rattle.px_core.specs.Picture.{turned_over}
+use Rattle.order_means.specs.UpdateBodies.{pixel_data}
+use Rattle.order_means.specs.KeptContent.{kept_image, padded_glyph}
 use Rattle.px_core.specs.Pixels.{pixels_bytes, are_pixels}
 use Rattle.order_means.specs.CacheOrders.{cache_bitmap_body, cache_bitmap_data}
 use Rattle.order_means.specs.ClientState.{bitmap_flags}
@@ -25,7 +27,7 @@ use Rattle.frame_rules.specs.FrameRead.{image_data, as_read, FitsOrder, FitOrder
 use Rattle.frame_rules.proofs.SecondaryBack.{secondary_back, bitmap_back, glyph_order_back, brush_is_short, brush_back}
 use Rattle.px_core.proofs.Colors.{all_are_colors}
 use Rattle.px_core.proofs.Pixels.{shown_are_pixels}
-use Rattle.frame_rules.proofs.TurnedMap.{turned_over-map}
+use Rattle.px_core.proofs.Turned.{turned_over-map}
 use Rattle.frame_rules.proofs.RegistersKept.{registers_kept}
 
 bitmap_order_back : (depth : Depth) (regs : Registers) (cache index w h : ℕ) (packed : Bool) (bytes rest : List ℕ) → index < 2 ^ 16 → length bytes < 2 ^ 15

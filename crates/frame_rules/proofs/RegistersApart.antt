@@ -14,14 +14,13 @@ use Rattle.order_fields.specs.NamedDrawing.{NamedDrawing, drawing_of}
 use Rattle.order_fields.specs.NamedDrawing.NamedDrawing.{Dst, Pat, Scr, Opaque, SaveBlock, RestoreBlock, Mem, Mem3, Glyphs}
 use Rattle.order_means.specs.ClientState.{ClientState, Block, Fault, needs, found, pairs_of, with_glyphs, client_after_drawing, client_after_cached, client_after_order, after_painting, no_operand, brush_used, image_used, glyph_used, source_rect, with_block, block_of, block_at, positions, restoring, writing, cached, with_cached, holds, is_bitmap, bitmap_flags, wire_pixels, glyph_of, brush_entries}
 use Rattle.order_means.specs.ClientState.Fault.{Broken, Oversized}
-use Rattle.order_means.specs.WirePixels.{turned_over}
 use Rattle.draw_ops.specs.Slots.{filled_slot}
 use Rattle.draw_ops.specs.Formulas.{over_rect, rastered, brushed, shifted, imaged, image_rows}
 use Rattle.rop3_core.specs.Palette.{client_colors}
 use Rattle.draw_ops.specs.Depths.{client_colors_at}
 use Rattle.px_core.specs.Depth.{bytes_in}
 use Rattle.px_core.specs.declared.rectangle.Rect.{Rect}
-use Rattle.px_core.specs.Picture.{Formula, rows_of}
+use Rattle.px_core.specs.Picture.{Formula, rows_of, turned_over}
 use Rattle.px_core.specs.Rectangle.{is_inside}
 use Rattle.caps_sets.specs.Confirmed.{cache_size}
 use Rattle.order_means.specs.FrameMarks.{View, marked_if, is_mark, counted_order, view_with, view_after_order, view_after_orders, with_registers}

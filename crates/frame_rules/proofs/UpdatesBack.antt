@@ -11,10 +11,8 @@ use Rattle.order_fields.specs.OrderStream.{Order, orders_in}
 use Rattle.order_fields.specs.OrderStream.Order.{Other}
 use Rattle.order_fields.specs.Secondary.Cached.{Marker}
 use Rattle.wire_num.proofs.Numbers.{little_back}
-use Rattle.order_means.specs.UpdateBodies.{orders_body, orders_data, orders_packet, synchronize_body, synchronize_packet}
-use Rattle.share_pdu.specs.Packet.{update_packet}
+use Rattle.order_means.specs.UpdateBodies.{orders_body, orders_data, orders_packet, synchronize_body, synchronize_packet, update_packet, fast_packet}
 use Rattle.order_means.specs.CacheOrders.{frame_marker_bytes}
-use Rattle.fast_path.specs.Written.{fast_packet}
 use Rattle.order_means.specs.Updates.{BodyForm, Body, body_at, form_of, cutting, updates_from}
 use Rattle.order_means.specs.Updates.BodyForm.{Slow, FastOrders, FastSynchronize}
 use Rattle.order_means.specs.Updates.Stage.{Between}

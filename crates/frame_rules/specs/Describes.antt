@@ -1,5 +1,6 @@
 -- That an encoder describes its client, and the promise of one frame.
-use Rattle.std.specs.Prelude.{◌≡◌, ℕ, zero, suc, ◌+◌, ◌≤◌, ◌<◌, true, false, List, [], ◌∷◌, ◌++◌, map, length, slice_get, Option, Some, None, option_and_then, Ok}
+use Rattle.std.specs.Prelude.{◌≡◌, ℕ, zero, suc, ◌+◌, ◌≤◌, ◌<◌, true, false, List, [], ◌∷◌, ◌++◌, map, length, slice_get, Option, Some, None}
+use Rattle.std.specs.Prelude.{option_and_then, Ok}
 use Rattle.px_core.specs.declared.depth.Depth.{Depth}
 use Rattle.px_core.specs.declared.surface.Size.{Size}
 use Rattle.px_core.specs.Depth.{seen, shown_colors}
@@ -13,7 +14,7 @@ use Rattle.draw_ops.specs.Slots.{SurfaceState, lookup}
 use Rattle.caps_sets.specs.declared.confirmed.Confirmed.{Confirmed}
 use Rattle.caps_sets.specs.Confirmed.{depth_of}
 use Rattle.order_fields.specs.OrderTable.{AreRegisters}
-use Rattle.order_means.specs.WirePixels.{kept_image, padded_glyph}
+use Rattle.order_means.specs.KeptContent.{kept_image, padded_glyph}
 use Rattle.order_means.specs.ClientState.{ClientState, Block, cached, block_at, brush_entries}
 use Rattle.order_means.specs.Updates.{cutting}
 use Rattle.order_means.specs.Updates.Stage.{Between}
@@ -105,14 +106,18 @@ IsHeld c uses cache key = misses (entries_of c cache) (uses_of cache uses) key �
 abbrev pub index_of : Confirmed → Uses → ℕ → ℕ → ℕ
 index_of c uses cache key = last_index (entries_of c cache) (uses_of cache uses) key
 
--- the index of each held key has the content of that key's load, as it is shown at the client's depth: an image with the columns that were added to its width, a glyph with its padded bits
+-- the index of each held key has the content of that key's load, as it is shown at the client's depth: an image with the columns that were added to its width,
+-- a glyph with its padded bits
 pub record CachesAgree (size : Size) (c : Confirmed) (j : List Entry) (uses : Uses) (client : ClientState) : Type 0 where
   pub images : (cache key : ℕ) → cache < first_glyph_cache → IsHeld c uses cache key
-      → (image : ImageOf) × (image_loaded size j key ≡ Some image) × (cached cache (index_of c uses cache key) client.images ≡ Some (kept_image client.depth image))
+      → (image : ImageOf) × (image_loaded size j key ≡ Some image)
+      × (cached cache (index_of c uses cache key) client.images ≡ Some (kept_image client.depth image))
   pub glyphs : (cache key : ℕ) → cache < 10 → IsHeld c uses (first_glyph_cache + cache) key
-      → (glyph : GlyphOf) × (glyph_loaded size j key ≡ Some glyph) × (cached cache (index_of c uses (first_glyph_cache + cache) key) client.glyphs ≡ Some (padded_glyph glyph))
+      → (glyph : GlyphOf) × (glyph_loaded size j key ≡ Some glyph)
+      × (cached cache (index_of c uses (first_glyph_cache + cache) key) client.glyphs ≡ Some (padded_glyph glyph))
   pub brushes : (key : ℕ) → IsHeld c uses brush_cache key
-      → (brush : List ℕ) × (brush_loaded size j key ≡ Some brush) × (lookup (index_of c uses brush_cache key) client.brushes ≡ Some (shown_colors client.depth brush))
+      → (brush : List ℕ) × (brush_loaded size j key ≡ Some brush)
+      × (lookup (index_of c uses brush_cache key) client.brushes ≡ Some (shown_colors client.depth brush))
 
 -- the client has the confirmed depth, and its caches the confirmed numbers of entries
 pub record IsSized (c : Confirmed) (client : ClientState) : Type 0 where
@@ -134,7 +139,8 @@ BlocksAgree st held client = (slot : ℕ) (place : Place) → place_of slot held
 
 -- ---- the encoder and the client
 
--- an encoder whose viewer has a journal's first entries, so many, describes the client: its registers, its caches, its blocks, which stand apart within the positions, and, from the first frame on, its picture
+-- an encoder whose viewer has a journal's first entries, so many, describes the client: its registers, its caches, its blocks, which stand apart within the
+-- positions, and, from the first frame on, its picture
 pub record DescribesClient (size : Size) (c : Confirmed) (j : List Entry) (number : ℕ) (e : Encoder) (client : ClientState) : Type 0 where
   pub registers : client.registers ≡ e.registers
   pub are_registers : AreRegisters e.registers
@@ -147,10 +153,12 @@ pub record DescribesClient (size : Size) (c : Confirmed) (j : List Entry) (numbe
 
 -- ---- one frame
 
--- what a viewer makes of a take's bytes: they aren't refused and leave no rest, there is one mark, which shows the picture after the entries that the take found at the viewer's depth, and the encoder describes the client after them
+-- what a viewer makes of a take's bytes: they aren't refused and leave no rest, there is one mark, which shows the picture after the entries that the take
+-- found at the viewer's depth, and the encoder describes the client after them
 pub record ShowsFrame (size : Size) (c : Confirmed) (j : List Entry) (e : Encoder) (t : TakeOf) (view : View) (place : ℕ) : Type 0 where
   pub after : View
-  pub reads : read_on c size (reading view (cutting place Between)) (take_bytes size c j e t) ≡ Ok (reading after (cutting (place + length (take_bytes size c j e t)) Between))
+  pub reads : read_on c size (reading view (cutting place Between)) (take_bytes size c j e t) ≡ Ok
+      (reading after (cutting (place + length (take_bytes size c j e t)) Between))
   pub mark : after.pictures ≡ view.pictures ++ map (seen (depth_of c)) (state_after size j t.number).surface.picture ∷ []
   pub describes : DescribesClient size c j t.number (encoder_after size c j e t) after.client
 
@@ -161,6 +169,7 @@ pub record HasAllCaches (c : Confirmed) : Type 0 where
 
 -- the promise of one frame, for every session size, every legal journal, every take and every client that the encoder describes
 abbrev pub FrameShowsJournal : Head → Confirmed → Type 0
-FrameShowsJournal head c = (j : List Entry) (e : Encoder) (t : TakeOf) (view : View) (place : ℕ) → is_session_size head.size.w head.size.h ≡ true → HasAllCaches c
+FrameShowsJournal head c = (j : List Entry) (e : Encoder) (t : TakeOf) (view : View) (place : ℕ) → is_session_size head.size.w head.size.h ≡ true
+    → HasAllCaches c
     → IsLegalJournal head j → t.before ≤ t.number → t.number ≤ length j → DescribesClient head.size c j t.before e view.client
     → ShowsFrame head.size c j e t view place

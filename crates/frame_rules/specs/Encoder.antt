@@ -11,7 +11,8 @@ use Rattle.frame_rules.specs.FrameOrders.{Uses, FrameOrder, uses_after, orders_b
 use Rattle.frame_rules.specs.FrameBytes.{registers_after_orders, frame_bytes}
 use Rattle.frame_rules.specs.Told.{told_after, key_at, pointer_bytes}
 
--- the blocks that the viewer holds, the uses of its caches so far, the registers that its next order is written against, and the keys of the pointers that it was told, the latest first
+-- the blocks that the viewer holds, the uses of its caches so far, the registers that its next order is written against, and the keys of the pointers that it
+-- was told, the latest first
 pub record Encoder : Type 0 where
   pub held : Held
   pub uses : Uses

@@ -173,7 +173,14 @@ abbrev pub first_dirty : Size → Bool → Confirmed → Tiles
 first_dirty size first c = if first && not c.pat then tiles_of size (whole size) else no_tiles
 
 abbrev pub framed : Size → Bool → Tiles → List ℕ → List Sent → Walk → FrameOf
-framed size first asked picture sent w = record { first = first; sent = sent; tiles = tiles_in size (either_tiles w.dirty asked); held = w.held; picture = picture }
+framed size first asked picture sent w = record {
+  first = first;
+  sent = sent;
+  tiles = tiles_in size
+      (either_tiles w.dirty asked);
+  held = w.held;
+  picture = picture;
+}
 
 abbrev pub framed_by : Bool → Size → Confirmed → Bool → Walk → Tiles → List ℕ → List Pending → FrameOf
 framed_by true size c first w asked picture ps = framed size first asked picture [] (jumped size w ps)

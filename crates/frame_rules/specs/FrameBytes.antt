@@ -1,4 +1,5 @@
--- The bytes of a frame, as one function: each order by the delta rule, orders gathered into updates, a bitmap update for each tile, and the mark's own update. A viewer that confirmed the fast path is sent packets of the fast path, every other one Send Data Indications.
+-- The bytes of a frame, as one function: each order by the delta rule, orders gathered into updates, a bitmap update for each tile, and the mark's own update.
+-- A viewer that confirmed the fast path is sent packets of the fast path, every other one Send Data Indications.
 use Rattle.std.specs.Prelude.{ℕ, ◌+◌, nat_le, Bool, true, false, List, [], ◌∷◌, ◌++◌, length, flat_map, if◌then◌else◌}
 use Rattle.px_core.specs.declared.surface.Size.{Size}
 use Rattle.px_core.specs.Rectangle.{cut_out}
@@ -16,7 +17,8 @@ use Rattle.frame_rules.specs.FrameOrders.SentOrder.{Drawn, CacheImage, CacheGlyp
 
 -- ---- orders
 
--- the bytes of one order against the registers, at the viewer's depth; images go packed where the viewer confirmed bitmaps without a header and the packer isn't raw
+-- the bytes of one order against the registers, at the viewer's depth; images go packed where the viewer confirmed bitmaps without a header and the packer
+-- isn't raw
 abbrev pub bytes_of_order : Confirmed → Registers → SentOrder → List ℕ
 bytes_of_order c regs (Drawn touched d bounds) = order_bytes regs c.zero_bounds (drawing_fields (depth_of c) touched d) (edges_of_optional bounds)
 bytes_of_order c regs (CacheImage cache index image) = cache_bitmap_bytes (depth_of c) c.no_header cache index image
@@ -56,7 +58,8 @@ abbrev pub onto_update : List ℕ → List (List (List ℕ)) → List (List (Lis
 onto_update order [] = (order ∷ []) ∷ []
 onto_update order (update ∷ updates) = (order ∷ update) ∷ updates
 
--- what else goes into an open update with so many bytes of orders, and the updates after it: an order joins the open one where it fits, and else begins a new one
+-- what else goes into an open update with so many bytes of orders, and the updates after it: an order joins the open one where it fits, and else begins a new
+-- one
 abbrev pub gathered_after : Bool → ℕ → List (List ℕ) → List (List (List ℕ))
 gathered_after fast used [] = [] ∷ []
 gathered_after fast used (o ∷ os) =
@@ -93,4 +96,5 @@ mark_bytes fast false = synchronize_packet fast
 -- the whole packets of a frame
 abbrev pub frame_bytes : Size → Confirmed → Registers → Uses → FrameOf → List ℕ
 frame_bytes size c regs uses f =
-    updates_of (takes_fast c) (bytes_of_orders c regs (orders_before_tiles size c uses f)) ++ (flat_map (tile_bytes size c f.picture) f.tiles ++ mark_bytes (takes_fast c) c.marker)
+    updates_of (takes_fast c) (bytes_of_orders c regs (orders_before_tiles size c uses f))
+    ++ (flat_map (tile_bytes size c f.picture) f.tiles ++ mark_bytes (takes_fast c) c.marker)

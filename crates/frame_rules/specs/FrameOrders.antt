@@ -14,11 +14,13 @@ use Rattle.cache_plan.specs.CacheUse.{misses, cache_index, uses_of}
 use Rattle.frame_rules.specs.Support.{used_bitmap_entries, used_glyph_entries, image_cache, run_cache}
 use Rattle.frame_rules.specs.Frame.{Sent, FrameOf}
 use Rattle.order_fields.specs.NamedDrawing.{NamedDrawing}
-use Rattle.order_fields.specs.NamedDrawing.NamedDrawing.{Dst as DstBlt, Pat as PatBlt, Scr as ScrBlt, Opaque as OpaqueRect, SaveBlock, RestoreBlock, Mem as MemBlt, Mem3 as Mem3Blt, Glyphs as GlyphIndex}
+use Rattle.order_fields.specs.NamedDrawing.NamedDrawing.{Dst as DstBlt, Pat as PatBlt, Scr as ScrBlt, Opaque as OpaqueRect, SaveBlock, RestoreBlock}
+use Rattle.order_fields.specs.NamedDrawing.NamedDrawing.{Mem as MemBlt, Mem3 as Mem3Blt, Glyphs as GlyphIndex}
 
 -- ---- what is sent
 
--- an order of an Orders update: a drawing with the rectangle that it touches and its bounds; an image, a glyph or a brush for an index of a cache; a frame marker, of a frame's begin or its end
+-- an order of an Orders update: a drawing with the rectangle that it touches and its bounds; an image, a glyph or a brush for an index of a cache; a frame
+-- marker, of a frame's begin or its end
 pub data SentOrder : Type 0 where
   Drawn : (touched : Rect) → NamedDrawing → (bounds : Option Rect) → SentOrder
   CacheImage : (cache index : ℕ) → ImageOf → SentOrder
@@ -34,7 +36,8 @@ pub data FrameOrder : Type 0 where
 
 -- ---- uses of caches
 
--- the uses of all caches so far, the latest first: the cache's number and the key, which is the number of the load. Bitmap caches are 0 to 2, glyph caches 3 to 12, the brush cache is 13
+-- the uses of all caches so far, the latest first: the cache's number and the key, which is the number of the load. Bitmap caches are 0 to 2, glyph caches 3 to
+-- 12, the brush cache is 13
 abbrev pub Uses : Type 0
 Uses = List (ℕ × ℕ)
 
@@ -102,7 +105,8 @@ run_pairs (i ∷ is) (p ∷ ps) = i ∷ p.1 ∷ run_pairs is ps
 
 -- whether a rectangle lies within another one
 abbrev pub is_within : Rect → Rect → Bool
-is_within r clip = (int_le clip.x r.x && int_le (r.x +ℤ pos r.w) (clip.x +ℤ pos clip.w)) && (int_le clip.y r.y && int_le (r.y +ℤ pos r.h) (clip.y +ℤ pos clip.h))
+is_within r clip = (int_le clip.x r.x && int_le (r.x +ℤ pos r.w) (clip.x +ℤ pos clip.w))
+    && (int_le clip.y r.y && int_le (r.y +ℤ pos r.h) (clip.y +ℤ pos clip.h))
 
 abbrev pub bounds_if : Bool → Rect → Option Rect
 bounds_if true clip = None

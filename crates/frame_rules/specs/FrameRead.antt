@@ -12,7 +12,9 @@ use Rattle.order_fields.specs.OrderDelta.{edges_of_optional}
 use Rattle.order_fields.specs.Secondary.{Cached, glyph_length}
 use Rattle.order_fields.specs.Secondary.Cached.{Bitmap, Glyph, Brush, Marker}
 use Rattle.order_fields.specs.NamedDrawing.{drawing_fields}
-use Rattle.order_means.specs.WirePixels.{turned_over, kept_image, padded_glyph, PixelData, data_of}
+use Rattle.px_core.specs.Picture.{turned_over}
+use Rattle.order_means.specs.UpdateBodies.{PixelData, data_of}
+use Rattle.order_means.specs.KeptContent.{kept_image, padded_glyph}
 use Rattle.order_means.specs.ClientState.{bitmap_flags}
 use Rattle.frame_rules.specs.FrameOrders.{SentOrder}
 use Rattle.order_fields.specs.OrderTable.{Registers}
@@ -40,11 +42,13 @@ cached_bitmap depth cache index image pixels = Bitmap (record {
   bytes = pixels.bytes;
 })
 
--- an order that was sent, as it is read: its colours as they are shown at the viewer's depth, a cached image with the columns that were added to its width, a cached glyph with its padded bits, a cached brush with its rows from the bottom up
+-- an order that was sent, as it is read: its colours as they are shown at the viewer's depth, a cached image with the columns that were added to its width, a
+-- cached glyph with its padded bits, a cached brush with its rows from the bottom up
 abbrev pub as_read : Confirmed → SentOrder → Order
 as_read c (Drawn touched d bounds) = Primary (drawing_fields (depth_of c) touched d) (edges_of_optional bounds)
 as_read c (CacheImage cache index image) = Other (cached_bitmap (depth_of c) cache index image (image_data c image))
-as_read c (CacheGlyph cache index glyph) = Other (Glyph (record { cache = cache; index = index; x = glyph.x; y = glyph.y; cx = glyph.cx; cy = glyph.cy; bits = (padded_glyph glyph).bits }))
+as_read c (CacheGlyph cache index glyph) = Other
+    (Glyph (record { cache = cache; index = index; x = glyph.x; y = glyph.y; cx = glyph.cx; cy = glyph.cy; bits = (padded_glyph glyph).bits }))
 as_read c (CacheBrush entry brush) = Other (Brush (record { entry = entry; pixels = turned_over 8 8 (shown_colors (depth_of c) brush) }))
 as_read c (FrameMarker ends) = Other (Marker ends)
 

@@ -3,7 +3,7 @@ use Rattle.std.specs.Prelude.{◌≡◌, ℕ, ◌+◌, ◌-◌, ◌≤◌, true,
 use Rattle.std.specs.Option.{option_map, option_and_then}
 use Rattle.px_core.specs.declared.surface.Size.{Size}
 use Rattle.px_core.specs.declared.rectangle.Rect.{Rect}
-use Rattle.px_core.specs.Picture.{nat_of}
+use Rattle.px_core.specs.Picture.{nat_of, turned_over}
 use Rattle.px_core.specs.Rectangle.{is_session_size}
 use Rattle.caps_sets.specs.declared.confirmed.Confirmed.{Confirmed}
 use Rattle.caps_sets.specs.Confirmed.{depth_of, takes_fast}
@@ -12,8 +12,7 @@ use Rattle.px_core.specs.declared.depth.Depth.{Depth}
 use Rattle.px_core.specs.Depth.{bits_in, shown_colors}
 use Rattle.order_fields.specs.OrderTable.{Registers, AreRegisters}
 use Rattle.order_fields.specs.OrderStream.{Order, Stream, orders_in}
-use Rattle.order_means.specs.WirePixels.{PixelData, data_of, turned_over}
-use Rattle.order_means.specs.UpdateBodies.{tile_flags}
+use Rattle.order_means.specs.UpdateBodies.{tile_flags, PixelData, data_of}
 use Rattle.order_means.specs.Updates.{Body, Stage, updates_in}
 use Rattle.order_means.specs.Updates.Stage.{Between, One, Two, Three, Inside, Fast, FastLong, FastInside, Refused}
 use Rattle.order_means.specs.FrameMarks.{Update, update_in}
@@ -104,7 +103,8 @@ rectangle_of depth r pixels = record {
 
 abbrev pub frame_order_read : Confirmed → FrameOrder → ReadOrder
 frame_order_read c (Ordered o) = OrderRead (as_read c o)
-frame_order_read c (Tile r pixels) = RectangleRead (rectangle_of (depth_of c) r (data_of (depth_of c) c.no_header r.w (turned_over r.w r.h (shown_colors (depth_of c) pixels))))
+frame_order_read c (Tile r pixels) = RectangleRead
+    (rectangle_of (depth_of c) r (data_of (depth_of c) c.no_header r.w (turned_over r.w r.h (shown_colors (depth_of c) pixels))))
 frame_order_read c Synchronize = SynchronizeRead
 
 -- ---- the promise

@@ -7,7 +7,7 @@ use Rattle.draw_ops.specs.Slots.{Loaded}
 use Rattle.caps_sets.specs.declared.cache_size.CacheSize.{CacheSize}
 use Rattle.caps_sets.specs.declared.confirmed.Confirmed.{Confirmed}
 use Rattle.caps_sets.specs.Confirmed.{first_cache}
-use Rattle.order_means.specs.WirePixels.{image_cell, glyph_cell_bytes}
+use Rattle.order_means.specs.KeptContent.{image_cell, glyph_cell_bytes}
 use Rattle.cache_plan.specs.CacheUse.{distinct_keys}
 use Rattle.session_rules.specs.Pending.{Pending}
 

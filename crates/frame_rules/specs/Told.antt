@@ -1,4 +1,5 @@
--- What a viewer is told of the pointer, take by take, by two messages of the Pointer PDU: 6 brings a shape to an entry of the viewer's cache and shows it ([MS-RDPBCGR]
+-- What a viewer is told of the pointer, take by take, by two messages of the Pointer PDU: 6 brings a shape to an entry of the viewer's cache and shows it
+-- ([MS-RDPBCGR]
 -- 2.2.9.1.1.4.4), 7 shows the shape of an entry (2.2.9.1.1.4.6). The keys of the pointers that it was told stand in a list, the latest first.
 use Rattle.std.specs.Prelude.{ℕ, ◌==◌, Bool, true, false, List, [], ◌∷◌, ◌++◌, Option, Some, None, if◌then◌else◌}
 use Rattle.byteorder.specs.Endian.{little_bytes}

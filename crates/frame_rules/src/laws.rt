@@ -1,6 +1,7 @@
 //! Laws of the definitions, each as the contract of a function that does nothing.
 
-ghost use Rattle.std.specs.Prelude.{◌≡◌, ℕ, [], ◌∷◌, ◌+◌, ◌*◌, ◌/◌, ◌%◌, ◌^◌, ◌≤◌, ◌<◌, List, ◌++◌, length, map, Bool, true, false, Option, Some, None, Ok, pos};
+ghost use Rattle.std.specs.Prelude.{◌≡◌, ℕ, [], ◌∷◌, ◌+◌, ◌*◌, ◌/◌, ◌%◌, ◌^◌, ◌≤◌, ◌<◌, List, ◌++◌, length, map, Bool, true, false, Option, Some};
+ghost use Rattle.std.specs.Prelude.{None, Ok, pos};
 ghost use Rattle.px_core.specs.declared.depth.Depth.{Depth};
 ghost use Rattle.px_core.specs.declared.surface.Size.{Size};
 ghost use Rattle.px_core.specs.Depth.{seen};
@@ -57,7 +58,8 @@ pub fn skipped_drawing_keeps_what_is_shown()
         → ShowsOutside depth size (either_tiles dirty (tiles_of size (clipped p.rect clip))) canvas (picture_after size (in_clip clip) p old) }
 {}
 
-/// A drawing that is sent: where the client paints the same pixels, and each whose tile isn't dirty as the session does, its picture still shows the session's outside the dirty tiles.
+/// A drawing that is sent: where the client paints the same pixels, and each whose tile isn't dirty as the session does, its picture still shows the session's
+/// outside the dirty tiles.
 pub fn sent_drawing_keeps_what_is_shown()
     ensures { (depth : Depth) (size : Size) (area : Area) (p : Painting ℕ) (clip : Area) (f : Formula (Option ℕ)) (dirty : Tiles) (canvas : List (Option ℕ)) (old : List ℕ)
         → ((i : ℕ) → area (pos (i % size.w)) (pos (i / size.w)) ≡ painted_area clip p (pos (i % size.w)) (pos (i / size.w)))
@@ -66,7 +68,8 @@ pub fn sent_drawing_keeps_what_is_shown()
         → ShowsOutside depth size dirty canvas old → ShowsOutside depth size dirty (painted size area f canvas) (picture_after size clip p old) }
 {}
 
-/// Once the dirty tiles that lie on the picture were sent, with pixels cut out of the session's picture, the client's picture is the session's as it is shown at the client's depth, and every pixel of it is known.
+/// Once the dirty tiles that lie on the picture were sent, with pixels cut out of the session's picture, the client's picture is the session's as it is shown
+/// at the client's depth, and every pixel of it is known.
 pub fn dirty_tiles_complete_the_picture()
     ensures { (depth : Depth) (size : Size) (dirty : Tiles) (canvas : List (Option ℕ)) (picture : List ℕ) → size.w ≤ 2048 → ShowsOutside depth size dirty canvas picture
         → canvas_after_tiles depth size picture (tiles_in size dirty) canvas ≡ map (seen depth) picture }
@@ -77,7 +80,8 @@ pub fn first_encoder_describes_the_first_client()
     ensures { (size : Size) (c : Confirmed) (j : List Entry) → DescribesClient size c j 0 first_encoder (first_client c size) }
 {}
 
-/// An order that was sent is read from the front of its bytes as it was sent, whatever follows: drawings of all types, cached images packed or raw, cached glyphs and brushes, and markers.
+/// An order that was sent is read from the front of its bytes as it was sent, whatever follows: drawings of all types, cached images packed or raw, cached
+/// glyphs and brushes, and markers.
 pub fn sent_order_is_read()
     ensures { (c : Confirmed) (regs : Registers) (o : SentOrder) (rest : List ℕ) → AreRegisters regs → FitsOrder c o
         → order_at (depth_of c) regs (bytes_of_order c regs o ++ rest) ≡ Ok (seen_orders (as_read c o ∷ []) (registers_after_order c regs o), rest) }
@@ -90,7 +94,8 @@ pub fn sent_orders_are_read()
         ≡ record { orders = map (as_read c) os; after = registers_after_orders c regs os; refused = None } }
 {}
 
-/// Reading the updates that orders are gathered into is obeying these orders one by one, however they are gathered, in packets of the fast path or others; the registers are then those after the last one.
+/// Reading the updates that orders are gathered into is obeying these orders one by one, however they are gathered, in packets of the fast path or others; the
+/// registers are then those after the last one.
 pub fn gathered_orders_are_obeyed_one_by_one()
     ensures { (c : Confirmed) (size : Size) (os : List SentOrder) (v w : View) (place : ℕ) → v.client.depth ≡ depth_of c → AreRegisters v.client.registers → FitOrders c os → AreShort c v.client.registers os
         → length os < 2 ^ 16 → view_after_orders c size v (map (as_read c) os) ≡ Ok w
@@ -99,5 +104,6 @@ pub fn gathered_orders_are_obeyed_one_by_one()
 
 /// The mark's update is a mark, with frame markers or without, in a packet of either kind, and changes nothing else.
 pub fn mark_shows_the_picture()
-    ensures { (c : Confirmed) (size : Size) (v : View) (place : ℕ) → AreRegisters v.client.registers → Reads c size v place (mark_bytes (takes_fast c) c.marker) (marked_if true v) }
+    ensures { (c : Confirmed) (size : Size) (v : View) (place : ℕ) → AreRegisters v.client.registers
+        → Reads c size v place (mark_bytes (takes_fast c) c.marker) (marked_if true v) }
 {}

@@ -3,3 +3,4 @@ pub mod Ending
 pub mod Numbers
 pub mod Opened
 pub mod Reported
+mod GateRows

@@ -9,8 +9,8 @@ use Rattle.session_rules.proofs.Joins.{join_place}
 use Rattle.serve_rules.proofs.Lists.{got_more}
 use Rattle.serve_rules.specs.declared.noted.ConnReport.{ConnReport}
 use Rattle.edge_io.specs.Outside.{Outside}
-use Rattle.link_run.specs.Serving.{JoinsFirst}
-use Rattle.link_run.proofs.Reports.{viewers_first_place}
+use Rattle.viewer_run.specs.Links.{JoinsFirst}
+use Rattle.viewer_run.proofs.Reports.{viewers_first_place}
 use Rattle.gate_run.specs.Gates.{EachServed, AreApart}
 use Rattle.gate_run.specs.OpenGate.{HaveNoPlaceInCommon}
 

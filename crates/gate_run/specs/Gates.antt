@@ -12,7 +12,7 @@ use Rattle.grow_lock.specs.Journal.{StartsWith, IsDisjoint}
 use Rattle.serve_rules.specs.Turns.{SessionPass}
 use Rattle.serve_rules.specs.declared.noted.ConnReport.{ConnReport}
 use Rattle.edge_io.specs.Outside.{Outside, outside_given, outside_spent}
-use Rattle.link_run.specs.Serving.{ServesViewer}
+use Rattle.viewer_run.specs.Links.{ServesViewer}
 use Rattle.gate_run.specs.declared.served.GateEnd.{GateEnd}
 use Rattle.gate_run.specs.declared.served.GateEnd.TheVariants.{Ended, Failed, NoListen}
 
@@ -29,7 +29,14 @@ pub record GateState : Type 0 where
 -- a gate as it is now
 abbrev pub gate_state : {G L Reader Writer Spent : Type 0} → gates.Ghosts G L Reader Writer Spent → links.Ghosts L Reader Writer Spent → G → GateState
 gate_state gate link x =
-    record { given = map (outside_given link) (gate.given x); finished = map (outside_spent link) (gate.finished x); asked = gate.asked x; ended = gate.ended x; faults = gate.faults x }
+    record {
+      given = map (outside_given link) (gate.given x);
+      finished = map (outside_spent link)
+          (gate.finished x);
+      asked = gate.asked x;
+      ended = gate.ended x;
+      faults = gate.faults x;
+    }
 
 -- ---- its links
 
@@ -50,7 +57,8 @@ EachServed head first j [] [] (spent ∷ spents) = ⊥
 EachServed head first j [] (report ∷ reports) spents = ⊥
 EachServed head first j (link ∷ links) [] spents = ⊥
 EachServed head first j (link ∷ links) (report ∷ reports) [] = ⊥
-EachServed head first j (link ∷ links) (report ∷ reports) (spent ∷ spents) = IsServed head first j link report spent × EachServed head first j links reports spents
+EachServed head first j (link ∷ links) (report ∷ reports) (spent ∷ spents) = IsServed head first j link report spent
+    × EachServed head first j links reports spents
 
 -- two reports are of two viewers, if of any, and no place is in both
 pub record AreApart (report other : ConnReport) : Type 0 where
@@ -90,7 +98,8 @@ EndCause NoListen joined before after = (joined ≡ []) × (after.ended ≡ befo
 
 -- a gate was opened and its links were served, over a session that had a first journal and ends with another one: the links that were given and those that came
 -- back, in one order with the reports, which have all that was appended
-pub record ServesGate (head : Head) (first : List Entry) (port links : ℕ) (before after : GateState) (j : List Entry) (reports : List ConnReport) (end : GateEnd) : Type 0 where
+pub record ServesGate (head : Head) (first : List Entry) (port links : ℕ) (before after : GateState) (j : List Entry) (reports : List ConnReport)
+    (end : GateEnd) : Type 0 where
   pub joined : List Outside
   pub spent : List Outside
   pub given : after.given ≡ before.given ++ joined

@@ -20,7 +20,8 @@ module _ {G L Reader Writer Spent : Type 0} (gate : gates.Ghosts G L Reader Writ
     pub each : numbers ≡ links
 
   -- each link that a gate gave until it gave no more has its job
-  pub record HasTaken (link : links.Ghosts L Reader Writer Spent) (lock : LockModel Head Entry) (links : ℕ) (opened after : G) (jobs : List (Job L Reader Writer Spent)) (end : GateEnd) : Type 0 where
+  pub record HasTaken (link : links.Ghosts L Reader Writer Spent) (lock : LockModel Head Entry) (links : ℕ) (opened after : G)
+      (jobs : List (Job L Reader Writer Spent)) (end : GateEnd) : Type 0 where
     pub few : length jobs ≤ links
     pub given : gate.given after ≡ map (λ j. j.given.link.value) jobs
     pub work : All (IsWork link lock) jobs

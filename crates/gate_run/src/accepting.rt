@@ -71,8 +71,11 @@ fn accept_in_scope<'g, R: Threads + Wait + Sync, G: Gate>(
         thread::scope_env(),
         rt,
         move |scope| -> (Pass<Session>, Vec<Job<G::Link>>, &mut G, GateEnd)
-            requires { IsPassOf lock.now pass × StartsWith pass.seen lock.now.first × CanTake G.Gate links gate.now jobs.items (vec_capacity jobs) (vec_len ended.now.behind) }
-            ensures { (result.0 ≡ record pass { share = result.0.share }) × IsDealtOut pass.share result.0.share (map (λ j. j.given.pass.value.share) result.1.items) × (result.2.ghost_name ≡ gate.entry.ghost_name) × HasTaken G.Gate G.Link.Link lock.entry.now links gate.entry.now result.2.now result.1.items result.3 }
+            requires { IsPassOf lock.now pass × StartsWith pass.seen lock.now.first
+                × CanTake G.Gate links gate.now jobs.items (vec_capacity jobs) (vec_len ended.now.behind) }
+            ensures { (result.0 ≡ record pass { share = result.0.share }) × IsDealtOut pass.share result.0.share (map (λ j. j.given.pass.value.share) result.1.items)
+                × (result.2.ghost_name ≡ gate.entry.ghost_name)
+                × HasTaken G.Gate G.Link.Link lock.entry.now links gate.entry.now result.2.now result.1.items result.3 }
         { accept_all(rt, alloc, scope, lock, ended, pass, links, gate, jobs) },
     )
 }

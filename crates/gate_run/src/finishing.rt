@@ -31,7 +31,8 @@ pub fn finish_all<R: Threads, G: Gate>(
     ensures lock { IsPassOf lock.now result }
     ensures mine { result.mine ≡ flat_map (λ r. r.places.list) reports.new.items }
     ensures share { (share : Share) → IsDealtOut share pass.share (map (λ j. j.given.pass.value.share) jobs.items) → HoldsShare result.share share }
-    ensures all { EndsAll G.Link.Link lock.now.head lock.now.first result.seen (map (λ j. j.given.link.value) jobs.items) reports.new.items (G.finished gate.old) (G.finished gate.new) }
+    ensures all { EndsAll G.Link.Link lock.now.head lock.now.first result.seen (map (λ j. j.given.link.value) jobs.items) reports.new.items (G.finished gate.old)
+        (G.finished gate.new) }
     ensures given { G.given gate.new ≡ G.given gate.old }
     ensures asked { G.asked gate.new ≡ G.asked gate.old }
     ensures ended { G.ended gate.new ≡ G.ended gate.old }
@@ -60,7 +61,8 @@ fn finish_next<R: Threads, G: Gate>(
     requires room { vec_len reports.old < vec_capacity reports.old }
     ensures lock { IsPassOf lock.now result }
     ensures share { HoldsShare result.share (both pass.share job.given.pass.value.share) }
-    ensures ends { EndsWork G.Link.Link lock.now.head lock.now.first job.given.link.value pass result reports.old.items reports.new.items (G.finished gate.old) (G.finished gate.new) }
+    ensures ends { EndsWork G.Link.Link lock.now.head lock.now.first job.given.link.value pass result reports.old.items reports.new.items (G.finished gate.old)
+        (G.finished gate.new) }
     ensures len { vec_len reports.new ≡ vec_len reports.old + 1 }
     ensures capacity { vec_capacity reports.new ≡ vec_capacity reports.old }
     ensures given { G.given gate.new ≡ G.given gate.old }

@@ -11,13 +11,13 @@ ghost use Rattle.gate_run.specs.Working.{IsFresh, IsDone, IsWork};
 use crate::ended::Ended;
 use edge_io::Link;
 use grow_lock::{GrowLock, Pass};
-use link_run::serve_viewer;
 use serve_rules::ConnReport;
 use session_core::Session;
 use std::alloc::Global;
 use std::snapshot::Snapshot;
 use std::sync::Wait;
 use std::thread::{Promise, PromisedHandle, Scope, Threads};
+use viewer_run::serve_viewer;
 
 /// What the work for a link hands back.
 #[derive(Drop)]

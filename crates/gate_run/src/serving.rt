@@ -95,7 +95,8 @@ fn serve_links<R: Threads + Wait + Sync, G: Gate>(
     requires finished { G.finished gate.old ≡ [] }
     requires reports { (room.reports.items ≡ []) × (vec_len room.reports + links ≤ vec_capacity room.reports) }
     ensures head { result.session.head ≡ lock.head }
-    ensures links { ServesLinks lock.head lock.first (gate_state G.Gate G.Link.Link gate.old) (gate_state G.Gate G.Link.Link gate.new) result.session.journal result.reports.items result.end }
+    ensures links { ServesLinks lock.head lock.first (gate_state G.Gate G.Link.Link gate.old)
+        (gate_state G.Gate G.Link.Link gate.new) result.session.journal result.reports.items result.end }
 {
     let Room {
         jobs,

@@ -1,5 +1,6 @@
 -- The client's data blocks ([MS-RDPBCGR] 2.2.1.3.1), each a header and its content.
-use Rattle.std.specs.Prelude.{ℕ, zero, suc, ◌+◌, ◌-◌, ◌==◌, nat_le, Bool, true, ◌&&◌, List, [], ◌∷◌, length, Option, Some, None, is_none, Ok, Err, if◌then◌else◌}
+use Rattle.std.specs.Prelude.{ℕ, zero, suc, ◌+◌, ◌-◌, ◌==◌, nat_le, Bool, true, ◌&&◌, List, [], ◌∷◌, length, Option, Some, None, is_none, Ok, Err}
+use Rattle.std.specs.Prelude.{if◌then◌else◌}
 use Rattle.wire_num.specs.FieldValue.{passing_at}
 use Rattle.wire_num.specs.Field.{Read, then_read, map_read, bytes_at}
 use Rattle.wire_num.specs.Number.{little_at}

@@ -4,3 +4,4 @@ pub mod Passing
 mod Rows
 pub mod Shares
 pub mod Turning
+mod PassRows

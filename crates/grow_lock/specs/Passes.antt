@@ -10,7 +10,8 @@ pub record LockModel (H E : Type 0) : Type 0 where
   pub head : H
   pub first : List E
 
--- which lock it is of and that lock's head, the list as far as it has seen it, the lengths that its enters found, the places of the entries that were appended in its turns, and its share of the lock
+-- which lock it is of and that lock's head, the list as far as it has seen it, the lengths that its enters found, the places of the entries that were appended
+-- in its turns, and its share of the lock
 pub record PassModel (H E : Type 0) : Type 0 where
   pub id : TableId
   pub head : Option H

@@ -27,7 +27,8 @@ EndsIn found n = (earlier : List ℕ) × (found ≡ earlier ++ n ∷ [])
 
 module _ {E : Type 0} (journal : List E) (turn : Option ℕ) (seat : ℕ) (seen : List E) (found : List ℕ) where
   -- what a stage means
-  -- a seat in turn is the one in turn, and until it publishes the list that it found is the journal; once it has read word 1, that number is its last `found`; once it has published, it has seen the journal
+  -- a seat in turn is the one in turn, and until it publishes the list that it found is the journal; once it has read word 1, that number is its last `found`;
+  -- once it has published, it has seen the journal
   -- of two seats that were joined, the journal begins with what each had seen, and no place was added by both
   abbrev pub IsAtStage : Stage E → Type 0
   IsAtStage Out = ⊤
@@ -65,10 +66,12 @@ module _ {T H E : Type 0} (head : T → H) (list : T → List E) (lock_head : H)
     pub words_are : table.words ≡ turn_word turn ∷ length journal ∷ []
     pub home : IsHome head list lock_head table.homes journal turn
     pub begins : StartsWith journal first
-    pub owned : (n : ℕ) → length first ≤ n → n < length journal → (seat : ℕ) × (notes : Notes H E) × (get_elem? table.views seat ≡ some notes) × Contains notes.mine n
+    pub owned : (n : ℕ) → length first ≤ n → n < length journal
+        → (seat : ℕ) × (notes : Notes H E) × (get_elem? table.views seat ≡ some notes) × Contains notes.mine n
     pub longest : (seat : ℕ) × (notes : Notes H E) × (get_elem? table.views seat ≡ some notes) × (notes.seen ≡ journal)
     pub each_seat : (seat : ℕ) (notes : Notes H E) → get_elem? table.views seat ≡ some notes → IsSpent notes ⊎ IsSeated lock_head journal turn seat notes
-    pub apart : (seat other : ℕ) (notes others : Notes H E) → get_elem? table.views seat ≡ some notes → get_elem? table.views other ≡ some others → seat ≢ other → AreSeatsApart notes others
+    pub apart : (seat other : ℕ) (notes others : Notes H E) → get_elem? table.views seat ≡ some notes → get_elem? table.views other ≡ some others
+        → seat ≢ other → AreSeatsApart notes others
     pub in_turn : (seat : ℕ) → turn ≡ Some seat → (notes : Notes H E) × (get_elem? table.views seat ≡ some notes) × (is_in_turn notes.stage ≡ true)
 
   -- there is a journal, and at most one seat in turn, for which the table is as it should be

@@ -1,4 +1,5 @@
--- What each kind of atomic step on a word tells the seat that takes it: of the step, the seat before, the number found (at a store, the number stored) and the seat after.
+-- What each kind of atomic step on a word tells the seat that takes it: of the step, the seat before, the number found (at a store, the number stored) and the
+-- seat after.
 use Rattle.std.specs.Prelude.{◌≡◌, ◌≢◌, ℕ, List, [], ◌∷◌, ◌++◌, length, Option, Some, None, ⊤}
 use Rattle.atomic_table.specs.Table.{Me, Step, rest}
 use Rattle.grow_lock.specs.Journal.{StartsWith, IsDisjoint, added_places, longer}
@@ -23,7 +24,8 @@ carried_list list ((slot, Some value) ∷ slots) = list value
 
 -- the longer of what two seats had seen begins with both, and no place was added by both
 abbrev pub IsJoinSound : {E : Type 0} → Stage E → Type 0
-IsJoinSound (Joined seen other_seen mine other_mine) = StartsWith (longer seen other_seen) seen × StartsWith (longer seen other_seen) other_seen × IsDisjoint mine other_mine
+IsJoinSound (Joined seen other_seen mine other_mine) = StartsWith (longer seen other_seen) seen × StartsWith (longer seen other_seen) other_seen
+    × IsDisjoint mine other_mine
 IsJoinSound Out = ⊤
 IsJoinSound (Taken base) = ⊤
 IsJoinSound (Measured base) = ⊤
@@ -33,7 +35,8 @@ module _ {T H E : Type 0} where
   -- where the word was 0 the seat is in turn, with the value, whose head is the lock's and whose list begins with what was seen; else nothing changed
   abbrev pub TakesTurn : (T → H) → (T → List E) → Step (Option T) → Holder T H E → ℕ → Holder T H E → Type 0
   TakesTurn head list step before found after =
-      (found ≡ 0 → (value : T) × (after.0 ≡ record before.0 { stage = Taken (list value) }) × (after.1 ≡ (0, Some value) ∷ before.1) × (before.0.head ≡ Some (head value)) × StartsWith (list value) before.0.seen)
+      (found ≡ 0 → (value : T) × (after.0 ≡ record before.0 { stage = Taken (list value) }) × (after.1 ≡ (0, Some value) ∷ before.1)
+      × (before.0.head ≡ Some (head value)) × StartsWith (list value) before.0.seen)
       × (found ≢ 0 → after ≡ before)
 
   -- the length of the value's list was read, and joins `found`
@@ -46,7 +49,12 @@ module _ {T H E : Type 0} where
   -- the value's list is the journal now: it was seen, and what it has beyond the list that the turn found was added
   abbrev pub PublishesLength : (T → List E) → Step (Option T) → Holder T H E → ℕ → Holder T H E → Type 0
   PublishesLength list step before stored after =
-      (after.0 ≡ record before.0 { stage = Published; seen = carried_list list before.1; mine = before.0.mine ++ added_places (base_of before.0.stage) (carried_list list before.1) })
+      (after.0 ≡ record before.0 {
+        stage = Published;
+        seen = carried_list list before.1;
+        mine = before.0.mine
+            ++ added_places (base_of before.0.stage) (carried_list list before.1);
+      })
       × (after.1 ≡ before.1)
 
   -- the seat is out of turn, and has given the slot back

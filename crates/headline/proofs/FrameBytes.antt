@@ -6,7 +6,7 @@ use Rattle.px_core.specs.declared.depth.Depth.{Depth}
 use Rattle.px_core.specs.declared.surface.Size.{Size}
 use Rattle.px_core.specs.declared.rectangle.Rect.{Rect}
 use Rattle.px_core.specs.Depth.{bits_in, shown_colors}
-use Rattle.px_core.specs.Picture.{nat_of}
+use Rattle.px_core.specs.Picture.{nat_of, turned_over}
 use Rattle.px_core.specs.Rectangle.{cut_out}
 use Rattle.px_core.specs.Tiles.{tile_on}
 use Rattle.caps_sets.specs.declared.confirmed.Confirmed.{Confirmed}
@@ -21,7 +21,7 @@ use Rattle.share_pdu.specs.Share.{data_headers, share_bytes}
 use Rattle.share_pdu.specs.Packet.{share_packet, update_packet}
 use Rattle.fast_path.specs.Written.{packet_length, fast_headers, fast_packet}
 use Rattle.order_fields.specs.OrderTable.{Registers}
-use Rattle.order_means.specs.WirePixels.{turned_over, PixelData, data_of}
+use Rattle.run_lengths.specs.WirePixels.{PixelData, data_of}
 use Rattle.order_means.specs.UpdateBodies.{orders_head, orders_body, orders_data, synchronize_body, synchronize_packet, tile_flags, tile_data_bytes, tile_body, tile_packet}
 use Rattle.order_means.specs.CacheOrders.{frame_marker_bytes}
 use Rattle.frame_rules.specs.Frame.{FrameOf}

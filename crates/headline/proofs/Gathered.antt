@@ -17,7 +17,7 @@ use Rattle.frame_rules.specs.FrameBytes.{bytes_of_order, bytes_of_orders, regist
 use Rattle.frame_rules.specs.FrameRead.{AreShort}
 use Rattle.frame_rules.specs.Encoder.{Encoder, encoder_frame}
 use Rattle.frame_rules.specs.Describes.{DescribesClient, HasAllCaches}
-use Rattle.frame_shows.proofs.JournalShown.{sound_take}
+use Rattle.frame_laws.proofs.JournalShown.{sound_take}
 use Rattle.headline.specs.Gathering.{bytes_in, FitsUpdate, BeginsAnew, AreGathered, orders_of_updates, EachFits}
 
 -- ---- no order is lost, and none is moved

@@ -21,7 +21,7 @@ use Rattle.order_means.specs.Packets.{without_pointers}
 use Rattle.frame_rules.specs.FrameBytes.{joined_bytes}
 use Rattle.frame_rules.specs.Encoder.{Encoder, first_encoder, pointed_bytes, pointed_of_takes}
 use Rattle.frame_rules.specs.Describes.{HasAllCaches}
-use Rattle.frame_shows.proofs.JournalShown.{frame_shows_journal}
+use Rattle.frame_laws.proofs.JournalShown.{frame_shows_journal}
 use Rattle.script_rules.specs.Script.{Asked}
 use Rattle.script_rules.specs.Capture.{viewer_of}
 use Rattle.script_rules.specs.CaptureText.{Run, run_at_first, confirmed_after, encoders_after, run_after, run_after_all, sent_from, encoder_frames}

@@ -4,7 +4,7 @@ use Rattle.std.specs.Prelude.{ℤ, ◌-ℤ◌, ◌&&◌, Option, ⊤, ◌==◌, 
 use Rattle.std.proofs.lemmas.Bool.{and_parts}
 use Rattle.std.proofs.lemmas.Bool.Decides.{nat_tests}
 use Rattle.std.proofs.lemmas.List.Elements.{All-nil, All-cons, All-append}
-use Rattle.px_core.specs.Picture.{nat_of}
+use Rattle.px_core.specs.Picture.{nat_of, turned_over}
 use Rattle.run_lengths.specs.RunLength.{Run}
 use Rattle.run_lengths.specs.RunLength.Run.{Background, Foreground, Mask, Color, Image, Dithered}
 use Rattle.run_lengths.specs.Packer.{length_bytes, run_bytes, packed_runs, first_stretch, later_stretch, packed}
@@ -27,7 +27,8 @@ use Rattle.order_fields.specs.OrderDelta.{type_bytes, has_bounds, keeps_bounds, 
 use Rattle.order_fields.specs.OrderDelta.{edges_of_optional}
 use Rattle.order_fields.specs.NamedDrawing.{NamedDrawing, drawing_fields}
 use Rattle.order_fields.specs.NamedDrawing.NamedDrawing.{Dst, Pat, Scr, Opaque, SaveBlock, RestoreBlock, Mem, Mem3, Glyphs}
-use Rattle.order_means.specs.WirePixels.{PixelData, data_of, packed_if_shorter, turned_over, kept_image, padded_glyph, padded}
+use Rattle.run_lengths.specs.WirePixels.{PixelData, data_of, packed_if_shorter, padded}
+use Rattle.order_means.specs.KeptContent.{kept_image, padded_glyph}
 use Rattle.order_means.specs.CacheOrders.{secondary_bytes, cache_bitmap_body, cache_bitmap_data}
 use Rattle.caps_sets.specs.declared.confirmed.Confirmed.{Confirmed}
 use Rattle.caps_sets.specs.Confirmed.{depth_of}

@@ -23,7 +23,7 @@ use Rattle.frame_rules.specs.Describes.{HasAllCaches}
 use Rattle.order_fields.specs.NamedDrawing.NamedDrawing.{Pat as PatBlt, Mem as MemBlt, Mem3 as Mem3Blt, Glyphs as GlyphIndex}
 use Rattle.frame_laws.specs.Run.{AreDeltas}
 use Rattle.frame_laws.proofs.GlyphUse.{glyph_entries}
-use Rattle.frame_shows.proofs.SentKeeps.{first_serves}
+use Rattle.frame_laws.proofs.SentKeeps.{first_serves}
 use Rattle.headline.specs.Sent.{AreBytes}
 use Rattle.headline.specs.OrderBytes.{HoldsBytes, HoldBytes}
 use Rattle.headline.proofs.OrderBytes.{bytes_nil, bytes_cons}

@@ -6,7 +6,7 @@ use Rattle.px_core.specs.declared.depth.Depth.{Depth}
 use Rattle.run_lengths.specs.Packer.{packed}
 use Rattle.px_core.specs.Pixels.{pixels_bytes}
 use Rattle.cache_plan.specs.CacheUse.{misses, cache_index, uses_of}
-use Rattle.order_means.specs.WirePixels.{PixelData, pixel_data, data_of}
+use Rattle.run_lengths.specs.WirePixels.{PixelData, pixel_data, data_of}
 use Rattle.frame_rules.specs.FrameOrders.{SentOrder, Uses, use_by, entries_of, use_of}
 
 -- ---- uses

@@ -30,7 +30,7 @@ use Rattle.frame_laws.specs.Run.{AreDeltas}
 use Rattle.frame_laws.specs.SoundState.{IsSound}
 use Rattle.frame_laws.specs.Drawings.{Suits, AllSound}
 use Rattle.frame_laws.proofs.Rules.{rules_kept, kept_test}
-use Rattle.frame_shows.proofs.CutSuits.{cut_suits}
+use Rattle.frame_laws.proofs.CutSuits.{cut_suits}
 use Rattle.headline.specs.Sent.{AreBytes}
 
 -- the run that a shape draws

@@ -12,7 +12,7 @@ use Rattle.tpkt_x224.specs.declared.tpkt.Packet.{Packet}
 use Rattle.tpkt_x224.specs.declared.tpkt.Packet.TheVariants.{Whole, Part, NotTpkt, BadLength}
 use Rattle.tpkt_x224.specs.Tpkt.{IsPacket, packet_at}
 use Rattle.tpkt_x224.proofs.Heads.{whole_head, part_head}
-use Rattle.order_means.specs.WirePixels.{turned}
+use Rattle.px_core.specs.Picture.{turned}
 use Rattle.order_means.specs.Updates.{Body, Stage, Cutting, cutting, updates_from, updates_in, refusal_in}
 use Rattle.order_means.specs.Updates.Stage.{Between as NoneBegun, One, Two, Three, Inside as Behind, Fast, FastLong as FastHigh, FastInside, Refused}
 use Rattle.order_means.specs.FrameMarks.{View, Refusal, ClientReading, reading, first_reading, unless_refused_at, view_after_bodies, reading_after, read_on, read_stream, pictures_at_marks}
@@ -21,8 +21,8 @@ use Rattle.order_means.specs.Packets.{PacketStage, Pieces, pieces, before_pieces
 use Rattle.order_means.specs.Packets.PacketStage.{Between, Head, FastHead, FastLong, Inside, Passing}
 use Rattle.order_means.proofs.Pieces.{read_joined}
 use Rattle.order_means.proofs.Cut.{part_left}
-use Rattle.packet_laws.proofs.PieceJoined.{pieces_joined, joined_from}
-use Rattle.packet_laws.proofs.ReadPieces.{stage_of, all_agree}
+use Rattle.order_means.proofs.PieceJoined.{pieces_joined, joined_from}
+use Rattle.order_means.proofs.ReadPieces.{stage_of, all_agree}
 use Rattle.headline.specs.Fronts.{ShowsFirst}
 use Rattle.headline.proofs.StreamFronts.{Pictures, AreFirstOf, stream_front, marks_front}
 use Rattle.headline.proofs.Takes.{read_to}

@@ -8,7 +8,7 @@ use Rattle.caps_sets.specs.Confirmed.{takes_fast}
 use Rattle.wire_num.specs.Field.{Read, bind}
 use Rattle.order_fields.specs.OrderStream.{Order, Stream, orders_in}
 use Rattle.order_fields.specs.OrderStream.Order.{Primary, Other}
-use Rattle.order_means.specs.WirePixels.{turned_over}
+use Rattle.px_core.specs.Picture.{turned_over}
 use Rattle.order_means.specs.ClientState.{Fault, client_after_order, after_painting, needs}
 use Rattle.order_means.specs.ClientState.Fault.{Broken}
 use Rattle.order_means.specs.Updates.{Body, Cutting, updates_from, refusal_in}

@@ -17,11 +17,11 @@ use Rattle.order_means.specs.Updates.Stage.{Between}
 use Rattle.order_means.specs.FrameMarks.{View as Sight, first_view, reading, read_on}
 use Rattle.order_means.specs.PointerPackets.{pointer_kind, pointer_packet, is_pointer}
 use Rattle.order_means.specs.Packets.{before_pieces, held_in, kept_pieces, pieces_in, without_pointers, pointer_packets}
-use Rattle.packet_laws.proofs.PointerFound.{pointer_told}
-use Rattle.packet_laws.proofs.PacketPieces.{share_cut}
-use Rattle.packet_laws.proofs.ReadPieces.{read_has_no_pointers}
-use Rattle.packet_laws.proofs.WithoutPointers.{cut_before, kept_before, none_before}
-use Rattle.packet_laws.proofs.PieceJoined.{joined}
+use Rattle.order_means.proofs.PointerFound.{pointer_told}
+use Rattle.order_means.proofs.PacketPieces.{share_cut}
+use Rattle.order_means.proofs.ReadPieces.{read_has_no_pointers}
+use Rattle.order_means.proofs.WithoutPointers.{cut_before, kept_before, none_before}
+use Rattle.order_means.proofs.PieceJoined.{joined}
 use Rattle.frame_rules.specs.Pointers.{Shape, pointer_at, key_shape, shape_of}
 use Rattle.frame_rules.specs.Told.{is_told, message_of, told_after, key_at, bytes_told, pointer_bytes}
 use Rattle.frame_rules.specs.FrameBytes.{joined_bytes}

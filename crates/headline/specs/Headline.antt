@@ -74,8 +74,11 @@ HasSessionSize head = IsTrue (is_session_size head.size.w head.size.h)
 
 -- for a list of steps, and the bytes that each viewer is sent, with pointers: without those each viewer sees the journal, and with them the journal's pointers
 pub record EveryViewerSeesTheJournal (head : Head) (asked : List Asked) (written : ℕ → List ℕ) : Type 0 where
-  pub viewers : (v : ℕ) → SeesJournal head.size (confirmed_in head asked v) (journal_of_steps head (steps_of asked)) (frame_numbers head (steps_of asked) v) (without_pointers (written v))
-  pub pointers : (v : ℕ) → SeesPointers head.size (confirmed_in head asked v) (journal_of_steps head (steps_of asked)) (frame_numbers head (steps_of asked) v) (written v)
+  pub viewers : (v : ℕ)
+      → SeesJournal head.size (confirmed_in head asked v) (journal_of_steps head (steps_of asked)) (frame_numbers head (steps_of asked) v)
+      (without_pointers (written v))
+  pub pointers : (v : ℕ)
+      → SeesPointers head.size (confirmed_in head asked v) (journal_of_steps head (steps_of asked)) (frame_numbers head (steps_of asked) v) (written v)
   pub journal_is_legal : IsLegalJournal head (journal_of_steps head (steps_of asked))
   pub changes_are_the_holders : ChangesAreTheHolders head.size (journal_of_steps head (steps_of asked))
 

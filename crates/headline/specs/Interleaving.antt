@@ -8,7 +8,8 @@ use Rattle.script_rules.specs.CaptureText.{Run, run_after, encoder_frames}
 
 -- the bytes of a viewer's frame, where a step is its take with work
 abbrev pub frames_in : Head → Run Encoder → ℕ → Asked → List (List ℕ)
-frames_in head run v a = map (λ t. pointed_bytes head.size (run.confirmed v) run.journal (run.encoders v) t) (take_in v run.play (effect_of head run.play a.step))
+frames_in head run v a = map (λ t. pointed_bytes head.size (run.confirmed v) run.journal (run.encoders v) t)
+    (take_in v run.play (effect_of head run.play a.step))
 
 -- the bytes of a viewer's frames in the course of steps, in order
 abbrev pub frames_from : Head → Run Encoder → ℕ → List Asked → List (List ℕ)

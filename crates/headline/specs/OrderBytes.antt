@@ -6,7 +6,7 @@ use Rattle.session_rules.specs.Steps.{Answer, outcome}
 use Rattle.session_rules.specs.Steps.Answer.{Joined, Left, Accepted, Refused, Nothing, Frame}
 use Rattle.order_fields.specs.NamedDrawing.{NamedDrawing}
 use Rattle.order_fields.specs.NamedDrawing.NamedDrawing.{Dst, Pat, Scr, Opaque, SaveBlock, RestoreBlock, Mem, Mem3, Glyphs}
-use Rattle.order_means.specs.WirePixels.{padded_image}
+use Rattle.order_means.specs.KeptContent.{padded_image}
 use Rattle.frame_rules.specs.FrameOrders.{SentOrder, orders_before_tiles}
 use Rattle.frame_rules.specs.FrameOrders.SentOrder.{Drawn, CacheImage, CacheGlyph, CacheBrush, FrameMarker}
 use Rattle.frame_rules.specs.Encoder.{Encoder, encoder_frame}

@@ -1,5 +1,6 @@
 -- What a viewer with a pointer cache shows: its pointer at each mark, and which packets of pointers it was sent.
-use Rattle.std.specs.Prelude.{◌≡◌, ℕ, ◌-◌, ◌==◌, Bool, true, false, List, [], ◌∷◌, ◌++◌, length, map, replicate, Option, Some, None, Result, Ok, Err, option_and_then, option_map, if◌then◌else◌}
+use Rattle.std.specs.Prelude.{◌≡◌, ℕ, ◌-◌, ◌==◌, Bool, true, false, List, [], ◌∷◌, ◌++◌, length, map, replicate, Option, Some, None, Result, Ok, Err}
+use Rattle.std.specs.Prelude.{option_and_then, option_map, if◌then◌else◌}
 use Rattle.px_core.specs.declared.surface.Size.{Size}
 use Rattle.caps_sets.specs.declared.confirmed.Confirmed.{Confirmed}
 use Rattle.caps_sets.specs.Confirmed.{pointer_cells}
@@ -61,12 +62,14 @@ listed_packet (Some packet) = packet ∷ []
 abbrev pub packet_told : Confirmed → List ℕ → ℕ → List (List ℕ)
 packet_told c keys key = if pointer_cells c == 0 then [] else listed_packet (told_packet c.cautious (pointer_cells c) keys key)
 
--- the packets of pointers before frames of these numbers of entries, to a viewer that was told these keys: one for each change of the pointer, with a shape exactly where the viewer's cache misses, and else with the entry that holds it
+-- the packets of pointers before frames of these numbers of entries, to a viewer that was told these keys: one for each change of the pointer, with a shape
+-- exactly where the viewer's cache misses, and else with the entry that holds it
 abbrev pub packets_told : Confirmed → Size → List Entry → List ℕ → List ℕ → List (List ℕ)
 packets_told c size j keys [] = []
 packets_told c size j keys (n ∷ ns) = packet_told c keys (key_at size j n) ++ packets_told c size j (told_after keys (key_at size j n)) ns
 
--- a viewer's bytes with its pointers aren't refused; at each mark it shows the pointer after exactly as many entries of the journal as the take found; and the packets of pointers are exactly those for its changes
+-- a viewer's bytes with its pointers aren't refused; at each mark it shows the pointer after exactly as many entries of the journal as the take found; and the
+-- packets of pointers are exactly those for its changes
 pub record SeesPointers (size : Size) (confirmed : Confirmed) (j : List Entry) (numbers : List ℕ) (written : List ℕ) : Type 0 where
   pub marks_show_pointers : shapes_at_marks confirmed size written ≡ Some (map (λ n. shape_after confirmed size j n) numbers)
   pub packets_are_told : pointer_packets written ≡ packets_told confirmed size j [] numbers

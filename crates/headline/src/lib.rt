@@ -1,4 +1,5 @@
-//! The headline: whatever the interleaving, every viewer is sent bytes that are read whole, and each mark shows, cut to the viewer's depth, the picture after the
+//! The headline: whatever the interleaving, every viewer is sent bytes that are read whole, and each mark shows, cut to the viewer's depth, the picture after
+//! the
 //! entries that the take found, and the pointer after them; over steps, over captures and over scripts.
 #![tactic(auto)]
 

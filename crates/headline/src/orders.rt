@@ -13,7 +13,7 @@ ghost use Rattle.px_core.specs.declared.depth.Depth.{Depth};
 ghost use Rattle.run_lengths.specs.Packer.{packed};
 ghost use Rattle.px_core.specs.Pixels.{pixels_bytes};
 ghost use Rattle.cache_plan.specs.CacheUse.{misses, cache_index, uses_of};
-ghost use Rattle.order_means.specs.WirePixels.{data_of};
+ghost use Rattle.run_lengths.specs.WirePixels.{data_of};
 ghost use Rattle.session_rules.specs.declared.entry.Entry.{Entry};
 ghost use Rattle.session_rules.specs.Journal.{Head, IsLegalJournal};
 ghost use Rattle.session_rules.specs.Steps.{TakeOf};

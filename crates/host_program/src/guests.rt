@@ -2,16 +2,15 @@
 
 ghost use Rattle.std.specs.Prelude.{◌≡◌, ◌∷◌, map, IfOk, IfSome};
 ghost use Rattle.std.specs.Option.{option_map};
-ghost use Rattle.session_rules.specs.Steps.{is_new_name, are_names_distinct};
+ghost use Rattle.session_rules.specs.Steps.{are_names_distinct};
 ghost use Rattle.session_core.specs.Heads.{rows_of};
 ghost use Rattle.session_core.specs.SessionModel.{AreInvited};
 ghost use Rattle.host_program.specs.Serving.{row_in, row_with, guest_row, guest_rows, rows_of_words};
 
 use command_words::OutOfMemory;
 use info_lic::Name;
-use line_text::is_same_word;
 use script_lines::is_name;
-use session_core::{Invite, Role};
+use session_core::{Invite, Role, is_new_name};
 use std::alloc::Global;
 
 /// The most guests (profile).
@@ -89,18 +88,6 @@ fn are_names_distinct(rows: &[Invite]) -> bool
 {
     for i in 0..rows.len() {
         if !is_new_name(rows[i].name.bytes(), &rows[i + 1..]) {
-            return false;
-        }
-    }
-    true
-}
-
-/// Whether no row has a name.
-fn is_new_name(name: &[u8], rows: &[Invite]) -> bool
-    ensures { result ≡ is_new_name name.now (rows_of rows.now) }
-{
-    for row in rows {
-        if is_same_word(name, row.name.bytes()) {
             return false;
         }
     }

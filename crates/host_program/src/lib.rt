@@ -20,6 +20,3 @@ pub use ending::Ending;
 pub use entry::run_host;
 pub use host::top;
 pub use script_run::{ScriptFault, run_script};
-
-#[cfg(test)]
-mod tests;

@@ -1,6 +1,7 @@
 -- The Client Info PDU ([MS-RDPBCGR] 2.2.1.11.1), from its security header on: a TS_INFO_PACKET (2.2.1.11.1.1), of which the
 -- user name is read.
-use Rattle.std.specs.Prelude.{ℕ, ◌+◌, ◌*◌, nat_le, nat_lt, Bool, true, false, ◌&&◌, List, [], ◌∷◌, length, take, drop, replicate, slice_index, Option, Some, None, Result, if◌then◌else◌}
+use Rattle.std.specs.Prelude.{ℕ, ◌+◌, ◌*◌, nat_le, nat_lt, Bool, true, false, ◌&&◌, List, [], ◌∷◌, length, take, drop, replicate, slice_index, Option}
+use Rattle.std.specs.Prelude.{Some, None, Result, if◌then◌else◌}
 use Rattle.std.specs.Option.{option_map}
 use Rattle.wire_num.specs.FieldValue.{is_any, has_bits, placed}
 use Rattle.wire_num.specs.Layout.{Layout, Open, Bytes, Any, Little, ◌▸◌, fields_at}

@@ -6,4 +6,5 @@ use Rattle.byteorder.specs.Endian.{little_bytes}
 -- dwErrorCode, STATUS_VALID_CLIENT; dwStateTransition, ST_NO_TRANSITION; wBlobType, BB_ERROR_BLOB; wBlobLen
 abbrev pub licence : List ℕ
 licence =
-    little_bytes 2 128 ++ (little_bytes 2 0 ++ (255 ∷ 3 ∷ (little_bytes 2 16 ++ (little_bytes 4 7 ++ (little_bytes 4 2 ++ (little_bytes 2 4 ++ little_bytes 2 0))))))
+    little_bytes 2 128 ++ (little_bytes 2 0
+    ++ (255 ∷ 3 ∷ (little_bytes 2 16 ++ (little_bytes 4 7 ++ (little_bytes 4 2 ++ (little_bytes 2 4 ++ little_bytes 2 0))))))

@@ -22,7 +22,8 @@ ghost use Rattle.wire_num.specs.Cursor.{rest, ReadsField, ReadsFieldAs, ReadsFie
 ghost use Rattle.wire_num.specs.Field.{map_read, wanted};
 ghost use Rattle.wire_num.specs.Number.{little_at};
 ghost use Rattle.wire_num.specs.FieldValue.{passing_at, has_bits};
-ghost use Rattle.info_lic.specs.ClientInfo.{info_start, counts_of, terminator, text, other_texts, info_texts, user_in, named, utf16_units, named_by, name_in, info_at, name_of};
+ghost use Rattle.info_lic.specs.ClientInfo.{info_start, counts_of, terminator, text, other_texts, info_texts, user_in, named, utf16_units, named_by};
+ghost use Rattle.info_lic.specs.ClientInfo.{name_in, info_at, name_of};
 ghost use Rattle.info_lic.specs.Grammar.{IsClientInfo};
 ghost use Rattle.info_lic.specs.Faults.{IsFirstFault};
 

@@ -87,7 +87,8 @@ fn back_blocks(pixels: &[u32], above: &[u32], from: usize) -> usize
     requires from { from < length pixels.now }
     ensures from { from ≤ result }
     ensures within { result ≤ length pixels.now }
-    ensures reached { from + common_prefix_len (λ x y. x == y) (drop from pixels.now) (drop from above.now) ≡ result + common_prefix_len (λ x y. x == y) (drop result pixels.now) (drop result above.now) }
+    ensures reached { from + common_prefix_len (λ x y. x == y) (drop from pixels.now) (drop from above.now) ≡ result + common_prefix_len (λ x y. x == y)
+        (drop result pixels.now) (drop result above.now) }
 {
     let mut at = from;
     while pixels.len() - at >= LANES {

@@ -32,4 +32,5 @@ coordinate_limit = 65535
 -- a coordinate: a number with an optional minus sign in front
 abbrev pub coordinate_of : List ℕ → Option ℤ
 coordinate_of [] = None
-coordinate_of (b ∷ bs) = if b == 45 then option_map (λ n. neg_ℤ (pos n)) (number_up_to coordinate_limit bs) else option_map pos (number_up_to coordinate_limit (b ∷ bs))
+coordinate_of (b ∷ bs) = if b == 45 then option_map (λ n. neg_ℤ (pos n)) (number_up_to coordinate_limit bs) else option_map pos
+    (number_up_to coordinate_limit (b ∷ bs))

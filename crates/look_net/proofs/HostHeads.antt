@@ -1,21 +1,24 @@
 -- Heads of a host's bytes, as packets of the fast path are awaited or not.
-use Rattle.std.proofs.Common.{◌≡◌, ◌≤◌, ◌+◌, ◌*◌, ◌-◌, ◌%◌, ℕ, zero, suc, Bool, true, false, List, [], ◌∷◌, ◌++◌, length, take, refl, ap, sym, ◌∙◌, subst, inl, inr, arith}
+use Rattle.std.proofs.Common.{◌≡◌, ◌≤◌, ◌<◌, ◌+◌, ◌*◌, ◌-◌, ◌%◌, ℕ, zero, suc, Bool, true, false, List, [], ◌∷◌, ◌++◌, length, take, refl, ap, sym, ◌∙◌, subst, inl, inr, arith}
 use Rattle.std.specs.Prelude.{◌==◌, ◌≢◌, nat_lt, slice_index, if◌then◌else◌}
 use Rattle.std.proofs.lemmas.Bool.Decides.{nat_tests}
+use Rattle.std.proofs.Math.Seq.{take-length}
 use Rattle.caps_sets.specs.declared.confirmed.Confirmed.{Confirmed}
 use Rattle.caps_sets.specs.Confirmed.{takes_fast}
 use Rattle.tpkt_x224.specs.declared.tpkt.Packet.{Packet}
 use Rattle.tpkt_x224.specs.declared.tpkt.Packet.TheVariants.{Whole, Part, NotTpkt, BadLength}
 use Rattle.tpkt_x224.specs.Tpkt.{packet_at}
 use Rattle.tpkt_x224.proofs.Heads.{version_head, length_head}
-use Rattle.fast_path.specs.Heads.{packet_of_size, after_long, after_action, fast_packet_at, stream_packet_at, is_fast}
+use Rattle.fast_path.specs.Heads.{IsCounted as IsFastCounted, IsCountedLong, packet_of_size, after_long, after_action, fast_packet_at, stream_packet_at, is_fast}
 use Rattle.fast_path.proofs.Heads.{by_short, by_long, which, action_never}
 use Rattle.fast_path.proofs.Mixed.{at_tpkt as stream_tpkt, at_fast as stream_fast}
 use Rattle.viewer_rules.specs.declared.stage.Stage.{Stage}
 use Rattle.viewer_rules.specs.declared.stage.Stage.TheVariants as stage
-use Rattle.viewer_rules.specs.HostStream.{host_packet_at}
+use Rattle.update_read.specs.Cutters.{fast_length, length_by}
+use Rattle.update_read.specs.Wholes.{IsCounted, IsFastWhole, IsWholePacket}
+use Rattle.viewer_rules.specs.HostStream.{host_packet_at, IsHostPacket}
 use Rattle.viewer_rules.specs.ViewerHandshake.{awaits_fast}
-use Rattle.viewer_rules.proofs.HostStream.{Kind, kind, Tpkt, Fast, Other, at_tpkt, at_fast, at_other, same_head}
+use Rattle.viewer_rules.proofs.HostStream.{host_whole, Kind, kind, Tpkt, Fast, Other, at_tpkt, at_fast, at_other, same_head}
 use Rattle.look_net.specs.Watches.{is_shown}
 
 -- ---- by the first byte
@@ -177,3 +180,33 @@ early_kind c here (v ∷ bs) n e w = elim (kind (takes_fast c) v) [
     not_shown : (b : Bool) → is_shown here ≡ b → is_shown here ≡ false
     not_shown true f = absurd (let g = sym w ∙ (ap (λ (x : Bool). host_packet_at x (v ∷ bs)) (sym (shown_awaits here f)) ∙ e) in let no : ⊥ = cc in no)
     not_shown false f = f
+
+-- ---- as a client takes them
+
+counted_short : (v l : ℕ) (bs : List ℕ) → l < 128 → l ≡ 2 + length bs → IsCounted (fast_length (v ∷ l ∷ bs)) (length (v ∷ l ∷ bs))
+counted_short v l bs few size =
+    let test : nat_lt l 128 ≡ true = grind (arith, nat_tests, few) in
+    let counted : (2 ≤ l) × (l ≡ length (v ∷ l ∷ bs)) = (omega (arith, size), omega (arith, size)) in
+    subst (λ t. IsCounted (length_by t l bs) (length (v ∷ l ∷ bs))) (sym test) counted
+
+counted_long : (v l : ℕ) (bs : List ℕ) → 128 ≤ l → IsCountedLong l bs → IsCounted (fast_length (v ∷ l ∷ bs)) (length (v ∷ l ∷ bs))
+counted_long v l [] many is = absurd is
+counted_long v l (low ∷ bs) many is =
+    let test : nat_lt l 128 ≡ false = grind (arith, nat_tests, many) in
+    let counted : (3 ≤ 256 * (l - 128) + low) × (256 * (l - 128) + low ≡ length (v ∷ l ∷ low ∷ bs)) = (omega (arith, is), omega (arith, is)) in
+    subst (λ t. IsCounted (length_by t l (low ∷ bs)) (length (v ∷ l ∷ low ∷ bs))) (sym test) counted
+
+fast_whole : (v : ℕ) (bs : List ℕ) → v ≡ 0 → IsFastCounted bs → IsFastWhole (v ∷ bs)
+fast_whole v [] none is = absurd is
+fast_whole v (l ∷ bs) none is = (none, elim is [ inl h ↦ counted_short v l bs h.0 h.1 | inr h ↦ counted_long v l bs h.0 h.1 ])
+
+client_packet : (fast : Bool) (p : List ℕ) → IsHostPacket fast p → IsWholePacket p
+client_packet fast p (inl is) = inl is
+client_packet fast [] (inr is) = absurd is.1
+client_packet fast (v ∷ bs) (inr is) = inr (fast_whole v bs is.1.0 is.1.1)
+
+pub whole_there : (fast : Bool) (bytes : List ℕ) (n : ℕ) → host_packet_at fast bytes ≡ Whole n → IsWholePacket (take n bytes)
+whole_there fast bytes n e = client_packet fast (take n bytes) ((host_whole fast bytes n).0 e).1
+
+pub whole_kept : (fast : Bool) (p : List ℕ) (n : ℕ) → host_packet_at fast p ≡ Whole n → n ≡ length p → IsWholePacket p
+whole_kept fast p n e size = subst IsWholePacket (ap (λ (k : ℕ). take k p) size ∙ take-length p) (whole_there fast p n e)

@@ -81,7 +81,13 @@ pub record DialState : Type 0 where
 -- a dial as it is now
 abbrev pub dial_state : {D L Reader Writer Spent : Type 0} → dials.Ghosts D L Reader Writer Spent → links.Ghosts L Reader Writer Spent → D → DialState
 dial_state dial link x =
-    record { given = map (outside_given link) (dial.given x); finished = map (outside_spent link) (dial.finished x); asked = dial.asked x; faults = dial.faults x }
+    record {
+      given = map (outside_given link) (dial.given x);
+      finished = map (outside_spent link)
+          (dial.finished x);
+      asked = dial.asked x;
+      faults = dial.faults x;
+    }
 
 -- ---- how a host is watched
 
@@ -96,7 +102,8 @@ pub data WatchEnd : Type 0 where
 abbrev pub AreAll : Option (List ℕ) → List ℕ → Type 0
 AreAll left read = IfSome left (λ bytes. bytes ≡ read)
 
--- the link as it came back, by how watching the host ended: it was told all that is due, but for a front of it where it couldn't be written or memory was wanting; one
+-- the link as it came back, by how watching the host ended: it was told all that is due, but for a front of it where it couldn't be written or memory was
+-- wanting; one
 -- count rose where a fault ended it; and where the bytes ask for 35 without a fault they are all that the host gave
 abbrev pub Tells : WatchEnd → ViewingOf → (read : List ℕ) → Watched → Outside → Outside → Type 0
 Tells Decided v read x before now =

@@ -95,7 +95,8 @@ impl Look {
         Ok(())
     }
 
-    /// Reads the next bytes of the host, and appends what is due to `out`. It refuses the stream where it is to be refused, then and from then on; what is due for
+    /// Reads the next bytes of the host, and appends what is due to `out`. It refuses the stream where it is to be refused, then and from then on; what is due
+    /// for
     /// the packets before is appended. Behind an ultimatum nothing is looked at. After want of memory the look is spent, and answers it again; `out` then has
     /// what is due for a front of the bytes, each packet's text whole.
     pub fn feed(&mut self, bytes: &[u8], out: &mut Vec<u8>) -> Result<(), LookFault>

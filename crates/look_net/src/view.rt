@@ -99,7 +99,8 @@ fn print_end<K: Sink>(alloc: Global, end: End, look: &Look, output: &mut K) -> u
 
 /// Prints the picture of the last mark, with what was counted, or that there was no mark.
 fn print_look<K: Sink>(alloc: Global, look: &Look, output: &mut K) -> Result<(), ShowFault>
-    ensures written { (w : Watching) → IsWatching w look.now → look_refusal look.now.confirmed w ≡ None → Writes result (text_of (look_shown look.now.confirmed w)) (K.told output.old) (K.told output.new) }
+    ensures written { (w : Watching) → IsWatching w look.now → look_refusal look.now.confirmed w ≡ None
+        → Writes result (text_of (look_shown look.now.confirmed w)) (K.told output.old) (K.told output.new) }
     ensures fault { IfErr result IsWriteFault }
     ensures cause { WriteCause result (K.faults output.old) (K.faults output.new) }
 {

@@ -4,6 +4,7 @@ ghost use Rattle.std.specs.Prelude.{◌≡◌, ℕ, true, false, List, [], ◌++
 ghost use Rattle.px_core.specs.declared.surface.Size.{Size};
 ghost use Rattle.caps_sets.specs.declared.confirmed.Confirmed.{Confirmed};
 ghost use Rattle.fast_path.specs.Heads.{is_fast};
+ghost use Rattle.update_read.specs.Wholes.{IsWholePacket};
 ghost use Rattle.viewer_rules.specs.Shown.{has_ended};
 ghost use Rattle.viewer_rules.specs.ViewerHandshake.{Standing, size_or, start_by, silent, answered, shown_by, packet_told, packet_answered, is_farewell};
 ghost use Rattle.viewer_wire.specs.Reads.{with_text};
@@ -28,7 +29,8 @@ pub struct Viewer {
     pub confirmed: Confirmed,
 }
 
-/// How far a host's stream has come, between two packets. `place` is that of the next packet, `start` that of the first update, in bytes from the stream's first
+/// How far a host's stream has come, between two packets. `place` is that of the next packet, `start` that of the first update, in bytes from the stream's
+/// first
 /// one; `body` and `text` are taken again and again.
 #[derive(Drop)]
 pub struct Watcher {
@@ -47,7 +49,8 @@ pub(crate) fn watch_packet(
     packet: &[u8],
     out: &mut Vec<u8>,
 ) -> Result<(), LookFault>
-    requires { is_shown watcher.old.stage ≡ false → is_fast packet.now ≡ false }
+    requires slow { is_shown watcher.old.stage ≡ false → is_fast packet.now ≡ false }
+    requires whole { IsWholePacket packet.now }
     ensures { (s : Standing) → Stays s viewer.now.confirmed watcher.old → has_ended s.stage ≡ false
         → WatchesPacket result (packet_told viewer.now.name viewer.now.confirmed s.stage s packet.now) viewer.now.confirmed watcher.new out.old.items out.new.items }
 {
@@ -78,6 +81,7 @@ pub(crate) fn is_shown(stage: Stage) -> bool
 
 /// Shows a packet, or ends at the host's ultimatum.
 fn show_packet(viewer: &Viewer, watcher: &mut Watcher, packet: &[u8]) -> Result<(), LookFault>
+    requires { IsWholePacket packet.now }
     ensures { (s : Standing) (out : List ℕ) → Stays s viewer.now.confirmed watcher.old → is_shown s.stage ≡ true
         → WatchesPacket result (silent (shown_by (is_farewell packet.now) s packet.now)) viewer.now.confirmed watcher.new out out }
 {
@@ -90,20 +94,24 @@ fn show_packet(viewer: &Viewer, watcher: &mut Watcher, packet: &[u8]) -> Result<
     Ok(())
 }
 
-/// Shows bytes to the client, where there is one, which counts its places from `start` on.
-fn show(client: &mut Option<Client>, start: u64, bytes: &[u8]) -> Result<(), LookFault>
-    ensures { (c : Confirmed) (size : Option Size) (shown : List ℕ) → HasClient c size shown client.old → ShowsMore result c size start (shown ++ bytes.now) client.new }
+/// Shows a packet to the client, where there is one, which counts its places from `start` on.
+fn show(client: &mut Option<Client>, start: u64, packet: &[u8]) -> Result<(), LookFault>
+    requires { IsWholePacket packet.now }
+    ensures { (c : Confirmed) (size : Option Size) (shown : List ℕ) → HasClient c size shown client.old
+        → ShowsMore result c size start (shown ++ packet.now) client.new }
 {
     match client {
         None => Ok(()),
-        Some(client) => feed_client(client, start, bytes),
+        Some(client) => feed_client(client, start, packet),
     }
 }
 
-fn feed_client(client: &mut Client, start: u64, bytes: &[u8]) -> Result<(), LookFault>
-    ensures { (c : Confirmed) (size : Size) (shown : List ℕ) → Shows c size shown client.old → FeedsMore result c size start (shown ++ bytes.now) client.new }
+/// Lets a client read a packet.
+fn feed_client(client: &mut Client, start: u64, packet: &[u8]) -> Result<(), LookFault>
+    requires { IsWholePacket packet.now }
+    ensures { (c : Confirmed) (size : Size) (shown : List ℕ) → Shows c size shown client.old → FeedsMore result c size start (shown ++ packet.now) client.new }
 {
-    match client.feed(bytes) {
+    match client.feed_packet(packet) {
         Ok(()) => Ok(()),
         Err(ClientFault::Refused { at }) => Err(LookFault::Refused {
             at: start.saturating_add(at),

@@ -9,6 +9,3 @@ pub use capture_show::{ShowFault, show_capture};
 pub use ending::Ending;
 pub use entry::run_look;
 pub use top::look_top;
-
-#[cfg(test)]
-mod tests;

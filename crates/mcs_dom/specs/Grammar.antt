@@ -12,7 +12,8 @@ use Rattle.mcs_dom.specs.AttachUser.{attach_user_request}
 use Rattle.mcs_dom.specs.ChannelJoin.{channel_join_request}
 use Rattle.mcs_dom.specs.SendData.{send_data_request}
 use Rattle.mcs_dom.specs.Ultimatum.{ultimatum, basic_bytes, basic_ultimatum}
-use Rattle.mcs_dom.specs.DomainPdu.{Choice, ErectDomainRequest, AttachUserRequest, ChannelJoinRequest, SendDataRequest, DisconnectProviderUltimatum, BasicUltimatum, Other, choice_of}
+use Rattle.mcs_dom.specs.DomainPdu.{Choice, ErectDomainRequest, AttachUserRequest, ChannelJoinRequest, SendDataRequest, DisconnectProviderUltimatum}
+use Rattle.mcs_dom.specs.DomainPdu.{BasicUltimatum, Other, choice_of}
 
 -- choice; subHeight and subInterval, each a byte that counts its bytes, and the bytes; any bytes may follow
 pub record IsErectDomain (bytes : List ℕ) : Type 0 where

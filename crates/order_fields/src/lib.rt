@@ -27,6 +27,6 @@ pub use order::{write_bounds, write_order};
 pub use regs::Regs;
 pub use table::{
     DST_BLT, GLYPH_INDEX, Layout, MEM_BLT, MEM3_BLT, OPAQUE_RECT, PAT_BLT, SAVE_BITMAP, SCR_BLT,
-    flag_bytes_of, is_counted, kinds_of, layout_of,
+    is_counted, kinds_of, layout_of,
 };
 pub use wire_num::OutOfMemory;

@@ -13,7 +13,7 @@
 
 ghost use Rattle.std.specs.Prelude.{◌≡◌, false, is_some, length, IfSome};
 ghost use Rattle.order_fields.specs.OrderTable.{row_of};
-ghost use Rattle.order_fields.specs.Kept.{row_kinds, row_flags, is_row_counted, IsLayoutOf};
+ghost use Rattle.order_fields.specs.Kept.{row_kinds, is_row_counted, IsLayoutOf};
 
 use crate::FieldKind;
 use crate::FieldKind::{Color, Coordinate, Number, Signed};
@@ -192,18 +192,6 @@ fn plain(kinds: &'static [FieldKind], flag_bytes: u8) -> Layout
         kinds,
         flag_bytes,
         counted: false,
-    }
-}
-
-/// How many flag bytes a type has; none has another type.
-pub fn flag_bytes_of(kind: u8) -> u8
-    ensures { result ≡ row_flags (row_of kind) }
-{
-    match kind {
-        DST_BLT | SCR_BLT | OPAQUE_RECT | SAVE_BITMAP => 1,
-        PAT_BLT | MEM_BLT => 2,
-        MEM3_BLT | GLYPH_INDEX => 3,
-        _ => 0,
     }
 }
 

@@ -12,7 +12,7 @@ use Rattle.share_pdu.specs.Share.{share_bytes}
 use Rattle.share_pdu.specs.Packet.{update_packet, indication_at}
 use Rattle.share_pdu.proofs.Share.{length_share}
 use Rattle.share_pdu.proofs.Packet.{carried, indication_back, per_short}
-use Rattle.order_means.specs.WirePixels.{turned}
+use Rattle.px_core.specs.Picture.{turned}
 use Rattle.order_means.specs.Updates.{BodyForm, Updates, updates, body_at, cutting, updates_from, before_updates, whole_packet, form_of, fast_data_at, fast_update_at, then_updates, more_updates, whole_fast, fast_begun}
 use Rattle.order_means.specs.Updates.BodyForm.{Slow}
 use Rattle.order_means.specs.Updates.Stage.{Between, Inside, FastInside}

@@ -1,4 +1,5 @@
--- The bytes of secondary orders and of the frame marker ([MS-RDPEGDI] 2.2.2.2.1.2 and 2.2.2.2.1.3.7). Images and brushes are given in the session's colours, and go to a viewer as they are shown at its depth.
+-- The bytes of secondary orders and of the frame marker ([MS-RDPEGDI] 2.2.2.2.1.2 and 2.2.2.2.1.3.7). Images and brushes are given in the session's colours,
+-- and go to a viewer as they are shown at its depth.
 use Rattle.std.specs.Prelude.{ℕ, ◌-◌, Bool, List, ◌∷◌, ◌++◌, length, if◌then◌else◌}
 use Rattle.byteorder.specs.Endian.{little_bytes}
 use Rattle.wire_num.specs.Number.{little_signed}
@@ -7,7 +8,9 @@ use Rattle.px_core.specs.Depth.{bits_in, brush_format, brush_bytes, shown_colors
 use Rattle.px_core.specs.Pixels.{pixels_bytes}
 use Rattle.draw_ops.specs.Content.{ImageOf, GlyphOf}
 use Rattle.order_fields.specs.OrderDelta.{bit}
-use Rattle.order_means.specs.WirePixels.{turned_over, kept_image, padded_glyph, PixelData, data_of}
+use Rattle.px_core.specs.Picture.{turned_over}
+use Rattle.run_lengths.specs.WirePixels.{PixelData, data_of}
+use Rattle.order_means.specs.KeptContent.{kept_image, padded_glyph}
 
 -- a secondary order: its control byte, its total length less 13, extraFlags, its type, its body
 abbrev pub secondary_bytes : ℕ → ℕ → List ℕ → List ℕ
@@ -30,7 +33,8 @@ cache_bitmap_bytes depth no_header cache index image =
 -- a glyph for an entry of a glyph cache, one an order (2.2.2.2.1.2.5)
 abbrev pub cache_glyph_bytes : ℕ → ℕ → GlyphOf → List ℕ
 cache_glyph_bytes cache index glyph =
-    secondary_bytes 0 3 (cache ∷ 1 ∷ (little_bytes 2 index ++ (little_signed 2 glyph.x ++ (little_signed 2 glyph.y ++ (little_bytes 2 glyph.cx ++ (little_bytes 2 glyph.cy ++ (padded_glyph glyph).bits))))))
+    secondary_bytes 0 3 (cache ∷ 1 ∷ (little_bytes 2 index
+    ++ (little_signed 2 glyph.x ++ (little_signed 2 glyph.y ++ (little_bytes 2 glyph.cx ++ (little_bytes 2 glyph.cy ++ (padded_glyph glyph).bits))))))
 
 -- a brush for an entry of the brush cache (2.2.2.2.1.2.7)
 abbrev pub cache_brush_bytes : Depth → ℕ → List ℕ → List ℕ

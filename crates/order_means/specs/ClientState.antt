@@ -1,8 +1,9 @@
 -- What a client makes of orders: its state, and its state after each order.
-use Rattle.std.specs.Prelude.{ℕ, ◌+◌, ◌*◌, ◌/◌, ◌%◌, ◌==◌, nat_lt, nat_le, Bool, true, false, ◌&&◌, ◌||◌, ℤ, pos, int_le, List, [], ◌∷◌, length, map, replicate, slice_set, Option, Some, None, Result, Ok, Err}
+use Rattle.std.specs.Prelude.{ℕ, ◌+◌, ◌*◌, ◌/◌, ◌%◌, ◌==◌, nat_lt, nat_le, Bool, true, false, ◌&&◌, ◌||◌, ℤ, pos, int_le, List, [], ◌∷◌, length, map}
+use Rattle.std.specs.Prelude.{replicate, slice_set, Option, Some, None, Result, Ok, Err}
 use Rattle.px_core.specs.declared.surface.Size.{Size}
 use Rattle.px_core.specs.declared.rectangle.Rect.{Rect}
-use Rattle.px_core.specs.Picture.{pixel_count, item, rows_of, Area, everywhere}
+use Rattle.px_core.specs.Picture.{pixel_count, item, rows_of, Area, everywhere, turned_over}
 use Rattle.px_core.specs.Rectangle.{boxed, is_inside, cut_out}
 use Rattle.rop3_core.specs.Palette.{client_colors}
 use Rattle.run_lengths.specs.RunLength.{unrle}
@@ -12,7 +13,8 @@ use Rattle.caps_sets.specs.Confirmed.{cache_size, depth_of}
 use Rattle.draw_ops.specs.Content.{ImageOf, GlyphOf}
 use Rattle.draw_ops.specs.Depths.{client_colors_at}
 use Rattle.draw_ops.specs.Slots.{Slots, empty_slots, filled_slot, lookup}
-use Rattle.draw_ops.specs.Formulas.{Operand, solid, rastered, replaced, absent, brushed, shifted, imaged, image_rows, run_area, run_cells, joint_of, Painting, over_rect, picture_after}
+use Rattle.draw_ops.specs.Formulas.{Operand, solid, rastered, replaced, absent, brushed, shifted, imaged, image_rows, run_area, run_cells, joint_of}
+use Rattle.draw_ops.specs.Formulas.{Painting, over_rect, picture_after}
 use Rattle.wire_num.specs.Field.{bind}
 use Rattle.px_core.specs.Pixels.{pixels_of}
 use Rattle.px_core.specs.declared.depth.Depth.{Depth}
@@ -22,7 +24,6 @@ use Rattle.order_fields.specs.Secondary.{Cached, BitmapOrder, GlyphOrder, BrushO
 use Rattle.order_fields.specs.Secondary.Cached.{Bitmap, Glyph, Brush, Marker}
 use Rattle.order_fields.specs.OrderStream.{Order}
 use Rattle.order_fields.specs.OrderStream.Order.{Primary, Other}
-use Rattle.order_means.specs.WirePixels.{turned_over}
 use Rattle.order_fields.specs.NamedDrawing.{NamedDrawing, drawing_of}
 use Rattle.order_fields.specs.NamedDrawing.NamedDrawing.{Dst, Pat, Scr, Opaque, SaveBlock, RestoreBlock, Mem, Mem3, Glyphs}
 
@@ -35,7 +36,8 @@ pub record Block : Type 0 where
   pub h : ℕ
   pub pixels : List (Option ℕ)
 
--- the depth of its colours, the registers that the next update's orders are read with, three bitmap caches, ten glyph caches, the brush cache, the saved blocks, and a picture whose pixels may be unknown
+-- the depth of its colours, the registers that the next update's orders are read with, three bitmap caches, ten glyph caches, the brush cache, the saved
+-- blocks, and a picture whose pixels may be unknown
 pub record ClientState : Type 0 where
   pub depth : Depth
   pub registers : Registers
@@ -74,7 +76,8 @@ with_cached cache index x caches = slice_set caches cache (filled_slot index x (
 
 -- ---- refusals
 
--- why an order is refused: it breaks a rule, or it names an index or a cell past the confirmed size, or one that holds nothing. The caches are numbered 0 to 2 (bitmaps), 3 to 12 (glyphs) and 13 (brushes)
+-- why an order is refused: it breaks a rule, or it names an index or a cell past the confirmed size, or one that holds nothing. The caches are numbered 0 to 2
+-- (bitmaps), 3 to 12 (glyphs) and 13 (brushes)
 pub data Fault : Type 0 where
   Broken : Fault
   Oversized : (cache index : ℕ) → Fault
@@ -205,14 +208,16 @@ client_after_drawing confirmed size bounds c (Dst r code) = Ok (after_painting s
 client_after_drawing confirmed size bounds c (Pat r code entry) =
     bind (brush_used confirmed c entry) (λ brush. Ok (after_painting size bounds (mixing c.depth r code (brushed client_colors brush) no_operand) c))
 client_after_drawing confirmed size bounds c (Scr r code sx sy) =
-    needs (is_inside size (source_rect r sx sy)) Broken (Ok (after_painting size bounds (mixing c.depth r code no_operand (shifted (rows_of size.w size.h c.picture) None r sx sy)) c))
+    needs (is_inside size (source_rect r sx sy)) Broken
+    (Ok (after_painting size bounds (mixing c.depth r code no_operand (shifted (rows_of size.w size.h c.picture) None r sx sy)) c))
 client_after_drawing confirmed size bounds c (Opaque r color) = Ok (after_painting size bounds (over_rect r (solid client_colors color)) c)
 client_after_drawing confirmed size bounds c (SaveBlock position r) =
     needs (is_inside size r && nat_le (position + positions r.w r.h) 57600) Broken (Ok (with_block (block_of size c position r) c))
 client_after_drawing confirmed size bounds c (RestoreBlock position r) =
     needs (is_inside size r) Broken (bind (found (block_at position r.w r.h c.blocks) Broken) (λ b. Ok (after_painting size bounds (restoring b r) c)))
 client_after_drawing confirmed size bounds c (Mem cache index r code sx sy) =
-    bind (image_used confirmed c cache index (source_rect r sx sy)) (λ image. Ok (after_painting size bounds (mixing c.depth r code no_operand (imaged client_colors (image_rows image) r sx sy)) c))
+    bind (image_used confirmed c cache index (source_rect r sx sy))
+    (λ image. Ok (after_painting size bounds (mixing c.depth r code no_operand (imaged client_colors (image_rows image) r sx sy)) c))
 client_after_drawing confirmed size bounds c (Mem3 cache index r code sx sy entry) =
     bind (image_used confirmed c cache index (source_rect r sx sy)) (λ image. bind (brush_used confirmed c entry) (λ brush.
     Ok (after_painting size bounds (mixing c.depth r code (brushed client_colors brush) (imaged client_colors (image_rows image) r sx sy)) c)))
@@ -265,7 +270,8 @@ client_after_glyph confirmed c g =
 -- a brush is kept with its rows from the top
 abbrev pub client_after_brush : Confirmed → ClientState → BrushOrder → Result ClientState Fault
 client_after_brush confirmed c b =
-    needs (nat_lt b.entry (brush_entries confirmed.brush)) (Oversized 13 b.entry) (Ok (record c { brushes = filled_slot b.entry (turned_over 8 8 b.pixels) c.brushes }))
+    needs (nat_lt b.entry (brush_entries confirmed.brush)) (Oversized 13 b.entry)
+    (Ok (record c { brushes = filled_slot b.entry (turned_over 8 8 b.pixels) c.brushes }))
 
 -- a marker changes nothing of the client
 abbrev pub client_after_cached : Confirmed → ClientState → Cached → Result ClientState Fault

@@ -1,8 +1,9 @@
 -- A viewer that reads a host's bytes: the pictures at its marks.
-use Rattle.std.specs.Prelude.{◌≡◌, ℕ, zero, suc, ◌+◌, ◌-◌, ◌==◌, nat_le, Bool, true, false, ◌&&◌, not, pos, List, [], ◌∷◌, ◌++◌, length, Option, Some, None, Result, Ok, Err, if◌then◌else◌}
+use Rattle.std.specs.Prelude.{◌≡◌, ℕ, zero, suc, ◌+◌, ◌-◌, ◌==◌, nat_le, Bool, true, false, ◌&&◌, not, pos, List, [], ◌∷◌, ◌++◌, length, Option, Some}
+use Rattle.std.specs.Prelude.{None, Result, Ok, Err, if◌then◌else◌}
 use Rattle.px_core.specs.declared.surface.Size.{Size}
 use Rattle.px_core.specs.declared.rectangle.Rect.{Rect}
-use Rattle.px_core.specs.Picture.{rows_of}
+use Rattle.px_core.specs.Picture.{rows_of, turned_over}
 use Rattle.px_core.specs.Rectangle.{boxed, is_inside}
 use Rattle.rop3_core.specs.Palette.{client_colors}
 use Rattle.caps_sets.specs.declared.confirmed.Confirmed.{Confirmed}
@@ -16,7 +17,6 @@ use Rattle.order_fields.specs.Secondary.{Cached}
 use Rattle.order_fields.specs.Secondary.Cached.{Bitmap, Glyph, Brush, Marker}
 use Rattle.order_fields.specs.OrderStream.{Order, Stream, orders_in}
 use Rattle.order_fields.specs.OrderStream.Order.{Primary, Other}
-use Rattle.order_means.specs.WirePixels.{turned_over}
 use Rattle.order_means.specs.ClientState.{ClientState, Fault, first_client, client_after_order, after_painting, needs, is_bitmap, wire_pixels}
 use Rattle.order_means.specs.ClientState.Fault.{Broken}
 use Rattle.order_means.specs.Updates.{Body, BodyForm, Cutting, cutting, Updates, updates_from, updates_in, refusal_in, rest_of}
@@ -40,7 +40,8 @@ pub record Tile : Type 0 where
 abbrev pub tile_at : List ℕ → Read Tile
 tile_at bs =
     then_read (little_at 2 bs) (λ l a. then_read (little_at 2 a) (λ t b. then_read (little_at 2 b) (λ r c. then_read (little_at 2 c) (λ m d.
-    then_read (little_at 2 d) (λ w e. then_read (little_at 2 e) (λ h f. then_read (little_at 2 f) (λ depth g. then_read (little_at 2 g) (λ flags i. then_read (little_at 2 i) (λ n j.
+    then_read (little_at 2 d) (λ w e. then_read (little_at 2 e)
+    (λ h f. then_read (little_at 2 f) (λ depth g. then_read (little_at 2 g) (λ flags i. then_read (little_at 2 i) (λ n j.
     map_read (λ xs. record { left = l; top = t; right = r; bottom = m; w = w; h = h; depth = depth; flags = flags; bytes = xs }) (bytes_at n j))))))))))
 
 abbrev pub tiles_at : ℕ → List ℕ → Read (List Tile)
@@ -175,7 +176,8 @@ tile_pixels depth (Some packed) t = wire_pixels depth packed t.w t.h t.bytes
 
 -- a rectangle that has a pixel, is inside the surface, no wider than its bitmap, and as high
 abbrev pub is_tile : Depth → Size → Tile → Bool
-is_tile depth size t = is_bitmap depth t.w t.h t.depth && (is_inside size (tile_rect t) && ((nat_le 1 (tile_rect t).w && nat_le (tile_rect t).w t.w) && ((tile_rect t).h == t.h)))
+is_tile depth size t = is_bitmap depth t.w t.h t.depth
+    && (is_inside size (tile_rect t) && ((nat_le 1 (tile_rect t).w && nat_le (tile_rect t).w t.w) && ((tile_rect t).h == t.h)))
 
 -- the pixels of a bitmap, rows from the top, at a rectangle's upper left corner
 abbrev pub showing : Tile → List ℕ → Painting (Option ℕ)

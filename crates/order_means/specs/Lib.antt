@@ -1,7 +1,7 @@
 pub mod ClientState
 pub mod Updates
 pub mod FrameMarks
-pub mod WirePixels
+pub mod KeptContent
 pub mod CacheOrders
 pub mod UpdateBodies
 pub mod Indication

@@ -1,9 +1,12 @@
--- A host's bytes cut into whole packets of both kinds, and without those of Pointer PDUs ([RFC 1006] 6, [MS-RDPBCGR] 2.2.9.1.2). The cut doesn't look at what a viewer confirmed.
+-- A host's bytes cut into whole packets of both kinds, and without those of Pointer PDUs ([RFC 1006] 6, [MS-RDPBCGR] 2.2.9.1.2). The cut doesn't look at what a
+-- viewer confirmed.
 use Rattle.std.specs.Prelude.{ℕ, zero, suc, ◌+◌, ◌-◌, ◌*◌, ◌==◌, nat_lt, nat_le, Bool, true, false, not, List, [], ◌∷◌, ◌++◌, filter, flat_map, if◌then◌else◌}
-use Rattle.order_means.specs.WirePixels.{turned}
+use Rattle.px_core.specs.Picture.{turned}
 use Rattle.order_means.specs.PointerPackets.{is_pointer}
 
--- how far a packet has come: none has begun; of a packet with a header of four bytes these are there, the latest first; of one of the fast path its first byte is there, or that and the first of two length bytes; a header is there and so many bytes are missing after the next one, and those so far stand here, the latest first. Or no packet can be cut any more
+-- how far a packet has come: none has begun; of a packet with a header of four bytes these are there, the latest first; of one of the fast path its first byte
+-- is there, or that and the first of two length bytes; a header is there and so many bytes are missing after the next one, and those so far stand here, the
+-- latest first. Or no packet can be cut any more
 pub data PacketStage : Type 0 where
   Between : PacketStage
   Head : (held : List ℕ) → PacketStage

@@ -1,4 +1,5 @@
--- Which packets are those of Pointer PDUs: whole packets whose fields up to the kind are an update's, but for the kind ([RFC 1006] 6, [X.224] 13.7, [T.125] 11.33, [MS-RDPBCGR] 2.2.8.1.1.1).
+-- Which packets are those of Pointer PDUs: whole packets whose fields up to the kind are an update's, but for the kind ([RFC 1006] 6, [X.224] 13.7, [T.125]
+-- 11.33, [MS-RDPBCGR] 2.2.8.1.1.1).
 use Rattle.std.specs.Prelude.{◌≡◌, ◌≤◌, ℕ, ◌+◌, ◌-◌, ◌%◌, ◌==◌, nat_le, Bool, true, false, ◌&&◌, List, [], ◌∷◌, ◌++◌, length, take, drop, Result, Ok, Err}
 use Rattle.wire_num.specs.Field.{Read, then_read, taken, bytes_at, kept, wanted}
 use Rattle.wire_num.specs.Number.{little_at}
@@ -26,7 +27,8 @@ pdu_type_at bs = tested_at 2 (λ b. b % 16 == 7) bs
 -- pduType, source 2, shareId 4, pad 1, stream 1, uncompressed length 2
 abbrev pub head_at : List ℕ → Read (List ℕ)
 head_at bs =
-    then_read (pdu_type_at bs) (λ type a. then_read (bytes_at 2 a) (λ source b. then_read (bytes_at 4 b) (λ share c. then_read (bytes_at 1 c) (λ pad d. then_read (bytes_at 1 d) (λ stream e. bytes_at 2 e)))))
+    then_read (pdu_type_at bs) (λ type a. then_read (bytes_at 2 a)
+    (λ source b. then_read (bytes_at 4 b) (λ share c. then_read (bytes_at 1 c) (λ pad d. then_read (bytes_at 1 d) (λ stream e. bytes_at 2 e)))))
 
 -- and then pduType2, the kind
 abbrev pub kind_at : ℕ → List ℕ → Read (List ℕ)
@@ -40,7 +42,8 @@ content_by (Err left) after = Err (left ++ after)
 -- a share data PDU of a kind: its total is at least 6 and at most what is there
 abbrev pub content_at : ℕ → List ℕ → Read (List ℕ)
 content_at kind bs =
-    then_read (little_at 2 bs) (λ total a. then_read (kept (nat_le 6 total && nat_le total (length bs)) (taken bs (total - 2) a) bs) (λ inside after. content_by (kind_at kind inside) after))
+    then_read (little_at 2 bs) (λ total a. then_read (kept (nat_le 6 total
+    && nat_le total (length bs)) (taken bs (total - 2) a) bs) (λ inside after. content_by (kind_at kind inside) after))
 
 -- user data that the length before it counts
 abbrev pub counted_at : ℕ → ℕ → List ℕ → Read (List ℕ)

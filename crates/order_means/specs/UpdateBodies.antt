@@ -4,10 +4,10 @@ use Rattle.byteorder.specs.Endian.{little_bytes}
 use Rattle.px_core.specs.declared.depth.Depth.{Depth}
 use Rattle.px_core.specs.declared.rectangle.Rect.{Rect}
 use Rattle.px_core.specs.Depth.{bits_in, shown_colors}
-use Rattle.px_core.specs.Picture.{nat_of}
-use Rattle.share_pdu.specs.Packet.{update_packet}
-use Rattle.fast_path.specs.Written.{fast_packet}
-use Rattle.order_means.specs.WirePixels.{turned_over, PixelData, data_of}
+use Rattle.px_core.specs.Picture.{nat_of, turned_over}
+pub use Rattle.share_pdu.specs.Packet.{update_packet}
+pub use Rattle.fast_path.specs.Written.{fast_packet}
+pub use Rattle.run_lengths.specs.WirePixels.{PixelData, pixel_data, data_of}
 
 -- what stands before so many orders: updateType, pad, numberOrders, pad
 abbrev pub orders_head : ℕ → List ℕ
@@ -29,7 +29,8 @@ tile_flags false = 0
 -- destLeft, destTop, destRight, destBottom (inclusive), width, height, bitsPerPixel, flags, bitmapLength, the pixels
 abbrev pub tile_data_bytes : Depth → ℕ → ℕ → ℕ → ℕ → PixelData → List ℕ
 tile_data_bytes depth x y w h data_ =
-    little_bytes 2 x ++ (little_bytes 2 y ++ (little_bytes 2 (x + w - 1) ++ (little_bytes 2 (y + h - 1) ++ (little_bytes 2 w ++ (little_bytes 2 h ++ (little_bytes 2 (bits_in depth)
+    little_bytes 2 x ++ (little_bytes 2 y
+    ++ (little_bytes 2 (x + w - 1) ++ (little_bytes 2 (y + h - 1) ++ (little_bytes 2 w ++ (little_bytes 2 h ++ (little_bytes 2 (bits_in depth)
     ++ (little_bytes 2 (tile_flags data_.is_packed) ++ (little_bytes 2 (length data_.bytes) ++ data_.bytes))))))))
 
 -- a Bitmap update of one rectangle, whose pixels are given in the session's colours, row by row from the top

@@ -1,12 +1,16 @@
--- The updates of a host's bytes, which come in whole packets of two kinds: Send Data Indications on channel 1003 with a share data PDU of an update ([RFC 1006] 6, [X.224] 13.7, [T.125] 11.33, [MS-RDPBCGR] 2.2.8.1.1.1 and 2.2.9.1.1), and, for a viewer that takes it, packets of the fast path ([MS-RDPBCGR] 2.2.9.1.2).
-use Rattle.std.specs.Prelude.{ℕ, zero, suc, ◌+◌, ◌-◌, ◌*◌, ◌==◌, nat_lt, nat_le, Bool, true, false, ◌&&◌, List, [], ◌∷◌, ◌++◌, length, Option, Some, None, Ok, Err, if◌then◌else◌}
+-- The updates of a host's bytes, which come in whole packets of two kinds: Send Data Indications on channel 1003 with a share data PDU of an update ([RFC 1006]
+-- 6, [X.224] 13.7, [T.125] 11.33, [MS-RDPBCGR] 2.2.8.1.1.1 and 2.2.9.1.1), and, for a viewer that takes it, packets of the fast path ([MS-RDPBCGR] 2.2.9.1.2).
+use Rattle.std.specs.Prelude.{ℕ, zero, suc, ◌+◌, ◌-◌, ◌*◌, ◌==◌, nat_lt, nat_le, Bool, true, false, ◌&&◌, List, [], ◌∷◌, ◌++◌, length, Option, Some}
+use Rattle.std.specs.Prelude.{None, Ok, Err, if◌then◌else◌}
 use Rattle.wire_num.specs.Field.{Read, then_read, map_read, bytes_at}
 use Rattle.wire_num.specs.Number.{little_at}
 use Rattle.share_pdu.specs.Share.{Within}
 use Rattle.share_pdu.specs.Packet.{indication_at}
-use Rattle.order_means.specs.WirePixels.{turned}
+pub use Rattle.px_core.specs.Picture.{turned}
 
--- how far a packet has come: none has begun; one, two or three of its header bytes are there; so many bytes are missing after the next one, and those behind the header are there, the latest first. Of a packet of the fast path its first byte is there; that and the first of two length bytes; or all header bytes, so many are missing after the next one, and those behind the header are there, the latest first. Or the stream is refused at a place
+-- how far a packet has come: none has begun; one, two or three of its header bytes are there; so many bytes are missing after the next one, and those behind
+-- the header are there, the latest first. Of a packet of the fast path its first byte is there; that and the first of two length bytes; or all header bytes, so
+-- many are missing after the next one, and those behind the header are there, the latest first. Or the stream is refused at a place
 pub data Stage : Type 0 where
   Between : Stage
   One : Stage
@@ -107,12 +111,14 @@ fast_begun next place n head = if nat_lt n (length head) then updates [] (cuttin
 abbrev pub first_stage : Bool → ℕ → ℕ → Stage
 first_stage fast b place = if b == 3 then One else stage_if (fast && (b == 0)) Fast place
 
--- The updates of one byte. A length below 7 is refused at its first byte, and so is one of the fast path below the bytes of its header and itself; all else is looked at where the packet is whole. A length of the fast path is one byte below 128, else two, the highest first, with the top bit set.
+-- The updates of one byte. A length below 7 is refused at its first byte, and so is one of the fast path below the bytes of its header and itself; all else is
+-- looked at where the packet is whole. A length of the fast path is one byte below 128, else two, the highest first, with the top bit set.
 abbrev pub updates_by : Bool → ℕ → Stage → ℕ → Updates
 updates_by fast at Between b = updates [] (cutting (at + 1) (first_stage fast b at))
 updates_by fast at One b = updates [] (cutting (at + 1) (Two b))
 updates_by fast at (Two second) b = updates [] (cutting (at + 1) (Three second b))
-updates_by fast at (Three second high) b = updates [] (cutting (at + 1) (stage_if (nat_le 7 (256 * high + b)) (Inside ((256 * high + b) - 5) second high b []) (at - 1)))
+updates_by fast at (Three second high) b = updates []
+    (cutting (at + 1) (stage_if (nat_le 7 (256 * high + b)) (Inside ((256 * high + b) - 5) second high b []) (at - 1)))
 updates_by fast at (Inside zero second high low front) b = whole_packet (at + 1) (indication_at (turned front (b ∷ [])))
 updates_by fast at (Inside (suc n) second high low front) b = updates [] (cutting (at + 1) (Inside n second high low (b ∷ front)))
 updates_by fast at Fast b = if nat_lt b 128 then fast_begun (at + 1) at b (0 ∷ b ∷ []) else updates [] (cutting (at + 1) (FastLong b))

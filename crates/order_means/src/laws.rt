@@ -16,15 +16,19 @@ ghost use Rattle.order_means.specs.FrameMarks.{ClientReading, read_on};
 
 /// The updates of two pieces of a stream, wherever it is cut, are those of the first and then those of the second.
 pub fn updates_of_pieces_are_those_joined()
-    ensures { (fast : Bool) (c : Cutting) (xs ys : List ℕ) → updates_from fast c (xs ++ ys) ≡ before_updates (updates_from fast c xs).bodies (updates_from fast (updates_from fast c xs).next ys) }
+    ensures { (fast : Bool) (c : Cutting) (xs ys : List ℕ)
+        → updates_from fast c (xs ++ ys) ≡ before_updates (updates_from fast c xs).bodies (updates_from fast (updates_from fast c xs).next ys) }
 {}
 
-/// A viewer that reads two pieces one after the other, wherever the stream is cut, reads what it reads of them joined, and is refused where it is refused of them joined.
+/// A viewer that reads two pieces one after the other, wherever the stream is cut, reads what it reads of them joined, and is refused where it is refused of
+/// them joined.
 pub fn pieces_are_read_as_joined()
-    ensures { (confirmed : Confirmed) (size : Size) (r : ClientReading) (xs ys : List ℕ) → read_on confirmed size r (xs ++ ys) ≡ bind (read_on confirmed size r xs) (λ s. read_on confirmed size s ys) }
+    ensures { (confirmed : Confirmed) (size : Size) (r : ClientReading) (xs ys : List ℕ)
+        → read_on confirmed size r (xs ++ ys) ≡ bind (read_on confirmed size r xs) (λ s. read_on confirmed size s ys) }
 {}
 
-/// The packet of an update at the front of a stream gives the update's body, at its place, and then the updates of what follows. So does a packet of the fast path, with its
+/// The packet of an update at the front of a stream gives the update's body, at its place, and then the updates of what follows. So does a packet of the fast
+/// path, with its
 /// data, for a viewer that takes it.
 pub fn update_is_read_from_its_packet()
     ensures slow { (fast : Bool) (at : ℕ) (bytes more : List ℕ) → 18 + length bytes < 16384 →

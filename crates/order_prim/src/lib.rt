@@ -1,4 +1,5 @@
-//! The eight primary drawing orders as their fields ([MS-RDPEGDI] 2.2.2.2.1.1.2): each call gives the whole list, which `order_fields` writes against its registers.
+//! The eight primary drawing orders as their fields ([MS-RDPEGDI] 2.2.2.2.1.1.2): each call gives the whole list, which `order_fields` writes against its
+//! registers.
 //!
 //! Rectangles, places and sources are in pixels. A colour is below 2^24, `65536 * red + 256 * green + blue`. The condition of each call
 //! is that each value fits its field: corners, sources and edges have two bytes each, signed.

@@ -3,7 +3,6 @@ pub mod BoundEdges
 pub mod ValuesRead
 pub mod KnownTypes
 pub mod PrimaryRead
-pub mod RowsTurned
 pub mod PixelBytes
 pub mod Appending
 pub mod OthersRead

@@ -2,7 +2,7 @@
 use Rattle.std.specs.Prelude.{ℕ, ◌-◌, List, map, take, drop, Option, Some, None}
 use Rattle.px_core.specs.declared.rectangle.Rect.{Rect}
 use Rattle.px_core.specs.Rectangle.{boxed}
-use Rattle.order_means.specs.WirePixels.{turned_over}
+use Rattle.px_core.specs.Picture.{turned_over}
 use Rattle.order_fields.specs.OrderTable.{FieldList, Edges}
 use Rattle.order_fields.specs.NamedDrawing.{side_between}
 use Rattle.order_fields.specs.Secondary.{Cached}

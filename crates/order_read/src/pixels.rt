@@ -4,7 +4,7 @@ ghost use Rattle.std.specs.Prelude.{◌≡◌, ◌≤◌, ◌<◌, ◌*◌, ◌/
 ghost use Rattle.byteorder.specs.Endian.{little_number};
 ghost use Rattle.px_core.specs.Depth.{bytes_in};
 ghost use Rattle.px_core.specs.Pixels.{pixels_of, pixels_of_2, pixels_of_3};
-ghost use Rattle.order_means.specs.WirePixels.{turned_over};
+ghost use Rattle.px_core.specs.Picture.{turned_over};
 ghost use Rattle.px_core.specs.Colors.{are_colors};
 
 use byteorder::{ByteOrder, LittleEndian};

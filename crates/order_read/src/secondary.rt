@@ -13,7 +13,7 @@ ghost use Rattle.wire_num.specs.Cursor.{ReadsField, ReadsFields};
 ghost use Rattle.wire_num.specs.Number.{little_at, little_signed_at};
 ghost use Rattle.px_core.specs.Depth.{brush_bytes};
 ghost use Rattle.px_core.specs.Pixels.{pixels_of};
-ghost use Rattle.order_means.specs.WirePixels.{turned_over};
+ghost use Rattle.px_core.specs.Picture.{turned_over};
 ghost use Rattle.order_fields.specs.Secondary.{bitmap_at, brush_at, glyph_at, glyphs_at, glyph_order_at, glyph_length, secondary_at, marker_at};
 ghost use Rattle.order_read.specs.declared.order_fault.OrderFault.TheVariants.{BadOrder};
 ghost use Rattle.order_read.specs.Reading.{ReadsOnto};

@@ -6,9 +6,9 @@ use Rattle.px_core.specs.declared.depth.Depth.TheVariants.{Bits24, Bits16}
 use Rattle.px_core.specs.Depth.{brush_bytes, brush_format, bytes_in, shown, shown_colors}
 use Rattle.px_core.specs.Pixels.{pixels_bytes}
 use Rattle.px_core.proofs.Pixels.{length-pixels_bytes}
-use Rattle.order_means.specs.WirePixels.{turned_over}
+use Rattle.px_core.specs.Picture.{turned_over}
 use Rattle.order_means.specs.CacheOrders.{cache_brush_bytes, secondary_bytes}
-use Rattle.bitmap_upd.proofs.Turned.{length-turned_over, turned_over-map}
+use Rattle.px_core.proofs.Turned.{length-turned_over, turned_over-map}
 
 -- what stands before a brush's pixels
 abbrev pub brush_front : Depth → ℕ → List ℕ

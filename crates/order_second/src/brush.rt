@@ -20,9 +20,9 @@ ghost use Rattle.px_core.specs.Depth.{brush_bytes, brush_format};
 ghost use Rattle.order_means.specs.CacheOrders.{cache_brush_bytes, secondary_bytes};
 
 use crate::OutOfMemory;
-use bitmap_upd::{put_both, raw_bytes, show_all, turn_over};
 use draw_ops::Brush;
 use px_core::{Depth, brush_bytes, brush_format};
+use rle_enc::{put_both, raw_bytes, show_all, turn_over};
 use std::alloc::Global;
 
 /// The order's type.
@@ -66,7 +66,8 @@ pub fn cache_brush_at(
 
 /// What stands before the pixels of a brush.
 fn brush_head(entry: u8, depth: Depth) -> [u8; 12]
-    ensures { (bytes : List ℕ) → length bytes ≡ brush_bytes depth → result ++ bytes ≡ secondary_bytes 0 7 (entry ∷ brush_format depth ∷ 8 ∷ 8 ∷ 0 ∷ brush_bytes depth ∷ bytes) }
+    ensures { (bytes : List ℕ) → length bytes ≡ brush_bytes depth
+        → result ++ bytes ≡ secondary_bytes 0 7 (entry ∷ brush_format depth ∷ 8 ∷ 8 ∷ 0 ∷ brush_bytes depth ∷ bytes) }
 {
     let size = brush_bytes(depth);
     let format = brush_format(depth);

@@ -20,12 +20,12 @@ ghost use Rattle.wire_num.specs.Written.{AppendsFront};
 ghost use Rattle.byteorder.specs.Endian.{little_bytes};
 ghost use Rattle.wire_num.specs.Number.{unsigned};
 ghost use Rattle.draw_ops.specs.Fits.{glyph_rule};
-ghost use Rattle.order_means.specs.WirePixels.{padded};
+ghost use Rattle.run_lengths.specs.WirePixels.{padded};
 ghost use Rattle.order_means.specs.CacheOrders.{secondary_bytes, cache_glyph_bytes};
 
 use crate::OutOfMemory;
-use bitmap_upd::put_both;
 use draw_ops::Glyph;
+use rle_enc::put_both;
 use std::alloc::Global;
 
 /// The order's type.
@@ -67,7 +67,8 @@ fn padded_bits(alloc: Global, bits: &[u8]) -> Result<Vec<u8>, OutOfMemory>
 /// What stands before so many bytes of bits.
 fn glyph_head(cache: u8, index: u16, x: u16, y: u16, cx: u16, cy: u16, size: u16) -> [u8; 18]
     requires { size ≤ 128 }
-    ensures { (bits : List ℕ) → length bits ≡ size → result ++ bits ≡ secondary_bytes 0 3 (cache ∷ 1 ∷ (little_bytes 2 index ++ (little_bytes 2 x ++ (little_bytes 2 y ++ (little_bytes 2 cx ++ (little_bytes 2 cy ++ bits)))))) }
+    ensures { (bits : List ℕ) → length bits ≡ size → result ++ bits ≡ secondary_bytes 0 3
+        (cache ∷ 1 ∷ (little_bytes 2 index ++ (little_bytes 2 x ++ (little_bytes 2 y ++ (little_bytes 2 cx ++ (little_bytes 2 cy ++ bits)))))) }
 {
     let [total, total_high] = (size + BESIDES).to_le_bytes();
     let [entry, entry_high] = index.to_le_bytes();

@@ -20,13 +20,13 @@ ghost use Rattle.wire_num.specs.Written.{AppendsFront};
 ghost use Rattle.px_core.specs.declared.depth.Depth.TheVariants.{Bits24};
 ghost use Rattle.px_core.specs.Colors.{are_colors};
 ghost use Rattle.draw_ops.specs.Fits.{image_rule};
-ghost use Rattle.order_means.specs.WirePixels.{pixel_data};
+ghost use Rattle.run_lengths.specs.WirePixels.{pixel_data};
 ghost use Rattle.order_means.specs.CacheOrders.{secondary_bytes, cache_bitmap_body, cache_bitmap_data, cache_bitmap_bytes};
 
 use crate::OutOfMemory;
-use bitmap_upd::{pad_rows, padded_width, pixel_data, put_both, show_all, turn_over};
 use draw_ops::Image;
 use px_core::{Depth, bits_in};
+use rle_enc::{pad_rows, padded_width, pixel_data, put_both, show_all, turn_over};
 use std::alloc::Global;
 
 /// The type of a raw bitmap.

@@ -3,7 +3,7 @@ use Rattle.std.proofs.Common.{◌≡◌, ℕ, ◌≤◌, Bool, true, List, [], l
 use Rattle.std.specs.Prelude.{Ok, Err}
 use Rattle.wire_num.specs.Caused.{Caused, before_caused}
 use Rattle.order_means.specs.PointerPackets.{pointer_packet}
-use Rattle.packet_laws.proofs.PointerFound.{written_back}
+use Rattle.order_means.proofs.PointerFound.{written_back}
 use Rattle.pointer_share.specs.declared.fault.Cause.{Cause}
 use Rattle.pointer_share.specs.Messages.{Message, message_at}
 use Rattle.pointer_share.specs.Views.{View, view_after, view_by, pointed, view_in, view_fed}

@@ -17,12 +17,14 @@ pub data Message : Type 0 where
 
 -- behind the index of a message 6: hot spot, sides and each length are a field each
 abbrev pub fixed_at : Bool → List ℕ → Read (List ℕ)
-fixed_at wide bs = then_read (wanted hot_spot bs) (λ spot a. then_read (wanted (sides wide) a) (λ sizes b. then_read (wanted mask_length b) (λ ands c. wanted (xor_length wide) c)))
+fixed_at wide bs = then_read (wanted hot_spot bs)
+    (λ spot a. then_read (wanted (sides wide) a) (λ sizes b. then_read (wanted mask_length b) (λ ands c. wanted (xor_length wide) c)))
 
 -- and then the bytes of the shape
 abbrev pub brought_at : Bool → List ℕ → Read Shape
 brought_at wide bs =
-    then_read (fixed_at wide bs) (λ fixed d. then_read (bytes_at (xor_size wide) d) (λ xor e. map_read (λ mask. record { xor = xor; mask = mask }) (bytes_at 16 e)))
+    then_read (fixed_at wide bs) (λ fixed d. then_read (bytes_at (xor_size wide) d)
+    (λ xor e. map_read (λ mask. record { xor = xor; mask = mask }) (bytes_at 16 e)))
 
 -- whether an entry can be filled, and whether it can be shown
 abbrev pub is_entry : {A : Type 0} → Slots A → ℕ → Bool
@@ -43,4 +45,5 @@ message_by wide cells kind whole bs =
 
 -- the message, whose type is one field of four bytes; bytes left over are refused
 abbrev pub message_at : {A : Type 0} → Bool → Slots A → List ℕ → Caused Cause Message
-message_at wide cells bs = then_caused (caused Broken (little_at 4 bs)) (λ kind a. then_caused (message_by wide cells kind bs a) (λ m b. caused Broken (ended m b)))
+message_at wide cells bs = then_caused (caused Broken (little_at 4 bs))
+    (λ kind a. then_caused (message_by wide cells kind bs a) (λ m b. caused Broken (ended m b)))

@@ -1,5 +1,6 @@
 -- What is kept of a view: of each shape its outline, which is the blue of its colour and the bits of its top row.
-use Rattle.std.specs.Prelude.{◌≡◌, ℕ, zero, suc, ◌+◌, ◌-◌, ◌*◌, ◌/◌, ◌%◌, ◌==◌, Bool, List, [], ◌∷◌, map, slice_index, Option, Some, None, Result, Ok, Err, if◌then◌else◌}
+use Rattle.std.specs.Prelude.{◌≡◌, ℕ, zero, suc, ◌+◌, ◌-◌, ◌*◌, ◌/◌, ◌%◌, ◌==◌, Bool, List, [], ◌∷◌, map, slice_index, Option, Some, None, Result, Ok}
+use Rattle.std.specs.Prelude.{Err, if◌then◌else◌}
 use Rattle.wire_num.specs.Field.{Read, then_read, map_read, bytes_at, ended}
 use Rattle.wire_num.specs.Number.{little_at}
 use Rattle.wire_num.specs.Caused.{Caused, caused, then_caused, map_caused}
@@ -83,7 +84,8 @@ abbrev pub sent_brought : Bool → Slots (ℕ × ℕ) → List ℕ → Caused Ca
 sent_brought wide cells bs = then_caused (index_at (is_entry cells) bs) (λ index rest. caused Broken (map_read (λ o. Brings index o) (outline_at wide rest)))
 
 abbrev pub sent_by : Bool → Slots (ℕ × ℕ) → ℕ → List ℕ → List ℕ → Caused Cause Sent
-sent_by wide cells kind whole bs = if kind == 6 then sent_brought wide cells bs else (if kind == 7 then map_caused Points (index_at (is_filled cells) bs) else Err (Broken, whole))
+sent_by wide cells kind whole bs = if kind == 6 then sent_brought wide cells bs else
+    (if kind == 7 then map_caused Points (index_at (is_filled cells) bs) else Err (Broken, whole))
 
 abbrev pub sent_behind : Bool → Slots (ℕ × ℕ) → List ℕ → Caused Cause Sent
 sent_behind wide cells bs = then_caused (caused Broken (little_at 4 bs)) (λ kind a. sent_by wide cells kind bs a)
@@ -106,7 +108,8 @@ kept_after o (Points index) = record o { shown = lookup index o.cells }
 
 -- ---- as a call says it
 
--- The call fed a packet to a view: it said whether that is a pointer packet, and keeps what the view is then; or it refused the packet at a place, or for an entry. It wants no memory.
+-- The call fed a packet to a view: it said whether that is a pointer packet, and keeps what the view is then; or it refused the packet at a place, or for an
+-- entry. It wants no memory.
 abbrev pub Feeds : Bool → View → List ℕ → Result Bool ViewFault → ViewOf → Type 0
 Feeds wide v packet (Ok pointer) new = (after : View) × (view_fed wide v packet ≡ Ok (after, pointer)) × HasView new after
 Feeds wide v packet (Err (BadPointer at)) new = view_fed wide v packet ≡ Err (Broken, at)

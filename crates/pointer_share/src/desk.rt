@@ -68,7 +68,8 @@ impl PointerDesk {
     /// The packet that tells the viewer the pointer that was noted, where that isn't the one last told. After an `Err` nothing is said of
     /// the desk.
     pub fn packet(&mut self) -> Result<Option<Vec<u8>>, OutOfMemory>
-        ensures told { (keys : List ℕ) → HasTold self.old keys → IfOk result (λ packet. packet_bytes packet ≡ told_packet self.old.wide self.old.cache.entries keys self.old.noted) }
+        ensures told { (keys : List ℕ) → HasTold self.old keys
+            → IfOk result (λ packet. packet_bytes packet ≡ told_packet self.old.wide self.old.cache.entries keys self.old.noted) }
         ensures after { OnOk result ((keys : List ℕ) → HasTold self.old keys → HasTold self.new (told_after keys self.old.noted)) }
         ensures wide { self.new.wide ≡ self.old.wide }
         ensures cells { self.new.cache.entries ≡ self.old.cache.entries }
@@ -86,7 +87,7 @@ impl PointerDesk {
 }
 
 /// A desk of so many cells.
-pub(crate) fn made(alloc: Global, cells: u16, wide: bool) -> Result<PointerDesk, DeskFault>
+fn made(alloc: Global, cells: u16, wide: bool) -> Result<PointerDesk, DeskFault>
     ensures made { IfOk result (IsNew wide cells) }
     ensures no_cache { cells ≡ 0 → result ≡ Err NoCache }
     ensures memory { 0 < cells → IfErr result (λ fault. fault ≡ no_memory) }

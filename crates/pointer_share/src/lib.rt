@@ -16,5 +16,5 @@ pub use desk::PointerDesk;
 pub use fault::{DeskFault, ViewFault};
 pub use laws::each_take_shows_its_pointer;
 pub use view::PointerView;
-pub use viewers::{desk_for, note, pointed, told_bytes};
+pub use viewers::{desk_for, note, told_bytes};
 pub use wire_num::OutOfMemory;

@@ -1,10 +1,10 @@
 //! The desks of viewers with a pointer cache and of those without, which have none and are told nothing.
 
-ghost use Rattle.std.specs.Prelude.{◌≡◌, ℕ, List, [], ◌++◌, length, IfOk, OnOk};
+ghost use Rattle.std.specs.Prelude.{◌≡◌, ℕ, List, [], length, IfOk, OnOk};
 ghost use Rattle.frame_rules.specs.Told.{told_after, key_at, pointer_bytes};
 ghost use Rattle.pointer_share.specs.Desk.{IsDeskOf, IsNoted, noted_with, bytes_of};
 
-use crate::desk::{PointerDesk, made};
+use crate::desk::PointerDesk;
 use crate::fault::DeskFault;
 use caps_sets::Confirmed;
 use session_core::Session;
@@ -15,7 +15,13 @@ use wire_num::OutOfMemory;
 pub fn desk_for(alloc: Global, confirmed: &Confirmed) -> Result<Option<PointerDesk>, OutOfMemory>
     ensures { IfOk result (λ desk. IsDeskOf confirmed.now [] desk) }
 {
-    match made(alloc, confirmed.pointer_cells(), confirmed.cautious) {
+    let cells = confirmed.pointer_cells();
+    let desk = if confirmed.cautious {
+        PointerDesk::cautious(alloc, cells)
+    } else {
+        PointerDesk::new(alloc, cells)
+    };
+    match desk {
         Ok(desk) => Ok(Some(desk)),
         Err(DeskFault::NoCache) => Ok(None),
         Err(DeskFault::OutOfMemory) => Err(OutOfMemory),
@@ -34,26 +40,12 @@ pub fn note(desk: &mut Option<PointerDesk>, session: &Session)
 /// The packet that goes before a frame: it tells the viewer the pointer that was noted, where that isn't the one last told. After an `Err`
 /// nothing is said of the desk.
 pub fn told_bytes(desk: &mut Option<PointerDesk>) -> Result<Option<Vec<u8>>, OutOfMemory>
-    ensures told { (c : Confirmed) (told : List ℕ) (key : ℕ) → IsDeskOf c told desk.old → IsNoted desk.old key → IfOk result (λ packet. bytes_of packet ≡ pointer_bytes c told key) }
+    ensures told { (c : Confirmed) (told : List ℕ) (key : ℕ) → IsDeskOf c told desk.old → IsNoted desk.old key
+        → IfOk result (λ packet. bytes_of packet ≡ pointer_bytes c told key) }
     ensures after { OnOk result ((c : Confirmed) (told : List ℕ) (key : ℕ) → IsDeskOf c told desk.old → IsNoted desk.old key → IsDeskOf c (told_after told key) desk.new) }
 {
     match desk {
         None => Ok(None),
         Some(desk) => desk.packet(),
-    }
-}
-
-/// A frame behind the packet that goes before it, in bytes. Where none goes before it the frame itself is given back. After an `Err`
-/// nothing is said of the desk.
-pub fn pointed(desk: &mut Option<PointerDesk>, frame: Vec<u8>) -> Result<Vec<u8>, OutOfMemory>
-    ensures told { (c : Confirmed) (told : List ℕ) (key : ℕ) → IsDeskOf c told desk.old → IsNoted desk.old key → IfOk result (λ bytes. bytes.items ≡ pointer_bytes c told key ++ frame.items) }
-    ensures after { OnOk result ((c : Confirmed) (told : List ℕ) (key : ℕ) → IsDeskOf c told desk.old → IsNoted desk.old key → IsDeskOf c (told_after told key) desk.new) }
-{
-    match told_bytes(desk)? {
-        None => Ok(frame),
-        Some(mut packet) => {
-            packet.extend_from_slice(&frame)?;
-            Ok(packet)
-        }
     }
 }

@@ -6,3 +6,4 @@ pub mod Pixels
 pub mod Stretches
 pub mod TilePixels
 pub mod TileFlags
+pub mod Turned

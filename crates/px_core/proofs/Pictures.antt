@@ -94,7 +94,7 @@ front-and-skipped zero xs = refl
 front-and-skipped (suc n) [] = refl
 front-and-skipped (suc n) (x ∷ xs) = ap (λ ys. x ∷ ys) (front-and-skipped n xs)
 
-length-skipped : {A : Type 0} (n : ℕ) (xs : List A) (m : ℕ) → length xs ≡ n + m → length (skipped n xs) ≡ m
+pub length-skipped : {A : Type 0} (n : ℕ) (xs : List A) (m : ℕ) → length xs ≡ n + m → length (skipped n xs) ≡ m
 length-skipped zero xs m e = omega (arith, e)
 length-skipped (suc n) [] m e = absurd (omega (arith, e))
 length-skipped (suc n) (x ∷ xs) m e = length-skipped n xs m (omega (arith, e))
@@ -131,7 +131,7 @@ joined_rows w (suc n) (row ∷ rows) e h =
     ∙ ap (λ rest. row ∷ rows_of w n rest) (skipped-append w row (concat rows) wide)
     ∙ ap (λ rs. row ∷ rs) (joined_rows w n rows (omega (arith, e)) (λ k d lt. h (suc k) d (omega (arith, lt))))
 
-length-front : {A : Type 0} (n : ℕ) (xs : List A) → n ≤ length xs → length (front n xs) ≡ n
+pub length-front : {A : Type 0} (n : ℕ) (xs : List A) → n ≤ length xs → length (front n xs) ≡ n
 length-front zero xs h = refl
 length-front (suc n) [] h = absurd (omega (arith, h))
 length-front (suc n) (x ∷ xs) h = ap suc (length-front n xs (omega (arith, h)))

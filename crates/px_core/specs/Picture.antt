@@ -1,5 +1,5 @@
 -- Pictures: lists of pixels, row by row from the top, over any type of pixel. The session's pixels are colours, a viewer's may be unknown.
-use Rattle.std.specs.Prelude.{ℕ, zero, suc, ◌+◌, ◌*◌, ◌/◌, ◌%◌, Bool, true, false, ◌&&◌, ◌||◌, ℤ, pos, negsuc, List, [], ◌∷◌, replicate}
+use Rattle.std.specs.Prelude.{ℕ, zero, suc, ◌+◌, ◌*◌, ◌/◌, ◌%◌, Bool, true, false, ◌&&◌, ◌||◌, ℤ, pos, negsuc, List, [], ◌∷◌, ◌++◌, replicate}
 use Rattle.px_core.specs.declared.surface.Size.{Size}
 
 -- the number of pixels of a picture
@@ -52,6 +52,22 @@ pixel_in rows other x y = item (item rows (nat_of y) []) (nat_of x) other
 -- pixel (x, y) of a picture, which stands at place w * y + x, else the other one
 abbrev pub pixel_at : {A : Type 0} → Size → List A → A → ℕ → ℕ → A
 pixel_at size picture other x y = item picture (size.w * y + x) other
+
+-- ---- rows from the bottom up
+
+-- a list from its end, before another list
+abbrev pub turned : {A : Type 0} → List A → List A → List A
+turned [] ys = ys
+turned (x ∷ xs) ys = turned xs (x ∷ ys)
+
+-- lists one after the other
+abbrev pub joined : {A : Type 0} → List (List A) → List A
+joined [] = []
+joined (xs ∷ xss) = xs ++ joined xss
+
+-- the rows of w by h pixels in the other order: from the top to from the bottom, and back
+abbrev pub turned_over : {A : Type 0} → ℕ → ℕ → List A → List A
+turned_over w h pixels = joined (turned (rows_of w h pixels) [])
 
 -- ---- sets of pixels
 

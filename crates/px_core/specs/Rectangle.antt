@@ -1,5 +1,6 @@
 -- Rectangles as sets of pixels.
-use Rattle.std.specs.Prelude.{⊤, ℕ, ◌*◌, ◌/◌, ◌%◌, ◌==◌, nat_le, ◌≤◌, ◌≤ℤ◌, Bool, false, ◌&&◌, ℤ, pos, negsuc, ◌+ℤ◌, ◌-ℤ◌, int_le, int_lt, List, Option, Some, None, if◌then◌else◌}
+use Rattle.std.specs.Prelude.{⊤, ℕ, ◌*◌, ◌/◌, ◌%◌, ◌==◌, nat_le, ◌≤◌, Bool, false, ◌&&◌, List, Option, Some, None, if◌then◌else◌}
+use Rattle.std.specs.Prelude.{ℤ, pos, negsuc, ◌+ℤ◌, ◌-ℤ◌, ◌≤ℤ◌, int_le, int_lt}
 use Rattle.std.specs.Int.{int_min, int_max}
 use Rattle.px_core.specs.declared.surface.Size.{Size}
 use Rattle.px_core.specs.declared.rectangle.Rect.{Rect}

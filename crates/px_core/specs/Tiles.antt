@@ -36,7 +36,8 @@ tiles_of size r tile = has_pixel (common (tile_rect tile) (common r (whole size)
 
 -- one of a tile's pixels is a pixel of the rectangle on the picture
 abbrev pub HasPixelIn : Size → Rect → ℕ → Type 0
-HasPixelIn size r tile = (x : ℕ) × (y : ℕ) × (x < size.w) × (y < size.h) × IsTrue (in_rect (tile_rect tile) (pos x) (pos y)) × IsTrue (in_rect r (pos x) (pos y))
+HasPixelIn size r tile =
+    (x : ℕ) × (y : ℕ) × (x < size.w) × (y < size.h) × IsTrue (in_rect (tile_rect tile) (pos x) (pos y)) × IsTrue (in_rect r (pos x) (pos y))
 
 -- the tiles of a picture, by ascending number
 abbrev pub picture_tiles : Size → List ℕ

@@ -24,7 +24,8 @@ pub fn pictures_are_their_rows()
     ensures parted { (w h : ℕ) (rows : List (List ℕ)) → length rows ≡ h → All (λ row. length row ≡ w) rows → rows_of w h (concat rows) ≡ rows }
     ensures stretch { (w h : ℕ) (ps : List ℕ) (y : ℕ) → y < h → item (rows_of w h ps) y [] ≡ take w (drop (w * y) ps) }
     ensures more { (h : ℕ) (row : ℕ → List ℕ) → concat (listed (h + 1) 0 row) ≡ concat (listed h 0 row) ++ row h }
-    ensures pixel { (size : Size) (ps : List ℕ) (x y : ℕ) → x < size.w → y < size.h → pixel_in (rows_of size.w size.h ps) 0 (pos x) (pos y) ≡ pixel_at size ps 0 x y }
+    ensures pixel { (size : Size) (ps : List ℕ) (x y : ℕ) → x < size.w → y < size.h
+        → pixel_in (rows_of size.w size.h ps) 0 (pos x) (pos y) ≡ pixel_at size ps 0 x y }
 {}
 
 /// A picture's pixel is the item of its list that code reads.

@@ -3,6 +3,7 @@
 //! A pixel (x, y) stands in column x, counted from the left, and row y, counted from the top.
 #![tactic(auto)]
 
+mod color_bits;
 mod depth;
 pub mod laws;
 mod rectangle;
@@ -11,6 +12,7 @@ mod tile;
 mod tile_set;
 mod tile_stretch;
 
+pub use color_bits::{cut_color, wide_color};
 pub use depth::{Depth, bits_in, brush_bytes, brush_format, bytes_in, cached_brush_style, white};
 pub use rectangle::{Rect, clipped, common, has_pixel, is_inside, meet, whole};
 pub use surface::{Size, is_session_size};

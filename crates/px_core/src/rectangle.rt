@@ -1,6 +1,9 @@
+//! Rectangles of pixels, what two of them have in common, and whether they lie on a picture.
+
 ghost use Rattle.std.specs.Prelude.{◌≡◌, ℤ, pos, ◌+ℤ◌, ◌&&◌, int_le, IfSome, IsTrue};
 ghost use Rattle.std.specs.Int.{int_max, int_min};
-ghost use Rattle.px_core.specs.Rectangle.{in_rect, in_optional_rect, has_pixel, is_inside, whole, common, common_length, clipped, if_pixels, is_session_size, IsPlaced, IsPlacedClip};
+ghost use Rattle.px_core.specs.Rectangle.{in_rect, in_optional_rect, has_pixel, is_inside, whole, common, common_length, clipped, if_pixels};
+ghost use Rattle.px_core.specs.Rectangle.{is_session_size, IsPlaced, IsPlacedClip};
 
 use crate::surface::Size;
 

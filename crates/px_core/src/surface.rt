@@ -1,3 +1,5 @@
+//! The sizes of pictures, and which a session may have.
+
 ghost use Rattle.std.specs.Prelude.{◌≡◌};
 ghost use Rattle.px_core.specs.Rectangle.{is_session_size};
 

@@ -8,6 +8,9 @@
 pub use host_program::top;
 use host_program::{Ending, run_host};
 
+#[cfg(test)]
+mod viewing;
+
 fn main(rt: HostRuntime) -> Ending {
     run_host(&rt)
 }

@@ -1,12 +1,7 @@
-//! Names of rows (profile): 1 to 64 ASCII letters, digits, `.`, `_` or `-`, and no `-` first. Each row has its own.
+//! Names of rows (profile): 1 to 64 ASCII letters, digits, `.`, `_` or `-`, and no `-` first.
 
 ghost use Rattle.std.specs.Prelude.{◌≡◌};
-ghost use Rattle.session_rules.specs.Steps.{is_new_name};
-ghost use Rattle.session_core.specs.Heads.{rows_of};
 ghost use Rattle.script_rules.specs.Script.{is_name, is_name_byte, all_bytes};
-
-use crate::Invite;
-use line_text::is_same_word;
 
 /// The most bytes of a name (profile).
 pub const NAME_LIMIT: u8 = 64;
@@ -38,16 +33,4 @@ fn is_name_byte(byte: u8) -> bool
     ensures { result ≡ is_name_byte byte }
 {
     byte.is_ascii_alphanumeric() || matches!(byte, b'.' | b'_' | b'-')
-}
-
-/// Whether no row has a name.
-pub fn is_new_name(name: &[u8], rows: &[Invite]) -> bool
-    ensures { result ≡ is_new_name name.now (rows_of rows.now) }
-{
-    for row in rows {
-        if is_same_word(name, row.name.bytes()) {
-            return false;
-        }
-    }
-    true
 }

@@ -9,12 +9,13 @@ ghost use Rattle.record_rules.specs.Reading.{byte_at, short_at, tested_at, last_
 ghost use Rattle.record_file.specs.Reads.{row_of, head_of, ReadsOnce, ReadsFront};
 
 use crate::Invite;
-use crate::name::{NAME_LIMIT, is_name, is_new_name};
+use crate::name::{NAME_LIMIT, is_name};
 use crate::read_entry::{LAST_ROLE, role_numbered};
 use crate::read_fault::ReadFault;
 use info_lic::Name;
 use line_text::is_same_word;
 use px_core::{Size, is_session_size};
+use session_core::is_new_name;
 use std::alloc::Global;
 use wire_num::Cursor;
 

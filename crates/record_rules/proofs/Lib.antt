@@ -7,3 +7,5 @@ pub mod RecordsBack
 pub mod Recordable
 pub mod Extends
 pub mod Holders
+mod EntryRows
+mod RefusedRows

@@ -183,4 +183,5 @@ are_named (row ∷ rows) = is_name row.name && are_named rows
 
 -- a session's size, and at most 64 rows with distinct names that keep the rule of names
 abbrev pub is_recordable_head : Head → Bool
-is_recordable_head head = is_session_size head.size.w head.size.h && (nat_le (length head.rows) row_limit && (are_named head.rows && are_names_distinct head.rows))
+is_recordable_head head = is_session_size head.size.w head.size.h
+    && (nat_le (length head.rows) row_limit && (are_named head.rows && are_names_distinct head.rows))

@@ -6,3 +6,5 @@ pub mod Recorders
 mod Written
 mod Shows
 mod Runs
+mod ShownRows
+mod WrittenRows

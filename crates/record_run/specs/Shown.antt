@@ -51,7 +51,8 @@ with_number word n = word ++ decimal n
 
 -- the head of a picture in portable pixel format, with the number of entries as a remark
 abbrev pub picture_head : Size → ℕ → List ℕ
-picture_head size stop = ((with_number (codes "P6" ++ 10 ∷ codes "# entries ") stop ++ with_number (10 ∷ []) size.w) ++ with_number (32 ∷ []) size.h) ++ 10 ∷ codes "255" ++ 10 ∷ []
+picture_head size stop = ((with_number (codes "P6" ++ 10 ∷ codes "# entries ") stop ++ with_number (10 ∷ []) size.w) ++ with_number (32 ∷ []) size.h)
+    ++ 10 ∷ codes "255" ++ 10 ∷ []
 
 -- the text that says what is shown: of each pixel red, green and blue, row by row from the top
 abbrev pub text_of : ℕ → Shown → List ℕ

@@ -16,10 +16,9 @@ use caps_sets::Confirmed;
 use info_lic::Name;
 use px_core::Size;
 use record_file::write_head;
-use script_host::has_row;
 use script_lines::{LineRule, ViewerStep};
 use script_run::Course;
-use session_core::{Invite, Session};
+use session_core::{Invite, Session, is_new_name};
 use session_rules::Role;
 use std::alloc::Global;
 use std::marker::Model;
@@ -71,7 +70,7 @@ impl Course for Recorder {
     }
 
     fn is_invited(&self, name: &[u8]) -> bool {
-        has_row(&self.rows, name)
+        !is_new_name(name, &self.rows)
     }
 
     fn present(&self, viewer: u32) -> bool {

@@ -74,7 +74,8 @@ fn show_whole<K: Sink>(
     replay: &Replay,
 ) -> Result<bool, ScriptFault>
     requires { replay.now.told.stop ≡ stop }
-    ensures written { (stream : List ℕ) → HasRead stream replay.now → (replayed stream).fault ≡ None → WritesShown result stop (shown stop stream) (K.told output.old) (K.told output.new) }
+    ensures written { (stream : List ℕ) → HasRead stream replay.now → (replayed stream).fault ≡ None
+        → WritesShown result stop (shown stop stream) (K.told output.old) (K.told output.new) }
     ensures fault { IfErr result IsWriteFault }
     ensures cause { WritesCause result (K.faults output.old) (K.faults output.new) }
 {
@@ -92,7 +93,8 @@ fn show_whole<K: Sink>(
 
 /// Writes why there is no picture, where there was memory to say it.
 fn refuse<K: Sink>(output: &mut K, made: Result<Vec<u8>, OutOfMemory>) -> Result<bool, ScriptFault>
-    ensures written { (s : Shown) (stop : ℕ) → is_picture s ≡ false → IfOk made (λ bytes. bytes.items ≡ text_of stop s) → WritesShown result stop s (K.told output.old) (K.told output.new) }
+    ensures written { (s : Shown) (stop : ℕ) → is_picture s ≡ false → IfOk made (λ bytes. bytes.items ≡ text_of stop s)
+        → WritesShown result stop s (K.told output.old) (K.told output.new) }
     ensures fault { IfErr result IsWriteFault }
     ensures cause { WritesCause result (K.faults output.old) (K.faults output.new) }
 {

@@ -11,17 +11,20 @@ use Rattle.rle_dec.specs.declared.short.Step.{Step}
 -- the whole bitmap, of which the first `at` pixels are drawn, by what the orders before left and the stream after them
 abbrev pub still_drawn : Depth → ℕ → ℕ → ℕ → Before → List ℕ → List ℕ → Result (List ℕ) (List ℕ)
 still_drawn depth w at foreground before pixels stream =
-    drawn_rest w (record { count = length (take at pixels); foreground = foreground; before = before }) (take at pixels) (run_orders_in depth (length pixels - length (take at pixels)) stream)
+    drawn_rest w (record { count = length (take at pixels); foreground = foreground; before = before }) (take at pixels)
+    (run_orders_in depth (length pixels - length (take at pixels)) stream)
 
 -- a step has drawn the first order of a stream: it leaves less of the stream, which draws the same bitmap
 abbrev pub IsStep : Depth → ℕ → ℕ → ℕ → Before → List ℕ → List ℕ → ℕ → Before → List ℕ → Step → Type 0
 IsStep depth w at foreground before pixels stream later_foreground later now s =
-    (s.at ≤ length now) × (length s.rest.now < length stream) × (still_drawn depth w s.at later_foreground later now s.rest.now ≡ still_drawn depth w at foreground before pixels stream)
+    (s.at ≤ length now) × (length s.rest.now < length stream)
+    × (still_drawn depth w s.at later_foreground later now s.rest.now ≡ still_drawn depth w at foreground before pixels stream)
 
 -- the same with each foreground, which stays
 abbrev pub IsShortStep : Depth → ℕ → ℕ → Before → List ℕ → List ℕ → Before → List ℕ → Step → Type 0
 IsShortStep depth w at before pixels stream later now s =
-    (s.at ≤ length now) × (length s.rest.now < length stream) × ((foreground : ℕ) → still_drawn depth w s.at foreground later now s.rest.now ≡ still_drawn depth w at foreground before pixels stream)
+    (s.at ≤ length now) × (length s.rest.now < length stream) × ((foreground : ℕ)
+    → still_drawn depth w s.at foreground later now s.rest.now ≡ still_drawn depth w at foreground before pixels stream)
 
 -- the first order of a stream is refused, with these bytes from the refused field on
 abbrev pub IsRefused : Depth → ℕ → ℕ → ℕ → Before → List ℕ → List ℕ → List ℕ → Type 0
@@ -31,4 +34,5 @@ IsRefused depth w at foreground before pixels stream refused =
 -- the first n pixels of bytes are drawn, and these are the bytes after them
 abbrev pub IsFront : Depth → ℕ → ℕ → List ℕ → List ℕ → List ℕ → List ℕ → Type 0
 IsFront depth n at pixels bytes now rest =
-    (bytes_in depth * n ≤ length bytes) × (rest ≡ drop (bytes_in depth * n) bytes) × (take (at + n) now ≡ take at pixels ++ pixels_of depth (take (bytes_in depth * n) bytes))
+    (bytes_in depth * n ≤ length bytes) × (rest ≡ drop (bytes_in depth * n) bytes)
+    × (take (at + n) now ≡ take at pixels ++ pixels_of depth (take (bytes_in depth * n) bytes))

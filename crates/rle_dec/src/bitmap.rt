@@ -1,7 +1,8 @@
 //! The pixels of a run-length stream, the bottom row first ([MS-RDPBCGR] 3.1.9).
 ghost use Rattle.std.specs.Prelude.{◌≡◌, ◌+◌, ◌<◌, ◌≤◌, IfErr, IfOk, IsFalse, Ok, Err, OnOk, length, take};
 ghost use Rattle.px_core.specs.declared.depth.Depth.TheVariants.{Bits24};
-ghost use Rattle.run_lengths.specs.RunLength.{Decompresses, background_stroke, before_next, follows_background, foreground_stroke, run_size, run_strokes, unrle};
+ghost use Rattle.run_lengths.specs.RunLength.{Decompresses, background_stroke, before_next, follows_background, foreground_stroke, run_size};
+ghost use Rattle.run_lengths.specs.RunLength.{run_strokes, unrle};
 ghost use Rattle.run_lengths.specs.RunLength.Run.{Background};
 ghost use Rattle.rle_dec.specs.Drawing.{drawn_onto, drawn_whole, pixels_before};
 ghost use Rattle.rle_dec.specs.Faults.{RefusesAt};
@@ -146,7 +147,8 @@ fn draw_order(
     requires room { at + order.now.length ≤ length out.old }
     requires size { at + run_size (run_of depth order.now.length order.now.run) ≤ length out.old }
     requires row { IsFalse first → w ≤ at }
-    ensures drawn { take result out.new ≡ drawn_onto w (run_strokes (run_of depth order.now.length order.now.run) (follows_background before first) (background_stroke first) (foreground_stroke first foreground)) (take at out.old) }
+    ensures drawn { take result out.new ≡ drawn_onto w (run_strokes (run_of depth order.now.length order.now.run) (follows_background before first)
+        (background_stroke first) (foreground_stroke first foreground)) (take at out.old) }
     ensures within { result ≤ length out.old }
 {
     let n = order.length;

@@ -3,3 +3,8 @@ pub mod Counting
 pub mod Pending
 pub mod Telling
 pub mod Whole
+pub mod Bytes
+pub mod InPlace
+pub mod Padded
+pub mod Shorter
+pub mod TilePacked

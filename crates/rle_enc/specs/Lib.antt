@@ -1,3 +1,4 @@
 pub mod Stretch
 pub mod Words
 pub mod Result
+pub mod Packed

@@ -1,5 +1,6 @@
 -- A stretch of pixels and the row before it, as the packer's code has them.
-use Rattle.std.specs.Prelude.{◌≡◌, ℕ, suc, ◌≤◌, ◌==◌, List, [], ◌∷◌, ◌++◌, flat_map, length, take, drop, replicate, slice_index, zip, Option, Some, None, if◌then◌else◌}
+use Rattle.std.specs.Prelude.{◌≡◌, ℕ, suc, ◌≤◌, ◌==◌, Option, Some, None, if◌then◌else◌}
+use Rattle.std.specs.Prelude.{List, [], ◌∷◌, ◌++◌, flat_map, length, take, drop, replicate, slice_index, zip}
 use denote.Ref.{Bor}
 use Rattle.px_core.specs.declared.depth.Depth.{Depth}
 use Rattle.run_lengths.specs.RunLength as runs

@@ -24,7 +24,8 @@ over_operand is_needed code None result = unless_needed (is_needed code) result
 -- the raster operation over colours that may be unknown: unknown where the code depends on an operand that is unknown
 abbrev pub maybe_raster : ℕ → Option ℕ → Option ℕ → Option ℕ → Option ℕ
 maybe_raster code p s d =
-    over_operand is_pattern_needed code p (λ m. over_operand is_source_needed code s (λ n. over_operand is_destination_needed code d (λ k. Some (ternary_raster code m n k))))
+    over_operand is_pattern_needed code p (λ m. over_operand is_source_needed code s
+    (λ n. over_operand is_destination_needed code d (λ k. Some (ternary_raster code m n k))))
 
 -- the colours of a client, unknown ones as None
 abbrev pub client_colors : Palette (Option ℕ)

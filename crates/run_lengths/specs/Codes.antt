@@ -3,7 +3,8 @@ use Rattle.std.specs.Prelude.{ℕ, ◌&&◌, nat_le, Bool, true, false, List, []
 use Rattle.px_core.specs.declared.depth.Depth.{Depth}
 use Rattle.px_core.specs.Depth.{white}
 use Rattle.run_lengths.specs.declared.codes.RunKind.{RunKind}
-use Rattle.run_lengths.specs.declared.codes.RunKind.TheVariants.{BackgroundRun, ForegroundRun, MaskImage, ColorRun, ColorImage, DitheredRun, FixedMask, FixedColor}
+use Rattle.run_lengths.specs.declared.codes.RunKind.TheVariants.{BackgroundRun, ForegroundRun, MaskImage, ColorRun}
+use Rattle.run_lengths.specs.declared.codes.RunKind.TheVariants.{ColorImage, DitheredRun, FixedMask, FixedColor}
 use Rattle.run_lengths.specs.declared.codes.Length.{Length}
 use Rattle.run_lengths.specs.declared.codes.Length.TheVariants.{InCode, TwoBytes, Fixed}
 use Rattle.run_lengths.specs.declared.codes.Row.{Row}

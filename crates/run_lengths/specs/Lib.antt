@@ -1,3 +1,4 @@
 pub mod Codes
 pub mod RunLength
 pub mod Packer
+pub mod WirePixels

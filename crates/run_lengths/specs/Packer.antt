@@ -1,5 +1,6 @@
 -- The packer (profile): the bytes that stand for a depth's pixels of rows of w, the bottom row first.
-use Rattle.std.specs.Prelude.{ℕ, zero, suc, ◌+◌, ◌-◌, ◌==◌, nat_lt, nat_le, ◌&&◌, List, [], ◌∷◌, ◌++◌, length, flat_map, take, drop, zip, replicate, if◌then◌else◌}
+use Rattle.std.specs.Prelude.{ℕ, zero, suc, ◌+◌, ◌-◌, ◌==◌, nat_lt, nat_le, ◌&&◌, if◌then◌else◌}
+use Rattle.std.specs.Prelude.{List, [], ◌∷◌, ◌++◌, length, flat_map, take, drop, zip, replicate}
 use Rattle.byteorder.specs.Endian.{little_bytes}
 use Rattle.px_core.specs.declared.depth.Depth.{Depth}
 use Rattle.px_core.specs.Pixels.{pixel_bytes, pixels_bytes}

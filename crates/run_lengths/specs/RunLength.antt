@@ -1,5 +1,7 @@
--- Run-length bitmaps ([MS-RDPBCGR] 2.2.9.1.1.3.1.2.4 and 3.1.9): the orders that a byte stream of a depth's pixels is cut into, and the pixels that they draw, the bottom row first.
-use Rattle.std.specs.Prelude.{◌≡◌, ℕ, zero, suc, ◌+◌, ◌-◌, ◌*◌, ◌/◌, ◌%◌, ◌==◌, nat_lt, nat_le, Bool, true, false, ◌&&◌, List, [], ◌∷◌, ◌++◌, length, map, flat_map, take, drop, replicate, Option, Some, None, unwrap_or, Result, Ok, Err, bit_xor, if◌then◌else◌}
+-- Run-length bitmaps ([MS-RDPBCGR] 2.2.9.1.1.3.1.2.4 and 3.1.9): the orders that a byte stream of a depth's pixels is cut into, and the
+-- pixels that they draw, the bottom row first.
+use Rattle.std.specs.Prelude.{◌≡◌, ℕ, zero, suc, ◌+◌, ◌-◌, ◌*◌, ◌/◌, ◌%◌, ◌==◌, nat_lt, nat_le, Bool, true, false, ◌&&◌, bit_xor, if◌then◌else◌}
+use Rattle.std.specs.Prelude.{List, [], ◌∷◌, ◌++◌, length, map, flat_map, take, drop, replicate, Option, Some, None, unwrap_or, Result, Ok, Err}
 use Rattle.wire_num.specs.Field.{Read, then_read, map_read, given, bytes_at, place_in}
 use Rattle.wire_num.specs.Number.{little_at}
 use Rattle.px_core.specs.declared.depth.Depth.{Depth}
@@ -13,12 +15,14 @@ use Rattle.run_lengths.specs.declared.strokes.Stroke.{Stroke}
 use Rattle.run_lengths.specs.declared.strokes.Stroke.TheVariants.{Plain, Above, Crossed}
 use Rattle.run_lengths.specs.declared.codes.Before.{Before}
 use Rattle.run_lengths.specs.declared.codes.Before.TheVariants.{Other, FirstRowBackground, LaterBackground}
-use Rattle.run_lengths.specs.declared.codes.RunKind.TheVariants.{BackgroundRun, ForegroundRun, MaskImage, ColorRun, ColorImage, DitheredRun, FixedMask, FixedColor}
+use Rattle.run_lengths.specs.declared.codes.RunKind.TheVariants.{BackgroundRun, ForegroundRun, MaskImage, ColorRun}
+use Rattle.run_lengths.specs.declared.codes.RunKind.TheVariants.{ColorImage, DitheredRun, FixedMask, FixedColor}
 use Rattle.run_lengths.specs.declared.codes.Length.TheVariants.{InCode, TwoBytes, Fixed}
 
 -- ---- orders
 
--- what an order draws: so many pixels, a pixel for each bit, so many of one colour, the colours themselves, two colours in turn so many times; one definition has a clause for all others than an image: onto_runs of Packer (only images join)
+-- what an order draws: so many pixels, a pixel for each bit, so many of one colour, the colours themselves, two colours in turn so many
+-- times; one definition has a clause for all others than an image: onto_runs of Packer (only images join)
 pub data Run : Type 0 where
   Background : ℕ → Run
   Foreground : ℕ → Run
@@ -153,7 +157,8 @@ abbrev pub dithered_strokes : ℕ → ℕ → ℕ → List Stroke
 dithered_strokes zero a b = []
 dithered_strokes (suc n) a b = Plain a ∷ Plain b ∷ dithered_strokes n a b
 
--- the strokes of a run, by whether it follows a background run so that its first pixel would be a foreground pixel, and by its background and foreground strokes
+-- the strokes of a run, by whether it follows a background run so that its first pixel would be a foreground pixel, and by its background
+-- and foreground strokes
 abbrev pub run_strokes : Run → Bool → Stroke → Stroke → List Stroke
 run_strokes (Background n) follows g f = background_strokes follows n g f
 run_strokes (Foreground n) follows g f = replicate n f
@@ -175,7 +180,8 @@ before_next (Color n c) first = Other
 before_next (Image cs) first = Other
 before_next (Dithered n a b) first = Other
 
--- whether a background run there begins with a foreground pixel; it doesn't at or past the end of the first row after one that begins in the first row (profile)
+-- whether a background run there begins with a foreground pixel; it doesn't at or past the end of the first row after one that begins in
+-- the first row (profile)
 abbrev pub follows_background : Before → Bool → Bool
 follows_background Other first = false
 follows_background FirstRowBackground first = first
@@ -198,7 +204,9 @@ abbrev pub drawn_after : ℕ → Drawn → Order → Drawn
 drawn_after w d o = record { count = d.count + run_size o.run; foreground = foreground_of o d; before = before_next o.run (is_first_row w d) }
 
 abbrev pub order_strokes : ℕ → Drawn → Order → List Stroke
-order_strokes w d o = run_strokes o.run (follows_background d.before (is_first_row w d)) (background_stroke (is_first_row w d)) (foreground_stroke (is_first_row w d) (foreground_of o d))
+order_strokes w d o =
+    run_strokes o.run (follows_background d.before (is_first_row w d)) (background_stroke (is_first_row w d))
+    (foreground_stroke (is_first_row w d) (foreground_of o d))
 
 -- the strokes of orders one after the other, in rows of w
 abbrev pub strokes_from : ℕ → Drawn → List Order → List Stroke

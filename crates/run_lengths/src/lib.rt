@@ -1,4 +1,5 @@
-//! Run-length bitmaps: what a byte stream of drawing orders means in pixels, and the bytes that this project's packer writes ([MS-RDPBCGR] 2.2.9.1.1.3.1.2.4 and 3.1.9), at a depth. Definitions and their laws alone.
+//! Run-length bitmaps: what a byte stream of drawing orders means in pixels, and the bytes that this project's packer writes
+//! ([MS-RDPBCGR] 2.2.9.1.1.3.1.2.4 and 3.1.9), at a depth; and which bytes pixels go as. Definitions and their laws alone.
 //!
 //! | code | order | length |
 //! |---|---|---|
@@ -13,8 +14,11 @@
 //! | F9, FA | mask image of 8 pixels with the mask 03, 05 | |
 //! | FD, FE | one white, one black pixel | |
 //!
-//! A length "run" is the low five bits of the code, or, where they are 0, the next byte and 32. "Mask" is the low five bits times 8, or the next byte and 1. "Lite" is the same with the low four bits, and 16 for runs. From F0 to F8 the length is the next two bytes, the low one first.
-//! A pixel has as many bytes as the depth has, the lowest of its number first: of 24 bits blue, green, red, and the number 65536 * red + 256 * green + blue here. The bottom row comes first.
+//! A length "run" is the low five bits of the code, or, where they are 0, the next byte and 32. "Mask" is the low five bits times 8, or
+//! the next byte and 1. "Lite" is the same with the low four bits, and 16 for runs. From F0 to F8 the length is the next two bytes, the
+//! low one first.
+//! A pixel has as many bytes as the depth has, the lowest of its number first: of 24 bits blue, green, red, and the number 65536 * red +
+//! 256 * green + blue here. The bottom row comes first.
 #![tactic(auto)]
 
 mod codes;

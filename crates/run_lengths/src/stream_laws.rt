@@ -8,8 +8,10 @@ ghost use Rattle.run_lengths.specs.RunLength.{Decompresses, unrle};
 
 /// What the packer writes of at least one row of a depth's pixels is read back to just them.
 pub fn packed_pixels_are_read_back()
-    ensures relation { (depth : Depth) (w h : ℕ) (ps : List ℕ) → 1 ≤ w → w ≤ length ps → length ps ≡ w * h → length ps < 65536 → are_pixels depth ps ≡ true → Decompresses depth (packed depth w ps) w h ps }
-    ensures pixels { (depth : Depth) (w h : ℕ) (ps : List ℕ) → 1 ≤ w → w ≤ length ps → length ps ≡ w * h → length ps < 65536 → are_pixels depth ps ≡ true → unrle depth (packed depth w ps) w h ≡ Ok ps }
+    ensures relation { (depth : Depth) (w h : ℕ) (ps : List ℕ) → 1 ≤ w → w ≤ length ps → length ps ≡ w * h → length ps < 65536 → are_pixels depth ps ≡ true
+        → Decompresses depth (packed depth w ps) w h ps }
+    ensures pixels { (depth : Depth) (w h : ℕ) (ps : List ℕ) → 1 ≤ w → w ≤ length ps → length ps ≡ w * h → length ps < 65536 → are_pixels depth ps ≡ true
+        → unrle depth (packed depth w ps) w h ≡ Ok ps }
 {}
 
 /// A stream stands for one list of pixels alone: the one that the function gives.

@@ -128,7 +128,8 @@ is_join_refusal words = false
 -- what stands after a viewer's number
 abbrev pub viewer_line : ℕ → List (List ℕ) → Option CaptureLine
 viewer_line v [] = None
-viewer_line v (word ∷ []) = if is_same_word word (codes "left") || is_same_word word (codes "nothing") then Some (OtherLine v) else option_map (BytesLine v) (bytes_word word)
+viewer_line v (word ∷ []) = if is_same_word word (codes "left") || is_same_word word (codes "nothing") then Some (OtherLine v) else option_map (BytesLine v)
+    (bytes_word word)
 viewer_line v (word ∷ next ∷ words) = if is_same_word word (codes "joined") then joined_words v (next ∷ words)
     else then_some (is_same_word word (codes "refused") && is_step_refusal (next ∷ words)) (OtherLine v)
 
@@ -141,7 +142,8 @@ abbrev pub greatest_line : ℕ
 greatest_line = 4294967295
 
 abbrev pub is_broken_line : List (List ℕ) → Bool
-is_broken_line (line ∷ k ∷ rule ∷ r ∷ []) = (is_same_word line (codes "line") && is_some (number_between 1 greatest_line k)) && is_counted (codes "rule") 1 greatest_rule rule r
+is_broken_line (line ∷ k ∷ rule ∷ r ∷ []) = (is_same_word line (codes "line") && is_some (number_between 1 greatest_line k))
+    && is_counted (codes "rule") 1 greatest_rule rule r
 is_broken_line words = false
 
 abbrev pub is_nobody_line : List (List ℕ) → Bool

@@ -12,7 +12,8 @@ use Rattle.script_rules.specs.Script.{Asked, Script, Opening, opening_of, size_r
 use Rattle.script_rules.specs.Script.Opening.{NoSize, Unended, Opened}
 use Rattle.script_rules.specs.Capture.{answer_line, viewer_of, broken_line, last_line}
 
--- how frames become bytes: what an encoder is before its first frame, the bytes of a take's frame over a journal, and the encoder after it, by the size and by what its viewer confirmed
+-- how frames become bytes: what an encoder is before its first frame, the bytes of a take's frame over a journal, and the encoder after it, by the size and by
+-- what its viewer confirmed
 pub record FrameText (E : Type 0) : Type 0 where
   pub first : E
   pub bytes : Size → Confirmed → List Entry → E → TakeOf → List ℕ

@@ -133,8 +133,10 @@ image_pixels w h (color ∷ next ∷ colors) = then_some (length (color ∷ next
 
 -- an image by the test of its sides; one with a bad side has any digits and no pixels
 abbrev pub image_with : Bool → ℕ → ℕ → ℕ → List ℕ → Option Shape
-image_with true slot w h digits = option_map (λ pixels. LoadImage slot (record { w = w; h = h; pixels = pixels })) (option_and_then (image_pixels w h) (hexadecimals_of 6 digits))
-image_with false slot w h digits = option_and_then (λ ds. then_some (nat_lt 0 (length ds)) (LoadImage slot (record { w = w; h = h; pixels = [] }))) (hexadecimals_of 1 digits)
+image_with true slot w h digits = option_map (λ pixels. LoadImage slot (record { w = w; h = h; pixels = pixels }))
+    (option_and_then (image_pixels w h) (hexadecimals_of 6 digits))
+image_with false slot w h digits = option_and_then (λ ds. then_some (nat_lt 0 (length ds)) (LoadImage slot (record { w = w; h = h; pixels = [] })))
+    (hexadecimals_of 1 digits)
 
 abbrev pub image_by : List ℤ → List (List ℕ) → Option Shape
 image_by (slot ∷ w ∷ h ∷ []) (digits ∷ []) = image_with (is_image_side (nat_of w) && is_image_side (nat_of h)) (nat_of slot) (nat_of w) (nat_of h) digits
@@ -145,7 +147,8 @@ abbrev pub brush_pixels : ℕ
 brush_pixels = 64
 
 abbrev pub brush_by : List ℤ → List (List ℕ) → Option Shape
-brush_by (slot ∷ []) (digits ∷ []) = option_and_then (λ pixels. then_some (length pixels == brush_pixels) (LoadBrush (nat_of slot) pixels)) (hexadecimals_of 6 digits)
+brush_by (slot ∷ []) (digits ∷ []) = option_and_then (λ pixels. then_some (length pixels == brush_pixels) (LoadBrush (nat_of slot) pixels))
+    (hexadecimals_of 6 digits)
 brush_by numbers words = None
 
 -- the bytes of a glyph's rows, each padded to a byte
@@ -154,7 +157,9 @@ glyph_bytes cx cy = (cx + 7) / 8 * cy
 
 abbrev pub glyph_by : List ℤ → List (List ℕ) → Option Shape
 glyph_by (font ∷ code ∷ x ∷ y ∷ cx ∷ cy ∷ []) (digits ∷ []) = option_and_then (λ bits.
-    then_some (nat_lt 0 (length bits) && (length bits == glyph_bytes (nat_of cx) (nat_of cy))) (LoadGlyph (nat_of font) (nat_of code) (record { x = x; y = y; cx = nat_of cx; cy = nat_of cy; bits = bits })))
+    then_some (nat_lt 0 (length bits)
+    && (length bits == glyph_bytes (nat_of cx) (nat_of cy))) (LoadGlyph (nat_of font) (nat_of code)
+    (record { x = x; y = y; cx = nat_of cx; cy = nat_of cy; bits = bits })))
     (hexadecimals_of 2 digits)
 glyph_by numbers words = None
 

@@ -12,7 +12,8 @@ use Rattle.input_pdu.specs.declared.event.Event.TheVariants.{Scan, Unicode, Mous
 use Rattle.session_rules.specs.Steps.{Step}
 use Rattle.line_text.specs.Words.{is_same_word}
 use Rattle.session_rules.specs.Steps.Step.{LeaveStep, InputStep, DrawStep, RefreshStep, SuppressStep, TakeStep}
-use Rattle.script_rules.specs.Fields.{Field, values_of, rect_fields, rect_of, with_clip, without_clip, pairs_of, text_by, fill_by, dst_by, pat_by, copy_by, blit_by, blit3_by, line_by, save_by, restore_by, image_by, brush_by, glyph_by}
+use Rattle.script_rules.specs.Fields.{Field, values_of, rect_fields, rect_of, with_clip, without_clip, pairs_of, text_by, fill_by, dst_by, pat_by}
+use Rattle.script_rules.specs.Fields.{copy_by, blit_by, blit3_by, line_by, save_by, restore_by, image_by, brush_by, glyph_by}
 use Rattle.script_rules.specs.Fields.Field.{Coordinate, Count, Small, Digits}
 
 -- a form: its first word, and the step that a viewer and the other words ask for
@@ -43,7 +44,8 @@ text_fields = Coordinate ∷ Coordinate ∷ Digits 6 ∷ Small ∷ []
 
 abbrev pub text_step : ℕ → List (List ℕ) → Option Step
 text_step v words = option_and_then (λ vs. option_and_then (λ run.
-    option_map (draw_step v) (option_and_then (λ shape. with_clip shape run.words) (text_by vs.numbers run.pairs))) (pairs_of vs.words)) (values_of text_fields words)
+    option_map (draw_step v) (option_and_then (λ shape. with_clip shape run.words)
+    (text_by vs.numbers run.pairs))) (pairs_of vs.words)) (values_of text_fields words)
 
 -- ---- other steps
 

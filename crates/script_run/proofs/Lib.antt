@@ -17,4 +17,13 @@ pub mod Progressed
 pub mod AllLines
 pub mod Captured
 pub mod Whole
-pub mod Hosting
+pub mod HostedSteps
+pub mod SeatLemmas
+pub mod StepLines
+pub mod StepsOn
+pub mod Verdicts
+pub mod Leaving
+pub mod Joining
+pub mod Taking
+pub mod Inviting
+mod FrameLines

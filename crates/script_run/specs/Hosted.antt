@@ -4,8 +4,8 @@ use Rattle.frame_rules.specs.Encoder.{Encoder}
 use Rattle.session_core.specs.SessionModel.{is_here}
 use Rattle.script_rules.specs.Script.{ScriptReading}
 use Rattle.script_rules.specs.CaptureText.{Run}
-use Rattle.script_host.specs.Hosts.{HostModel}
-use Rattle.script_host.specs.Runs.{IsRunOf}
+use Rattle.script_run.specs.Hosts.{HostModel}
+use Rattle.script_run.specs.Runs.{IsRunOf}
 use Rattle.script_run.specs.Standing.{Seen}
 
 abbrev pub seen_of : HostModel → Seen

@@ -11,3 +11,6 @@ pub mod Progress
 pub mod Texts
 pub mod Captures
 pub mod Hosted
+pub mod Answers
+pub mod Hosts
+pub mod Runs

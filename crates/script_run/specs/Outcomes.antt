@@ -7,7 +7,8 @@ use Rattle.edge_io.specs.declared.reader.Found.{Found}
 use Rattle.edge_io.specs.declared.reader.Found.TheVariants as found
 use Rattle.session_rules.specs.Journal.{Head}
 use Rattle.frame_rules.specs.Encoder.{Encoder}
-use Rattle.script_rules.specs.Script.{ScriptReading, LineOutcome, line_form, form_outcome, unless_broken, broken_if, all_bytes, is_ascii, text_rule, invite_form, with_row, after_step}
+use Rattle.script_rules.specs.Script.{ScriptReading, LineOutcome, line_form, form_outcome, unless_broken, broken_if}
+use Rattle.script_rules.specs.Script.{all_bytes, is_ascii, text_rule, invite_form, with_row, after_step}
 use Rattle.script_rules.specs.Script.LineOutcome.{Breaks, Invites, Asks}
 use Rattle.script_rules.specs.CaptureText.{Run, run_after, encoder_frames}
 

@@ -30,7 +30,8 @@ pub record StopsShort (whole : ByLines) (told : Option (List ℕ)) (before now :
 
 -- what was done of the next line, the k-th, where the lines ahead give this: its step; nothing, since no line is left; or it was refused.
 -- At another fault a front stands in the sink, of which this was told before
-abbrev pub NextLineDone : Writing → Result Bool ScriptFault → ByLines → ℕ → (ScriptReading → Run Encoder → Type 0) → Option (List ℕ) → (before now : Moment) → Type 0
+abbrev pub NextLineDone : Writing → Result Bool ScriptFault → ByLines → ℕ → (ScriptReading → Run Encoder → Type 0) → Option (List ℕ) → (before now : Moment)
+    → Type 0
 NextLineDone w (Ok true) whole k stands told before now =
     (before.reading.at < now.reading.at) × (now.reading.at ≤ script_limit) × DidLinesTo w whole k stands before now
 NextLineDone w (Ok false) whole k stands told before now = EndsWhereTold (ahead_of before) (ahead_of now) × WroteAllLines whole None before now

@@ -26,6 +26,7 @@ pub record IsInCourse (stands : ScriptReading → Run Encoder → Type 0) : Type
   pub standing : stands r run
 
 -- what is asked was done, and what it writes was appended
-pub record DoesStep (w : Writing) (stands : ScriptReading → Run Encoder → Type 0) (r : ScriptReading) (run : Run Encoder) (a : Asked) (old new : List ℕ) : Type 0 where
+pub record DoesStep (w : Writing) (stands : ScriptReading → Run Encoder → Type 0) (r : ScriptReading) (run : Run Encoder) (a : Asked)
+    (old new : List ℕ) : Type 0 where
   pub standing : stands (after_step r a.step) (run_after encoder_frames r.head run a)
   pub written : new ≡ old ++ w.step r run a

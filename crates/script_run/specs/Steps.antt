@@ -26,7 +26,8 @@ use Rattle.script_run.specs.Solo.{first_run, solo_reading, solo_run}
 use Rattle.script_run.specs.Writing.{Writing, line_text, joined}
 
 -- what was answered of a line: the rule that it breaks, with nothing done, or it was done and what it writes was appended
-abbrev pub LineAnswered : Writing → LineOutcome → Option LineRule → ScriptReading → Run Encoder → (ScriptReading → Run Encoder → Type 0) → (old new : List ℕ) → Type 0
+abbrev pub LineAnswered : Writing → LineOutcome → Option LineRule → ScriptReading → Run Encoder → (ScriptReading → Run Encoder → Type 0)
+    → (old new : List ℕ) → Type 0
 LineAnswered w (Breaks rule) None r run stands old new = ⊥
 LineAnswered w (Breaks rule) (Some broken) r run stands old new = (number_of_rule broken ≡ rule) × (new ≡ old) × stands r run
 LineAnswered w (Invites row) None r run stands old new = stands (with_row r row) run × (new ≡ old)
@@ -44,7 +45,8 @@ pub record DoesLine (w : Writing) (says : Option LineOutcome) (k : ℕ) (r : Scr
   pub written : Appends old new (line_text w k r run outcome)
 
 -- what was done where a line was found, as the k-th: it was done; the end was written, since there is none; or what a line writes that breaks a rule
-abbrev pub DoesFound : Writing → Step → Found → ℕ → ScriptReading → Run Encoder → (ScriptReading → Run Encoder → Type 0) → List ℕ → (old new : Option (List ℕ)) → Type 0
+abbrev pub DoesFound : Writing → Step → Found → ℕ → ScriptReading → Run Encoder → (ScriptReading → Run Encoder → Type 0) → List ℕ
+    → (old new : Option (List ℕ)) → Type 0
 DoesFound w step.Done f k r run stands text old new = DoesLine w (found_outcome f r text) k r run stands old new
 DoesFound w step.NoLine f k r run stands text old new = (f ≡ found.End) × Appends old new (w.end r)
 DoesFound w (step.Refused rule) f k r run stands text old new =

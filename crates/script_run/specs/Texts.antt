@@ -1,6 +1,6 @@
 -- What lines of a script write.
 use Rattle.std.specs.Prelude.{ℕ, List, ◌++◌}
-use Rattle.script_host.specs.Answers.{frame_end}
+use Rattle.script_run.specs.Answers.{frame_end}
 use Rattle.script_run.specs.declared.text.Text.{Text}
 
 -- a text of a capture: its words, and the digits of the frame that stands at its end

@@ -8,7 +8,7 @@ ghost use Rattle.script_rules.specs.Script.{ScriptReading, is_name, is_invited, 
 ghost use Rattle.script_rules.specs.CaptureText.{Run};
 ghost use Rattle.script_lines.specs.Keywords.{step_of};
 ghost use Rattle.script_lines.specs.Lines.{IsStepInRange, number_of_rule};
-ghost use Rattle.script_host.specs.Answers.{frame_end};
+ghost use Rattle.script_run.specs.Answers.{frame_end};
 ghost use Rattle.script_run.specs.Solo.{first_run};
 ghost use Rattle.script_run.specs.Standing.{Seen, Stands, IsInCourse, DoesStep};
 ghost use Rattle.script_run.specs.Writing.{Writing};

@@ -1,10 +1,9 @@
 //! A script's run in its course does the lines of the script, and writes its capture.
-use crate::OutOfMemory;
 use crate::course::Course;
 use crate::found::FIRST;
+use crate::{OutOfMemory, ScriptHost};
 use caps_sets::Confirmed;
 use px_core::Size;
-use script_host::ScriptHost;
 use script_lines::{LineRule, ViewerStep, write_broken};
 use session_rules::Role;
 use std::alloc::Global;

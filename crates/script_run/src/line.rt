@@ -35,7 +35,8 @@ pub(crate) fn do_line<C: Course>(
 ) -> Result<Option<LineRule>, OutOfMemory>
     requires { IsInCourse (C.keeps course.old) }
     ensures { IfOk result (λ broken. (r : ScriptReading) (run : Run Encoder) → Stands (C.seen course.old) (C.keeps course.old) r run
-        → LineAnswered C.writing (outcome_within r text.now ended) broken r run (Stands (C.seen course.new) (C.keeps course.new)) (text_of out.old) (text_of out.new)) }
+        → LineAnswered C.writing (outcome_within r text.now ended) broken r run (Stands (C.seen course.new) (C.keeps course.new)) (text_of out.old)
+        (text_of out.new)) }
 {
     if !is_text_line(text, ended) {
         return Ok(Some(LineRule::Text));

@@ -99,7 +99,8 @@ fn do_second<C: Course, S: Source, K: Sink>(
     page: &mut Page,
     course: &mut C,
 ) -> Result<bool, ScriptFault>
-    requires begins { Stands (C.seen course.old) (C.keeps course.old) (opened_reading (C.seen course.old).head.size []) (first_run (C.seen course.old).head.size) }
+    requires begins { Stands (C.seen course.old) (C.keeps course.old) (opened_reading (C.seen course.old).head.size [])
+        (first_run (C.seen course.old).head.size) }
     requires writing { IsWriting C.writing }
     ensures done { NextLineDone C.writing result (C.writing.rest (C.seen course.old).head.size reader.old.at) 2
         (Stands (C.seen course.new) (C.keeps course.new)) (K.told output.old)

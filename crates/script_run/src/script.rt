@@ -1,9 +1,9 @@
 ghost use Rattle.script_run.specs.Run.{RunsScript, ReadsCause, WritesCause};
 
+use crate::ScriptHost;
 use crate::fault::ScriptFault;
 use crate::run::run_course;
 use edge_io::{Sink, Source};
-use script_host::ScriptHost;
 use std::alloc::Global;
 
 /// Reads a script, a line at a time, and writes its capture, a line for each step that was done.

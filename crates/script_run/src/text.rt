@@ -125,7 +125,8 @@ impl Text {
     }
 }
 
-/// Holds back a text for the output, or writes it where there is no room; a frame's digits go a piece at a time. An `Err` holds nothing back, and leaves a front of all that in the output.
+/// Holds back a text for the output, or writes it where there is no room; a frame's digits go a piece at a time. An `Err` holds nothing back, and
+/// leaves a front of all that in the output.
 pub(crate) fn hold_text<K: Sink>(
     output: &mut K,
     page: &mut Page,

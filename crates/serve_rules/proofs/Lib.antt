@@ -5,3 +5,4 @@ pub mod Ascending
 pub mod Noticing
 pub mod ReadOn
 pub mod Rows
+mod EventRows

@@ -41,7 +41,8 @@ IsWithinPacket Between = ⊥
 IsWithinPacket (Within n) = ⊤
 IsWithinPacket (RefusedAt k at) = ⊥
 
--- when a read side that may be stopped or not ends so: by what of the stream was read, where it stands then and what it announced, and by the input before and now
+-- when a read side that may be stopped or not ends so: by what of the stream was read, where it stands then and what it announced, and by the input before and
+-- now
 abbrev pub ReadEnd : Bool → List ℕ → Hearing → Notice → (before now : Input) → SideEnd → Type 0
 ReadEnd flagged fed h notice before now (Done Left) = IsUnended notice → IsWhole before.left fed × (end_of h ≡ Between)
 ReadEnd flagged fed h notice before now (Done (Refused k at)) = end_of h ≡ RefusedAt k at
@@ -58,14 +59,16 @@ ReadEnd flagged fed h notice before now Stopped = flagged ≡ true
 abbrev pub one_read : ℕ
 one_read = 16384
 
--- nothing was read behind a Bye or a Shutdown: of the steps that were there before and the bytes that came before the last read none is one; or nothing was read
+-- nothing was read behind a Bye or a Shutdown: of the steps that were there before and the bytes that came before the last read none is one; or nothing was
+-- read
 abbrev pub StopsReading : List ConnStep → Hearing → Notice → List ℕ → Type 0
 StopsReading rest conn notice fed = (fed ≡ []) ⊎ ((before : List ℕ) × (last : List ℕ) × (fed ≡ before ++ last) × (length last ≤ one_read)
     × IsUnended (notice_after_all notice (rest ++ (heard conn before).steps)))
 
 -- what a read side did between two states of its pass, its connection, its record and its input: what it read was fed to the connection, and the events of the
 -- steps before it and of those that were heard were handled in order, all of them unless memory was wanted, and nothing was read behind a Bye or a Shutdown
-pub record ReadsOn (head : Head) (v : ℕ) (rest : List ConnStep) (flagged : Bool) (conn_old conn_new : Hearing) (before after : SessionPass) (noted_old noted_new : Noted)
+pub record ReadsOn (head : Head) (v : ℕ) (rest : List ConnStep) (flagged : Bool) (conn_old conn_new : Hearing) (before after : SessionPass)
+    (noted_old noted_new : Noted)
     (input_old input_new : Input) (end : SideEnd) : Type 0 where
   pub fed : List ℕ
   pub taken : Consumes input_old.left input_new.left fed

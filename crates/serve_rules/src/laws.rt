@@ -26,7 +26,8 @@ pub fn events_are_handled_in_turns()
         → Handles head v (events ++ others) p r a c }
 {}
 
-/// What was handled stays so, for a pass that has seen more of the journal and had further turns, in which it appended nothing, and that has all of the lock that it had.
+/// What was handled stays so, for a pass that has seen more of the journal and had further turns, in which it appended nothing, and that has all of the lock
+/// that it had.
 pub fn what_was_handled_stays()
     ensures { (head : Head) (v : ℕ) (events : List Event) (p q r : SessionPass) (a b turns : List ℕ) → Handles head v events p q a b → StartsWith r.seen q.seen
         → r.found ≡ q.found ++ turns → r.mine ≡ q.mine → KeepsShare q r → Handles head v events p r a b }
@@ -40,7 +41,8 @@ pub fn places_of_events_ascend()
         → AreOfEvents v j (places_of head v j acts) }
 {}
 
-/// A read side goes on after a stretch that went well; and what it did stays so for the pass in which it meets that of a side that appended nothing and has its half of the lock.
+/// A read side goes on after a stretch that went well; and what it did stays so for the pass in which it meets that of a side that appended nothing and has its
+/// half of the lock.
 pub fn reading_goes_on()
     ensures after { (head : Head) (v : ℕ) (rest : List ConnStep) (flagged : Bool) (conn mid last : Hearing) (p q r : SessionPass) (a b c : Noted)
         (before between after : Input) (end : SideEnd) → ReadsOn head v rest true conn mid p q a b before between Stopped

@@ -1,4 +1,4 @@
-//! Tests of serving a gate: links in memory whose readers wait for what others are shown, links with planned faults, one in each call in turn, clients over the loopback interface, and the network viewer beside a host.
+//! Tests of serving a gate: links in memory whose readers wait for what others are shown, links with planned faults, one in each call in turn, and clients over the loopback interface.
 //!
 //! They use public calls alone, so they stand apart: a crate with tests of its own is proved a second time for them.
 #![tactic(auto)]
@@ -19,5 +19,3 @@ mod gates;
 mod planned;
 #[cfg(test)]
 mod sockets;
-#[cfg(test)]
-mod viewing;

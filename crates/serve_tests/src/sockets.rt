@@ -43,7 +43,7 @@ fn local(port: u16) -> SocketAddr {
 }
 
 /// A port that was free a moment ago.
-pub fn free_port<R: Net<Listener = TcpListener, Stream = TcpStream>>(rt: &R) -> Result<u16, Fail> {
+fn free_port<R: Net<Listener = TcpListener, Stream = TcpStream>>(rt: &R) -> Result<u16, Fail> {
     let listener = TcpListener::bind(rt, local(ANY_PORT))?;
     Ok(listener.local_addr()?.port())
 }

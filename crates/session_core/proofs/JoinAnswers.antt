@@ -67,27 +67,27 @@ refused_by head r name role why h refused = record {
       ∙ (entered_refused head (play_of head r) (Join (r.joins + 1) role) (Joined (r.joins + 1)) why refused).entry_is;
 }
 
-pub room_full : (head : Head) (r : Reached) (name : List ℕ) (role : Role) → row_role name head.rows ≡ Some role → r.joins ≤ 65535 → 16 ≤ length r.viewers
+pub room_full : (head : Head) (r : Reached) (name : List ℕ) (role : Role) → row_role name head.rows ≡ Some role → r.joins ≤ 65535 → most_viewers ≤ length r.viewers
     → JoinComesTo head r name (Refused RoomFull) None
 room_full head r name role h few full =
     let test : nat_lt (length r.viewers) most_viewers ≡ false = grind (arith, nat_tests, full) in
     refused_by head r name role RoomFull h (join_refusal head r role (has_found name role head.rows h) few ∙ rw test refl)
 
-pub joins_spent : (head : Head) (r : Reached) (name : List ℕ) (role : Role) → row_role name head.rows ≡ Some role → r.joins ≤ 65535 → length r.viewers < 16 → 65535 ≤ r.joins
+pub joins_spent : (head : Head) (r : Reached) (name : List ℕ) (role : Role) → row_role name head.rows ≡ Some role → r.joins ≤ 65535 → length r.viewers < most_viewers → 65535 ≤ r.joins
     → JoinComesTo head r name (Refused JoinsSpent) None
 joins_spent head r name role h few room spent =
     let test : nat_lt (length r.viewers) most_viewers ≡ true = grind (arith, nat_tests, room) in
     let last : nat_lt r.joins most_joins ≡ false = grind (arith, nat_tests, spent) in
     refused_by head r name role JoinsSpent h (join_refusal head r role (has_found name role head.rows h) few ∙ rw (test, last) refl)
 
-pub join_legal : (head : Head) (r : Reached) (name : List ℕ) (role : Role) → row_role name head.rows ≡ Some role → length r.viewers < 16 → r.joins < 65535
+pub join_legal : (head : Head) (r : Reached) (name : List ℕ) (role : Role) → row_role name head.rows ≡ Some role → length r.viewers < most_viewers → r.joins < 65535
     → refusal_of head r (Join (r.joins + 1) role) ≡ None
 join_legal head r name role h room left =
     let test : nat_lt (length r.viewers) most_viewers ≡ true = grind (arith, nat_tests, room) in
     let last : nat_lt r.joins most_joins ≡ true = grind (arith, nat_tests, left) in
     join_refusal head r role (has_found name role head.rows h) (omega (arith, left)) ∙ rw (test, last) refl
 
-pub joined : (head : Head) (r : Reached) (name : List ℕ) (role : Role) → row_role name head.rows ≡ Some role → length r.viewers < 16 → r.joins < 65535
+pub joined : (head : Head) (r : Reached) (name : List ℕ) (role : Role) → row_role name head.rows ≡ Some role → length r.viewers < most_viewers → r.joins < 65535
     → JoinComesTo head r name (Joined (r.joins + 1)) (Some (Join (r.joins + 1) role))
 joined head r name role h room left = record {
   answer_is = ap (λ o. (outcome_of head (play_of head r) (join_effect (play_of head r) o)).answer) h

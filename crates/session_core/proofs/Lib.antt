@@ -16,3 +16,12 @@ pub mod Opening
 pub mod SlotMisfits
 pub mod MarkSteps
 pub mod Typed
+pub mod LastFilling
+pub mod TextShown
+pub mod AllShown
+pub mod CellLemmas
+pub mod ShownLemmas
+pub mod MarkLemmas
+pub mod Adding
+pub mod Entries
+mod MarkRows

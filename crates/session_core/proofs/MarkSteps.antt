@@ -8,17 +8,17 @@ use Rattle.px_core.specs.Tiles.{Tiles, either_tiles, tiles_of, tile_rect}
 use Rattle.draw_ops.specs.declared.shape.Drawing.{Drawing}
 use Rattle.draw_ops.specs.Slots.{SurfaceState}
 use Rattle.draw_ops.specs.Drawing.{state_after_drawing}
-use Rattle.draw_ops.specs.Fits.{FitsState, AllFitState, broken_rule}
+use Rattle.draw_ops.specs.Fits.{AllFitState, broken_rule}
 use Rattle.session_rules.specs.declared.entry.Entry.{Entry}
 use Rattle.session_rules.specs.Journal.{Head, drawings_of}
 use Rattle.session_rules.specs.Pending.{Pending, pending_drawings, pending_between}
-use Rattle.pending_core.specs.Touching.{touched_by, saves_into, saved_by}
-use Rattle.pending_core.specs.Marking.{Marked, unmarked, marks_in, noted, past, AreNoted, AreMarked}
-use Rattle.pending_core.proofs.Adding.{touched_on}
-use Rattle.pending_core.proofs.Entries.{touched_append, saved_append, drawings_behind, pending_end, marked_push, none_noted}
-use Rattle.pending_core.specs.declared.shown.Shown.{Shown}
-use Rattle.pending_core.specs.Showing.{all_shown, rect_shown, shown_with}
-use Rattle.pending_core.proofs.TextShown.{keeps_rules}
+use Rattle.session_core.specs.Touching.{touched_by, saves_into, saved_by}
+use Rattle.session_core.specs.Marking.{Marked, unmarked, marks_in, noted, past, AreNoted, AreMarked}
+use Rattle.session_core.proofs.Adding.{touched_on}
+use Rattle.session_core.proofs.Entries.{touched_append, saved_append, drawings_behind, pending_end, marked_push, none_noted}
+use Rattle.session_core.specs.declared.shown.Shown.{Shown}
+use Rattle.session_core.specs.Showing.{all_shown, rect_shown, shown_with}
+use Rattle.session_core.proofs.TextShown.{keeps_rules}
 use Rattle.session_core.specs.declared.standing.Standing.{Standing}
 use Rattle.session_core.specs.declared.kept.Kept.{Kept}
 use Rattle.session_core.specs.Keeping.{journal_of}
@@ -50,7 +50,7 @@ twice false true n o = refl
 twice false false n o = refl
 
 -- one more drawing is noted
-noted_on : (size : Size) (ps : List Pending) (p : Pending) (number : ℕ) (old mid new : Marked) → AreNoted size ps number old mid
+pub noted_on : (size : Size) (ps : List Pending) (p : Pending) (number : ℕ) (old mid new : Marked) → AreNoted size ps number old mid
     → marks_in new.tiles ≡ noted (tiles_of size (clipped p.rect p.drawing.clip)) number (marks_in mid.tiles) → marks_in new.slots ≡ noted (saves_into p.drawing.shape) number (marks_in mid.slots)
     → AreNoted size (ps ++ p ∷ []) number old new
 noted_on size ps p number old mid new h tiles slots = record {
@@ -80,10 +80,6 @@ pub all_keep : (size : Size) (st : SurfaceState) (ds : List Drawing) → AllFitS
 all_keep size st [] h k d low = absurd (omega (arith, low))
 all_keep size st (x ∷ xs) h zero d low = keeps_rules size st x h.0
 all_keep size st (x ∷ xs) h (suc k) d low = all_keep size (state_after_drawing size st x) xs h.1 k d (omega (arith, low))
-
-pub one_keeps : (size : Size) (st : SurfaceState) (d : Drawing) → FitsState size st d → All (λ x. broken_rule size x ≡ None) (d ∷ [])
-one_keeps size st d h zero other low = keeps_rules size st d h
-one_keeps size st d h (suc k) other low = absurd (omega (arith, low))
 
 -- ---- entry by entry
 

@@ -13,12 +13,12 @@ use Rattle.session_rules.specs.Journal.{Head, State, drawings_of, state_after_en
 use Rattle.session_rules.proofs.Journals.{IsLegalJournal-front}
 use Rattle.session_rules.specs.Pending.{pending_drawings, pending_from, pending_between}
 use Rattle.session_rules.proofs.Sound.{sound_reached}
-use Rattle.pending_core.specs.declared.shown.Shown.{Shown}
-use Rattle.pending_core.specs.declared.shown.ShownList.{ShownList}
-use Rattle.pending_core.specs.declared.shown.ShownList.TheVariants.{Nothing, One, Plain, Reaction}
-use Rattle.pending_core.specs.Showing.{all_shown}
+use Rattle.session_core.specs.declared.shown.Shown.{Shown}
+use Rattle.session_core.specs.declared.shown.ShownList.{ShownList}
+use Rattle.session_core.specs.declared.shown.ShownList.TheVariants.{Nothing, One, Plain, Reaction}
+use Rattle.session_core.specs.Showing.{all_shown}
 use Rattle.session_core.specs.Keeping.{IsBoardKept}
-use Rattle.pending_core.specs.Putting.{drawings_made, IsBoardReady}
+use Rattle.session_core.specs.Putting.{drawings_made, IsBoardReady}
 use Rattle.session_core.proofs.Counted.{length_pending}
 use Rattle.session_core.proofs.Sessions.{states, states_reached}
 

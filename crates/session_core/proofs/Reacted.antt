@@ -21,12 +21,12 @@ use Rattle.session_rules.proofs.BoardReactions.{board_reacts}
 use Rattle.session_rules.proofs.Reactions.{reaction_colored}
 use Rattle.session_core.specs.declared.standing.Standing.{Standing}
 use Rattle.session_core.specs.declared.events.Reaction.{Reaction as ReactionOf}
-use Rattle.pending_core.specs.declared.shown.ShownList.{ShownList}
-use Rattle.pending_core.specs.declared.shown.ShownList.TheVariants.{Nothing, One, Plain, Reaction}
+use Rattle.session_core.specs.declared.shown.ShownList.{ShownList}
+use Rattle.session_core.specs.declared.shown.ShownList.TheVariants.{Nothing, One, Plain, Reaction}
 use Rattle.session_core.specs.Keeping.{IsBoardKept, IsKept}
 use Rattle.session_core.specs.Reacting.{Reacts}
-use Rattle.pending_core.specs.Putting.{IsFound}
-use Rattle.pending_core.specs.Showing.{all_shown, shown_list, board_found}
+use Rattle.session_core.specs.Putting.{IsFound}
+use Rattle.session_core.specs.Showing.{all_shown, shown_list, board_found}
 use Rattle.session_core.specs.Standing.{reached_of}
 use Rattle.session_core.proofs.Colored.{all_colored}
 use Rattle.session_core.proofs.PendingLaws.{enough}

@@ -11,9 +11,9 @@ use Rattle.session_rules.specs.Pending.{pending_drawings, pending_between}
 use Rattle.session_core.specs.declared.kept.Kept.{Kept}
 use Rattle.session_core.specs.declared.standing.Standing.{Standing}
 use Rattle.session_core.specs.Keeping.{journal_of, IsBoardKept, IsKept}
-use Rattle.pending_core.specs.Showing.{all_shown, shown_list}
+use Rattle.session_core.specs.Showing.{all_shown, shown_list}
 use Rattle.session_core.specs.Standing.{IsSession}
-use Rattle.pending_core.specs.Putting.{drawings_made, IsBoardReady}
+use Rattle.session_core.specs.Putting.{drawings_made, IsBoardReady}
 use Rattle.session_core.specs.SessionModel.{SessionModel}
 use Rattle.session_core.proofs.Sessions.{model_of}
 use Rattle.session_core.proofs.Counted.{kept_at, entry_at}

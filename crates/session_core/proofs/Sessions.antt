@@ -11,7 +11,7 @@ use Rattle.session_rules.specs.Entering.{answer_at, entry_of_step}
 use Rattle.session_rules.specs.Reaching.{IsSoundReached}
 use Rattle.session_rules.proofs.Sound.{sound_reached}
 use Rattle.surface_parts.specs.Surfaces.{SurfaceOf}
-use Rattle.pending_core.specs.Marking.{Marked}
+use Rattle.session_core.specs.Marking.{Marked}
 use Rattle.session_core.specs.declared.members.Member.{Member}
 use Rattle.session_core.specs.declared.standing.Standing.{Standing}
 use Rattle.session_core.specs.declared.kept.Kept.{Kept}

@@ -9,9 +9,9 @@ use Rattle.session_rules.specs.Board.{Board, board_reaction}
 use Rattle.session_rules.specs.Journal.{State, drawings_of, state_after_entry}
 use Rattle.session_rules.specs.Pending.{pending_drawings}
 use Rattle.session_core.specs.declared.kept.Kept.{Kept}
-use Rattle.pending_core.specs.declared.shown.ShownList.{ShownList}
-use Rattle.pending_core.specs.declared.shown.ShownList.TheVariants.{Nothing, One, Plain, Reaction}
-use Rattle.pending_core.specs.Showing.{all_shown, shown_list, board_found}
+use Rattle.session_core.specs.declared.shown.ShownList.{ShownList}
+use Rattle.session_core.specs.declared.shown.ShownList.TheVariants.{Nothing, One, Plain, Reaction}
+use Rattle.session_core.specs.Showing.{all_shown, shown_list, board_found}
 
 abbrev pub journal_of : List Kept → List Entry
 journal_of ks = map (λ (k : Kept). k.entry) ks

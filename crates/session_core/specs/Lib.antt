@@ -10,3 +10,11 @@ pub mod LetIn
 pub mod Refusing
 pub mod Entered
 pub mod Reacting
+pub mod Showing
+pub mod Filled
+pub mod Cells
+pub mod Putting
+pub mod Seeing
+pub mod Touching
+pub mod About
+pub mod Marking

@@ -11,8 +11,8 @@ use Rattle.session_core.specs.declared.faults.InputRefusal.{InputRefusal}
 use Rattle.session_core.specs.declared.standing.Standing.{Standing}
 use Rattle.session_core.specs.declared.events.Reaction.{Reaction}
 use Rattle.session_core.specs.Refusing.{input_refusal, IsInputRefused}
-use Rattle.pending_core.specs.Putting.{IsFound}
-use Rattle.pending_core.specs.Showing.{all_shown, shown_list}
+use Rattle.session_core.specs.Putting.{IsFound}
+use Rattle.session_core.specs.Showing.{all_shown, shown_list}
 
 -- the viewer to whom control is given, which is legal; else the refusal
 abbrev pub IsGiveRefused : Head → Reached → ℕ → Result ℕ InputRefusal → Type 0

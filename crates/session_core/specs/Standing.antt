@@ -4,7 +4,7 @@ use Rattle.px_core.specs.declared.surface.Size.{Size}
 use Rattle.px_core.specs.Rectangle.{is_session_size}
 use Rattle.board_app.specs.Boards.{board_of}
 use Rattle.session_rules.specs.Journal.{Head, Reached, opening_state, reached_at_first, reached_after, IsLegalJournal}
-use Rattle.pending_core.specs.Marking.{Marked, AreMarked}
+use Rattle.session_core.specs.Marking.{Marked, AreMarked}
 use Rattle.session_core.specs.declared.standing.Standing.{Standing}
 use Rattle.session_core.specs.declared.kept.Kept.{Kept}
 use Rattle.session_core.specs.Members.{viewers_of}

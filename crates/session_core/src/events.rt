@@ -10,15 +10,14 @@ ghost use Rattle.session_rules.specs.Steps.{is_release};
 ghost use Rattle.session_core.specs.Reacting.{IsGiveRefused, IsReactRefused, Reacts};
 ghost use Rattle.session_core.specs.Standing.{reached_of};
 
-use crate::OutOfMemory;
 use crate::faults::InputRefusal;
 use crate::members::{next_of, role_of};
 use crate::ranges::recall_event_range;
 use crate::standing::{MOST_ENTRIES, Standing};
+use crate::{OutOfMemory, ShownList, reaction_list, shown_all};
 use board_app::Board;
 use draw_ops::Drawing;
 use input_pdu::Event;
-use pending_core::{ShownList, reaction_list, shown_all};
 use session_rules::Role;
 use std::alloc::Global;
 

@@ -1,7 +1,7 @@
 //! What of a session never changes.
 
 ghost use Rattle.std.specs.Prelude.{◌≡◌};
-ghost use Rattle.session_rules.specs.Steps.{row_role};
+ghost use Rattle.session_rules.specs.Steps.{row_role, is_new_name};
 ghost use Rattle.session_core.specs.Heads.{rows_of};
 
 use info_lic::Name;
@@ -45,16 +45,23 @@ impl SessionHead {
     pub(crate) fn role_of(&self, name: &Name) -> Option<Role>
         ensures { result ≡ row_role name.now self.now.rows }
     {
-        role_in(&self.rows, name)
+        role_in(&self.rows, name.bytes())
     }
 }
 
+/// Whether no row has a name.
+pub fn is_new_name(name: &[u8], rows: &[Invite]) -> bool
+    ensures { result ≡ is_new_name name.now (rows_of rows.now) }
+{
+    role_in(rows, name).is_none()
+}
+
 /// The role of the row that has a name.
-fn role_in(rows: &[Invite], name: &Name) -> Option<Role>
+fn role_in(rows: &[Invite], name: &[u8]) -> Option<Role>
     ensures { result ≡ row_role name.now (rows_of rows.now) }
 {
     for row in rows {
-        if is_same_word(name.bytes(), row.name.bytes()) {
+        if is_same_word(name, row.name.bytes()) {
             return Some(row.role);
         }
     }

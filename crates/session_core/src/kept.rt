@@ -4,7 +4,7 @@ ghost use Rattle.std.specs.Prelude.{◌≡◌, ◌+◌, ◌≤◌};
 ghost use Rattle.std.specs.Bool.{OnTrue};
 ghost use Rattle.std.specs.Vec.{vec_len, vec_capacity};
 
-use pending_core::ShownList;
+use crate::ShownList;
 use session_rules::Entry;
 
 /// An entry, the number of the drawings before it, and what each of the entry's drawings shows, with the board that an input found.

@@ -5,7 +5,7 @@ ghost use Rattle.std.specs.List.{remove};
 ghost use Rattle.px_core.specs.Rectangle.{is_session_size, IsPlaced};
 ghost use Rattle.px_core.specs.Tiles.{either_tiles, no_tiles, tiles_of};
 ghost use Rattle.px_core.specs.TileFlags.{tiles};
-ghost use Rattle.session_rules.specs.Journal.{role_of, is_present, least_viewer, successor, next_of, without_viewer};
+ghost use Rattle.session_rules.specs.Journal.{most_viewers, role_of, is_present, least_viewer, successor, next_of, without_viewer};
 ghost use Rattle.session_rules.specs.Steps.{replaced_for};
 ghost use Rattle.session_core.specs.Members.{viewers_of, is_wanted, place_of, asked_of, suppressed_of, tiles_asked, is_stopped};
 
@@ -38,13 +38,14 @@ pub struct Members {
 impl Model for Members {
     ghost use Rattle.std.specs.Prelude.{◌≤◌, List};
     ghost use Rattle.std.specs.Vec.{vec_capacity};
+    ghost use Rattle.session_rules.specs.Journal.{most_viewers};
     ghost use Rattle.session_core.specs.declared.members.Member.{Member};
 
     ghost Value = { List Member };
 
     ghost view = { λ ms. ms.list.items };
 
-    ghost invariant = { λ ms. 16 ≤ vec_capacity ms.list };
+    ghost invariant = { λ ms. most_viewers ≤ vec_capacity ms.list };
 }
 
 impl Members {
@@ -65,7 +66,7 @@ impl Members {
 
     /// A viewer comes, who has asked for nothing.
     pub fn push(&mut self, number: u32, role: Role)
-        requires { length self.old < 16 }
+        requires { length self.old < most_viewers }
         ensures viewers { viewers_of self.new ≡ viewers_of self.old ++ record { number = number; role = role } ∷ [] }
         ensures asked { tiles_asked self.new ≡ tiles_asked self.old }
         ensures stopped { is_stopped self.new ≡ is_stopped self.old }

@@ -11,7 +11,7 @@ ghost use Rattle.session_rules.specs.Steps.{replaced_for, receiver_of};
 ghost use Rattle.session_rules.specs.Steps.Step.{JoinStep, InputStep, DrawStep};
 ghost use Rattle.session_rules.specs.Entering.{entry_of_step, answer_at};
 ghost use Rattle.session_rules.specs.Pending.{pending_between};
-ghost use Rattle.pending_core.specs.Touching.{touched_by, saved_by};
+ghost use Rattle.session_core.specs.Touching.{touched_by, saved_by};
 ghost use Rattle.session_core.specs.Heads.{rows_of};
 ghost use Rattle.session_rules.specs.Typing.{last_typed};
 ghost use Rattle.session_core.specs.SessionModel.{new_session, reached_by, is_here, asked_by, is_suppressed, AreInvited};
@@ -19,7 +19,7 @@ ghost use Rattle.session_core.specs.Outcomes.{IsAnswered, GoesOn};
 ghost use Rattle.session_core.specs.Entered.{answer_of_entry, entry_entered};
 ghost use Rattle.session_core.specs.Faults.{join_answer, input_answer, draw_answer};
 
-use crate::OutOfMemory;
+use crate::about::about_drawing;
 use crate::drawing::may_draw;
 use crate::events::{is_f12, is_release, may_give, may_react, react_to};
 use crate::faults::{DrawRefusal, InputRefusal, JoinFault};
@@ -27,19 +27,18 @@ use crate::head::{Invite, SessionHead};
 use crate::joining::let_in;
 use crate::kept::{Kept, make_room};
 use crate::members::{asked_by, is_suppressed, role_of};
-use crate::noting::{note_all, note_reaction};
+use crate::noting::{note_one, note_reaction};
 use crate::standing::Standing;
 use crate::typing::typed_by_event;
+use crate::{Marks, OutOfMemory, SeenDrawings, ShownList, shown_one};
 use draw_ops::Drawing;
 use grow_lock::Grows;
 use info_lic::Name;
 use input_pdu::Event;
-use pending_core::{Marks, SeenDrawings, ShownList, shown_one};
 use px_core::{Rect, Size, TileSet};
 use session_rules::Entry;
 use std::alloc::Global;
 use std::marker::Model;
-use std::slice;
 use tile_surface::{LentTile, Tiles};
 
 /// A session: its journal, which only grows, and what the journal has reached.
@@ -63,7 +62,12 @@ impl Model for Session {
 
     ghost Value = { SessionModel };
 
-    ghost view = { λ s. record { head = s.head; journal = journal_of s.kept.items; asked = asked_of s.standing.members; suppressed = suppressed_of s.standing.members } };
+    ghost view = { λ s. record {
+      head = s.head;
+      journal = journal_of s.kept.items;
+      asked = asked_of s.standing.members;
+      suppressed = suppressed_of s.standing.members;
+    } };
 
     ghost invariant = { λ s. IsOpen s.head s.standing s.kept.items s.marks s.typed (vec_len s.kept) (vec_capacity s.kept) };
 }
@@ -110,7 +114,8 @@ impl Session {
     pub fn join(&mut self, name: &Name) -> Result<u32, JoinFault>
         ensures head { self.new.head ≡ self.old.head }
         ensures answer { IsAnswered (join_answer result) (answer_at self.old.head (reached_by self.old) (JoinStep name.now)) }
-        ensures journal { GoesOn (join_answer result) (entry_of_step self.old.head (reached_by self.old) (JoinStep name.now)) self.old.journal self.new.journal }
+        ensures journal { GoesOn (join_answer result)
+            (entry_of_step self.old.head (reached_by self.old) (JoinStep name.now)) self.old.journal self.new.journal }
         ensures asked { asked_by self.new ≡ asked_by self.old }
         ensures suppressed { is_suppressed self.new ≡ is_suppressed self.old }
         ensures fresh { IfOk result (λ v. (asked_by self.new v ≡ no_tiles) × (is_suppressed self.new v ≡ false)) }
@@ -177,24 +182,19 @@ impl Session {
         ensures suppressed { self.new.suppressed ≡ self.old.suppressed }
         ensures unchanged { OnErr result (self.new ≡ self.old) }
     {
-        may_draw(&self.standing, v, &d)?;
+        let about = about_drawing(&d);
+        may_draw(&self.standing, v, &d, about)?;
         let first = self.standing.surface.count();
-        let shown = shown_one(self.alloc, &self.standing.surface, &d)?;
+        let shown = shown_one(self.alloc, &self.standing.surface, &d, about)?;
         if !make_room(&mut self.kept, self.standing.members.list().len() + 1) {
             return Err(DrawRefusal::OutOfMemory);
         }
-        if !self.standing.draw(&d) {
+        if !self.standing.draw(&d, about.pixels) {
             return Err(DrawRefusal::OutOfMemory);
         }
         let size = self.head.size();
         let number = self.kept.len() as u64 + 1;
-        note_all(
-            &mut self.marks,
-            slice::from_ref(&d),
-            slice::from_ref(&shown),
-            size,
-            number,
-        );
+        note_one(&mut self.marks, &d, about, &shown, size, number);
         self.kept.push_reserved(Kept {
             entry: Entry::Draw { by: v, d },
             first,
@@ -240,7 +240,10 @@ impl Session {
 
     /// The surface as the whole journal leaves it.
     pub fn look(&self) -> &Tiles
-        ensures { result.now ≡ record { size = self.now.head.size; state = (state_after self.now.head.size self.now.journal (length self.now.journal)).surface } }
+        ensures { result.now ≡ record {
+          size = self.now.head.size;
+          state = (state_after self.now.head.size self.now.journal (length self.now.journal)).surface;
+        } }
     {
         &self.standing.surface
     }
@@ -249,7 +252,8 @@ impl Session {
     /// and black past the picture. The session is as it was, also after an `Err`.
     pub fn lend(&mut self, t: u32) -> Result<LentTile, OutOfMemory>
         requires { IsTrue (tiles_of self.old.head.size (whole self.old.head.size) t) }
-        ensures lent { IfOk result (λ tile. tile ≡ cut_out self.old.head.size (state_after self.old.head.size self.old.journal (length self.old.journal)).surface.picture 0 (tile_rect t)) }
+        ensures lent { IfOk result (λ tile. tile ≡ cut_out self.old.head.size
+            (state_after self.old.head.size self.old.journal (length self.old.journal)).surface.picture 0 (tile_rect t)) }
         ensures unchanged { self.new ≡ self.old }
     {
         self.standing.surface.lend(t)
@@ -347,7 +351,8 @@ impl Session {
     /// entries there are.
     pub fn add_touched(&self, before: u64, set: &mut TileSet)
         requires { before ≤ length self.now.journal }
-        ensures { tiles set.new ≡ either_tiles (tiles set.old) (touched_by self.now.head.size (pending_between self.now.head.size self.now.journal before (length self.now.journal))) }
+        ensures { tiles set.new ≡ either_tiles (tiles set.old)
+            (touched_by self.now.head.size (pending_between self.now.head.size self.now.journal before (length self.now.journal))) }
     {
         self.marks.add_past(before, self.head.size(), set);
     }
@@ -362,7 +367,8 @@ impl Session {
 
     /// No drawing saved into a slot above 15; it does nothing.
     pub fn recall_slots(&self)
-        ensures { (before slot : ℕ) → before ≤ length self.now.journal → 16 ≤ slot → saved_by (pending_between self.now.head.size self.now.journal before (length self.now.journal)) slot ≡ false }
+        ensures { (before slot : ℕ) → before ≤ length self.now.journal
+            → 16 ≤ slot → saved_by (pending_between self.now.head.size self.now.journal before (length self.now.journal)) slot ≡ false }
     {
         self.marks.recall_ends();
     }
@@ -383,7 +389,8 @@ impl Session {
     fn give(&mut self, v: u32) -> Result<(), InputRefusal>
         ensures head { self.new.head ≡ self.old.head }
         ensures answer { IsAnswered (input_answer result) (answer_of_entry self.old.head (reached_by self.old) (Give v (receiver_of (reached_by self.old) v))) }
-        ensures journal { GoesOn (input_answer result) (entry_entered self.old.head (reached_by self.old) (Give v (receiver_of (reached_by self.old) v))) self.old.journal self.new.journal }
+        ensures journal { GoesOn (input_answer result)
+            (entry_entered self.old.head (reached_by self.old) (Give v (receiver_of (reached_by self.old) v))) self.old.journal self.new.journal }
         ensures asked { self.new.asked ≡ self.old.asked }
         ensures suppressed { self.new.suppressed ≡ self.old.suppressed }
         ensures unchanged { OnErr result (self.new ≡ self.old) }

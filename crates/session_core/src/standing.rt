@@ -10,12 +10,11 @@ ghost use Rattle.input_pdu.specs.declared.event.Event.{Event};
 ghost use Rattle.board_app.specs.Boards.{board_of};
 ghost use Rattle.session_rules.specs.Board.{board_reaction};
 ghost use Rattle.session_rules.specs.declared.entry.Entry.TheVariants.{Join, Leave, Give, Input, Draw};
-ghost use Rattle.session_rules.specs.Journal.{reached_after_entry, is_present, holds, may_hold, shape_pixels};
+ghost use Rattle.session_rules.specs.Journal.{most_viewers, most_joins, reached_after_entry, is_present, holds, may_hold, shape_pixels};
 ghost use Rattle.session_core.specs.Members.{viewers_of, tiles_asked, is_stopped};
 ghost use Rattle.session_core.specs.Standing.{reached_of, IsOpening};
 
 use crate::OutOfMemory;
-use crate::drawing::shape_pixels;
 use crate::members::{Members, successor};
 use board_app::Board;
 use draw_ops::Drawing;
@@ -63,10 +62,11 @@ impl Standing {
 
     /// A viewer joins, and gets the next number; also control, where nobody has it and the role allows it.
     pub fn admit(&mut self, role: Role) -> u32
-        requires joins { self.old.joins < 65535 }
-        requires room { length self.old.members < 16 }
+        requires joins { self.old.joins < most_joins }
+        requires room { length self.old.members < most_viewers }
         ensures number { result ≡ self.old.joins + 1 }
-        ensures reached { (size : Size) (n : ℕ) → reached_of self.new (n + 1) ≡ reached_after_entry size (reached_of self.old n) (Join (self.old.joins + 1) role) }
+        ensures reached { (size : Size) (n : ℕ) → reached_of self.new (n + 1)
+            ≡ reached_after_entry size (reached_of self.old n) (Join (self.old.joins + 1) role) }
         ensures surface { self.new.surface ≡ self.old.surface }
         ensures board { self.new.board ≡ self.old.board }
         ensures asked { tiles_asked self.new.members ≡ tiles_asked self.old.members }
@@ -114,14 +114,16 @@ impl Standing {
         v == self.holder && v != 0
     }
 
-    /// A drawing that fits is drawn; whether there was memory for it. Without, nothing changes.
-    pub fn draw(&mut self, d: &Drawing) -> bool
+    /// A drawing that fits, and loads an image of so many pixels, is drawn; whether there was memory for it. Without, nothing changes.
+    pub fn draw(&mut self, d: &Drawing, pixels: u64) -> bool
+        requires loads { pixels ≡ shape_pixels d.now.shape }
         requires rules { broken_rule self.old.surface.size d.now ≡ None }
         requires slots { slot_misfit self.old.surface.size self.old.surface.state d.now.shape ≡ None }
         requires colors { HasColors d.now }
         requires entries { self.old.limited < 1048576 }
         requires pixels { self.old.image_pixels + shape_pixels d.now.shape ≤ 67108864 }
-        ensures reached { OnTrue result ((n by : ℕ) → reached_of self.new (n + 1) ≡ reached_after_entry self.old.surface.size (reached_of self.old n) (Draw by d.now)) }
+        ensures reached { OnTrue result ((n by : ℕ) → reached_of self.new (n + 1)
+            ≡ reached_after_entry self.old.surface.size (reached_of self.old n) (Draw by d.now)) }
         ensures size { self.new.surface.size ≡ self.old.surface.size }
         ensures board { self.new.board ≡ self.old.board }
         ensures members { self.new.members ≡ self.old.members }
@@ -131,7 +133,7 @@ impl Standing {
             return false;
         }
         self.limited += 1;
-        self.image_pixels += shape_pixels(&d.shape) as u32;
+        self.image_pixels += pixels as u32;
         true
     }
 

@@ -50,7 +50,8 @@ pub record IsSurfaceOf (size : Size) (st : SurfaceState) : Type 0 where
   pub glyphs : length st.glyphs ≡ 1024
   pub blocks : length st.blocks ≡ 16
 
--- a surface agrees with a board: it has the size; the pen and the last point lie on it; an open popup is kept; and what the board counts as loaded is in its slot
+-- a surface agrees with a board: it has the size; the pen and the last point lie on it; an open popup is kept; and what the board counts as loaded is in its
+-- slot
 pub record BoardAgrees (size : Size) (st : SurfaceState) (b : Board) : Type 0 where
   pub sized : IsSurfaceOf size st
   pub pen : IsPointOn size b.pen

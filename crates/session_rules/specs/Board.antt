@@ -1,5 +1,6 @@
 -- The board (profile): a small whiteboard that turns input events into drawings, by a table of which the first line that fits is done.
-use Rattle.std.specs.Prelude.{ℕ, ◌+◌, ◌-◌, ◌*◌, ◌/◌, ◌%◌, ◌^◌, ◌==◌, nat_lt, nat_le, Bool, true, false, ◌&&◌, ◌||◌, pos, ◌-ℤ◌, min, max, List, [], ◌∷◌, ◌++◌, Option, Some, None, option_map, option_to_list, if◌then◌else◌}
+use Rattle.std.specs.Prelude.{ℕ, ◌+◌, ◌-◌, ◌*◌, ◌/◌, ◌%◌, ◌^◌, ◌==◌, nat_lt, nat_le, Bool, true, false, ◌&&◌, ◌||◌, pos, ◌-ℤ◌, min, max, List, []}
+use Rattle.std.specs.Prelude.{◌∷◌, ◌++◌, Option, Some, None, option_map, option_to_list, if◌then◌else◌}
 use Rattle.std.specs.Int.{bit_at}
 use Rattle.px_core.specs.declared.surface.Size.{Size}
 use Rattle.px_core.specs.declared.rectangle.Rect.{Rect}
@@ -140,7 +141,8 @@ ink_field at ink = unclipped (Fill (boxed (pos (at.x + 16 * ink)) (pos at.y) 16 
 abbrev pub opening : Board → Point → Reaction
 opening b at = record {
   board = record b { popup = Some at; pen = None };
-  drawings = option_to_list (option_map popup_removal b.popup) ++ unclipped (Save board_block (popup_rect at)) ∷ ink_field at 0 ∷ ink_field at 1 ∷ ink_field at 2 ∷ ink_field at 3 ∷ [];
+  drawings = option_to_list (option_map popup_removal b.popup)
+      ++ unclipped (Save board_block (popup_rect at)) ∷ ink_field at 0 ∷ ink_field at 1 ∷ ink_field at 2 ∷ ink_field at 3 ∷ [];
 }
 
 -- the popup's place for a point, so that it lies on the surface

@@ -1,5 +1,6 @@
 -- Steps: what is asked of a session, what each step is answered, the journal that steps make, and the frames that viewers take.
-use Rattle.std.specs.Prelude.{◌≡◌, ℕ, ◌+◌, ◌≤◌, ◌==◌, Bool, true, false, ◌&&◌, ◌||◌, not, List, [], ◌∷◌, ◌++◌, map, Option, Some, None, is_none, option_to_list, if◌then◌else◌}
+use Rattle.std.specs.Prelude.{◌≡◌, ℕ, ◌+◌, ◌≤◌, ◌==◌, Bool, true, false, ◌&&◌, ◌||◌, not, List, [], ◌∷◌, ◌++◌, map, Option, Some, None, is_none}
+use Rattle.std.specs.Prelude.{option_to_list, if◌then◌else◌}
 use Rattle.line_text.specs.Words.{is_same_word}
 use Rattle.px_core.specs.declared.surface.Size.{Size}
 use Rattle.px_core.specs.declared.rectangle.Rect.{Rect}
@@ -10,7 +11,8 @@ use Rattle.input_pdu.specs.declared.event.Event.TheVariants.{Sync, Scan, Unicode
 use Rattle.session_rules.specs.declared.entry.Role.{Role}
 use Rattle.session_rules.specs.declared.entry.Entry.{Entry}
 use Rattle.session_rules.specs.declared.entry.Entry.TheVariants.{Join, Leave, Give, Input, Draw}
-use Rattle.session_rules.specs.Journal.{Head, Row, Reached, Refusal, reached_at_first, reached_after_entry, next_of, holds, f12, is_f12, is_same_role, refusal_of}
+use Rattle.session_rules.specs.Journal.{Head, Row, Reached, Refusal, reached_at_first, reached_after_entry, next_of, holds, f12, is_f12, is_same_role}
+use Rattle.session_rules.specs.Journal.{refusal_of}
 use Rattle.session_rules.specs.Journal.Refusal.{NotInvited}
 
 -- ---- steps and answers
@@ -130,7 +132,14 @@ entered head p e a (Some r) = record { entry = None; answer = Refused r; play = 
 
 abbrev pub outcome_of : Head → Play → Effect → Outcome
 outcome_of head p (Enters e a) = entered head p e a (refusal_of head p.reached e)
-outcome_of head p (Asks v tiles) = record { entry = None; answer = Accepted; play = record p { asked = replaced_for v (either_tiles (p.asked v) tiles) p.asked } }
+outcome_of head p (Asks v tiles) = record {
+  entry = None;
+  answer = Accepted;
+  play = record p {
+    asked = replaced_for v
+        (either_tiles (p.asked v) tiles) p.asked;
+  };
+}
 outcome_of head p (Suppresses v stop) = record { entry = None; answer = Accepted; play = record p { suppressed = replaced_for v stop p.suppressed } }
 outcome_of head p (Takes v) = record {
   entry = None;

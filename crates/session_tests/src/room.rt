@@ -1,25 +1,15 @@
 //! A session of two viewers, and what is asked of it.
-ghost use Rattle.std.specs.Prelude.{◌≡◌, pos, true};
-ghost use Rattle.px_core.specs.Colors.{are_colors};
-ghost use Rattle.px_core.specs.Rectangle.{boxed};
-ghost use Rattle.draw_ops.specs.Ranges.{colors_of};
 ghost use Rattle.session_core.specs.Heads.{rows_of};
 ghost use Rattle.session_core.specs.SessionModel.{AreInvited};
 
-use draw_ops::{Drawing, Shape};
 use info_lic::Name;
 use input_pdu::Event;
-use px_core::{Rect, Size};
-use session_core::{DrawRefusal, InputRefusal, Invite, JoinFault, OutOfMemory, Role, Session};
+use px_core::Size;
+use session_core::{Invite, JoinFault, OutOfMemory, Role, Session};
 use std::alloc::Global;
 use std::process::Abort;
 
 const SIZE: Size = Size { w: 64, h: 48 };
-
-const RED: u32 = 0xFF0000;
-
-/// The raster operation that copies its source.
-const SRCCOPY: u8 = 0xCC;
 
 /// The first button of the mouse, pressed at (20, 20).
 pub const CLICK: Event = Event::Mouse {
@@ -61,46 +51,8 @@ fn join(session: &mut Session, name: &Name) -> Result<u32, JoinFault> {
 }
 
 /// Someone joins as viewer v.
-pub fn must_join(rt: &impl Abort, session: &mut Session, name: &Name, v: u32) {
+fn must_join(rt: &impl Abort, session: &mut Session, name: &Name, v: u32) {
     assert!(rt; join(session, name) == Ok(v));
-}
-
-/// A viewer leaves.
-pub fn leave(rt: &impl Abort, session: &mut Session, v: u32) {
-    assert!(rt; session.present(v));
-    session.leave(v);
-}
-
-fn input(rt: &impl Abort, session: &mut Session, v: u32, e: Event) -> Result<(), InputRefusal> {
-    assert!(rt; session.present(v));
-    session.input(v, e)
-}
-
-/// A viewer's input is refused so.
-pub fn must_drop(rt: &impl Abort, session: &mut Session, v: u32, e: Event, why: InputRefusal) {
-    assert!(rt; input(rt, session, v, e) == Err(why));
-}
-
-/// What a viewer's drawing is answered.
-pub fn draw(rt: &impl Abort, session: &mut Session, v: u32, shape: Shape) -> Result<(), DrawRefusal>
-    requires { are_colors (colors_of shape) ≡ true }
-{
-    assert!(rt; session.present(v));
-    session.draw(v, Drawing { shape, clip: None })
-}
-
-/// A viewer's drawing is drawn.
-pub fn must_draw(rt: &impl Abort, session: &mut Session, v: u32, shape: Shape)
-    requires { are_colors (colors_of shape) ≡ true }
-{
-    assert!(rt; draw(rt, session, v, shape) == Ok(()));
-}
-
-/// A viewer's drawing is refused so.
-pub fn must_refuse(rt: &impl Abort, session: &mut Session, v: u32, shape: Shape, why: DrawRefusal)
-    requires { are_colors (colors_of shape) ≡ true }
-{
-    assert!(rt; draw(rt, session, v, shape) == Err(why));
 }
 
 /// So many entries are in the journal.
@@ -119,38 +71,4 @@ fn pixel(rt: &impl Abort, session: &Session, x: u32, y: u32) -> u32 {
     let size = surface.size();
     assert!(rt; x < size.w && y < size.h);
     surface.pixel(x, y)
-}
-
-fn corner(side: u32) -> Rect
-    ensures { result ≡ boxed (pos 0) (pos 0) side side }
-{
-    Rect {
-        x: 0,
-        y: 0,
-        w: side,
-        h: side,
-    }
-}
-
-/// A square of the picture's upper left pixels, from an image.
-pub fn square(side: u32, image: u8) -> Shape
-    ensures { are_colors (colors_of result) ≡ true }
-{
-    Shape::Blit {
-        rect: corner(side),
-        rop: SRCCOPY,
-        image,
-        sx: 0,
-        sy: 0,
-    }
-}
-
-/// The picture's upper left pixel in red.
-pub fn red_pixel() -> Shape
-    ensures { are_colors (colors_of result) ≡ true }
-{
-    Shape::Fill {
-        rect: corner(1),
-        color: RED,
-    }
 }

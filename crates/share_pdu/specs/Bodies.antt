@@ -1,6 +1,7 @@
 -- The bodies of a client's share data PDUs that are read ([MS-RDPBCGR] 2.2.1.14, 2.2.1.15, 2.2.11.2 and 2.2.11.3), each behind the
 -- share data header. What follows the fields named here isn't read.
-use Rattle.std.specs.Prelude.{◌≡◌, ℕ, zero, suc, ◌-◌, ◌+◌, ◌==◌, nat_lt, Bool, ◌||◌, pos, List, [], ◌∷◌, ◌++◌, slice_index, Option, Some, None, option_to_list, Result, Ok, Err, IsOk, if◌then◌else◌}
+use Rattle.std.specs.Prelude.{◌≡◌, ℕ, zero, suc, ◌-◌, ◌+◌, ◌==◌, nat_lt, Bool, ◌||◌, pos, List, [], ◌∷◌, ◌++◌, slice_index, Option, Some, None}
+use Rattle.std.specs.Prelude.{option_to_list, Result, Ok, Err, IsOk, if◌then◌else◌}
 use Rattle.wire_num.specs.Field.{Read, then_read, map_read}
 use Rattle.wire_num.specs.FieldValue.{is_any}
 use Rattle.wire_num.specs.Layout.{Layout, Open, Any, Big, Bytes, Little, ◌▸◌, fields_at}

@@ -8,7 +8,8 @@ use Rattle.wire_num.specs.declared.range.Range.{Range}
 use Rattle.wire_num.specs.FieldValue.{is_any, has_bits}
 use Rattle.wire_num.specs.Layout.{Layout, Open, Any, Big, Little, ◌▸◌, fields_at}
 use Rattle.share_pdu.specs.declared.client_pdu.ClientPdu.{ClientPdu}
-use Rattle.share_pdu.specs.declared.client_pdu.ClientPdu.TheVariants.{Confirm, Synchronize, Cooperate, Request, FontList, KeyList, Input, Refresh, Suppress, Shutdown, Other}
+use Rattle.share_pdu.specs.declared.client_pdu.ClientPdu.TheVariants.{Confirm, Synchronize, Cooperate, Request, FontList, KeyList, Input, Refresh}
+use Rattle.share_pdu.specs.declared.client_pdu.ClientPdu.TheVariants.{Suppress, Shutdown, Other}
 use Rattle.share_pdu.specs.declared.share_fault.ShareFault.{ShareFault}
 use Rattle.share_pdu.specs.declared.share_fault.ShareFault.TheVariants.{BadShare, Compressed}
 use Rattle.share_pdu.specs.declared.share_fault.Cause.{Cause}

@@ -11,7 +11,8 @@ use Rattle.share_pdu.specs.declared.share_fault.ShareFault.TheVariants.{BadShare
 use Rattle.share_pdu.specs.Bodies.{synchronize_body, control_body, suppress_body, refresh_header, inclusive_area}
 use Rattle.share_pdu.specs.ClientPdu.{total_length, control_header, data_header}
 use Rattle.share_pdu.specs.Areas.{Area, AreAreas}
-use Rattle.share_pdu.specs.Grammar.{Kind, ControlKind, InputKind, SynchronizeKind, RefreshKind, SuppressKind, ShutdownKind, FontListKind, KeyListKind, OtherKind, kind_of, IsCounted, HasType, IsNamed, IsData}
+use Rattle.share_pdu.specs.Grammar.{Kind, ControlKind, InputKind, SynchronizeKind, RefreshKind, SuppressKind, ShutdownKind, FontListKind, KeyListKind}
+use Rattle.share_pdu.specs.Grammar.{OtherKind, kind_of, IsCounted, HasType, IsNamed, IsData}
 
 -- Left are the bytes from the place on.
 

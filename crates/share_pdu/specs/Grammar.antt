@@ -4,7 +4,8 @@ use Rattle.wire_num.specs.declared.range.Range.{Range}
 use Rattle.wire_num.specs.FieldValue.{has_bits}
 use Rattle.wire_num.specs.Grammar.{IsText}
 use Rattle.share_pdu.specs.declared.client_pdu.ClientPdu.{ClientPdu}
-use Rattle.share_pdu.specs.declared.client_pdu.ClientPdu.TheVariants.{Confirm, Synchronize, Cooperate, Request, FontList, KeyList, Input, Refresh, Suppress, Shutdown, Other}
+use Rattle.share_pdu.specs.declared.client_pdu.ClientPdu.TheVariants.{Confirm, Synchronize, Cooperate, Request, FontList, KeyList, Input, Refresh}
+use Rattle.share_pdu.specs.declared.client_pdu.ClientPdu.TheVariants.{Suppress, Shutdown, Other}
 use Rattle.share_pdu.specs.Bodies.{synchronize_body, control_body, suppress_body}
 use Rattle.share_pdu.specs.ClientPdu.{total_length, control_header, data_header}
 use Rattle.share_pdu.specs.Areas.{Area, IsRefreshRect}

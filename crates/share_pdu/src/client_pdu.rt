@@ -25,7 +25,8 @@ ghost use Rattle.wire_num.specs.FieldValue.{passing_at};
 ghost use Rattle.wire_num.specs.Layout.{fields_at};
 ghost use Rattle.wire_num.specs.Cursor.{ReadsField, ReadsFields, ReadsFieldsAs, ReadsCaused, rest};
 ghost use Rattle.share_pdu.specs.Bodies.{passed_refresh_at};
-ghost use Rattle.share_pdu.specs.ClientPdu.{is_client_type, total_length, control_header, data_header, compressed_type_at, last_bytes, data_body_at, data_pdu_at, client_pdu_at, counted_pdu_of, share_pdu_of, LiesWithin, HasBodyWithin};
+ghost use Rattle.share_pdu.specs.ClientPdu.{is_client_type, total_length, control_header, data_header, compressed_type_at, last_bytes, data_body_at};
+ghost use Rattle.share_pdu.specs.ClientPdu.{data_pdu_at, client_pdu_at, counted_pdu_of, share_pdu_of, LiesWithin, HasBodyWithin};
 
 use crate::bodies::{read_control, read_suppress, read_synchronize};
 use crate::kinds::{

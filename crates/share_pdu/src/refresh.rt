@@ -11,7 +11,8 @@
 ghost use Rattle.std.specs.Prelude.{◌≡◌, ◌∷◌, [], slice_get, IsOk};
 ghost use Rattle.wire_num.specs.Layout.{fields_at};
 ghost use Rattle.wire_num.specs.Cursor.{ReadsFields, ReadsFieldsAs, rest};
-ghost use Rattle.share_pdu.specs.Bodies.{refresh_header, inclusive_area, rect_between, area_at, areas_at, areas_of, areas_by, passed_areas_at, passed_refresh_at, FindsAreas};
+ghost use Rattle.share_pdu.specs.Bodies.{refresh_header, inclusive_area, rect_between, area_at, areas_at, areas_of, areas_by, passed_areas_at};
+ghost use Rattle.share_pdu.specs.Bodies.{passed_refresh_at, FindsAreas};
 
 use px_core::Rect;
 use wire_num::{Cursor, Short};

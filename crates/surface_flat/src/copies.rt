@@ -31,7 +31,8 @@ pub(crate) fn copy_rect(
     requires inside { IsTrue (is_inside window.size (boxed sx sy rect.w rect.h)) }
     requires pattern { 2048 ≤ length pattern.old }
     requires source { 2048 ≤ length source.old }
-    ensures { pixels.new ≡ picture_after window.size (in_clip window.clip) (mixing rect rop (absent session_colors) (shifted (rows_of window.size.w window.size.h pixels.old) 0 rect sx sy)) pixels.old }
+    ensures { pixels.new ≡ picture_after window.size (in_clip window.clip)
+        (mixing rect rop (absent session_colors) (shifted (rows_of window.size.w window.size.h pixels.old) 0 rect sx sy)) pixels.old }
 {
     match visible(window, rect) {
         None => {}

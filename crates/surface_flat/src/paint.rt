@@ -28,7 +28,8 @@ pub(crate) fn paint(
     requires glyphs { AllInSlots (λ glyph. glyph_rule glyph.content ≡ None) slots.now.glyphs }
     requires pattern { 2048 ≤ length pattern.old }
     requires source { 2048 ≤ length source.old }
-    ensures { (count : ℕ) → pixels.new ≡ picture_after window.size (in_clip window.clip) (painting_of window.size (state_of pixels.old slots.now count) shape.now) pixels.old }
+    ensures { (count : ℕ) → pixels.new ≡ picture_after window.size (in_clip window.clip)
+        (painting_of window.size (state_of pixels.old slots.now count) shape.now) pixels.old }
 {
     match shape {
         Shape::Fill { rect, color } => fill_rect(pixels, window, *rect, *color, source),

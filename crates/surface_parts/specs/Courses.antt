@@ -16,7 +16,8 @@ rise c i = (2 * (i * apart c.from_v c.to_v) + apart c.from_u c.to_u) / (2 * apar
 
 -- whether (u, v) is the pixel of one of the first n steps
 abbrev pub is_course_place : Course → ℕ → ℕ → ℕ → Bool
-is_course_place c n u v = nat_lt (apart u c.from_u) n && ((step c.from_u c.to_u (apart u c.from_u) == u) && (step c.from_v c.to_v (rise c (apart u c.from_u)) == v))
+is_course_place c n u v = nat_lt (apart u c.from_u) n
+    && ((step c.from_u c.to_u (apart u c.from_u) == u) && (step c.from_v c.to_v (rise c (apart u c.from_u)) == v))
 
 abbrev pub by_steepness : Bool → (ℕ → ℕ → Bool) → ℕ → ℕ → Bool
 by_steepness false test x y = test (x + 4096) (y + 4096)

@@ -57,7 +57,9 @@ pub fn mix_rect(
     requires image { IfSome (option_copied blend.image) (HasSource rect blend.sx blend.sy) }
     requires pattern { 2048 ≤ length pattern.old }
     requires source { 2048 ≤ length source.old }
-    ensures { pixels.new ≡ picture_after window.size (in_clip window.clip) (mixing rect blend.entry.rop (pattern_of (option_copied blend.entry.brush)) (source_of (option_copied blend.entry.image) rect blend.entry.sx blend.entry.sy)) pixels.old }
+    ensures { pixels.new ≡ picture_after window.size (in_clip window.clip)
+        (mixing rect blend.entry.rop (pattern_of (option_copied blend.entry.brush))
+        (source_of (option_copied blend.entry.image) rect blend.entry.sx blend.entry.sy)) pixels.old }
 {
     match visible(window, rect) {
         None => {}

@@ -38,7 +38,8 @@ pub fn write_run(
     requires glyphs { AllInSlots (λ glyph. glyph_rule glyph.content ≡ None) slots.now.glyphs }
     requires pen { IsPenAtStart script.x script.y }
     requires short { length run.now ≤ 64 }
-    ensures { pixels.new ≡ picture_after window.size (in_clip window.clip) (writing (glyphs_held slots.now script.font) script.x script.y script.color run.now) pixels.old }
+    ensures { pixels.new ≡ picture_after window.size (in_clip window.clip)
+        (writing (glyphs_held slots.now script.font) script.x script.y script.color run.now) pixels.old }
 {
     let mut moved = 0;
     for pair in run {
@@ -57,7 +58,8 @@ fn draw_code(pixels: &mut [u32], window: Window, slots: &Slots, pen: Script, cod
     requires clip { clip_rule window.size window.clip ≡ None }
     requires glyphs { AllInSlots (λ glyph. glyph_rule glyph.content ≡ None) slots.now.glyphs }
     requires pen { IsPenNear pen.x pen.y }
-    ensures { pixels.new ≡ painted window.size (both (in_clip window.clip) (glyph_area (glyphs_held slots.now pen.font code) pen.x pen.y)) (solid session_colors pen.color) pixels.old }
+    ensures { pixels.new ≡ painted window.size (both (in_clip window.clip) (glyph_area (glyphs_held slots.now pen.font code) pen.x pen.y))
+        (solid session_colors pen.color) pixels.old }
 {
     match slots.glyph(pen.font, code) {
         None => {}

@@ -1,4 +1,4 @@
-//! Tests of sockets as links: clients over the loopback interface.
+//! Tests of what the system gives as sources, sinks and links: clients over the loopback interface.
 //!
 //! They use public calls alone, so they stand apart: a crate with tests of its own is proved a second time for them.
 #![tactic(auto)]

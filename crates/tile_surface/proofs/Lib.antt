@@ -16,3 +16,4 @@ pub mod Touching
 pub mod Later
 pub mod Drawn
 pub mod Colored
+mod TileRows

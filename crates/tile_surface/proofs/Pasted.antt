@@ -1,5 +1,5 @@
 -- Textures that are pasted piece by piece.
-use Rattle.std.proofs.Common.{◌≡◌, ℕ, ◌+◌, ◌*◌, ◌%◌, ◌-◌, ◌<◌, ◌≤◌, List, Bool, true, false, get_or, refl, sym, ap, ◌∙◌, arith}
+use Rattle.std.proofs.Common.{◌≡◌, ℕ, ◌+◌, ◌*◌, ◌-◌, ◌<◌, ◌≤◌, List, Bool, true, false, get_or, refl, sym, ap, ◌∙◌, arith}
 use Rattle.std.proofs.lemmas.Bool.Decides.{nat_tests}
 use Rattle.std.specs.Prelude.{if◌then◌else◌}
 use Rattle.px_core.specs.declared.surface.Size.{Size}
@@ -10,41 +10,34 @@ use Rattle.surface_parts.specs.declared.texture.Texture.{Texture}
 use Rattle.surface_parts.specs.Parts.{in_part, part_at, IsRepainted, Pixels}
 use Rattle.surface_parts.specs.Textures.{texture_color, CoversPart}
 use Rattle.surface_parts.proofs.Repaint.{under_true}
+use Rattle.tile_surface.specs.declared.walk.Piece.{Piece}
+use Rattle.tile_surface.specs.Dyes.{IsPieceOf}
 use Rattle.tile_surface.specs.Rows.{cut_color, sides_of}
 
--- the first rows of a texture
-rows_fit : (w a h : ℕ) → a ≤ h → w * a ≤ w * h
+-- the first rows of a texture, or of bits
+pub rows_fit : (w a h : ℕ) → a ≤ h → w * a ≤ w * h
 rows_fit w a h le = grind (arith, le)
 
--- h rows of a part, from one of its rows on, and the texture from there on
-module _ (part : Part) (t : Texture) (done h : ℕ) (covers : CoversPart part t) (fits : done + h ≤ part.h) where
-  pub covers_below : CoversPart (part_at part.x (part.y + done) part.w h) (record { pixels = t.pixels; w = t.w; x = t.x; y = t.y + done })
-  covers_below = let fit = rows_fit t.w ((t.y + done) + h) (t.y + part.h) (omega (arith, fits)) in record {
-    columns = covers.columns;
-    rows = omega (arith, fit, covers.rows);
-    narrow = covers.narrow;
-    low = omega (arith, covers.low, fits);
-  }
+-- a piece of a part, and the texture from there on
+module _ (part : Part) (t : Texture) (piece : Piece) (is : IsPieceOf part piece) where
+  pub covers_there : CoversPart part t → CoversPart piece.spot (record { pixels = t.pixels; w = t.w; x = t.x + (piece.x - part.x); y = t.y + (piece.y - part.y) })
+  covers_there covers =
+      let more : (t.y + (piece.y - part.y)) + piece.spot.h ≤ t.y + part.h = omega (arith, is.top, is.bottom) in
+      let fit = rows_fit t.w ((t.y + (piece.y - part.y)) + piece.spot.h) (t.y + part.h) more in
+      record {
+        columns = omega (arith, covers.columns, is.left, is.right);
+        rows = omega (arith, fit, covers.rows);
+        narrow = covers.narrow;
+        low = omega (arith, covers.low, more);
+      }
 
-  pub color_below : (u v : ℕ) → part.y + done ≤ v → texture_color (part_at part.x (part.y + done) part.w h) (record { pixels = t.pixels; w = t.w; x = t.x; y = t.y + done }) u v ≡ texture_color part t u v
-  color_below u v low = let row : (t.y + done) + (v - (part.y + done)) ≡ t.y + (v - part.y) = omega (arith, low) in ap (λ r. get_or t.pixels.now (t.w * r + (t.x + (u - part.x))) 0) row
-
--- n columns of a band, from one of its columns on, as a piece of the tile in which they lie
-module _ (band : Part) (t : Texture) (done n : ℕ) (covers : CoversPart band t) (fits : done + n ≤ band.w) where
-  pub covers_right : CoversPart (part_at ((band.x + done) % 64) (band.y % 64) n band.h) (record { pixels = t.pixels; w = t.w; x = t.x + done; y = t.y })
-  covers_right = record {
-    columns = omega (arith, covers.columns, fits);
-    rows = covers.rows;
-    narrow = covers.narrow;
-    low = covers.low;
-  }
-
-  pub color_right : (u v : ℕ) → (band.x + done) % 64 + n ≤ 64 → band.y % 64 + band.h ≤ 64 → band.x + done ≤ u → u < band.x + done + n → band.y ≤ v → v < band.y + band.h
-      → texture_color (part_at ((band.x + done) % 64) (band.y % 64) n band.h) (record { pixels = t.pixels; w = t.w; x = t.x + done; y = t.y }) (u % 64) (v % 64) ≡ texture_color band t u v
-  color_right u v narrow low left right above below =
-      let row : t.y + (v % 64 - band.y % 64) ≡ t.y + (v - band.y) = omega (arith, low, above, below) in
-      let column : (t.x + done) + (u % 64 - (band.x + done) % 64) ≡ t.x + (u - band.x) = omega (arith, narrow, left, right) in
-      ap (λ r. get_or t.pixels.now (t.w * r + ((t.x + done) + (u % 64 - (band.x + done) % 64))) 0) row ∙ ap (λ k. get_or t.pixels.now (t.w * (t.y + (v - band.y)) + k) 0) column
+  pub color_there : (u v : ℕ) → texture_color piece.spot (record { pixels = t.pixels; w = t.w; x = t.x + (piece.x - part.x); y = t.y + (piece.y - part.y) }) u v
+      ≡ texture_color part t (piece.x + (u - piece.spot.x)) (piece.y + (v - piece.spot.y))
+  color_there u v =
+      let row : (t.y + (piece.y - part.y)) + (v - piece.spot.y) ≡ t.y + ((piece.y + (v - piece.spot.y)) - part.y) = omega (arith, is.top) in
+      let column : (t.x + (piece.x - part.x)) + (u - piece.spot.x) ≡ t.x + ((piece.x + (u - piece.spot.x)) - part.x) = omega (arith, is.left) in
+      ap (λ r. get_or t.pixels.now (t.w * r + ((t.x + (piece.x - part.x)) + (u - piece.spot.x))) 0) row
+      ∙ ap (λ k. get_or t.pixels.now (t.w * (t.y + ((piece.y + (v - piece.spot.y)) - part.y)) + k) 0) column
 
 -- the same area in colours that are alike there
 pub painted_alike : (size : Size) (area : Pixels) (f g : ℕ → ℕ → ℕ) (old new : List ℕ) → IsRepainted size area f old new → ((x y : ℕ) → x < size.w → y < size.h → area x y ≡ true → f x y ≡ g x y) → IsRepainted size area g old new

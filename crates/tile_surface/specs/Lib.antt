@@ -6,3 +6,4 @@ pub mod Ownership
 pub mod Needed
 pub mod Touched
 pub mod Later
+pub mod Dyes

@@ -117,7 +117,8 @@ impl Cell {
         requires columns { x + length row.now ≤ 64 }
         requires row { y < 64 }
         ensures own { IsOwn self.new }
-        ensures painted { IsRepainted tile_sides (in_part (part_at x y (length row.now) 1)) (λ u v. get_or row.now (u - x) 0) (cell_pixels self.old) (cell_pixels self.new) }
+        ensures painted { IsRepainted tile_sides (in_part (part_at x y (length row.now) 1)) (λ u v. get_or row.now (u - x) 0)
+            (cell_pixels self.old) (cell_pixels self.new) }
     {
         if let Cell::Own(tile) = self {
             tile.write(x, y, row);
@@ -169,7 +170,9 @@ impl Cell {
         requires pattern { length pattern.old ≡ piece.w }
         requires source { length source.old ≡ piece.w }
         ensures own { IsOwn self.new }
-        ensures painted { IsRepainted tile_sides (in_part piece) (blended_color tile_sides (cell_pixels self.old) piece rop (option_copied brush.entry) texture.entry) (cell_pixels self.old) (cell_pixels self.new) }
+        ensures painted { IsRepainted tile_sides (in_part piece)
+            (blended_color tile_sides (cell_pixels self.old) piece rop (option_copied brush.entry) texture.entry)
+            (cell_pixels self.old) (cell_pixels self.new) }
     {
         if let Cell::Own(tile) = self {
             tile.blend(piece, rop, brush, texture, pattern, source);
@@ -185,7 +188,8 @@ impl Cell {
         requires row { y < 64 }
         requires source { length source.now ≡ length pattern.now }
         ensures own { IsOwn self.new }
-        ensures painted { IsRepainted tile_sides (in_part (part_at x y (length pattern.now) 1)) (row_mixed tile_sides (cell_pixels self.old) rop pattern.now source.now x) (cell_pixels self.old) (cell_pixels self.new) }
+        ensures painted { IsRepainted tile_sides (in_part (part_at x y (length pattern.now) 1))
+            (row_mixed tile_sides (cell_pixels self.old) rop pattern.now source.now x) (cell_pixels self.old) (cell_pixels self.new) }
     {
         if let Cell::Own(tile) = self {
             tile.mix(x, y, rop, pattern, source);
@@ -199,7 +203,8 @@ impl Cell {
         requires inside { IsInside tile_sides piece }
         requires bits { HasBits piece bits }
         ensures own { IsOwn self.new }
-        ensures painted { IsRepainted tile_sides (in_part piece) (ink_color tile_sides (cell_pixels self.old) piece bits.entry color) (cell_pixels self.old) (cell_pixels self.new) }
+        ensures painted { IsRepainted tile_sides (in_part piece) (ink_color tile_sides (cell_pixels self.old) piece bits.entry color)
+            (cell_pixels self.old) (cell_pixels self.new) }
     {
         if let Cell::Own(tile) = self {
             tile.ink(piece, bits, color);

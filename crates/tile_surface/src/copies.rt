@@ -19,7 +19,6 @@ use crate::cuts::cut_part;
 use crate::mixes::blend_part;
 use crate::pastes::paste_part;
 use crate::rows::{SRCCOPY, mix_row, read_row};
-use crate::tile::TILE_SIDE;
 use px_core::{Rect, Size};
 use surface_parts::{Part, PictureCopy, Texture, Window, ready_pattern, source_place, visible};
 
@@ -46,7 +45,8 @@ pub(crate) fn copy_rect(
     requires own { OwnsArea window.size cells.old (both (in_clip window.clip) (in_rect rect)) }
     requires pattern { 2048 ≤ length pattern.old }
     requires source { 2048 ≤ length source.old }
-    ensures painted { picture_of window.size cells.new ≡ picture_after window.size (in_clip window.clip) (mixing rect rop (absent session_colors) (shifted (rows_of window.size.w window.size.h (picture_of window.size cells.old)) 0 rect sx sy)) (picture_of window.size cells.old) }
+    ensures painted { picture_of window.size cells.new ≡ picture_after window.size (in_clip window.clip) (mixing rect rop (absent session_colors)
+        (shifted (rows_of window.size.w window.size.h (picture_of window.size cells.old)) 0 rect sx sy)) (picture_of window.size cells.old) }
     ensures kept { KeepsRest window.size cells.old cells.new }
 {
     match visible(window, rect) {
@@ -80,7 +80,8 @@ fn copy_part(
     requires own { OwnsPart cells.old part }
     requires pattern { 2048 ≤ length pattern.old }
     requires source { 2048 ≤ length source.old }
-    ensures painted { IsRepainted size (in_part part) (copied_color size (picture_of size cells.old) part copy) (picture_of size cells.old) (picture_of size cells.new) }
+    ensures painted { IsRepainted size (in_part part) (copied_color size (picture_of size cells.old) part copy)
+        (picture_of size cells.old) (picture_of size cells.new) }
     ensures kept { KeepsRest size cells.old cells.new }
 {
     let count = part.w * part.h;
@@ -96,7 +97,7 @@ fn copy_part(
     } else if copy.rop == SRCCOPY {
         copy_few(cells, size, part, copy, &mut source[..count])
     } else {
-        mix_few(cells, size, part, copy, pattern, &mut source[..count])
+        mix_few(cells, size, part, copy, &mut source[..count])
     }
 }
 
@@ -109,7 +110,8 @@ fn copy_few(cells: &mut [Cell], size: Size, part: Part, copy: PictureCopy, read:
     requires code { copy.rop ≡ 0xCC }
     requires own { OwnsPart cells.old part }
     requires room { length read.old ≡ part.w * part.h }
-    ensures painted { IsRepainted size (in_part part) (copied_color size (picture_of size cells.old) part copy) (picture_of size cells.old) (picture_of size cells.new) }
+    ensures painted { IsRepainted size (in_part part) (copied_color size (picture_of size cells.old) part copy)
+        (picture_of size cells.old) (picture_of size cells.new) }
     ensures kept { KeepsRest size cells.old cells.new }
 {
     let from = Part {
@@ -128,22 +130,15 @@ fn copy_few(cells: &mut [Cell], size: Size, part: Part, copy: PictureCopy, read:
 }
 
 /// Makes each pixel of a part what a raster operation makes of it, where all pixels of its source are read, into a list of as many, before
-/// any is written. The row is for the operands of one row of a tile.
-fn mix_few(
-    cells: &mut [Cell],
-    size: Size,
-    part: Part,
-    copy: PictureCopy,
-    row: &mut [u32],
-    read: &mut [u32],
-)
+/// any is written.
+fn mix_few(cells: &mut [Cell], size: Size, part: Part, copy: PictureCopy, read: &mut [u32])
     requires tiled { IsTiled size cells.old }
     requires inside { IsInside size part }
     requires from { IsSourceInside size part copy }
     requires own { OwnsPart cells.old part }
-    requires row { 2048 ≤ length row.old }
     requires room { length read.old ≡ part.w * part.h }
-    ensures painted { IsRepainted size (in_part part) (copied_color size (picture_of size cells.old) part copy) (picture_of size cells.old) (picture_of size cells.new) }
+    ensures painted { IsRepainted size (in_part part) (copied_color size (picture_of size cells.old) part copy)
+        (picture_of size cells.old) (picture_of size cells.new) }
     ensures kept { KeepsRest size cells.old cells.new }
 {
     let from = Part {
@@ -158,8 +153,7 @@ fn mix_few(
         x: 0,
         y: 0,
     };
-    let (pattern, source) = row.split_at_mut(TILE_SIDE);
-    blend_part(cells, size, part, copy.rop, None, texture, pattern, source);
+    blend_part(cells, size, part, copy.rop, None, texture);
 }
 
 /// Makes each pixel of a part what a raster operation makes of it. Two rows of the part's width are for the operands of one row.
@@ -180,7 +174,8 @@ fn copy_rows(
     requires own { OwnsPart cells.old part }
     requires pattern { length pattern.old ≡ part.w }
     requires source { length source.old ≡ part.w }
-    ensures painted { IsRepainted size (in_part part) (copied_color size (picture_of size cells.old) part copy) (picture_of size cells.old) (picture_of size cells.new) }
+    ensures painted { IsRepainted size (in_part part) (copied_color size (picture_of size cells.old) part copy)
+        (picture_of size cells.old) (picture_of size cells.new) }
     ensures kept { KeepsRest size cells.old cells.new }
 {
     ready_pattern(pattern, None);
@@ -209,7 +204,8 @@ fn copy_downwards(
     requires pattern { length pattern.now ≡ part.w }
     requires blank { IsBlank pattern.now }
     requires source { length source.old ≡ part.w }
-    ensures painted { IsRepainted size (in_part part) (copied_color size (picture_of size cells.old) part copy) (picture_of size cells.old) (picture_of size cells.new) }
+    ensures painted { IsRepainted size (in_part part) (copied_color size (picture_of size cells.old) part copy)
+        (picture_of size cells.old) (picture_of size cells.new) }
     ensures kept { KeepsRest size cells.old cells.new }
 {
     for k in 0..part.h {
@@ -235,7 +231,8 @@ fn copy_upwards(
     requires pattern { length pattern.now ≡ part.w }
     requires blank { IsBlank pattern.now }
     requires source { length source.old ≡ part.w }
-    ensures painted { IsRepainted size (in_part part) (copied_color size (picture_of size cells.old) part copy) (picture_of size cells.old) (picture_of size cells.new) }
+    ensures painted { IsRepainted size (in_part part) (copied_color size (picture_of size cells.old) part copy)
+        (picture_of size cells.old) (picture_of size cells.new) }
     ensures kept { KeepsRest size cells.old cells.new }
 {
     for k in 0..part.h {
@@ -272,7 +269,8 @@ fn copy_row(
     requires pattern { length pattern.now ≡ part.w }
     requires blank { IsBlank pattern.now }
     requires source { length source.old ≡ part.w }
-    ensures painted { IsRepainted size (in_part (part_at part.x y part.w 1)) (copied_color size (picture_of size cells.old) part copy) (picture_of size cells.old) (picture_of size cells.new) }
+    ensures painted { IsRepainted size (in_part (part_at part.x y part.w 1)) (copied_color size (picture_of size cells.old) part copy)
+        (picture_of size cells.old) (picture_of size cells.new) }
     ensures kept { KeepsRest size cells.old cells.new }
 {
     read_row(cells, size, copy.x, copy.y + (y - part.y), source);

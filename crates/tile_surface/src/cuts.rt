@@ -42,7 +42,8 @@ fn cut_band(cells: &[Cell], size: Size, band: Part, sides: Size, row: usize, out
     requires canvas { IsCanvas sides out.old }
     requires wide { sides.w ≡ band.w }
     requires low { row + band.h ≤ sides.h }
-    ensures { IsRepainted sides (in_part (part_at 0 row band.w band.h)) (λ u v. pixel_at size (picture_of size cells.now) 0 (band.x + u) (band.y + (v - row))) out.old out.new }
+    ensures { IsRepainted sides (in_part (part_at 0 row band.w band.h))
+        (λ u v. pixel_at size (picture_of size cells.now) 0 (band.x + u) (band.y + (v - row))) out.old out.new }
 {
     let top = band.y % TILE_SIDE;
     let mut done = 0;

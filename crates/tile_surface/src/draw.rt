@@ -119,7 +119,8 @@ pub(crate) fn draw_owned(
     requires count { count < 2 ^ 64 - 1 }
     requires pattern { 2048 ≤ length pattern.old }
     requires source { 2048 ≤ length source.old }
-    ensures drawn { state_of (picture_of size cells.new) slots.new (count + 1) ≡ state_after_drawing size (state_of (picture_of size cells.old) slots.old count) d.now }
+    ensures drawn { state_of (picture_of size cells.new) slots.new (count + 1)
+        ≡ state_after_drawing size (state_of (picture_of size cells.old) slots.old count) d.now }
     ensures kept { KeepsRest size cells.old cells.new }
 {
     fill_slot(slots, count, room, cells, size);

@@ -97,7 +97,8 @@ fn draw_each(
     requires count { count + length ds.now < 2 ^ 64 }
     requires pattern { 2048 ≤ length pattern.old }
     requires source { 2048 ≤ length source.old }
-    ensures drawn { state_of (picture_of size cells.new) slots.new (count + length ds.now) ≡ state_after_drawings size (state_of (picture_of size cells.old) slots.old count) ds.now }
+    ensures drawn { state_of (picture_of size cells.new) slots.new (count + length ds.now)
+        ≡ state_after_drawings size (state_of (picture_of size cells.old) slots.old count) ds.now }
     ensures sound { IsSoundSurface size (state_of (picture_of size cells.new) slots.new (count + length ds.now)) }
     ensures kept { KeepsRest size cells.old cells.new }
 {

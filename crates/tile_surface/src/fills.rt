@@ -1,16 +1,34 @@
-//! Parts of one colour, written tile by tile.
-ghost use Rattle.std.specs.Prelude.{◌≡◌, ◌+◌, ◌≤◌, ◌<◌, ◌%◌, length};
+//! Parts of one colour.
+ghost use Rattle.std.specs.Prelude.{◌≡◌};
 ghost use Rattle.surface_parts.specs.Parts.{in_part, IsInside, IsRepainted};
 ghost use Rattle.tile_surface.specs.Cells.{picture_of, IsTiled};
 ghost use Rattle.tile_surface.specs.Ownership.{KeepsRest, OwnsPart};
 
 use crate::cell::Cell;
-use crate::rows::tile_number;
-use crate::tile::TILE_SIDE;
+use crate::walk::{Dye, Piece, dye_part};
 use px_core::Size;
 use surface_parts::Part;
 
-/// Gives every pixel of a part one colour, one row of tiles after another.
+/// One colour for every pixel.
+#[derive(Drop)]
+struct Fill {
+    color: u32,
+}
+
+impl Dye for Fill {
+    ghost use Rattle.std.specs.Prelude.{⊤};
+
+    ghost fits = { λ f part. ⊤ };
+
+    ghost color = { λ f part x y old. f.color };
+
+    #[inline(always)]
+    fn dye(&self, cell: &mut Cell, part: Part, piece: Piece) {
+        cell.fill(piece.spot, self.color);
+    }
+}
+
+/// Gives every pixel of a part one colour.
 pub(crate) fn fill_part(cells: &mut [Cell], size: Size, part: Part, color: u32)
     requires tiled { IsTiled size cells.old }
     requires inside { IsInside size part }
@@ -18,40 +36,5 @@ pub(crate) fn fill_part(cells: &mut [Cell], size: Size, part: Part, color: u32)
     ensures painted { IsRepainted size (in_part part) (λ x y. color) (picture_of size cells.old) (picture_of size cells.new) }
     ensures kept { KeepsRest size cells.old cells.new }
 {
-    let mut done = 0;
-    while done < part.h {
-        let y = part.y + done;
-        let h = (TILE_SIDE - y % TILE_SIDE).min(part.h - done);
-        let band = Part { y, h, ..part };
-        fill_band(cells, size, band, color);
-        done += h;
-    }
-}
-
-/// Gives every pixel of a part that lies in one row of tiles one colour, one tile after another.
-fn fill_band(cells: &mut [Cell], size: Size, band: Part, color: u32)
-    requires tiled { IsTiled size cells.old }
-    requires inside { IsInside size band }
-    requires some { 0 < band.h }
-    requires one { band.y % 64 + band.h ≤ 64 }
-    requires own { OwnsPart cells.old band }
-    ensures painted { IsRepainted size (in_part band) (λ x y. color) (picture_of size cells.old) (picture_of size cells.new) }
-    ensures kept { KeepsRest size cells.old cells.new }
-{
-    let top = band.y % TILE_SIDE;
-    let mut done = 0;
-    while done < band.w {
-        let x = band.x + done;
-        let column = x % TILE_SIDE;
-        let w = (TILE_SIDE - column).min(band.w - done);
-        let piece = Part {
-            x: column,
-            y: top,
-            w,
-            h: band.h,
-        };
-        let tile = tile_number(x, band.y);
-        cells[tile].fill(piece, color);
-        done += w;
-    }
+    dye_part(cells, size, part, &Fill { color });
 }

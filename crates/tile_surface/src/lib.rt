@@ -25,6 +25,7 @@ mod saves;
 mod texts;
 mod tile;
 mod tiles;
+mod walk;
 
 pub use lent::LentTile;
 pub use packed::PackedTile;

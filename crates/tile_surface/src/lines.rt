@@ -96,7 +96,8 @@ fn draw_course(cells: &mut [Cell], size: Size, part: Part, course: Course, color
     requires inside { IsInside size part }
     requires course { IsCourse course }
     requires own { OwnsPixels cells.old (λ x y. in_part part x y && is_course_pixel course (apart course.from_u course.to_u + 1) x y) }
-    ensures painted { IsRepainted size (λ x y. in_part part x y && is_course_pixel course (apart course.from_u course.to_u + 1) x y) (λ x y. color) (picture_of size cells.old) (picture_of size cells.new) }
+    ensures painted { IsRepainted size (λ x y. in_part part x y && is_course_pixel course (apart course.from_u course.to_u + 1) x y) (λ x y. color)
+        (picture_of size cells.old) (picture_of size cells.new) }
     ensures kept { KeepsRest size cells.old cells.new }
 {
     let du = distance(course.from_u, course.to_u);
@@ -132,7 +133,8 @@ fn draw_dot(cells: &mut [Cell], size: Size, part: Part, dot: Dot, color: u32)
     requires tiled { IsTiled size cells.old }
     requires inside { IsInside size part }
     requires own { OwnsPixels cells.old (λ x y. in_part part x y && is_dot dot.is_steep dot.u dot.v x y) }
-    ensures painted { IsRepainted size (λ x y. in_part part x y && is_dot dot.is_steep dot.u dot.v x y) (λ x y. color) (picture_of size cells.old) (picture_of size cells.new) }
+    ensures painted { IsRepainted size (λ x y. in_part part x y && is_dot dot.is_steep dot.u dot.v x y) (λ x y. color)
+        (picture_of size cells.old) (picture_of size cells.new) }
     ensures kept { KeepsRest size cells.old cells.new }
 {
     match dot_in(part, dot) {

@@ -3,12 +3,12 @@ ghost use Rattle.std.specs.Prelude.{◌≡◌, true, length, option_copied, opti
 ghost use Rattle.std.specs.Arc.{arc_value};
 ghost use Rattle.std.specs.Bool.{Decides};
 ghost use Rattle.px_core.specs.Colors.{are_colors};
-ghost use Rattle.bitmap_upd.specs.Packed.{IsTilePacked};
+ghost use Rattle.rle_enc.specs.Packed.{IsTilePacked};
 ghost use Rattle.tile_surface.specs.Packings.{PackingOf};
 
 use crate::tile::{TILE_SIDE, Tile};
-use bitmap_upd::packed_tile;
 use px_core::Depth;
+use rle_enc::packed_tile;
 use std::alloc::Global;
 use std::marker::Model;
 use std::sync::Arc;
@@ -26,7 +26,7 @@ pub struct PackedTile {
 impl Model for PackedTile {
     ghost use Rattle.std.specs.Prelude.{true, option_map};
     ghost use Rattle.std.specs.Arc.{arc_value};
-    ghost use Rattle.bitmap_upd.specs.Packed.{IsTilePacked};
+    ghost use Rattle.rle_enc.specs.Packed.{IsTilePacked};
     ghost use Rattle.tile_surface.specs.Packings.{PackingOf};
 
     ghost Value = { PackingOf };

@@ -1,17 +1,52 @@
-//! Parts that get the colours of a texture, written tile by tile.
-ghost use Rattle.std.specs.Prelude.{◌≡◌, ◌+◌, ◌≤◌, ◌<◌, ◌%◌, length};
+//! Parts that get the colours of a texture.
+ghost use Rattle.std.specs.Prelude.{◌≡◌, ℕ, ◌+◌, ◌-◌};
 ghost use Rattle.surface_parts.specs.Parts.{in_part, IsInside, IsRepainted};
 ghost use Rattle.surface_parts.specs.Textures.{texture_color, CoversPart};
 ghost use Rattle.tile_surface.specs.Cells.{picture_of, IsTiled};
 ghost use Rattle.tile_surface.specs.Ownership.{KeepsRest, OwnsPart};
+ghost use Rattle.tile_surface.specs.Dyes.{IsPieceOf};
 
 use crate::cell::Cell;
-use crate::rows::tile_number;
-use crate::tile::TILE_SIDE;
+use crate::walk::{Dye, Piece, dye_part};
 use px_core::Size;
 use surface_parts::{Part, Texture};
 
-/// Gives every pixel of a part the colour that a texture has for it, one row of tiles after another.
+/// The colours of a texture.
+#[derive(Drop)]
+struct Paste<'a> {
+    texture: Texture<'a>,
+}
+
+impl<'a> Dye for Paste<'a> {
+    ghost use Rattle.surface_parts.specs.Textures.{texture_color, CoversPart};
+
+    ghost fits = { λ p part. CoversPart part p.texture };
+
+    ghost color = { λ p part x y old. texture_color part p.texture x y };
+
+    #[inline(always)]
+    fn dye(&self, cell: &mut Cell, part: Part, piece: Piece) {
+        cell.paste(piece.spot, texture_there(self.texture, part, piece));
+    }
+}
+
+/// The texture of a piece of a part.
+#[inline(always)]
+pub(crate) fn texture_there<'a>(texture: Texture<'a>, part: Part, piece: Piece) -> Texture<'a>
+    requires covers { CoversPart part texture }
+    requires piece { IsPieceOf part piece }
+    ensures covers { CoversPart piece.spot result }
+    ensures colors { (u v : ℕ) → texture_color piece.spot result u v
+        ≡ texture_color part texture.entry (piece.x + (u - piece.spot.x)) (piece.y + (v - piece.spot.y)) }
+{
+    Texture {
+        x: texture.x + (piece.x - part.x),
+        y: texture.y + (piece.y - part.y),
+        ..texture
+    }
+}
+
+/// Gives every pixel of a part the colour that a texture has for it.
 pub(crate) fn paste_part(cells: &mut [Cell], size: Size, part: Part, texture: Texture)
     requires tiled { IsTiled size cells.old }
     requires inside { IsInside size part }
@@ -20,49 +55,5 @@ pub(crate) fn paste_part(cells: &mut [Cell], size: Size, part: Part, texture: Te
     ensures painted { IsRepainted size (in_part part) (texture_color part texture.entry) (picture_of size cells.old) (picture_of size cells.new) }
     ensures kept { KeepsRest size cells.old cells.new }
 {
-    let mut done = 0;
-    while done < part.h {
-        let y = part.y + done;
-        let h = (TILE_SIDE - y % TILE_SIDE).min(part.h - done);
-        let band = Part { y, h, ..part };
-        let below = Texture {
-            y: texture.y + done,
-            ..texture
-        };
-        paste_band(cells, size, band, below);
-        done += h;
-    }
-}
-
-/// Gives every pixel of a part that lies in one row of tiles the colour that a texture has for it, one tile after another.
-fn paste_band(cells: &mut [Cell], size: Size, band: Part, texture: Texture)
-    requires tiled { IsTiled size cells.old }
-    requires inside { IsInside size band }
-    requires some { 0 < band.h }
-    requires one { band.y % 64 + band.h ≤ 64 }
-    requires own { OwnsPart cells.old band }
-    requires texture { CoversPart band texture }
-    ensures painted { IsRepainted size (in_part band) (texture_color band texture.entry) (picture_of size cells.old) (picture_of size cells.new) }
-    ensures kept { KeepsRest size cells.old cells.new }
-{
-    let top = band.y % TILE_SIDE;
-    let mut done = 0;
-    while done < band.w {
-        let x = band.x + done;
-        let column = x % TILE_SIDE;
-        let w = (TILE_SIDE - column).min(band.w - done);
-        let piece = Part {
-            x: column,
-            y: top,
-            w,
-            h: band.h,
-        };
-        let right = Texture {
-            x: texture.x + done,
-            ..texture
-        };
-        let tile = tile_number(x, band.y);
-        cells[tile].paste(piece, right);
-        done += w;
-    }
+    dye_part(cells, size, part, &Paste { texture });
 }

@@ -31,7 +31,8 @@ pub(crate) fn fill_rect(cells: &mut [Cell], window: Window, rect: Rect, color: u
     requires rect { IsPlaced rect }
     requires clip { clip_rule window.size window.clip ≡ None }
     requires own { OwnsArea window.size cells.old (both (in_clip window.clip) (in_rect rect)) }
-    ensures painted { picture_of window.size cells.new ≡ picture_after window.size (in_clip window.clip) (over_rect rect (solid session_colors color)) (picture_of window.size cells.old) }
+    ensures painted { picture_of window.size cells.new ≡ picture_after window.size (in_clip window.clip) (over_rect rect (solid session_colors color))
+        (picture_of window.size cells.old) }
     ensures kept { KeepsRest window.size cells.old cells.new }
 {
     match visible(window, rect) {
@@ -58,7 +59,10 @@ pub(crate) fn mix_rect(
     requires brush_colors { IfSome (option_copied blend.brush) (λ brush. IsTrue (are_colors brush)) }
     requires pattern { 2048 ≤ length pattern.old }
     requires source { 2048 ≤ length source.old }
-    ensures painted { picture_of window.size cells.new ≡ picture_after window.size (in_clip window.clip) (mixing rect blend.entry.rop (pattern_of (option_copied blend.entry.brush)) (source_of (option_copied blend.entry.image) rect blend.entry.sx blend.entry.sy)) (picture_of window.size cells.old) }
+    ensures painted { picture_of window.size cells.new ≡ picture_after window.size (in_clip window.clip)
+        (mixing rect blend.entry.rop (pattern_of (option_copied blend.entry.brush))
+        (source_of (option_copied blend.entry.image) rect blend.entry.sx blend.entry.sy))
+        (picture_of window.size cells.old) }
     ensures kept { KeepsRest window.size cells.old cells.new }
 {
     match visible(window, rect) {
@@ -87,7 +91,8 @@ pub(crate) fn restore_block(
     requires clip { clip_rule window.size window.clip ≡ None }
     requires block { IfSome (option_copied block) (IsRestorable window.size x y) }
     requires own { IfSome (option_copied block) (λ b. OwnsArea window.size cells.old (both (in_clip window.clip) (in_rect (boxed x y b.w b.h)))) }
-    ensures painted { picture_of window.size cells.new ≡ picture_after window.size (in_clip window.clip) (restoring (option_copied block.entry) x y) (picture_of window.size cells.old) }
+    ensures painted { picture_of window.size cells.new ≡ picture_after window.size (in_clip window.clip) (restoring (option_copied block.entry) x y)
+        (picture_of window.size cells.old) }
     ensures kept { KeepsRest window.size cells.old cells.new }
 {
     match block {
@@ -102,7 +107,8 @@ fn paste_block(cells: &mut [Cell], window: Window, block: &Block, x: i32, y: i32
     requires clip { clip_rule window.size window.clip ≡ None }
     requires block { IsRestorable window.size x y block.now }
     requires own { OwnsArea window.size cells.old (both (in_clip window.clip) (in_rect (boxed x y block.now.w block.now.h))) }
-    ensures painted { picture_of window.size cells.new ≡ picture_after window.size (in_clip window.clip) (restoring (Some block.now) x y) (picture_of window.size cells.old) }
+    ensures painted { picture_of window.size cells.new ≡ picture_after window.size (in_clip window.clip) (restoring (Some block.now) x y)
+        (picture_of window.size cells.old) }
     ensures kept { KeepsRest window.size cells.old cells.new }
 {
     let sides = Size {
@@ -141,7 +147,8 @@ fn mix_part(
     requires source_colors { (x y : ℕ) → IsTrue (in_part part x y) → source_color part mix.texture x y < 2 ^ 24 }
     requires pattern { 2048 ≤ length pattern.old }
     requires source { 2048 ≤ length source.old }
-    ensures painted { IsRepainted size (in_part part) (mixed_color size (picture_of size cells.old) part mix.entry) (picture_of size cells.old) (picture_of size cells.new) }
+    ensures painted { IsRepainted size (in_part part) (mixed_color size (picture_of size cells.old) part mix.entry)
+        (picture_of size cells.old) (picture_of size cells.new) }
     ensures kept { KeepsRest size cells.old cells.new }
 {
     match copied_texture(mix) {
@@ -180,7 +187,8 @@ fn mix_other(
     requires source_colors { (x y : ℕ) → IsTrue (in_part part x y) → source_color part mix.texture x y < 2 ^ 24 }
     requires pattern { 2048 ≤ length pattern.old }
     requires source { 2048 ≤ length source.old }
-    ensures painted { IsRepainted size (in_part part) (mixed_color size (picture_of size cells.old) part mix.entry) (picture_of size cells.old) (picture_of size cells.new) }
+    ensures painted { IsRepainted size (in_part part) (mixed_color size (picture_of size cells.old) part mix.entry)
+        (picture_of size cells.old) (picture_of size cells.new) }
     ensures kept { KeepsRest size cells.old cells.new }
 {
     match mix.texture {
@@ -192,9 +200,7 @@ fn mix_other(
             &mut pattern[..part.w],
             &mut source[..part.w],
         ),
-        Some(texture) => blend_part(
-            cells, size, part, mix.rop, mix.brush, texture, pattern, source,
-        ),
+        Some(texture) => blend_part(cells, size, part, mix.rop, mix.brush, texture),
     }
 }
 
@@ -215,7 +221,8 @@ fn mix_rows(
     requires source_colors { (x y : ℕ) → IsTrue (in_part part x y) → source_color part mix.texture x y < 2 ^ 24 }
     requires pattern { length pattern.old ≡ part.w }
     requires source { length source.old ≡ part.w }
-    ensures painted { IsRepainted size (in_part part) (mixed_color size (picture_of size cells.old) part mix.entry) (picture_of size cells.old) (picture_of size cells.new) }
+    ensures painted { IsRepainted size (in_part part) (mixed_color size (picture_of size cells.old) part mix.entry)
+        (picture_of size cells.old) (picture_of size cells.new) }
     ensures kept { KeepsRest size cells.old cells.new }
 {
     ready_pattern(pattern, mix.brush);

@@ -59,7 +59,8 @@ pub(crate) fn write_row(cells: &mut [Cell], size: Size, x: usize, y: usize, row:
     requires columns { x + length row.now ≤ size.w }
     requires row { y < size.h }
     requires own { OwnsPart cells.old (part_at x y (length row.now) 1) }
-    ensures painted { IsRepainted size (in_part (part_at x y (length row.now) 1)) (λ u v. get_or row.now (u - x) 0) (picture_of size cells.old) (picture_of size cells.new) }
+    ensures painted { IsRepainted size (in_part (part_at x y (length row.now) 1)) (λ u v. get_or row.now (u - x) 0)
+        (picture_of size cells.old) (picture_of size cells.new) }
     ensures kept { KeepsRest size cells.old cells.new }
 {
     let mut done = 0;
@@ -92,7 +93,8 @@ pub(crate) fn mix_row(
     requires pattern_colors { IsColored pattern.now }
     requires source_colors { IsColored source.now }
     requires own { OwnsPart cells.old (part_at x y (length pattern.now) 1) }
-    ensures painted { IsRepainted size (in_part (part_at x y (length pattern.now) 1)) (row_mixed size (picture_of size cells.old) rop pattern.now source.now x) (picture_of size cells.old) (picture_of size cells.new) }
+    ensures painted { IsRepainted size (in_part (part_at x y (length pattern.now) 1)) (row_mixed size (picture_of size cells.old) rop pattern.now source.now x)
+        (picture_of size cells.old) (picture_of size cells.new) }
     ensures kept { KeepsRest size cells.old cells.new }
 {
     match rop {
@@ -117,7 +119,8 @@ fn mix_tiles(
     requires row { y < size.h }
     requires source { length source.now ≡ length pattern.now }
     requires own { OwnsPart cells.old (part_at x y (length pattern.now) 1) }
-    ensures painted { IsRepainted size (in_part (part_at x y (length pattern.now) 1)) (row_mixed size (picture_of size cells.old) rop pattern.now source.now x) (picture_of size cells.old) (picture_of size cells.new) }
+    ensures painted { IsRepainted size (in_part (part_at x y (length pattern.now) 1)) (row_mixed size (picture_of size cells.old) rop pattern.now source.now x)
+        (picture_of size cells.old) (picture_of size cells.new) }
     ensures kept { KeepsRest size cells.old cells.new }
 {
     let mut done = 0;

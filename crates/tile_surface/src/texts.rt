@@ -72,7 +72,8 @@ pub(crate) fn write_run(
     requires pen { IsPenAtStart script.x script.y }
     requires short { length run.now ≤ 64 }
     requires own { OwnsRun window.size cells.old (in_clip window.clip) (glyphs_held slots.now script.font) script.x script.y run.now }
-    ensures painted { picture_of window.size cells.new ≡ picture_after window.size (in_clip window.clip) (writing (glyphs_held slots.now script.font) script.x script.y script.color run.now) (picture_of window.size cells.old) }
+    ensures painted { picture_of window.size cells.new ≡ picture_after window.size (in_clip window.clip)
+        (writing (glyphs_held slots.now script.font) script.x script.y script.color run.now) (picture_of window.size cells.old) }
     ensures kept { KeepsRest window.size cells.old cells.new }
 {
     let mut moved = 0;
@@ -116,7 +117,9 @@ fn draw_code(cells: &mut [Cell], window: Window, slots: &Slots, pen: Script, cod
     requires glyphs { AllInSlots (λ glyph. glyph_rule glyph.content ≡ None) slots.now.glyphs }
     requires pen { IsPenNear pen.x pen.y }
     requires own { OwnsGlyph window.size cells.old (in_clip window.clip) (glyphs_held slots.now pen.font code) pen.x pen.y }
-    ensures painted { picture_of window.size cells.new ≡ painted window.size (both (in_clip window.clip) (glyph_area (glyphs_held slots.now pen.font code) pen.x pen.y)) (solid session_colors pen.color) (picture_of window.size cells.old) }
+    ensures painted { picture_of window.size cells.new ≡ painted window.size
+        (both (in_clip window.clip) (glyph_area (glyphs_held slots.now pen.font code) pen.x pen.y))
+        (solid session_colors pen.color) (picture_of window.size cells.old) }
     ensures kept { KeepsRest window.size cells.old cells.new }
 {
     match slots.glyph(pen.font, code) {
@@ -151,7 +154,9 @@ fn draw_glyph(cells: &mut [Cell], window: Window, glyph: &Glyph, pen: Script)
     requires rule { glyph_rule glyph.now ≡ None }
     requires pen { IsPenNear pen.x pen.y }
     requires own { OwnsGlyph window.size cells.old (in_clip window.clip) (Some glyph.now) pen.x pen.y }
-    ensures painted { picture_of window.size cells.new ≡ painted window.size (both (in_clip window.clip) (glyph_area (Some glyph.now) pen.x pen.y)) (solid session_colors pen.color) (picture_of window.size cells.old) }
+    ensures painted { picture_of window.size cells.new ≡ painted window.size
+        (both (in_clip window.clip) (glyph_area (Some glyph.now) pen.x pen.y))
+        (solid session_colors pen.color) (picture_of window.size cells.old) }
     ensures kept { KeepsRest window.size cells.old cells.new }
 {
     let cell = cell_of(glyph, pen.x, pen.y);

@@ -156,7 +156,8 @@ impl Tile {
         requires texture { CoversPart piece texture }
         requires pattern { length pattern.old ≡ piece.w }
         requires source { length source.old ≡ piece.w }
-        ensures { IsRepainted tile_sides (in_part piece) (blended_color tile_sides self.old piece rop (option_copied brush.entry) texture.entry) self.old self.new }
+        ensures { IsRepainted tile_sides (in_part piece) (blended_color tile_sides self.old piece rop (option_copied brush.entry) texture.entry)
+            self.old self.new }
     {
         let mix = Mix {
             rop,
@@ -179,7 +180,8 @@ impl Tile {
         requires columns { x + length pattern.now ≤ 64 }
         requires row { y < 64 }
         requires source { length source.now ≡ length pattern.now }
-        ensures { IsRepainted tile_sides (in_part (part_at x y (length pattern.now) 1)) (row_mixed tile_sides self.old rop pattern.now source.now x) self.old self.new }
+        ensures { IsRepainted tile_sides (in_part (part_at x y (length pattern.now) 1)) (row_mixed tile_sides self.old rop pattern.now source.now x)
+            self.old self.new }
     {
         let at = TILE_SIDE * y + x;
         let pixels = &mut self.pixels[at..at + pattern.len()];

@@ -55,7 +55,8 @@ impl Model for Tiles {
 
     ghost view = { λ s. record { size = s.size; state = state_of (picture_of s.size s.cells.items) s.slots s.count } };
 
-    ghost invariant = { λ s. IsSoundSurface s.size (state_of (picture_of s.size s.cells.items) s.slots s.count) × (length s.cells.items ≡ 1024) × IsBlackPast s.size s.cells.items
+    ghost invariant = { λ s. IsSoundSurface s.size (state_of (picture_of s.size s.cells.items) s.slots s.count)
+        × (length s.cells.items ≡ 1024) × IsBlackPast s.size s.cells.items
         × (2048 ≤ length s.pattern.items) × (2048 ≤ length s.source.items) };
 }
 

@@ -24,7 +24,8 @@ pub fn packets_in_any_pieces()
     ensures each { (bytes : List ℕ) → AllByRecursion IsPacket (packets_of bytes).packets }
     ensures left { (bytes : List ℕ) → StartsWithPacket (packets_of bytes).rest → ⊥ }
     ensures part { (bytes : List ℕ) → (HasWrongVersion (packets_of bytes).rest → ⊥) → (HasBadLength (packets_of bytes).rest → ⊥) → IsPartOfPacket (packets_of bytes).rest }
-    ensures only { (bytes : List ℕ) (packets : List (List ℕ)) (rest : List ℕ) → (packets_of bytes ≡ record { packets = packets; rest = rest }) ↔ IsStreamOf bytes packets rest }
+    ensures only { (bytes : List ℕ) (packets : List (List ℕ)) (rest : List ℕ)
+        → (packets_of bytes ≡ record { packets = packets; rest = rest }) ↔ IsStreamOf bytes packets rest }
     ensures two { (xs ys : List ℕ) → packets_of (xs ++ ys) ≡ after_packets (packets_of xs).packets (packets_of ((packets_of xs).rest ++ ys)) }
     ensures all { (pieces : List (List ℕ)) → packets_of_pieces [] pieces ≡ packets_of (flat_map (λ piece. piece) pieces) }
 {}

@@ -2,8 +2,7 @@
 use Rattle.std.proofs.Common.{◌≡◌, ◌≤◌, ◌<◌, ◌+◌, ◌*◌, ◌-◌, ◌⊎◌, inl, inr, ℕ, zero, suc, List, [], ◌∷◌, ◌++◌, length, length-append, take, drop, refl, ap, sym, subst, ◌∙◌, arith, true, false}
 use Rattle.std.specs.Prelude.{Bool, Option, Some, None, nat_lt, slice_index, if◌then◌else◌}
 use Rattle.std.proofs.lemmas.Bool.Decides.{nat_tests}
-use Rattle.order_means.specs.WirePixels.{turned}
-use Rattle.order_means.specs.Updates.{cutting, updates, updates_by, whole_fast, fast_inside, fast_begun}
+use Rattle.order_means.specs.Updates.{cutting, updates, updates_by, whole_fast, fast_inside, fast_begun, turned}
 use Rattle.order_means.specs.Updates.Stage.{FastLong, FastInside, Refused}
 use Rattle.update_read.specs.Cutters.{stage_of, IsOpen, length_by, fast_length, fast_stage, IsFastOpen}
 use Rattle.update_read.proofs.Judged.{after_byte, turned-append, turned_twice}

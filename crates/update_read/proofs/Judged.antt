@@ -6,8 +6,7 @@ use Rattle.std.proofs.lemmas.List.{length-drop, drop_all}
 use Rattle.wire_num.specs.Cursor.{CursorOf, rest}
 use Rattle.wire_num.specs.declared.range.Range.{Range}
 use Rattle.share_pdu.specs.Packet.{indication_at}
-use Rattle.order_means.specs.WirePixels.{turned}
-use Rattle.order_means.specs.Updates.{body_at, cutting, Updates, updates, updates_by, stage_if, whole_packet}
+use Rattle.order_means.specs.Updates.{body_at, cutting, Updates, updates, updates_by, stage_if, whole_packet, turned}
 use Rattle.order_means.specs.Updates.BodyForm.{Slow}
 use Rattle.order_means.specs.Updates.Stage.{Between, Inside, Refused}
 use Rattle.update_read.specs.PacketParts.{IsBody}

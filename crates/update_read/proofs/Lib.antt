@@ -6,7 +6,7 @@ pub mod FastJudged
 pub mod Found
 pub mod Pushed
 pub mod Taken
-pub mod Begun
+pub mod WholeOpened
 pub mod KindFound
 pub mod Sieved
 pub mod WholePieces

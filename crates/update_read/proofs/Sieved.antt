@@ -2,10 +2,10 @@
 use Rattle.std.proofs.Common.{◌≡◌, ◌≤◌, ◌<◌, ◌+◌, ◌-◌, ℕ, zero, suc, List, [], ◌∷◌, ◌++◌, append_assoc, append-nil, length, take, drop, get_or, refl, ap, sym, subst, ◌∙◌, arith}
 use Rattle.std.proofs.lemmas.List.{take_more}
 use Rattle.std.proofs.lemmas.List.Concat.{flat_map-append}
-use Rattle.order_means.specs.WirePixels.{turned}
+use Rattle.order_means.specs.Updates.{turned}
 use Rattle.order_means.specs.Packets.{PacketStage, Pieces, pieces, pieces_from, kept_piece, kept_pieces}
 use Rattle.order_means.specs.Packets.PacketStage.{Inside}
-use Rattle.packet_laws.proofs.PieceJoined.{pieces_joined}
+use Rattle.order_means.proofs.PieceJoined.{pieces_joined}
 use Rattle.update_read.specs.Sieves.{Sieves}
 
 -- ---- two stretches

@@ -1,6 +1,6 @@
--- A whole packet is one piece.
-use Rattle.std.proofs.Common.{◌≡◌, ◌≤◌, ◌<◌, ◌+◌, ◌*◌, ◌-◌, ℕ, zero, suc, Bool, true, false, List, [], ◌∷◌, ◌++◌, length, take, append-nil, refl, ap, sym, subst, ◌∙◌, arith}
-use Rattle.std.specs.Prelude.{nat_le, nat_lt, ◌&&◌, ◌==◌, if◌then◌else◌, Option, Some, None, flat_map}
+-- The whole packet with which bytes begin is one packet, and one piece.
+use Rattle.std.proofs.Common.{◌≡◌, ◌≤◌, ◌<◌, ◌+◌, ◌*◌, ◌-◌, inl, inr, ℕ, zero, suc, Bool, true, false, List, [], ◌∷◌, ◌++◌, length, take, append-nil, refl, ap, sym, subst, ◌∙◌, arith}
+use Rattle.std.specs.Prelude.{nat_le, nat_lt, slice_index, ◌&&◌, ◌==◌, if◌then◌else◌, Option, Some, None, flat_map}
 use Rattle.std.proofs.lemmas.Bool.Decides.{nat_tests}
 use Rattle.std.proofs.lemmas.Bool.{and_parts}
 use Rattle.std.proofs.lemmas.List.{length-take-le}
@@ -8,11 +8,11 @@ use Rattle.tpkt_x224.specs.declared.tpkt.Packet.{Packet}
 use Rattle.tpkt_x224.specs.declared.tpkt.Packet.TheVariants.{Whole, Part, NotTpkt, BadLength}
 use Rattle.tpkt_x224.specs.Tpkt.{IsPacket, packet_at}
 use Rattle.tpkt_x224.proofs.Heads.{whole_head, whole_bounds}
-use Rattle.order_means.specs.WirePixels.{turned}
+use Rattle.order_means.specs.Updates.{turned}
 use Rattle.order_means.specs.Packets.{Pieces, pieces, before_pieces, pieces_from, piece_begun, piece_begun_if, kept_piece}
 use Rattle.order_means.specs.Packets.PacketStage.{Between, Inside, FastLong}
 use Rattle.update_read.specs.Cutters.{fast_length, length_by}
-use Rattle.update_read.specs.Wholes.{size_if_there, counted_size, fast_size, whole_size_by, whole_size}
+use Rattle.update_read.specs.Wholes.{size_if_there, counted_size, fast_size, whole_size_by, whole_size, IsCounted, IsFastWhole, IsWholePacket}
 use Rattle.update_read.specs.Sieves.{Sieves}
 
 -- ---- no more than are there
@@ -55,6 +55,54 @@ room_by BadLength bytes e = omega arith
 
 pub size_most : (bytes : List ℕ) → whole_size bytes ≤ length bytes
 size_most bytes = room_by (packet_at bytes) bytes refl
+
+-- ---- one packet
+
+fast_there_by : (t : Bool) (h n : ℕ) (bs : List ℕ) → nat_lt h 128 ≡ t → counted_size (length_by t h bs) (length (0 ∷ h ∷ bs)) ≡ n → 0 < n → IsFastWhole (take n (0 ∷ h ∷ bs))
+fast_there_by true h n bs t e some =
+    let is = there 2 h (length (0 ∷ h ∷ bs)) n e some in
+    let same = is.0 in
+    let low = is.1 in
+    let most = is.2 in
+    let two : n ≡ suc (suc (n - 2)) = omega (arith, low) in
+    let size : length (take (n - 2) bs) ≡ n - 2 = length-take-le (n - 2) bs (omega (arith, most)) in
+    let counted : (2 ≤ h) × (h ≡ length (0 ∷ h ∷ take (n - 2) bs)) = (omega (arith, same, low), omega (arith, size, same, low)) in
+    subst (λ (k : ℕ). IsFastWhole (take k (0 ∷ h ∷ bs))) (sym two)
+    (refl, subst (λ c. IsCounted (length_by c h (take (n - 2) bs)) (length (0 ∷ h ∷ take (n - 2) bs))) (sym t) counted)
+fast_there_by false h n [] t e some = absurd (omega (arith, e, some))
+fast_there_by false h n (l ∷ bs) t e some =
+    let is = there 3 (256 * (h - 128) + l) (length (0 ∷ h ∷ l ∷ bs)) n e some in
+    let same = is.0 in
+    let low = is.1 in
+    let most = is.2 in
+    let three : n ≡ suc (suc (suc (n - 3))) = omega (arith, low) in
+    let size : length (take (n - 3) bs) ≡ n - 3 = length-take-le (n - 3) bs (omega (arith, most)) in
+    let counted : (3 ≤ 256 * (h - 128) + l) × (256 * (h - 128) + l ≡ length (0 ∷ h ∷ l ∷ take (n - 3) bs)) = (omega (arith, same, low), omega (arith, size, same, low)) in
+    subst (λ (k : ℕ). IsFastWhole (take k (0 ∷ h ∷ l ∷ bs))) (sym three)
+    (refl, subst (λ c. IsCounted (length_by c h (l ∷ take (n - 3) bs)) (length (0 ∷ h ∷ l ∷ take (n - 3) bs))) (sym t) counted)
+
+fast_there : (bytes : List ℕ) (n : ℕ) → fast_size bytes ≡ n → 0 < n → IsFastWhole (take n bytes)
+fast_there [] n e some = absurd (omega (arith, e, some))
+fast_there (zero ∷ []) n e some = absurd (omega (arith, e, some))
+fast_there (zero ∷ h ∷ bs) n e some = fast_there_by (nat_lt h 128) h n bs refl e some
+fast_there (suc b ∷ bs) n e some =
+    let other : (suc b == 0) ≡ false = grind (arith, nat_tests) in
+    let none : 0 ≡ n = ap (λ t. if t then counted_size (fast_length (suc b ∷ bs)) (length (suc b ∷ bs)) else 0) (sym other) ∙ e in
+    absurd (omega (arith, none, some))
+
+packet_there : (p : Packet) (bytes : List ℕ) (n : ℕ) → packet_at bytes ≡ p → whole_size_by p bytes ≡ n → 0 < n → IsWholePacket (take n bytes)
+packet_there (Whole m) bytes n at e some = inl (subst (λ (k : ℕ). IsPacket (take k bytes)) e ((whole_head bytes m).0 at).1)
+packet_there Part bytes n at e some = absurd (omega (arith, e, some))
+packet_there NotTpkt bytes n at e some = inr (fast_there bytes n e some)
+packet_there BadLength bytes n at e some = absurd (omega (arith, e, some))
+
+pub whole_there : (bytes : List ℕ) (n : ℕ) → n ≡ whole_size bytes → 0 < n → IsWholePacket (take n bytes)
+whole_there bytes n e some = packet_there (packet_at bytes) bytes n refl (sym e) some
+
+pub first_stays : (n : ℕ) (bytes : List ℕ) → 0 < n → slice_index (take n bytes) 0 ≡ slice_index bytes 0
+first_stays zero bytes some = absurd (omega (arith, some))
+first_stays (suc n) [] some = refl
+first_stays (suc n) (b ∷ bs) some = refl
 
 -- ---- one piece
 

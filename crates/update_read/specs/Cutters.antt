@@ -1,9 +1,9 @@
 -- How far a cutter has come, and what a byte gives.
-use Rattle.std.specs.Prelude.{◌≡◌, ◌≤◌, ℕ, zero, suc, ◌+◌, ◌-◌, ◌*◌, ◌^◌, min, nat_lt, nat_le, ◌==◌, ◌&&◌, ◌||◌, if◌then◌else◌, Bool, true, false, List, [], ◌∷◌, length, take, drop, slice_index, Option, Some, None, ⊤}
+use Rattle.std.specs.Prelude.{◌≡◌, ◌≤◌, ℕ, zero, suc, ◌+◌, ◌-◌, ◌*◌, ◌^◌, min, nat_lt, nat_le, ◌==◌, ◌&&◌, ◌||◌, if◌then◌else◌, Bool, true, false}
+use Rattle.std.specs.Prelude.{List, [], ◌∷◌, length, take, drop, slice_index, Option, Some, None, ⊤}
 use Rattle.wire_num.specs.declared.range.Range.{Range}
 use Rattle.wire_num.specs.Cursor.{CursorOf}
-use Rattle.order_means.specs.WirePixels.{turned}
-use Rattle.order_means.specs.Updates.{BodyForm, Stage, body_at, Cutting, cutting, Updates, updates, before_updates, more_updates, refusal_in}
+use Rattle.order_means.specs.Updates.{BodyForm, Stage, body_at, Cutting, cutting, Updates, updates, before_updates, more_updates, refusal_in, turned}
 use Rattle.order_means.specs.Updates.Stage.{Between, One, Two, Three, Inside, Fast, FastLong, FastInside, Refused}
 use Rattle.update_read.specs.Forms.{told_form}
 use Rattle.update_read.specs.declared.state.Found.{Found}
@@ -142,18 +142,6 @@ IsMissing packet n = length packet + 1 + n ≤ length_in packet
 -- a byte begins a packet of a viewer that takes the fast path or not
 abbrev pub begins_with : Bool → ℕ → Bool
 begins_with fast b = (b == 3) || (fast && (b == 0))
-
--- how many bytes of the packet with which these begin are there before its last one, where its header is there and its length is at least 7; else 0
-abbrev pub begun_size : Bool → List ℕ → ℕ
-begun_size fast bytes = if begins_with fast (slice_index bytes 0) && nat_le 7 (length_in bytes) then min (length_in bytes - 1) (length bytes) else 0
-
--- so many are there
-pub record IsBegun (fast : Bool) (bytes : List ℕ) (n : ℕ) : Type 0 where
-  pub begins : begins_with fast (slice_index bytes 0) ≡ true
-  pub least : 7 ≤ length_in bytes
-  pub most : length_in bytes ≤ 65535
-  pub fast_most : slice_index bytes 0 ≡ 0 → length_in bytes ≤ 32767
-  pub size : n ≡ min (length_in bytes - 1) (length bytes)
 
 -- no packet has begun
 abbrev pub is_between : State → ℕ → Bool

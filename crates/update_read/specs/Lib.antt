@@ -5,3 +5,4 @@ pub mod Forms
 pub mod Cutters
 pub mod Sieves
 pub mod Wholes
+pub mod Opens

@@ -1,6 +1,6 @@
 -- How a sieve holds an unfinished packet, and what comes behind it.
 use Rattle.std.specs.Prelude.{◌≡◌, ◌≤◌, ℕ, ◌+◌, nat_lt, false, List, [], ◌∷◌, ◌++◌, length, ⊤}
-use Rattle.order_means.specs.WirePixels.{turned}
+use Rattle.order_means.specs.Updates.{turned}
 use Rattle.order_means.specs.Packets.{PacketStage, Pieces, pieces, pieces_from, kept_pieces}
 use Rattle.order_means.specs.Packets.PacketStage.{Between, Head, FastHead, FastLong, Inside, Passing}
 use Rattle.update_read.specs.declared.reach.Reach.{Reach}

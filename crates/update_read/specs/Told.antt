@@ -30,7 +30,8 @@ told_update body ReadSynchronize = Synchronize
 
 -- The call read rectangles and appended them; or it came to a field that is refused, and the cursor stands there; or no memory was left.
 abbrev pub ReadsTiles : {X : Type 0} → (List ℕ → Read (List Rectangle)) → Result X UpdateFault → CursorOf → CursorOf → List Tile → List Tile → Type 0
-ReadsTiles read (Ok _) old new before after = (ts : List Rectangle) × (read (rest old) ≡ Ok (ts, rest new)) × (new.bytes ≡ old.bytes) × (told_tiles old.bytes after ≡ told_tiles old.bytes before ++ ts)
+ReadsTiles read (Ok _) old new before after = (ts : List Rectangle) × (read (rest old) ≡ Ok (ts, rest new)) × (new.bytes ≡ old.bytes)
+    × (told_tiles old.bytes after ≡ told_tiles old.bytes before ++ ts)
 ReadsTiles read (Err (BadUpdate at)) old new before after = (read (rest old) ≡ Err (rest new)) × (new.bytes ≡ old.bytes) × (at ≡ new.at)
 ReadsTiles read (Err OutOfMemory) old new before after = ⊤
 

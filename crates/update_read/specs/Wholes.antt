@@ -1,8 +1,8 @@
 -- The whole packet, of either kind, with which bytes begin, by its length alone; and the byte of a packet that may say a Pointer PDU's kind.
-use Rattle.std.specs.Prelude.{ℕ, ◌==◌, nat_lt, nat_le, Bool, ◌&&◌, ◌||◌, List, [], ◌∷◌, length, get_or, Option, Some, None, if◌then◌else◌}
+use Rattle.std.specs.Prelude.{◌≡◌, ◌≤◌, ◌⊎◌, ℕ, ◌==◌, nat_lt, nat_le, Bool, ◌&&◌, ◌||◌, List, [], ◌∷◌, length, get_or, Option, Some, None, if◌then◌else◌}
 use Rattle.tpkt_x224.specs.declared.tpkt.Packet.{Packet}
 use Rattle.tpkt_x224.specs.declared.tpkt.Packet.TheVariants.{Whole, Part, NotTpkt, BadLength}
-use Rattle.tpkt_x224.specs.Tpkt.{packet_at}
+use Rattle.tpkt_x224.specs.Tpkt.{IsPacket, packet_at}
 use Rattle.order_means.specs.PointerPackets.{pointer_kind}
 use Rattle.update_read.specs.Cutters.{fast_length}
 
@@ -28,6 +28,24 @@ whole_size_by BadLength bytes = 0
 -- how many bytes the packet has with which these begin, where it is whole; else 0
 abbrev pub whole_size : List ℕ → ℕ
 whole_size bytes = whole_size_by (packet_at bytes) bytes
+
+-- ---- by itself
+
+-- the length in a header is no smaller than the header, and counts so many bytes
+abbrev pub IsCounted : Option (ℕ × ℕ) → ℕ → Type 0
+IsCounted None count = ⊥
+IsCounted (Some m) count = (m.0 ≤ m.1) × (m.1 ≡ count)
+
+-- a whole packet of the fast path
+abbrev pub IsFastWhole : List ℕ → Type 0
+IsFastWhole [] = ⊥
+IsFastWhole (b ∷ bs) = (b ≡ 0) × IsCounted (fast_length (b ∷ bs)) (length (b ∷ bs))
+
+-- one whole packet, of either kind
+abbrev pub IsWholePacket : List ℕ → Type 0
+IsWholePacket packet = IsPacket packet ⊎ IsFastWhole packet
+
+-- ---- a Pointer PDU's kind
 
 -- that of a Pointer PDU stands at this offset
 abbrev pub has_kind_at : List ℕ → ℕ → Bool

@@ -1,20 +1,24 @@
-ghost use Rattle.std.specs.Prelude.{◌≡◌, ◌≤◌, ◌<◌, ◌+◌, ◌++◌, ◌∷◌, [], true, take, length, IfOk};
-ghost use Rattle.order_means.specs.Updates.{Cutting, cutting, Updates, updates_by, updates_from};
+//! A host's bytes, cut into whole packets: one that lies in the bytes is read where it lies, and one that comes in several pieces is gathered.
+
+ghost use Rattle.std.specs.Prelude.{◌≡◌, ◌≤◌, ◌<◌, ◌+◌, ◌++◌, true, take, length, slice_index, IfOk};
+ghost use Rattle.order_means.specs.Updates.{Cutting, cutting, updates_by, updates_from};
 ghost use Rattle.order_means.specs.Updates.Stage.{Between};
 ghost use Rattle.update_read.specs.declared.state.State.TheVariants.{Open};
-ghost use Rattle.update_read.specs.Cutters.{Stands, Gives, GoesOn, IsMissing, is_between, begun_size, IsBegun, behind_first, pending, step_of, step_by, body_by, place_after};
+ghost use Rattle.update_read.specs.Cutters.{Stands, Gives, GoesOn, IsMissing, IsSoundBy, is_between, begins_with, place_after};
+ghost use Rattle.update_read.specs.Opens.{MayOpen, Opens};
 
-use crate::judge::{LEAST_LENGTH, begins_with, judge, judge_behind, length_in};
+use crate::judge::{begins_with, judge, length_in};
 use crate::state::State;
-use crate::{OutOfMemory, Step};
+use crate::whole::whole_size;
+use crate::{Opened, OutOfMemory};
 use std::alloc::Global;
 use std::marker::Model;
 
 /// The bytes of the longest packet.
 const LONGEST: usize = 65_535;
 
-/// Cuts a host's bytes into the updates of its packets, one byte at a time. A packet of the fast path may have several updates: `push` gives
-/// the first one, and `go_on` those behind it, before the next byte.
+/// Cuts a host's bytes into packets, whose updates `Opened` gives: one that is whole where it lies is opened there, and one that comes in
+/// several pieces is gathered, up to its last byte.
 ///
 /// Places are counted in bytes from the stream's first one.
 #[derive(Drop)]
@@ -53,69 +57,81 @@ impl Cutter {
         })
     }
 
-    /// Goes on by one byte, once all updates of the packet before it were given. A refusal is answered again from then on.
-    pub fn push(&mut self, byte: u8) -> Step
-        ensures step { result ≡ step_of self.new }
+    /// Goes on by one byte, once all updates of the packet before it were given. A refusal stays from then on.
+    pub fn push(&mut self, byte: u8)
         ensures cut { (c : Cutting) → Stands c self.old → Gives (updates_by self.old.fast c.place c.stage byte) self.new }
         ensures fast { self.new.fast ≡ self.old.fast }
     {
-        if let State::Refused(at) = self.state {
-            return Step::Refused { at };
+        if let State::Refused(_) = self.state {
+            return;
         }
         let (start, count) = place_after(self.state, self.start, self.count);
         self.bytes[count] = byte;
         self.start = start;
         self.count = count + 1;
         self.state = judge(self.fast, start, &self.bytes[..count + 1]);
-        step_of(self.state, start)
     }
 
-    /// Goes on to the next update of the packet, behind the one that was given. Without a further one the answer is `More`, or the packet's refusal.
-    pub fn go_on(&mut self) -> Step
-        ensures step { result ≡ step_of self.new }
-        ensures cut { (u : Updates) → Gives u self.old → Gives (behind_first u) self.new }
-        ensures fast { self.new.fast ≡ self.old.fast }
-        ensures fewer { 0 < pending self.old → pending self.new < pending self.old }
+    /// The packet that was gathered so far.
+    pub fn gathered(&self) -> Opened<'_>
+        ensures { result ≡ self.now }
     {
-        self.state = judge_behind(self.state, self.start, &self.bytes[..self.count]);
-        step_of(self.state, self.start)
+        Opened::new(self.fast, self.start, &self.bytes[..self.count], self.state)
     }
 
-    /// Takes some of these bytes from the front, maybe none, by which no update ends and nothing is refused, and says how many.
-    pub fn take(&mut self, bytes: &[u8]) -> usize
-        ensures count { result ≤ length bytes.now }
-        ensures cut { (c : Cutting) → Stands c self.old → GoesOn c (updates_from self.old.fast c (take result bytes.now)) self.new }
-        ensures fast { self.new.fast ≡ self.old.fast }
+    /// The packet that was gathered has come so far.
+    pub fn come_to(&mut self, state: State)
+        requires { IsSoundBy state self.old.packet }
+        ensures { self.new ≡ record self.old { state = state } }
     {
-        if is_between(self.state, self.count) {
-            self.begin(bytes)
-        } else {
-            self.go_further(bytes)
-        }
+        self.state = state;
     }
 
-    /// The same where no packet has begun: the front of one, where its header is there.
-    fn begin(&mut self, bytes: &[u8]) -> usize
-        requires { is_between self.old.state (length self.old.packet) ≡ true }
-        ensures count { result ≡ begun_size self.old.fast bytes.now }
+    /// How many bytes the packet has with which these begin, where none has begun before and it is whole; else 0.
+    pub fn whole(&self, bytes: &[u8]) -> usize
+        ensures whole { 0 < result → MayOpen self.now (take result bytes.now) }
         ensures most { result ≤ length bytes.now }
-        ensures cut { (c : Cutting) → Stands c self.old → GoesOn c (updates_from self.old.fast c (take result bytes.now)) self.new }
-        ensures fast { self.new.fast ≡ self.old.fast }
     {
-        let count = begun_size(self.fast, bytes);
-        if count == 0 {
-            return 0;
+        if self.takes(bytes) {
+            whole_size(bytes)
+        } else {
+            0
         }
-        let (start, _) = place_after(self.state, self.start, self.count);
-        put_behind(&mut self.bytes, 0, &bytes[..count]);
-        self.start = start;
-        self.count = count;
-        self.state = State::Open;
-        count
     }
 
-    /// The same within a packet.
-    fn go_further(&mut self, bytes: &[u8]) -> usize
+    /// Whether none has begun, and these bytes begin one.
+    pub fn takes(&self, bytes: &[u8]) -> bool
+        ensures between { result ≡ true → is_between self.now.state (length self.now.packet) ≡ true }
+        ensures begins { result ≡ true → begins_with self.now.fast (slice_index bytes.now 0) ≡ true }
+    {
+        is_between(self.state, self.count) && !bytes.is_empty() && begins_with(self.fast, bytes[0])
+    }
+
+    /// Opens a whole packet where it lies, where none has begun.
+    pub fn opened<'a>(&self, packet: &'a [u8]) -> Opened<'a>
+        requires { MayOpen self.now packet.now }
+        ensures opens { (c : Cutting) → Stands c self.now → Opens c packet.now result }
+        ensures fast { result.fast ≡ self.now.fast }
+    {
+        let (start, _) = place_after(self.state, self.start, self.count);
+        let state = judge(self.fast, start, packet);
+        Opened::new(self.fast, start, packet, state)
+    }
+
+    /// Goes past a packet that was opened where it lies, once all its updates were given.
+    pub fn pass(&mut self, packet: &[u8])
+        requires { is_between self.old.state (length self.old.packet) ≡ true }
+        ensures past { (c : Cutting) → Stands c self.old → Stands (cutting (c.place + length packet.now) Between) self.new }
+        ensures fast { self.new.fast ≡ self.old.fast }
+    {
+        let (start, _) = place_after(self.state, self.start, self.count);
+        self.start = start.saturating_add(packet.len() as u64);
+        self.count = 0;
+        self.state = State::Open;
+    }
+
+    /// Takes some of these bytes from the front, maybe none, by which no packet ends and nothing is refused, and says how many.
+    pub fn take(&mut self, bytes: &[u8]) -> usize
         ensures count { result ≤ length bytes.now }
         ensures cut { (c : Cutting) → Stands c self.old → GoesOn c (updates_from self.old.fast c (take result bytes.now)) self.new }
         ensures fast { self.new.fast ≡ self.old.fast }
@@ -128,16 +144,6 @@ impl Cutter {
         self.count += count;
         count
     }
-
-    /// The body of the update that was given last; none else.
-    pub fn body(&self) -> &[u8]
-        ensures { result.now ≡ body_by self.now.state self.now.packet }
-    {
-        match self.state {
-            State::Update(found) => &self.bytes[..self.count][found.body.from..found.body.to],
-            _ => &[],
-        }
-    }
 }
 
 /// Whether no packet has begun.
@@ -149,21 +155,6 @@ fn is_between(state: State, count: usize) -> bool
         State::Open => count == 0,
         State::Update(_) | State::Refused(_) => false,
     }
-}
-
-/// How many bytes of the packet with which these begin are there before its last one; 0 where its header isn't there, or it is a small one.
-fn begun_size(fast: bool, bytes: &[u8]) -> usize
-    ensures value { result ≡ begun_size fast bytes.now }
-    ensures begun { 0 < result → IsBegun fast bytes.now result }
-{
-    if bytes.is_empty() || !begins_with(fast, bytes[0]) {
-        return 0;
-    }
-    let length = length_in(bytes);
-    if length < LEAST_LENGTH {
-        return 0;
-    }
-    (length - 1).min(bytes.len())
 }
 
 /// How many bytes of a packet that goes on are missing before its last one, where its length is there.
@@ -192,19 +183,5 @@ fn place_after(state: State, start: u64, count: usize) -> (u64, usize)
     match state {
         State::Update(_) | State::Ended => (start.saturating_add(count as u64), 0),
         State::Open | State::Refused(_) => (start, count),
-    }
-}
-
-/// What a cutter has come to.
-fn step_of(state: State, start: u64) -> Step
-    ensures { result ≡ step_by state start }
-{
-    match state {
-        State::Open | State::Ended => Step::More,
-        State::Update(found) => Step::Update {
-            at: start.saturating_add(found.body.from as u64),
-            form: found.form,
-        },
-        State::Refused(at) => Step::Refused { at },
     }
 }

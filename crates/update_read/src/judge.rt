@@ -9,7 +9,7 @@
 //! | 2 | 2 | length, the highest byte first | of the packet, at least 7, looked at as soon as it is there |
 //! | 4 | | X.224 data | looked at where the packet is whole |
 
-ghost use Rattle.std.specs.Prelude.{◌≡◌, ◌≤◌, ◌<◌, ◌+◌, ◌*◌, ◌∷◌, ◌++◌, [], ℕ, suc, Bool, List, length, drop, slice_index};
+ghost use Rattle.std.specs.Prelude.{◌≡◌, ◌≤◌, ◌<◌, ◌+◌, ◌*◌, ◌∷◌, ◌++◌, [], ℕ, suc, Some, Bool, List, length, drop, slice_index};
 ghost use Rattle.order_means.specs.Updates.{Updates, updates_by, fast_update_at, more_updates, then_updates, whole_fast};
 ghost use Rattle.order_means.specs.Updates.Stage.{Between};
 ghost use Rattle.update_read.specs.Cutters.{capped, fast_length, stage_of, length_in, begins_with, IsOpen, IsWhole, IsSoundBy, Tells, behind_first, pending_by};
@@ -108,8 +108,9 @@ fn judge_first(fast: bool, start: u64, first: u8) -> State
 fn judge_slow(start: u64, packet: &[u8]) -> State
     requires some { 2 ≤ length packet.now }
     requires slow { slice_index packet.now 0 ≡ 0 → ⊥ }
-    ensures { (fast : Bool) (s : ℕ) (front : List ℕ) (b : ℕ) → packet.now ≡ front ++ b ∷ [] → IsOpen front → start ≡ capped s
+    ensures told { (fast : Bool) (s : ℕ) (front : List ℕ) (b : ℕ) → packet.now ≡ front ++ b ∷ [] → IsOpen front → start ≡ capped s
         → Tells result (updates_by fast (s + length front) (stage_of front) b) s packet.now }
+    ensures slow { 4 ≤ length packet.now → 256 * slice_index packet.now 2 + slice_index packet.now 3 ≤ 65535 }
 {
     let count = packet.len();
     if count < HEADER_SIZE {
@@ -145,8 +146,9 @@ fn judge_update(start: u64, packet: &[u8], from: usize) -> State
 fn judge_fast(start: u64, packet: &[u8]) -> State
     requires some { 2 ≤ length packet.now }
     requires first { slice_index packet.now 0 ≡ 0 }
-    ensures { (fast : Bool) (s : ℕ) (front : List ℕ) (b : ℕ) → packet.now ≡ front ++ b ∷ [] → IsOpen front → start ≡ capped s
+    ensures told { (fast : Bool) (s : ℕ) (front : List ℕ) (b : ℕ) → packet.now ≡ front ++ b ∷ [] → IsOpen front → start ≡ capped s
         → Tells result (updates_by fast (s + length front) (stage_of front) b) s packet.now }
+    ensures fast { (m : ℕ × ℕ) → fast_length packet.now ≡ Some m → m.1 ≤ 32767 }
 {
     match fast_length(packet) {
         Some((head, total)) => judge_counted(start, packet, head, total),
@@ -175,8 +177,10 @@ fn judge_counted(start: u64, packet: &[u8], head: usize, total: usize) -> State
 /// What a packet is that begins at a place and got its last byte, of a viewer that takes the fast path or not.
 pub fn judge(fast: bool, start: u64, packet: &[u8]) -> State
     requires { 1 ≤ length packet.now }
-    ensures { (s : ℕ) (front : List ℕ) (b : ℕ) → packet.now ≡ front ++ b ∷ [] → IsOpen front → start ≡ capped s
+    ensures told { (s : ℕ) (front : List ℕ) (b : ℕ) → packet.now ≡ front ++ b ∷ [] → IsOpen front → start ≡ capped s
         → Tells result (updates_by fast (s + length front) (stage_of front) b) s packet.now }
+    ensures slow { (slice_index packet.now 0 ≡ 0 → ⊥) → 4 ≤ length packet.now → 256 * slice_index packet.now 2 + slice_index packet.now 3 ≤ 65535 }
+    ensures fast { slice_index packet.now 0 ≡ 0 → (m : ℕ × ℕ) → fast_length packet.now ≡ Some m → m.1 ≤ 32767 }
 {
     let count = packet.len();
     if count == 1 {

@@ -7,7 +7,7 @@
 //! | 1 | 1 or 2 | length of the fast path | of the packet: in one byte below 128, or in two, the highest first, with the top bit set; at least its own bytes and the one before |
 
 ghost use Rattle.std.specs.Prelude.{◌≡◌, ◌≤◌, ◌<◌, ◌-◌, ◌∷◌, ◌++◌, [], ℕ, List, nat_le, length};
-ghost use Rattle.order_means.specs.WirePixels.{turned};
+ghost use Rattle.order_means.specs.Updates.{turned};
 ghost use Rattle.order_means.specs.Packets.{first_piece, piece_begun_if, pieces_by};
 ghost use Rattle.update_read.specs.declared.reach.Reach.TheVariants.{Head, Fast, Inside};
 ghost use Rattle.update_read.specs.Sieves.{packet_stage, IsHeld, Comes};

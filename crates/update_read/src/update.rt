@@ -25,7 +25,8 @@
 
 ghost use Rattle.std.specs.Prelude.{◌≡◌};
 ghost use Rattle.wire_num.specs.Cursor.{rest};
-ghost use Rattle.order_means.specs.FrameMarks.{orders_update_at, tiles_update_at, synchronize_at, update_at, orders_in_fast, tiles_in_fast, synchronize_in_fast, update_by_form};
+ghost use Rattle.order_means.specs.FrameMarks.{orders_update_at, tiles_update_at, synchronize_at, update_at, orders_in_fast, tiles_in_fast};
+ghost use Rattle.order_means.specs.FrameMarks.{synchronize_in_fast, update_by_form};
 ghost use Rattle.update_read.specs.Forms.{told_form};
 ghost use Rattle.update_read.specs.Told.{ReadsUpdate, ReadsBody};
 

@@ -6,8 +6,8 @@
 //! | 2 | 2 | length, the highest byte first | of the packet, at least 7 |
 //! | 1 | 1 or 2 | length of the fast path | of the packet: in one byte below 128, or in two, the highest first, with the top bit set; at least its own bytes and the one before |
 
-ghost use Rattle.std.specs.Prelude.{◌≡◌, ◌≤◌, length, IfSome};
-ghost use Rattle.update_read.specs.Wholes.{whole_size, fast_size, size_if_there};
+ghost use Rattle.std.specs.Prelude.{◌≡◌, ◌≤◌, ◌<◌, take, length, IfSome};
+ghost use Rattle.update_read.specs.Wholes.{whole_size, fast_size, size_if_there, IsWholePacket};
 
 use crate::fast::fast_length;
 use crate::judge::FAST;
@@ -18,6 +18,7 @@ use tpkt_x224::{Packet, next_packet};
 pub(crate) fn whole_size(bytes: &[u8]) -> usize
     ensures value { result ≡ whole_size bytes.now }
     ensures most { result ≤ length bytes.now }
+    ensures whole { 0 < result → IsWholePacket (take result bytes.now) }
 {
     match next_packet(bytes) {
         Packet::Whole(size) => size,

@@ -5,7 +5,8 @@ use Rattle.tpkt_x224.specs.declared.tpkt.Packet.TheVariants.{Part, NotTpkt}
 use Rattle.tpkt_x224.specs.Tpkt.{IsPacket, packet_at}
 use Rattle.fast_path.specs.Heads.{IsCounted, fast_packet_at}
 
--- what stands at the head of a host's stream, for a client that takes the fast path or not: a first byte of 3 is a TPKT packet's, and where it is taken one of 0, without flags, a packet's of the fast path
+-- what stands at the head of a host's stream, for a client that takes the fast path or not: a first byte of 3 is a TPKT packet's, and where it is taken one of
+-- 0, without flags, a packet's of the fast path
 abbrev pub host_packet_at : Bool → List ℕ → Packet
 host_packet_at fast [] = Part
 host_packet_at fast (v ∷ bs) = if v == 3 then packet_at (v ∷ bs) else (if fast && (v == 0) then fast_packet_at (v ∷ bs) else NotTpkt)

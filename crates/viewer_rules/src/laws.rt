@@ -32,7 +32,8 @@ pub fn preset_words_are_confirmable()
     ensures { (words : List (List ℕ)) → IfSome (confirmed_by presets words) IsConfirmable }
 {}
 
-/// The host's answers aren't refused, whatever the session's size and the viewer's depth are; the viewer says all of its packets, knows the size, and is shown what comes then.
+/// The host's answers aren't refused, whatever the session's size and the viewer's depth are; the viewer says all of its packets, knows the size, and is shown
+/// what comes then.
 pub fn client_is_answered()
     ensures text { (size : Size) (name : List ℕ) (c : Confirmed) → IsTrue (is_session_size size.w size.h)
         → (viewer_handshake name c (joined (answers size (depth_of c)))).text ≡ joined (greeting name c) }

@@ -7,7 +7,7 @@ use Rattle.caps_sets.specs.declared.confirmed.Confirmed.{Confirmed}
 use Rattle.session_rules.specs.declared.entry.Entry.{Entry}
 use Rattle.session_rules.specs.Journal.{Head}
 use Rattle.session_core.specs.declared.faults.JoinFault.{JoinFault}
-use Rattle.pending_core.proofs.AllShown.{length_pushed}
+use Rattle.session_core.proofs.AllShown.{length_pushed}
 use Rattle.conn_rules.specs.declared.conn_step.ConnStep.{ConnStep}
 use Rattle.conn_rules.specs.Hearing.{Hearing}
 use Rattle.viewer_sender.specs.Senders.{SenderModel}
@@ -38,11 +38,11 @@ last_place p q base entry turn =
 pub stays_first : (head : Head) (v : ℕ) (confirmed : Confirmed) (given : Result FirstFrame OutOfMemory) (first : FirstFrame) (rest : List ConnStep) (conn : Hearing)
     (t : SenderModel) (d : Option DeskOf) (p q : SessionPass) (a b : Noted) (before after : Outside) (end : ConnEnd)
     → given ≡ Ok first → IsFirst head p.seen v confirmed given
-    → Attends head v first.sender.confirmed rest conn t d p q a b before after end → IsShownLast head v q t end (notice_in b)
+    → Attends head v first.seat.sender.confirmed rest conn t d p q a b before after end → IsShownLast head v q t end (notice_in b)
     → Stays head v confirmed given rest conn p q a b before after end
 stays_first head v confirmed (Ok other) first rest conn t d p q a b before after end is fresh attends whole =
     let same : first ≡ other = sym (cc is) in
-    let confirms : first.sender.confirmed ≡ confirmed
-    = ap (λ (x : FirstFrame). x.sender.confirmed) same ∙ (ap (λ (s : SenderModel). s.confirmed) fresh.3.sender ∙ fresh.2.confirms) in
+    let confirms : first.seat.sender.confirmed ≡ confirmed
+    = ap (λ (x : FirstFrame). x.seat.sender.confirmed) same ∙ (ap (λ (s : SenderModel). s.confirmed) fresh.3.sender ∙ fresh.2.confirms) in
     (t, d, subst (λ (x : Confirmed). Attends head v x rest conn t d p q a b before after end) confirms attends, whole)
 stays_first head v confirmed (Err refusal) first rest conn t d p q a b before after end is fresh attends whole = absurd (cc is)

@@ -27,12 +27,12 @@ use Rattle.grow_lock.proofs.Shares.{holds_same}
 use Rattle.serve_rules.proofs.Handling.{handles_nothing, handles_more}
 use Rattle.serve_rules.proofs.Lists.{within_back}
 use Rattle.serve_rules.proofs.ReadOn.{reads_then}
-use Rattle.viewer_sides.specs.Sending.{IsSendEnd, FollowsWith, SendsOn}
+use Rattle.viewer_run.specs.Sending.{IsSendEnd, FollowsWith, SendsOn}
 use Rattle.viewer_run.specs.Frames.{FirstSent, FramesSent}
 use Rattle.viewer_run.specs.Serving.{ViewEnd, ReadsTo, EndsSending, SidesServe, Attends, ended_by, wants_last, end_of_last}
 use Rattle.viewer_run.proofs.FromFirst.{first_alone, first_then, frames_then}
-use Rattle.viewer_sides.proofs.Stretches.{same_none}
-use Rattle.viewer_sides.proofs.TakesOn.{present_stays, pointed_stay, encoder_stays}
+use Rattle.viewer_run.proofs.Stretches.{same_none}
+use Rattle.viewer_run.proofs.TakesOn.{present_stays, pointed_stay, encoder_stays}
 
 -- ---- the end of the reading is that of the connection
 

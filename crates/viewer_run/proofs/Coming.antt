@@ -10,7 +10,7 @@ use Rattle.session_rules.specs.declared.entry.Role.{Role}
 use Rattle.session_rules.specs.declared.entry.Entry.{Entry}
 use Rattle.session_rules.specs.declared.entry.Entry.TheVariants.{Join}
 use Rattle.session_rules.specs.Journal.{Head, Reached, Refusal, refusal_of, is_present, reached_at}
-use Rattle.session_rules.specs.Steps.{Play, row_role, join_effect, outcome_of, PerViewer, entered, replaced_for}
+use Rattle.session_rules.specs.Steps.{Play, row_role, join_effect, outcome_of, PerViewer, entered}
 use Rattle.session_rules.specs.Steps.Step.{JoinStep}
 use Rattle.session_rules.specs.Steps.Answer.{Joined}
 use Rattle.session_rules.specs.Entering.{play_of, entry_of_step, answer_at}
@@ -29,8 +29,11 @@ use Rattle.serve_rules.specs.Turns.{SessionPass}
 use Rattle.serve_rules.proofs.Lists.{got_end}
 use Rattle.serve_rules.proofs.Turning.{TurnFacts, turned}
 use Rattle.viewer_run.specs.declared.visits.Arrival.{Arrival}
-use Rattle.viewer_sides.specs.Sending.{TakesAs}
-use Rattle.viewer_sides.proofs.Asked.{replaced_here}
+use Rattle.viewer_run.specs.Sending.{TakesAs}
+use Rattle.viewer_run.specs.Asking.{allowed_as}
+use Rattle.viewer_run.specs.declared.sends.Due.{Due}
+use Rattle.viewer_run.specs.declared.sends.Due.TheVariants.{Last}
+use Rattle.viewer_run.proofs.Asked.{allowed_here}
 use Rattle.viewer_run.specs.Visiting.{IsFirst, IsUpToDate, Arrives, ArrivesIn, IsTurnedAway, IsTurnedAwayIn, leave_if, LeavesHere, LeavesIn}
 
 -- ---- a join
@@ -176,13 +179,13 @@ pub caught_up : (session : SessionModel) (s : SenderModel) → is_suppressed ses
 caught_up session s free e = no_news (is_suppressed session s.v) (s.number == length session.journal) (share_tile session.head.size (asked_by session s.v) all_tiles)
     (not_taken (is_work session (desk_of s)) session s e) free
 
-pub up_to_date : (session mid : SessionModel) (s : SenderModel) (v : ℕ) (result : Result Taken OutOfMemory) → s.v ≡ v
-    → is_suppressed mid ≡ replaced_for v false (is_suppressed session) → mid.journal ≡ session.journal
+pub up_to_date : (session mid : SessionModel) (s : SenderModel) (v : ℕ) (due : Due) (result : Result Taken OutOfMemory) → s.v ≡ v → due ≡ Last
+    → is_suppressed mid ≡ allowed_as due v (is_suppressed session) → mid.journal ≡ session.journal
     → IfOk result (λ taken. taken ≡ taken_if (is_work mid (desk_of s)) mid (desk_of s)) → result ≡ Ok Nothing → s.number ≡ length session.journal
-up_to_date session mid s v result same stops journal taken none =
+up_to_date session mid s v due result same last stops journal taken none =
     let free : is_suppressed mid s.v ≡ false
     = ap (λ (kept : PerViewer Bool). kept s.v) stops
-    ∙ (ap (replaced_for v false (is_suppressed session)) same ∙ replaced_here v false (is_suppressed session)) in
+    ∙ (ap (allowed_as due v (is_suppressed session)) same ∙ allowed_here due v (is_suppressed session) last) in
     let found : Nothing ≡ taken_if (is_work mid (desk_of s)) mid (desk_of s)
     = subst (λ (r : Result Taken OutOfMemory). IfOk r (λ taken. taken ≡ taken_if (is_work mid (desk_of s)) mid (desk_of s))) none taken in
     eqb-true s.number (length mid.journal) (caught_up mid s free found) ∙ ap (λ (j : List Entry). length j) journal

@@ -23,14 +23,14 @@ use Rattle.grow_lock.proofs.Lists.{starts_itself, starts_trans, length_starts}
 use Rattle.serve_rules.specs.Turns.{SessionPass}
 use Rattle.serve_rules.specs.declared.ends.SideEnd.{SideEnd}
 use Rattle.serve_rules.specs.declared.ends.SideEnd.TheVariants.{Stopped}
-use Rattle.viewer_sides.specs.Sending.{TakesFrame, SendsFrame, IsPresentAtEach, FollowsWith, SendsOn}
+use Rattle.viewer_run.specs.Sending.{TakesFrame, SendsFrame, IsPresentAtEach, FollowsWith, SendsOn}
 use Rattle.viewer_run.specs.Visiting.{IsFresh}
 use Rattle.viewer_run.specs.Frames.{first_take, FirstSent, FramesSent}
 use Rattle.std.proofs.lemmas.List.{map-append}
 use Rattle.serve_rules.specs.Events.{IsWithin}
 use Rattle.serve_rules.proofs.Lists.{within_then}
-use Rattle.viewer_sides.proofs.TakesOn.{follow_then, at_least_lower, at_least_then, present_then, present_stays, joined_then, pointed_then, encoder_then, pointed_stay, encoder_stays}
-use Rattle.viewer_sides.proofs.OneTake.{stands_taken, stands_told}
+use Rattle.viewer_run.proofs.TakesOn.{follow_then, at_least_lower, at_least_then, present_then, present_stays, joined_then, pointed_then, encoder_then, pointed_stay, encoder_stays}
+use Rattle.viewer_run.proofs.OneTake.{stands_taken, stands_told}
 
 -- the first take's frame was sent
 pub first_sent : (head : Head) (j : List Entry) (v : ℕ) (confirmed : Confirmed) (s t u : SenderModel) (d d' d'' : Option DeskOf) (take : TakeModel) (o o' : Output) (end : SideEnd)

@@ -28,10 +28,12 @@ abbrev pub IsFirstOfSome : Head → List Entry → ℕ → Result FirstFrame Out
 IsFirstOfSome head j v first = (confirmed : Confirmed) × IsFirst head j v confirmed first
 
 -- a viewer who joined was attended to until its connection ended; where memory was wanted for its first frame nothing was read, written, noted or handled
-abbrev pub Stays : Head → ℕ → Confirmed → Result FirstFrame OutOfMemory → List ConnStep → Hearing → (joined viewed : SessionPass) → (noted_old noted_new : Noted)
+abbrev pub Stays : Head → ℕ → Confirmed → Result FirstFrame OutOfMemory → List ConnStep → Hearing → (joined viewed : SessionPass)
+    → (noted_old noted_new : Noted)
     → (before now : Outside) → ConnEnd → Type 0
 Stays head v confirmed (Ok first) rest conn joined viewed noted_old noted_new before now end = (sender : SenderModel) × (desk : Option DeskOf)
-    × Attends head v confirmed rest conn sender desk joined viewed noted_old noted_new before now end × IsShownLast head v viewed sender end (notice_in noted_new)
+    × Attends head v confirmed rest conn sender desk joined viewed noted_old noted_new before now end
+    × IsShownLast head v viewed sender end (notice_in noted_new)
 Stays head v confirmed (Err refusal) rest conn joined viewed noted_old noted_new before now end =
     (viewed ≡ joined) × (noted_new ≡ noted_old) × (now ≡ before) × (end ≡ ends.OutOfMemory)
 
@@ -39,9 +41,10 @@ Stays head v confirmed (Err refusal) rest conn joined viewed noted_old noted_new
 abbrev pub LeavesNoted : Head → ℕ → SessionPass → SessionPass → List ℕ → List ℕ → Type 0
 LeavesNoted head v before after places places' = (place : Option ℕ) × LeavesIn head v before after place × (places' ≡ places ++ option_to_list place)
 
--- a client joined by its name, was attended to until its connection ended, and left: the states of its pass at its Join and at its connection's end, and what was
--- noted there; the places noted are its Join's, its events', and its Leave's
-pub record ServesArrival (head : Head) (name : List ℕ) (confirmed : Confirmed) (rest : List ConnStep) (conn : Hearing) (before after : SessionPass) (noted_old noted_new : Noted)
+-- a client joined by its name, was attended to until its connection ended, and left: the states of its pass at its Join and at its connection's end, and what
+-- was noted there; the places noted are its Join's, its events', and its Leave's
+pub record ServesArrival (head : Head) (name : List ℕ) (confirmed : Confirmed) (rest : List ConnStep) (conn : Hearing) (before after : SessionPass)
+    (noted_old noted_new : Noted)
     (outside_old outside_new : Outside) (visit : Visit) : Type 0 where
   pub joined : SessionPass
   pub arrival : Arrival

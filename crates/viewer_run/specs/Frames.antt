@@ -18,15 +18,16 @@ use Rattle.serve_rules.specs.Events.{IsWithin}
 use Rattle.serve_rules.specs.declared.ends.ConnEnd.TheVariants.{WriteFault}
 use Rattle.serve_rules.specs.declared.ends.SideEnd.{SideEnd}
 use Rattle.serve_rules.specs.declared.ends.SideEnd.TheVariants.{Done, Stopped}
-use Rattle.viewer_sides.specs.Sending.{AtLeast, IsPresentAtEach, IsSendEnd, FollowsWith}
+use Rattle.viewer_run.specs.Sending.{AtLeast, IsPresentAtEach, IsSendEnd, FollowsWith}
 
 -- a viewer's first take, over the journal of its Join's turn
 abbrev pub first_take : List Entry → Tiles → TakeOf
 first_take j asked = record { before = 0; number = length j; asked = asked }
 
--- the pointer and the frame of a viewer's first take were written, or a front of both where memory or the output failed; after it the sender and the desk of the
--- viewer's pointer follow the encoder, and the sender's number is the take's in any case
-pub record FirstSent (head : Head) (v : ℕ) (confirmed : Confirmed) (j : List Entry) (sender : SenderModel) (desk : Option DeskOf) (old new : Output) (end : SideEnd) : Type 0 where
+-- the pointer and the frame of a viewer's first take were written, or a front of both where memory or the output failed; after it the sender and the desk of
+-- the viewer's pointer follow the encoder, and the sender's number is the take's in any case
+pub record FirstSent (head : Head) (v : ℕ) (confirmed : Confirmed) (j : List Entry) (sender : SenderModel) (desk : Option DeskOf) (old new : Output)
+    (end : SideEnd) : Type 0 where
   pub asked : Tiles
   pub written : List ℕ
   pub unwritten : List ℕ
@@ -40,9 +41,11 @@ pub record FirstSent (head : Head) (v : ℕ) (confirmed : Confirmed) (j : List E
   pub cause : end ≡ Done WriteFault → Rose old.faults new.faults
   pub calm : end ≡ Stopped → new.faults ≡ old.faults
 
--- a viewer's frames from the first on, between its Join's turn and another state of the pass: each later take in a turn of its own behind it that found the viewer
--- present; a front of the bytes of all with pointers, in order, was written, and at `Stopped` all of them; the sender's number is the last take's in any case
-pub record FramesSent (head : Head) (v : ℕ) (confirmed : Confirmed) (sender : SenderModel) (desk : Option DeskOf) (joined after : SessionPass) (old new : Output) (end : SideEnd) : Type 0 where
+-- a viewer's frames from the first on, between its Join's turn and another state of the pass: each later take in a turn of its own behind it that found the
+-- viewer present; a front of the bytes of all with pointers, in order, was written, and at `Stopped` all of them; the sender's number is the last take's in
+-- any case
+pub record FramesSent (head : Head) (v : ℕ) (confirmed : Confirmed) (sender : SenderModel) (desk : Option DeskOf) (joined after : SessionPass)
+    (old new : Output) (end : SideEnd) : Type 0 where
   pub asked : Tiles
   pub later : List TakeOf
   pub last : ℕ

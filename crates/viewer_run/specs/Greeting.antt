@@ -39,14 +39,16 @@ greeting name (step.Packet ∷ xs) = greeting name xs
 abbrev pub StillConnects : Greeting → Type 0
 StillConnects g = (name : List ℕ) × (g ≡ Connects name)
 
--- when a client's connection sequence comes to this, which goes on, and ends in the midst, only where its stream isn't refused: by what of its stream was read, which
--- of the replies weren't written, what its steps came to, where the stream stands and where the connection does, the name that it gave last, and the outside before
--- and now
+-- when a client's connection sequence comes to this, which goes on, and ends in the midst, only where its stream isn't refused: by what of its stream was
+-- read, which of the replies weren't written, what its steps came to, where the stream stands and where the connection does, the name that it gave last, and
+-- the outside before and now
 abbrev pub GreetEnd : (fed unwritten : List ℕ) → Greeting → (after new : Hearing) → List ℕ → (before now : Outside) → Result (Option Guest) ConnEnd → Type 0
 GreetEnd fed unwritten g after new name before now (Ok None) =
-    (unwritten ≡ []) × (new ≡ after) × (g ≡ Connects name) × (now.input.faults ≡ before.input.faults) × (now.output.faults ≡ before.output.faults) × IsNoRefusal (end_of after)
+    (unwritten ≡ []) × (new ≡ after) × (g ≡ Connects name) × (now.input.faults ≡ before.input.faults) × (now.output.faults ≡ before.output.faults)
+    × IsNoRefusal (end_of after)
 GreetEnd fed unwritten g after new name before now (Ok (Some guest)) =
-    (unwritten ≡ []) × (new ≡ after) × (g ≡ IsReady guest.name guest.confirmed guest.rest.items) × (now.input.faults ≡ before.input.faults) × (now.output.faults ≡ before.output.faults)
+    (unwritten ≡ []) × (new ≡ after) × (g ≡ IsReady guest.name guest.confirmed guest.rest.items) × (now.input.faults ≡ before.input.faults)
+    × (now.output.faults ≡ before.output.faults)
 GreetEnd fed unwritten g after new name before now (Err Left) = (unwritten ≡ []) × (g ≡ HasLeft) × (now.output.faults ≡ before.output.faults)
 GreetEnd fed unwritten g after new name before now (Err (Refused k at)) =
     (unwritten ≡ []) × StillConnects g × (end_of after ≡ RefusedAt k at) × (now.output.faults ≡ before.output.faults)

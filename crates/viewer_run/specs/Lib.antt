@@ -4,3 +4,11 @@ pub mod Ending
 pub mod Frames
 pub mod Serving
 pub mod Arriving
+pub mod Handling
+pub mod Doing
+pub mod Feeding
+pub mod Asking
+pub mod Sending
+pub mod LastWords
+pub mod Links
+pub mod LetIn

@@ -18,7 +18,7 @@ use Rattle.serve_rules.specs.declared.ends.ConnEnd.TheVariants.{Left, Refused, T
 use Rattle.serve_rules.specs.declared.ends.SideEnd.{SideEnd}
 use Rattle.serve_rules.specs.declared.ends.SideEnd.TheVariants.{Done, Stopped}
 use Rattle.serve_rules.specs.declared.noted.Noted.{Noted}
-use Rattle.viewer_sides.specs.Sending.{SendsOn}
+use Rattle.viewer_run.specs.Sending.{SendsOn}
 use Rattle.viewer_run.specs.Frames.{FramesSent}
 
 -- when the connection of a client that is ready ends so: as its stream does that is read to its end, by a write that failed, or by want of memory
@@ -33,8 +33,8 @@ ViewEnd fed h notice before now ReadFault = Rose before.input.faults now.input.f
 ViewEnd fed h notice before now WriteFault = Rose before.output.faults now.output.faults
 ViewEnd fed h notice before now OutOfMemory = ⊤
 
--- a client's stream was read until its connection ended: the events of the steps before it and of those that were heard were handled in order, all of them unless
--- a write failed or memory was wanted; nothing was read behind a Bye or a Shutdown
+-- a client's stream was read until its connection ended: the events of the steps before it and of those that were heard were handled in order, all of them
+-- unless a write failed or memory was wanted; nothing was read behind a Bye or a Shutdown
 pub record ReadsTo (head : Head) (v : ℕ) (rest : List ConnStep) (conn : Hearing) (before after : SessionPass) (noted_old noted_new : Noted)
     (outside_old outside_new : Outside) (end : ConnEnd) : Type 0 where
   pub fed : List ℕ

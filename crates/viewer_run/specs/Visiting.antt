@@ -20,7 +20,7 @@ use Rattle.pointer_share.specs.Desk.{DeskOf}
 use Rattle.serve_rules.specs.Turns.{SessionPass, IsTurn}
 use Rattle.serve_rules.specs.declared.ends.SideEnd.{SideEnd}
 use Rattle.serve_rules.specs.declared.ends.SideEnd.TheVariants.{Stopped}
-use Rattle.viewer_sides.specs.Sending.{TakesFrame, FollowsWith}
+use Rattle.viewer_run.specs.Sending.{TakesFrame, FollowsWith}
 use Rattle.viewer_run.specs.declared.visits.Arrival.{Arrival}
 use Rattle.viewer_run.specs.declared.visits.FirstFrame.{FirstFrame}
 
@@ -34,7 +34,8 @@ pub record IsFresh (s : SenderModel) (d : Option DeskOf) (v : ℕ) (confirmed : 
 
 -- a viewer's first frame over a journal, for which that journal's pointer is noted, unless memory was wanted
 abbrev pub IsFirst : Head → List Entry → ℕ → Confirmed → Result FirstFrame OutOfMemory → Type 0
-IsFirst head j v confirmed (Ok first) = (s : SenderModel) × (d : Option DeskOf) × IsFresh s d v confirmed × TakesFrame head j s first.sender d first.desk first.take
+IsFirst head j v confirmed (Ok first) = (s : SenderModel) × (d : Option DeskOf) × IsFresh s d v confirmed
+    × TakesFrame head j s first.seat.sender d first.seat.desk first.take
 IsFirst head j v confirmed (Err refusal) = ⊤
 
 -- a name joined: the next viewer's Join, with the role of the name's row, was appended

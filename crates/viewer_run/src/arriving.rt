@@ -11,13 +11,10 @@ ghost use Rattle.viewer_run.specs.Arriving.{Stays, LeavesNoted, ServesArrival, I
 
 use crate::viewing::attend_whole;
 use crate::visits::{Arrival, FirstFrame, arrive, depart};
-use crate::{ConnEnd, Guest, Noted, OutOfMemory, Places};
-use caps_sets::Confirmed;
+use crate::{ConnEnd, Ends, Guest, Halves, Host, Noted, OutOfMemory, Places, Stay};
 use conn_core::Conn;
-use conn_rules::ConnStep;
 use edge_io::{Sink, Source};
 use grow_lock::{GrowLock, Pass};
-use info_lic::Name;
 use session_core::{JoinFault, Session};
 use std::alloc::Global;
 use std::sync::Wait;
@@ -35,91 +32,78 @@ pub struct Visit {
 /// A client that is ready joins by its name, is attended to until its connection ends, and leaves. The places of its Join and its Leave are noted. What the
 /// pass has seen then is a legal journal.
 pub fn serve_arrival<R: Threads + Wait + Sync, S: Source + Send, K: Sink + Send>(
-    rt: &R,
-    alloc: Global,
-    lock: &GrowLock<Session>,
+    host: &Host<'_, R>,
     pass: Pass<Session>,
-    name: &Name,
-    confirmed: Confirmed,
-    conn: &mut Conn,
-    rest: &[ConnStep],
-    noted: &mut Noted,
-    input: &mut S,
-    output: &mut K,
+    guest: &Guest,
+    ends: &mut Ends<'_>,
+    halves: &mut Halves<'_, S, K>,
 ) -> (Pass<Session>, Result<Visit, JoinFault>)
-    requires lock { IsPassOf lock.now pass }
-    requires part { AreBytes conn.old.hearing.part }
-    requires placed { ArePlaced rest.now }
-    requires room { 2 ≤ noted.old.places.room }
-    ensures lock { IsPassOf lock.now result.0 }
+    requires lock { IsPassOf host.now.lock.now pass }
+    requires part { AreBytes ends.old.conn.hearing.part }
+    requires placed { ArePlaced ends.old.rest.now }
+    requires room { 2 ≤ ends.old.noted.places.room }
+    ensures lock { IsPassOf host.now.lock.now result.0 }
     ensures served { MatchResult result.1
-        (λ visit. ServesArrival lock.now.head name.now confirmed rest.now conn.old.hearing pass result.0 noted.old noted.new
-        (outside_of S.Source K.Sink input.old output.old) (outside_of S.Source K.Sink input.new output.new) visit)
-        (λ fault. IsTurnedAwayIn lock.now.head name.now pass result.0 fault × (noted.new ≡ noted.old)
-        × (outside_of S.Source K.Sink input.new output.new ≡ outside_of S.Source K.Sink input.old output.old)) }
-    ensures legal { IsLegalJournal lock.now.head result.0.seen }
+        (λ visit. ServesArrival host.now.lock.now.head guest.now.name guest.now.confirmed ends.old.rest.now ends.old.conn.hearing pass result.0
+        ends.old.noted ends.new.noted (outside_of S.Source K.Sink halves.old.input.now halves.old.output.now)
+        (outside_of S.Source K.Sink halves.new.input.now halves.new.output.now) visit)
+        (λ fault. IsTurnedAwayIn host.now.lock.now.head guest.now.name pass result.0 fault × (ends.new.noted ≡ ends.old.noted)
+        × (outside_of S.Source K.Sink halves.new.input.now halves.new.output.now ≡ outside_of S.Source K.Sink halves.old.input.now halves.old.output.now)) }
+    ensures legal { IsLegalJournal host.now.lock.now.head result.0.seen }
+    ensures same { (halves.new.input.ghost_name ≡ halves.old.input.ghost_name) × (halves.new.output.ghost_name ≡ halves.old.output.ghost_name) }
 {
-    let (pass, came) = arrive(rt, alloc, lock, pass, name, confirmed);
+    let (pass, came) = arrive(host, pass, &guest.name, guest.confirmed);
     match came {
         Ok(arrival) => {
-            note_join(&pass, noted);
+            note_join(&pass, &mut ends.noted);
             let v = arrival.v;
-            let (pass, end) = attend_first(
-                rt,
-                alloc,
-                lock,
-                pass,
+            let stay = Stay {
+                rt: host.rt,
+                alloc: host.alloc,
+                lock: host.lock,
                 v,
-                conn,
-                rest,
-                noted,
-                arrival.first,
-                input,
-                output,
-            );
-            let pass = leave_noted(rt, lock, pass, v, noted);
+            };
+            let (pass, end) = attend_first(&stay, pass, ends, arrival.first, halves);
+            let pass = leave_noted(host.rt, host.lock, pass, v, &mut ends.noted);
             (pass, Ok(Visit { v, end }))
         }
         Err(fault) => (pass, Err(fault)),
     }
 }
 
-/// A client that is ready joins by its name, is attended to and leaves, as `serve_arrival` says; gives what was noted too. An `Err` says how the connection of a
-/// client that didn't join ended.
+/// A client that is ready joins by its name, is attended to and leaves, as `serve_arrival` says; gives what was noted too. An `Err` says how the connection
+/// of a client that didn't join ended.
 pub fn serve_guest<R: Threads + Wait + Sync, S: Source + Send, K: Sink + Send>(
-    rt: &R,
-    alloc: Global,
-    lock: &GrowLock<Session>,
+    host: &Host<'_, R>,
     pass: Pass<Session>,
     guest: &Guest,
-    conn: &mut Conn,
-    input: &mut S,
-    output: &mut K,
+    conn: Conn,
+    halves: &mut Halves<'_, S, K>,
 ) -> (Pass<Session>, Result<(Visit, Noted), ConnEnd>)
-    requires lock { IsPassOf lock.now pass }
-    requires part { AreBytes conn.old.hearing.part }
+    requires lock { IsPassOf host.now.lock.now pass }
+    requires part { AreBytes conn.hearing.part }
     requires placed { ArePlaced guest.now.rest.items }
-    ensures lock { IsPassOf lock.now result.0 }
-    ensures served { GuestServed lock.now.head guest.now conn.old.hearing pass result.0
-        (outside_of S.Source K.Sink input.old output.old) (outside_of S.Source K.Sink input.new output.new) result.1 }
-    ensures legal { IsLegalJournal lock.now.head pass.seen → IsLegalJournal lock.now.head result.0.seen }
+    ensures lock { IsPassOf host.now.lock.now result.0 }
+    ensures served { GuestServed host.now.lock.now.head guest.now conn.hearing pass result.0
+        (outside_of S.Source K.Sink halves.old.input.now halves.old.output.now) (outside_of S.Source K.Sink halves.new.input.now halves.new.output.now)
+        result.1 }
+    ensures legal { IsLegalJournal host.now.lock.now.head pass.seen → IsLegalJournal host.now.lock.now.head result.0.seen }
+    ensures same { (halves.new.input.ghost_name ≡ halves.old.input.ghost_name) × (halves.new.output.ghost_name ≡ halves.old.output.ghost_name) }
 {
-    let Ok(mut noted) = nothing_noted(alloc) else {
+    let Ok(noted) = nothing_noted(host.alloc) else {
         return (pass, Err(ConnEnd::OutOfMemory));
     };
-    let (pass, came) = serve_arrival(
-        rt,
-        alloc,
-        lock,
-        pass,
-        &guest.name,
-        guest.confirmed,
+    let mut ends = Ends {
         conn,
-        &guest.rest,
-        &mut noted,
-        input,
-        output,
-    );
+        rest: &guest.rest,
+        noted,
+    };
+    let (pass, came) = serve_arrival(host, pass, guest, &mut ends, halves);
+    let Ends {
+        conn: _,
+        rest: _,
+        noted,
+    } = ends;
     match came {
         Ok(visit) => (pass, Ok((visit, noted))),
         Err(fault) => (pass, Err(end_of_join(fault))),
@@ -166,34 +150,28 @@ fn note_join(pass: &Pass<Session>, noted: &mut Noted)
 
 /// Attends to a viewer who has joined, unless memory was wanted for its first frame.
 fn attend_first<R: Threads + Wait + Sync, S: Source + Send, K: Sink + Send>(
-    rt: &R,
-    alloc: Global,
-    lock: &GrowLock<Session>,
+    stay: &Stay<'_, R>,
     pass: Pass<Session>,
-    v: u32,
-    conn: &mut Conn,
-    rest: &[ConnStep],
-    noted: &mut Noted,
+    ends: &mut Ends<'_>,
     first: Result<FirstFrame, OutOfMemory>,
-    input: &mut S,
-    output: &mut K,
+    halves: &mut Halves<'_, S, K>,
 ) -> (Pass<Session>, ConnEnd)
-    requires lock { IsPassOf lock.now pass }
-    requires part { AreBytes conn.old.hearing.part }
-    requires placed { ArePlaced rest.now }
-    requires room { 0 < noted.old.places.room }
-    requires first { IsFirstOfSome lock.now.head pass.seen v first }
-    ensures lock { IsPassOf lock.now result.0 }
-    ensures room { 0 < noted.new.places.room }
-    ensures stays { (confirmed : Confirmed) → IsFirst lock.now.head pass.seen v confirmed first
-        → Stays lock.now.head v confirmed first rest.now conn.old.hearing pass result.0 noted.old noted.new
-        (outside_of S.Source K.Sink input.old output.old) (outside_of S.Source K.Sink input.new output.new) result.1 }
+    requires lock { IsPassOf stay.now.lock.now pass }
+    requires part { AreBytes ends.old.conn.hearing.part }
+    requires placed { ArePlaced ends.old.rest.now }
+    requires room { 0 < ends.old.noted.places.room }
+    requires first { IsFirstOfSome stay.now.lock.now.head pass.seen stay.now.v first }
+    ensures lock { IsPassOf stay.now.lock.now result.0 }
+    ensures room { 0 < ends.new.noted.places.room }
+    ensures stays { (confirmed : Confirmed) → IsFirst stay.now.lock.now.head pass.seen stay.now.v confirmed first
+        → Stays stay.now.lock.now.head stay.now.v confirmed first ends.old.rest.now ends.old.conn.hearing pass result.0 ends.old.noted ends.new.noted
+        (outside_of S.Source K.Sink halves.old.input.now halves.old.output.now) (outside_of S.Source K.Sink halves.new.input.now halves.new.output.now)
+        result.1 }
+    ensures same { (halves.new.input.ghost_name ≡ halves.old.input.ghost_name) × (halves.new.output.ghost_name ≡ halves.old.output.ghost_name) }
 {
     match first {
         Ok(first) => {
-            let (pass, _, _, end) = attend_whole(
-                rt, alloc, lock, pass, v, conn, rest, noted, first, input, output,
-            );
+            let (pass, _, end) = attend_whole(stay, pass, ends, first, halves);
             (pass, end)
         }
         Err(OutOfMemory) => (pass, ConnEnd::OutOfMemory),

@@ -5,17 +5,16 @@ ghost use Rattle.edge_io.specs.Outside.{Input, output_of, outside, outside_of};
 ghost use Rattle.conn_rules.specs.Hearing.{end_of};
 ghost use Rattle.conn_rules.specs.Placed.{AreBytes, ArePlaced};
 ghost use Rattle.serve_rules.specs.Reading.{IsNoRefusal};
-ghost use Rattle.viewer_sides.specs.Feeding.{IsHeard};
+ghost use Rattle.viewer_run.specs.Feeding.{IsHeard};
 ghost use Rattle.viewer_run.specs.Greeting.{greeting, Greets, with_guest, Replies, GuestOf, IsRestPlaced, refusal_of};
 
-use crate::{ConnEnd, SideEnd};
+use crate::{ConnEnd, SideEnd, feed, new_buffer};
 use caps_sets::Confirmed;
 use conn_core::Conn;
 use conn_rules::ConnStep;
 use edge_io::{Got, Sink, Source, Wrote};
 use info_lic::Name;
 use std::alloc::Global;
-use viewer_sides::{feed, new_buffer};
 
 /// A client that is ready: the name that it gave, what it confirmed, and the steps that the connection gave behind Ready.
 #[derive(Drop)]
@@ -93,7 +92,8 @@ fn greet_piece<K: Sink>(
 ) -> Result<Option<Guest>, ConnEnd>
     requires { AreBytes conn.old.hearing.part }
     ensures greets { (before after : Input) → Consumes before.left after.left bytes.now → after.faults ≡ before.faults
-        → Greets conn.old.hearing conn.new.hearing name.old name.new (outside before (output_of K.Sink output.old)) (outside after (output_of K.Sink output.new)) result }
+        → Greets conn.old.hearing conn.new.hearing name.old name.new (outside before (output_of K.Sink output.old))
+        (outside after (output_of K.Sink output.new)) result }
     ensures placed { IfOk result (λ met. AreBytes conn.new.hearing.part × IsRestPlaced met) }
 {
     let mut replies = Vec::new(alloc);

@@ -6,104 +6,78 @@ ghost use Rattle.viewer_sender.specs.Senders.{IsIdle};
 ghost use Rattle.grow_lock.specs.Passes.{IsPassOf};
 ghost use Rattle.serve_rules.specs.Reading.{ReadsOn};
 ghost use Rattle.serve_rules.specs.declared.ends.SideEnd.TheVariants.{Done, Stopped};
-ghost use Rattle.viewer_sides.specs.Sending.{SendsOn};
+ghost use Rattle.viewer_run.specs.Sending.{SendsOn};
 ghost use Rattle.viewer_run.specs.Visiting.{IsFirst, IsShownAll};
 ghost use Rattle.viewer_run.specs.Serving.{SidesServe, Attends, IsShownLast, ended_by, wants_last, end_of_last};
 ghost use Rattle.serve_rules.specs.Notices.{notice_in};
 
 use crate::frames::send_first;
-use crate::visits::{FirstFrame, take_last};
-use crate::{ConnEnd, Noted, SideEnd};
-use conn_core::Conn;
-use conn_rules::ConnStep;
+use crate::visits::FirstFrame;
+use crate::{
+    ConnEnd, Due, Ends, Halves, Noted, SideEnd, Stay, read_side, run_sides, send_taken, take_once,
+};
 use edge_io::{Sink, Source};
-use grow_lock::{GrowLock, Pass};
-use pointer_share::PointerDesk;
+use grow_lock::Pass;
 use session_core::Session;
-use std::alloc::Global;
 use std::sync::Wait;
 use std::thread::Threads;
-use viewer_sender::Sender;
-use viewer_sides::{read_side, run_sides, send_taken};
+use viewer_sender::Seat;
 
 /// Sends a viewer's first frame, and then runs both its sides until the connection ends.
 pub fn attend<R: Threads + Wait + Sync, S: Source + Send, K: Sink + Send>(
-    rt: &R,
-    alloc: Global,
-    lock: &GrowLock<Session>,
+    stay: &Stay<'_, R>,
     pass: Pass<Session>,
-    v: u32,
-    conn: &mut Conn,
-    rest: &[ConnStep],
-    noted: &mut Noted,
+    ends: &mut Ends<'_>,
     first: FirstFrame,
-    input: &mut S,
-    output: &mut K,
-) -> (Pass<Session>, Sender, Option<PointerDesk>, ConnEnd)
-    requires lock { IsPassOf lock.now pass }
-    requires part { AreBytes conn.old.hearing.part }
-    requires placed { ArePlaced rest.now }
-    requires room { 0 < noted.old.places.room }
-    requires first { IsFirst lock.now.head pass.seen v first.sender.confirmed (Ok first) }
-    ensures lock { IsPassOf lock.now result.0 }
-    ensures attends { Attends lock.now.head v first.sender.confirmed rest.now conn.old.hearing result.1 result.2 pass result.0 noted.old noted.new
-        (outside_of S.Source K.Sink input.old output.old) (outside_of S.Source K.Sink input.new output.new) result.3 }
+    halves: &mut Halves<'_, S, K>,
+) -> (Pass<Session>, Seat, ConnEnd)
+    requires lock { IsPassOf stay.now.lock.now pass }
+    requires part { AreBytes ends.old.conn.hearing.part }
+    requires placed { ArePlaced ends.old.rest.now }
+    requires room { 0 < ends.old.noted.places.room }
+    requires first { IsFirst stay.now.lock.now.head pass.seen stay.now.v first.seat.sender.confirmed (Ok first) }
+    ensures lock { IsPassOf stay.now.lock.now result.0 }
+    ensures attends { Attends stay.now.lock.now.head stay.now.v first.seat.sender.confirmed ends.old.rest.now ends.old.conn.hearing result.1.sender
+        result.1.desk pass result.0 ends.old.noted ends.new.noted (outside_of S.Source K.Sink halves.old.input.now halves.old.output.now)
+        (outside_of S.Source K.Sink halves.new.input.now halves.new.output.now) result.2 }
+    ensures same { (halves.new.input.ghost_name ≡ halves.old.input.ghost_name) × (halves.new.output.ghost_name ≡ halves.old.output.ghost_name) }
 {
-    let (mut sender, mut desk, sent) = send_first(alloc, first, output);
+    let (mut seat, sent) = send_first(stay.alloc, first, halves.output);
     match sent {
-        SideEnd::Done { end } => (pass, sender, desk, end),
+        SideEnd::Done { end } => (pass, seat, end),
         SideEnd::Stopped => {
-            let (pass, end) = serve_sides(
-                rt,
-                alloc,
-                lock,
-                pass,
-                v,
-                conn,
-                rest,
-                noted,
-                &mut sender,
-                &mut desk,
-                input,
-                output,
-            );
-            (pass, sender, desk, end)
+            let (pass, end) = serve_sides(stay, pass, ends, &mut seat, halves);
+            (pass, seat, end)
         }
     }
 }
 
 /// Attends to a viewer who has joined, and sends its last frame where one is due.
 pub fn attend_whole<R: Threads + Wait + Sync, S: Source + Send, K: Sink + Send>(
-    rt: &R,
-    alloc: Global,
-    lock: &GrowLock<Session>,
+    stay: &Stay<'_, R>,
     pass: Pass<Session>,
-    v: u32,
-    conn: &mut Conn,
-    rest: &[ConnStep],
-    noted: &mut Noted,
+    ends: &mut Ends<'_>,
     first: FirstFrame,
-    input: &mut S,
-    output: &mut K,
-) -> (Pass<Session>, Sender, Option<PointerDesk>, ConnEnd)
-    requires lock { IsPassOf lock.now pass }
-    requires part { AreBytes conn.old.hearing.part }
-    requires placed { ArePlaced rest.now }
-    requires room { 0 < noted.old.places.room }
-    requires first { IsFirst lock.now.head pass.seen v first.sender.confirmed (Ok first) }
-    ensures lock { IsPassOf lock.now result.0 }
-    ensures attends { Attends lock.now.head v first.sender.confirmed rest.now conn.old.hearing result.1 result.2 pass result.0 noted.old noted.new
-        (outside_of S.Source K.Sink input.old output.old) (outside_of S.Source K.Sink input.new output.new) result.3 }
-    ensures whole { IsShownLast lock.now.head v result.0 result.1 result.3 (notice_in noted.new) }
+    halves: &mut Halves<'_, S, K>,
+) -> (Pass<Session>, Seat, ConnEnd)
+    requires lock { IsPassOf stay.now.lock.now pass }
+    requires part { AreBytes ends.old.conn.hearing.part }
+    requires placed { ArePlaced ends.old.rest.now }
+    requires room { 0 < ends.old.noted.places.room }
+    requires first { IsFirst stay.now.lock.now.head pass.seen stay.now.v first.seat.sender.confirmed (Ok first) }
+    ensures lock { IsPassOf stay.now.lock.now result.0 }
+    ensures attends { Attends stay.now.lock.now.head stay.now.v first.seat.sender.confirmed ends.old.rest.now ends.old.conn.hearing result.1.sender
+        result.1.desk pass result.0 ends.old.noted ends.new.noted (outside_of S.Source K.Sink halves.old.input.now halves.old.output.now)
+        (outside_of S.Source K.Sink halves.new.input.now halves.new.output.now) result.2 }
+    ensures whole { IsShownLast stay.now.lock.now.head stay.now.v result.0 result.1.sender result.2 (notice_in ends.new.noted) }
+    ensures same { (halves.new.input.ghost_name ≡ halves.old.input.ghost_name) × (halves.new.output.ghost_name ≡ halves.old.output.ghost_name) }
 {
-    let (pass, mut sender, mut desk, end) = attend(
-        rt, alloc, lock, pass, v, conn, rest, noted, first, input, output,
-    );
-    if wants_last(end, noted) {
-        let (pass, sent) = send_last(rt, alloc, lock, pass, v, &mut sender, &mut desk, output);
-        return (pass, sender, desk, end_of_last(sent));
+    let (pass, mut seat, end) = attend(stay, pass, ends, first, halves);
+    if wants_last(end, &ends.noted) {
+        let (pass, sent) = send_last(stay, pass, &mut seat, halves.output);
+        return (pass, seat, end_of_last(sent));
     }
-    (pass, sender, desk, end)
+    (pass, seat, end)
 }
 
 /// Whether a last frame is due at an end.
@@ -135,36 +109,29 @@ fn end_of_last(sent: SideEnd) -> ConnEnd
 
 /// Runs both sides of a viewer, and reads its stream on where neither met the connection's end.
 fn serve_sides<R: Threads + Wait + Sync, S: Source + Send, K: Sink + Send>(
-    rt: &R,
-    alloc: Global,
-    lock: &GrowLock<Session>,
+    stay: &Stay<'_, R>,
     pass: Pass<Session>,
-    v: u32,
-    conn: &mut Conn,
-    rest: &[ConnStep],
-    noted: &mut Noted,
-    sender: &mut Sender,
-    desk: &mut Option<PointerDesk>,
-    input: &mut S,
-    output: &mut K,
+    ends: &mut Ends<'_>,
+    seat: &mut Seat,
+    halves: &mut Halves<'_, S, K>,
 ) -> (Pass<Session>, ConnEnd)
-    requires lock { IsPassOf lock.now pass }
-    requires part { AreBytes conn.old.hearing.part }
-    requires placed { ArePlaced rest.now }
-    requires room { 0 < noted.old.places.room }
-    requires viewer { sender.old.v ≡ v }
-    requires idle { IsIdle sender.old }
-    requires seen { sender.old.number ≤ length pass.seen }
-    ensures lock { IsPassOf lock.now result.0 }
-    ensures serves { SidesServe lock.now.head v rest.now conn.old.hearing sender.old sender.new desk.old desk.new pass result.0 noted.old noted.new
-        (outside_of S.Source K.Sink input.old output.old) (outside_of S.Source K.Sink input.new output.new) result.1 }
+    requires lock { IsPassOf stay.now.lock.now pass }
+    requires part { AreBytes ends.old.conn.hearing.part }
+    requires placed { ArePlaced ends.old.rest.now }
+    requires room { 0 < ends.old.noted.places.room }
+    requires viewer { seat.old.sender.v ≡ stay.now.v }
+    requires idle { IsIdle seat.old.sender }
+    requires seen { seat.old.sender.number ≤ length pass.seen }
+    ensures lock { IsPassOf stay.now.lock.now result.0 }
+    ensures serves { SidesServe stay.now.lock.now.head stay.now.v ends.old.rest.now ends.old.conn.hearing seat.old.sender seat.new.sender seat.old.desk
+        seat.new.desk pass result.0 ends.old.noted ends.new.noted (outside_of S.Source K.Sink halves.old.input.now halves.old.output.now)
+        (outside_of S.Source K.Sink halves.new.input.now halves.new.output.now) result.1 }
+    ensures same { (halves.new.input.ghost_name ≡ halves.old.input.ghost_name) × (halves.new.output.ghost_name ≡ halves.old.output.ghost_name) }
 {
-    let (pass, read, sent) = run_sides(
-        rt, alloc, lock, pass, v, conn, rest, noted, sender, desk, input, output,
-    );
+    let (pass, read, sent) = run_sides(stay, pass, ends, seat, halves);
     match ended_by(read, sent) {
         SideEnd::Done { end } => (pass, end),
-        SideEnd::Stopped => read_out(rt, alloc, lock, pass, v, conn, noted, input),
+        SideEnd::Stopped => read_out(stay, pass, ends, halves.input),
     }
 }
 
@@ -180,23 +147,30 @@ fn ended_by(read: SideEnd, sent: SideEnd) -> SideEnd
 
 /// Reads a viewer's stream on to its end.
 fn read_out<R: Wait, S: Source>(
-    rt: &R,
-    alloc: Global,
-    lock: &GrowLock<Session>,
+    stay: &Stay<'_, R>,
     pass: Pass<Session>,
-    v: u32,
-    conn: &mut Conn,
-    noted: &mut Noted,
+    ends: &mut Ends<'_>,
     input: &mut S,
 ) -> (Pass<Session>, ConnEnd)
-    requires lock { IsPassOf lock.now pass }
-    requires part { AreBytes conn.old.hearing.part }
-    requires room { 0 < noted.old.places.room }
-    ensures lock { IsPassOf lock.now result.0 }
-    ensures reads { ReadsOn lock.now.head v [] false conn.old.hearing conn.new.hearing pass result.0 noted.old noted.new
-        (input_of S.Source input.old) (input_of S.Source input.new) (Done result.1) }
+    requires lock { IsPassOf stay.now.lock.now pass }
+    requires part { AreBytes ends.old.conn.hearing.part }
+    requires room { 0 < ends.old.noted.places.room }
+    ensures lock { IsPassOf stay.now.lock.now result.0 }
+    ensures reads { ReadsOn stay.now.lock.now.head stay.now.v [] false ends.old.conn.hearing ends.new.conn.hearing pass result.0
+        ends.old.noted ends.new.noted (input_of S.Source input.old) (input_of S.Source input.new) (Done result.1) }
 {
-    let (pass, ended) = read_side(rt, alloc, lock, pass, v, conn, &[], noted, input, None);
+    let (pass, ended) = read_side(
+        stay.rt,
+        stay.alloc,
+        stay.lock,
+        pass,
+        stay.v,
+        &mut ends.conn,
+        &[],
+        &mut ends.noted,
+        input,
+        None,
+    );
     match ended {
         SideEnd::Done { end } => (pass, end),
         SideEnd::Stopped => unreachable!(),
@@ -205,26 +179,23 @@ fn read_out<R: Wait, S: Source>(
 
 /// Output is allowed again, and a viewer's last frame is taken and sent. `Stopped` says that no fault came.
 pub fn send_last<R: Wait, K: Sink>(
-    rt: &R,
-    alloc: Global,
-    lock: &GrowLock<Session>,
+    stay: &Stay<'_, R>,
     pass: Pass<Session>,
-    v: u32,
-    sender: &mut Sender,
-    desk: &mut Option<PointerDesk>,
+    seat: &mut Seat,
     output: &mut K,
 ) -> (Pass<Session>, SideEnd)
-    requires lock { IsPassOf lock.now pass }
-    requires viewer { sender.old.v ≡ v }
-    requires idle { IsIdle sender.old }
-    requires seen { sender.old.number ≤ length pass.seen }
-    ensures lock { IsPassOf lock.now result.0 }
+    requires lock { IsPassOf stay.now.lock.now pass }
+    requires viewer { seat.old.sender.v ≡ stay.now.v }
+    requires idle { IsIdle seat.old.sender }
+    requires seen { seat.old.sender.number ≤ length pass.seen }
+    ensures lock { IsPassOf stay.now.lock.now result.0 }
     ensures mine { result.0.mine ≡ pass.mine }
     ensures share { result.0.share ≡ pass.share }
-    ensures sends { SendsOn lock.now.head sender.old sender.new desk.old desk.new pass result.0 (output_of K.Sink output.old) (output_of K.Sink output.new) result.1 }
-    ensures whole { IsShownAll lock.now.head v result.0.seen sender.new.number result.1 }
+    ensures sends { SendsOn stay.now.lock.now.head seat.old.sender seat.new.sender seat.old.desk seat.new.desk pass result.0
+        (output_of K.Sink output.old) (output_of K.Sink output.new) result.1 }
+    ensures whole { IsShownAll stay.now.lock.now.head stay.now.v result.0.seen seat.new.sender.number result.1 }
 {
-    let (pass, taken) = take_last(rt, alloc, lock, pass, v, sender, desk);
-    let end = send_taken(alloc, taken, sender, desk, output);
+    let (pass, taken) = take_once(stay, pass, Due::Last, seat);
+    let end = send_taken(stay.alloc, taken, seat, output);
     (pass, end)
 }

@@ -6,8 +6,8 @@ use Rattle.draw_ops.specs.Slots.{Loaded}
 use Rattle.caps_sets.specs.declared.confirmed.Confirmed.{Confirmed}
 use Rattle.frame_rules.specs.Support.{serves_image, serves_run, image_cache, run_cache}
 use Rattle.frame_rules.specs.FrameOrders.{Uses, or_0, brush_use}
-use Rattle.frame_shows.proofs.SentKeeps.{first_serves}
-use Rattle.frame_shows.proofs.CachesFit.{brush_use_fits}
+use Rattle.frame_laws.proofs.SentKeeps.{first_serves}
+use Rattle.frame_laws.proofs.CachesFit.{brush_use_fits}
 use Rattle.viewer_sender.specs.Goes.{BrushGoes}
 
 image_cache_below : (c : Confirmed) (image : Option (Loaded ImageOf)) (k : ℕ) → length c.bitmaps ≡ 3 → image_cache c image ≡ Some k → k < 3

@@ -31,13 +31,13 @@ use Rattle.frame_laws.proofs.Colored.{length-listed, colors_cut}
 use Rattle.frame_laws.proofs.Entries.{pending_between_is}
 use Rattle.frame_laws.proofs.Journals.{between_sound, state_sound}
 use Rattle.frame_laws.proofs.Rules.{rules_kept}
-use Rattle.frame_shows.proofs.SoundGood.{good_of}
-use Rattle.frame_shows.proofs.WalkKeeps.{NoneOrOne, none_or_one_pending}
-use Rattle.frame_shows.proofs.HeldApart.{walked_apart}
-use Rattle.frame_shows.proofs.CutSuits.{cut_suits}
-use Rattle.frame_shows.proofs.SentOrCut.{sent_or_cut_fits}
-use Rattle.frame_shows.proofs.FrameShown.{AreTiles}
-use Rattle.frame_shows.proofs.TileRects.{are_tiles}
+use Rattle.frame_laws.proofs.SoundGood.{good_of}
+use Rattle.frame_laws.proofs.WalkKeeps.{NoneOrOne, none_or_one_pending}
+use Rattle.frame_laws.proofs.HeldApart.{walked_apart}
+use Rattle.frame_laws.proofs.CutSuits.{cut_suits}
+use Rattle.frame_laws.proofs.SentOrCut.{sent_or_cut_fits}
+use Rattle.frame_laws.proofs.FrameShown.{AreTiles}
+use Rattle.frame_laws.proofs.TileRects.{are_tiles}
 use Rattle.viewer_sender.proofs.UseSteps.{colors_are}
 use Rattle.frame_plan.specs.Takes.{tile_taken}
 use Rattle.viewer_sender.specs.Goes.{SentGoes, AllGo, TilesGo}

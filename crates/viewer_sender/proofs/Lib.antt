@@ -14,3 +14,5 @@ pub mod TileShort
 pub mod FastShort
 pub mod TilePacket
 pub mod Styles
+pub mod SeatSends
+pub mod OkBoth

@@ -19,8 +19,8 @@ use Rattle.frame_rules.specs.Encoder.{Encoder, encoder_frame, take_bytes, encode
 use Rattle.frame_rules.specs.Describes.{DescribesClient, HasAllCaches, ShowsFrame}
 use Rattle.frame_rules.specs.OrdersOfBytes.{orders_of_bytes}
 use Rattle.frame_rules.specs.PacketKinds.{HasPacketsOfKind}
-use Rattle.frame_shows.proofs.JournalShown.{frame_shows_journal}
-use Rattle.frame_shows.proofs.FrameReads.{frames_read, frames_go}
+use Rattle.frame_laws.proofs.JournalShown.{frame_shows_journal}
+use Rattle.frame_laws.proofs.FrameReads.{frames_read, frames_go}
 use Rattle.session_core.specs.SessionModel.{SessionModel}
 use Rattle.frame_plan.specs.Takes.{DeskModel, TakenFrame, TakeModel, tile_taken, taken_as}
 use Rattle.frame_plan.specs.Plans.{taken_if, take_at}

@@ -28,8 +28,8 @@ use Rattle.frame_laws.specs.Agreement.{drawn}
 use Rattle.frame_laws.specs.Run.{AreGlyphs}
 use Rattle.frame_laws.specs.SoundState.{IsSound}
 use Rattle.frame_laws.proofs.Rules.{kept_test}
-use Rattle.frame_shows.proofs.SentKeeps.{passed, only_one, glyphs_are, GoodShape}
-use Rattle.frame_shows.proofs.OrderValues.{GoesWhole, AllGoWhole}
+use Rattle.frame_laws.proofs.SentKeeps.{passed, only_one, glyphs_are, GoodShape}
+use Rattle.frame_laws.proofs.OrderValues.{GoesWhole, AllGoWhole}
 use Rattle.viewer_sender.specs.Goes.{ImageGoes, BrushGoes, GlyphsGo, GoesWith, SentGoes}
 use Rattle.frame_plan.specs.Orders.{cached_with}
 

@@ -11,8 +11,8 @@ use Rattle.order_fields.specs.NamedDrawing.{drawing_fields}
 use Rattle.order_fields.specs.NamedDrawing.NamedDrawing.{Opaque, Pat, Mem3}
 use Rattle.depth_cut.proofs.Styled.{set_fits}
 use Rattle.session_rules.proofs.Fitting.{sides_of}
-use Rattle.frame_shows.proofs.OrderValues.{side_fits}
-use Rattle.frame_shows.proofs.OrdersFit.{wire_below}
+use Rattle.frame_laws.proofs.OrderValues.{side_fits}
+use Rattle.frame_laws.proofs.OrdersFit.{wire_below}
 use Rattle.viewer_sender.specs.Goes.{FitsDrawn}
 
 pub pat_style : (d : Depth) (r : Rect) (code entry : ℕ) → IsFieldList (drawing_fields d r (Pat r code entry)) → IsFieldList (drawing_fields Bits24 r (Pat r code entry))

@@ -7,7 +7,7 @@ use Rattle.px_core.specs.Depth.{shown_colors}
 use Rattle.px_core.specs.declared.surface.Size.{Size}
 use Rattle.px_core.specs.declared.rectangle.Rect.{Rect}
 use Rattle.px_core.specs.Tiles.{tile_on}
-use Rattle.order_means.specs.WirePixels.{turned_over}
+use Rattle.px_core.specs.Picture.{turned_over}
 use Rattle.order_means.specs.UpdateBodies.{tile_body}
 use Rattle.bitmap_upd.specs.Place.{IsUpdated}
 use Rattle.frame_laws.proofs.TurnedOver.{length-turned_over}

@@ -5,7 +5,8 @@ use Rattle.share_pdu.specs.Packet.{packet_headers}
 use Rattle.order_means.specs.UpdateBodies.{orders_packet}
 use Rattle.frame_rules.specs.FrameBytes.{joins_update}
 
--- whether the packets are of the fast path; the packets so far; the orders of the update that is begun, whose count is 0 where none is; and the bytes of an order that hasn't joined one
+-- whether the packets are of the fast path; the packets so far; the orders of the update that is begun, whose count is 0 where none is; and the bytes
+-- of an order that hasn't joined one
 pub record Gathering : Type 0 where
   pub fast : Bool
   pub packets : List ℕ

@@ -7,3 +7,4 @@ pub mod Gathering
 pub mod Stands
 pub mod Writes
 pub mod Framings
+pub mod Seats

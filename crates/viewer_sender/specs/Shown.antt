@@ -35,5 +35,6 @@ pub record ShowsJournal (head : Head) (j : List Entry) (s new : SenderModel) (e 
 abbrev pub Shows : SenderModel → SenderModel → TakeModel → List ℕ → Type 0
 Shows s new take out = (head : Head) (j : List Entry) (e : Encoder) (t : TakeOf) (view : View) (place : ℕ) → is_session_size head.size.w head.size.h ≡ true
     → IsLegalJournal head j → t.before ≤ t.number → t.number ≤ length j → take.size ≡ head.size
-    → take.frame ≡ taken_as head.size (frame_of head.size s.confirmed j e.held t) → StandsFor s e → DescribesClient head.size s.confirmed j t.before e view.client
+    → take.frame ≡ taken_as head.size (frame_of head.size s.confirmed j e.held t) → StandsFor s e
+    → DescribesClient head.size s.confirmed j t.before e view.client
     → ShowsJournal head j s new e t view place out

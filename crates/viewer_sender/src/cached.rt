@@ -76,7 +76,8 @@ pub(crate) fn put_blit3(
     clip: Option<Rect>,
 ) -> Result<(), OutOfMemory>
     requires few { cache < 3 }
-    requires fits { (cache index entry : ℕ) → cache < 3 → index < 65536 → entry < 256 → FitsDrawn (depth_of writer.old.confirmed) r (Mem3 cache index r rop sx sy entry) clip }
+    requires fits { (cache index entry : ℕ) → cache < 3 → index < 65536 → entry < 256
+        → FitsDrawn (depth_of writer.old.confirmed) r (Mem3 cache index r rop sx sy entry) clip }
     requires sound { IsSoundImage image.now.content }
     requires whole { length brush.now.content ≡ 64 }
     requires colors { AreColors brush.now.content }
@@ -101,7 +102,8 @@ fn use_image(
 ) -> Result<u16, OutOfMemory>
     requires cache { cache < 3 }
     requires sound { IsSoundImage image.now.content }
-    ensures index { IfOk result (λ index. (uses : Uses) → CachesStand writer.old.confirmed writer.old.caches uses → index ≡ (image_use writer.old.confirmed uses cache (Some image.now)).index) }
+    ensures index { IfOk result (λ index. (uses : Uses) → CachesStand writer.old.confirmed writer.old.caches uses
+        → index ≡ (image_use writer.old.confirmed uses cache (Some image.now)).index) }
     ensures orders { OnOk result (Writes writer.old writer.new (λ uses. used (image_use writer.old.confirmed uses cache (Some image.now)))) }
 {
     writer.use_image(alloc, cache, image.number(), image.content())
@@ -115,7 +117,8 @@ fn use_brush(
 ) -> Result<u8, OutOfMemory>
     requires whole { length brush.now.content ≡ 64 }
     requires colors { AreColors brush.now.content }
-    ensures index { IfOk result (λ entry. (uses : Uses) → CachesStand writer.old.confirmed writer.old.caches uses → entry ≡ (brush_use writer.old.confirmed uses (Some brush.now)).index) }
+    ensures index { IfOk result (λ entry. (uses : Uses) → CachesStand writer.old.confirmed writer.old.caches uses
+        → entry ≡ (brush_use writer.old.confirmed uses (Some brush.now)).index) }
     ensures orders { OnOk result (Writes writer.old writer.new (λ uses. used (brush_use writer.old.confirmed uses (Some brush.now)))) }
 {
     let index = writer.use_brush(alloc, brush.number(), brush.content())?;

@@ -57,7 +57,8 @@ impl Caches {
     /// Uses a key of a cache: in one without an entry each use misses, and the order names entry 0.
     pub fn use_key(&mut self, cache: usize, number: u64) -> Result<Use, OutOfMemory>
         requires { cache < 14 }
-        ensures answer { IfOk result (λ answer. (c : Confirmed) (uses : Uses) → CachesStand c self.old uses → answer ≡ use_of (entries_of c cache) (uses_of cache uses) number) }
+        ensures answer { IfOk result (λ answer. (c : Confirmed) (uses : Uses) → CachesStand c self.old uses
+            → answer ≡ use_of (entries_of c cache) (uses_of cache uses) number) }
         ensures after { OnOk result ((c : Confirmed) (uses : Uses) → CachesStand c self.old uses → CachesStand c self.new ((cache, number) ∷ uses)) }
     {
         let Some(kept) = &mut self.caches[cache] else {

@@ -41,11 +41,15 @@ pub(crate) fn write_frame(
     requires cached { take.now.cached ≡ all_cached writer.old.confirmed take.now.frame.sent }
     requires tiles { TilesGo take.now.size take.now.frame.tiles }
     requires empty { writer.old.updates ≡ nothing_gathered writer.old.updates.fast }
-    ensures bytes { IfOk result (λ out. (uses : Uses) (f : FrameOf) → CachesStand writer.old.confirmed writer.old.caches uses → take.now.frame ≡ taken_as take.now.size f
+    ensures bytes { IfOk result (λ out. (uses : Uses) (f : FrameOf) → CachesStand writer.old.confirmed writer.old.caches uses
+        → take.now.frame ≡ taken_as take.now.size f
         → out.items ≡ frame_bytes take.now.size writer.old.confirmed writer.old.registers uses f) }
-    ensures registers { OnOk result ((uses : Uses) (f : FrameOf) → CachesStand writer.old.confirmed writer.old.caches uses → take.now.frame ≡ taken_as take.now.size f
-        → writer.new.registers ≡ registers_after_orders writer.old.confirmed writer.old.registers (orders_before_tiles take.now.size writer.old.confirmed uses f)) }
-    ensures caches { OnOk result ((uses : Uses) (f : FrameOf) → CachesStand writer.old.confirmed writer.old.caches uses → take.now.frame ≡ taken_as take.now.size f
+    ensures registers { OnOk result ((uses : Uses) (f : FrameOf) → CachesStand writer.old.confirmed writer.old.caches uses
+        → take.now.frame ≡ taken_as take.now.size f
+        → writer.new.registers ≡ registers_after_orders writer.old.confirmed writer.old.registers
+        (orders_before_tiles take.now.size writer.old.confirmed uses f)) }
+    ensures caches { OnOk result ((uses : Uses) (f : FrameOf) → CachesStand writer.old.confirmed writer.old.caches uses
+        → take.now.frame ≡ taken_as take.now.size f
         → CachesStand writer.old.confirmed writer.new.caches (uses_after writer.old.confirmed uses f.sent)) }
     ensures confirmed { OnOk result (writer.new.confirmed ≡ writer.old.confirmed) }
     ensures empty { OnOk result (writer.new.updates ≡ nothing_gathered writer.new.updates.fast) }
@@ -65,7 +69,8 @@ fn put_orders(alloc: Global, writer: &mut FrameWriter, take: &Take) -> Result<()
     requires all { HasAllCaches writer.old.confirmed }
     requires drawings { AllGo writer.old.confirmed take.now.frame.sent }
     requires cached { take.now.cached ≡ all_cached writer.old.confirmed take.now.frame.sent }
-    ensures { OnOk result (Writes writer.old writer.new (λ uses. frame_sending take.now.size writer.old.confirmed take.now.frame.first uses take.now.frame.sent)) }
+    ensures { OnOk result (Writes writer.old writer.new
+        (λ uses. frame_sending take.now.size writer.old.confirmed take.now.frame.first uses take.now.frame.sent)) }
 {
     put_start(writer)?;
     put_black(writer, take.size(), take.is_first())?;
@@ -106,7 +111,8 @@ fn put_tiles(
     requires tiles { TilesGo size tiles.now }
     ensures { OnOk result (writer.new ≡ record writer.old {
       updates = record writer.old.updates {
-        packets = writer.old.updates.packets ++ flat_map (λ tile. tile_packet (depth_of writer.old.confirmed) writer.old.updates.fast writer.old.confirmed.no_header (tile_on size tile.0) tile.1) tiles.now;
+        packets = writer.old.updates.packets ++ flat_map (λ tile. tile_packet (depth_of writer.old.confirmed) writer.old.updates.fast
+            writer.old.confirmed.no_header (tile_on size tile.0) tile.1) tiles.now;
       };
     }) }
 {
@@ -185,7 +191,10 @@ fn put_packed(updates: &mut Updates, r: Rect, packed: &PackedTile) -> Result<(),
 /// Writes the mark's own update behind the packets that are whole; no update is begun.
 fn put_mark(writer: &mut FrameWriter) -> Result<(), OutOfMemory>
     requires { writer.old.updates ≡ gathering writer.old.updates.fast writer.old.updates.packets [] 0 [] }
-    ensures { OnOk result (writer.new ≡ record writer.old { updates = gathering writer.old.updates.fast (writer.old.updates.packets ++ mark_bytes writer.old.updates.fast writer.old.confirmed.marker) [] 0 [] }) }
+    ensures { OnOk result (writer.new ≡ record writer.old {
+      updates = gathering writer.old.updates.fast
+          (writer.old.updates.packets ++ mark_bytes writer.old.updates.fast writer.old.confirmed.marker) [] 0 [];
+    }) }
 {
     if writer.confirmed.marker {
         writer.updates.put_marker(true)?;

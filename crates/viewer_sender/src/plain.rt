@@ -28,7 +28,8 @@ pub(crate) fn put_drawn(
     requires bounds { FitBounds (edges_of_optional (bounds_of area clip)) }
     requires drawing { IsDrawing fields.now }
     requires run { length fields.now.values.bytes < 256 }
-    ensures { OnOk result ((d : NamedDrawing) → fields.now ≡ drawing_fields (depth_of writer.old.confirmed) area d → Writes writer.old writer.new (λ uses. sending (Drawn area d (bounds_of area clip) ∷ []) uses)) }
+    ensures { OnOk result ((d : NamedDrawing) → fields.now ≡ drawing_fields (depth_of writer.old.confirmed) area d
+        → Writes writer.old writer.new (λ uses. sending (Drawn area d (bounds_of area clip) ∷ []) uses)) }
 {
     let bounds = bounds_of(area, clip);
     writer.put_drawn(fields, bounds)

@@ -104,9 +104,27 @@ impl Sender {
         ensures rest { OnOk result (self.new ≡ with_encoded self.old self.new.registers self.new.caches) }
         ensures spent { self.old.spent ≡ true → result ≡ Err fault.Spent }
         ensures only_spent { result ≡ Err fault.Spent → (self.old.spent ≡ true) × (self.new ≡ self.old) }
-        ensures memory { result ≡ Err fault.OutOfMemory → self.new ≡ record self.old { spent = true; registers = self.new.registers; caches = self.new.caches } }
+        ensures memory { result ≡ Err fault.OutOfMemory → self.new
+            ≡ record self.old { spent = true; registers = self.new.registers; caches = self.new.caches } }
     {
         self.write_next(alloc, &take)
+    }
+
+    /// The viewer's number.
+    pub(crate) fn viewer(&self) -> u32
+        ensures { result ≡ self.now.v }
+    {
+        self.desk.viewer()
+    }
+
+    /// The frame that was encoded last was lost: it isn't counted, and the sender is spent.
+    pub(crate) fn lose_last(&mut self)
+        requires { 1 ≤ self.old.encoded }
+        ensures sender { self.new ≡ record self.old { encoded = self.new.encoded; spent = true } }
+        ensures count { self.old.encoded ≡ self.new.encoded + 1 }
+    {
+        self.encoded -= 1;
+        self.spent = true;
     }
 
     /// The packets of a take's frame, which is then counted.
@@ -119,7 +137,8 @@ impl Sender {
         ensures rest { OnOk result (self.new ≡ with_encoded self.old self.new.registers self.new.caches) }
         ensures spent { self.old.spent ≡ true → result ≡ Err fault.Spent }
         ensures only_spent { result ≡ Err fault.Spent → (self.old.spent ≡ true) × (self.new ≡ self.old) }
-        ensures memory { result ≡ Err fault.OutOfMemory → self.new ≡ record self.old { spent = true; registers = self.new.registers; caches = self.new.caches } }
+        ensures memory { result ≡ Err fault.OutOfMemory → self.new
+            ≡ record self.old { spent = true; registers = self.new.registers; caches = self.new.caches } }
     {
         if self.spent {
             return Err(SendFault::Spent);

@@ -39,7 +39,8 @@ pub(crate) fn put_text(
 ) -> Result<(), OutOfMemory>
     requires chosen { cache ≡ or_0 (run_cache writer.old.confirmed pending.now.glyphs) }
     requires below { cache < 10 }
-    requires fits { (cache : ℕ) (pairs : List ℕ) → cache < 10 → length pairs < 256 → FitsDrawn (depth_of writer.old.confirmed) pending.now.rect (Glyphs cache x y color pairs) clip }
+    requires fits { (cache : ℕ) (pairs : List ℕ) → cache < 10 → length pairs < 256
+        → FitsDrawn (depth_of writer.old.confirmed) pending.now.rect (Glyphs cache x y color pairs) clip }
     requires number { length pending.now.glyphs ≡ length run.now }
     requires few { length run.now ≤ 64 }
     requires glyphs { GlyphsGo pending.now.glyphs }
@@ -66,7 +67,8 @@ fn put_run(
     requires bounds { FitBounds (edges_of_optional (bounds_of area clip)) }
     requires drawing { IsDrawing order }
     requires run { length order.values.bytes < 256 }
-    ensures { OnOk result ((d : NamedDrawing) → order ≡ drawing_fields (depth_of writer.old.confirmed) area d → Writes writer.old writer.new (λ uses. sending (Drawn area d (bounds_of area clip) ∷ []) uses)) }
+    ensures { OnOk result ((d : NamedDrawing) → order ≡ drawing_fields (depth_of writer.old.confirmed) area d
+        → Writes writer.old writer.new (λ uses. sending (Drawn area d (bounds_of area clip) ∷ []) uses)) }
 {
     put_drawn(writer, &order, area, clip)?;
     match order.into_bytes() {

@@ -68,7 +68,8 @@ impl FrameWriter {
         requires bounds { FitBounds (edges_of_optional bounds) }
         requires drawing { IsDrawing fields.now }
         requires run { length fields.now.values.bytes < 256 }
-        ensures { OnOk result ((area : Rect) (d : NamedDrawing) → fields.now ≡ drawing_fields (depth_of self.old.confirmed) area d → Writes self.old self.new (λ uses. sending (Drawn area d bounds ∷ []) uses)) }
+        ensures { OnOk result ((area : Rect) (d : NamedDrawing) → fields.now ≡ drawing_fields (depth_of self.old.confirmed) area d
+            → Writes self.old self.new (λ uses. sending (Drawn area d bounds ∷ []) uses)) }
     {
         self.updates.put_drawn(
             &mut self.registers,

@@ -15,7 +15,8 @@ request_headers user n = (3 ∷ 0 ∷ big_bytes 2 (13 + length (per_len_of n) + 
 -- Confirm Active up to its sets: totalLength; pduType; pduSource; shareId; originatorId; lengthSourceDescriptor; lengthCombinedCapabilities; sourceDescriptor;
 -- numberCapabilities; pad2Octets
 abbrev pub confirm_start : ℕ → List ℕ
-confirm_start user = numbers (246 ∷ 19 ∷ user ∷ []) ++ (little_bytes 4 66538 ++ (numbers (1002 ∷ 4 ∷ 226 ∷ []) ++ ((82 ∷ 68 ∷ 80 ∷ 0 ∷ []) ++ numbers (6 ∷ 0 ∷ []))))
+confirm_start user = numbers (246 ∷ 19 ∷ user ∷ [])
+    ++ (little_bytes 4 66538 ++ (numbers (1002 ∷ 4 ∷ 226 ∷ []) ++ ((82 ∷ 68 ∷ 80 ∷ 0 ∷ []) ++ numbers (6 ∷ 0 ∷ []))))
 
 -- a share data PDU up to its body of so many bytes: totalLength; pduType; pduSource; shareId; pad1; streamId; uncompressedLength; pduType2; compressedType;
 -- compressedLength

@@ -3,7 +3,8 @@
 ghost use Rattle.std.specs.Prelude.{◌≡◌, [], OnOk};
 ghost use Rattle.wire_num.specs.Cursor.{ReadsRows, ReadsFieldsAs, rest};
 ghost use Rattle.wire_num.specs.Layout.{End, Within, Basic, Packed, fields_at};
-ghost use Rattle.viewer_rules.specs.HostAnswers.{connection_confirm, server_blocks_rows, server_blocks_answer, conference_answer, user_data_answer, response_rows, response_answer, connect_response_answer};
+ghost use Rattle.viewer_rules.specs.HostAnswers.{connection_confirm, server_blocks_rows, server_blocks_answer, conference_answer, user_data_answer};
+ghost use Rattle.viewer_rules.specs.HostAnswers.{response_rows, response_answer, connect_response_answer};
 ghost use Rattle.viewer_wire.specs.Reads.{ReadsPacket};
 
 use crate::headers::{TPKT_SIZE, X224_DATA};

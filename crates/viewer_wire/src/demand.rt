@@ -15,7 +15,8 @@ ghost use Rattle.wire_num.specs.Cursor.{ReadsField, ReadsRows, ReadsFieldsAs};
 ghost use Rattle.wire_num.specs.Number.{little_at};
 ghost use Rattle.wire_num.specs.FieldValue.{passing_at};
 ghost use Rattle.wire_num.specs.Layout.{fields_at};
-ghost use Rattle.viewer_rules.specs.HostAnswers.{indication, is_width, is_height, later_rows, later_answer, behind_height, height_and_later, width_and_later, demand_rows, demand_answer};
+ghost use Rattle.viewer_rules.specs.HostAnswers.{indication, is_width, is_height, later_rows, later_answer, behind_height, height_and_later};
+ghost use Rattle.viewer_rules.specs.HostAnswers.{width_and_later, demand_rows, demand_answer};
 ghost use Rattle.viewer_wire.specs.Reads.{ReadsPacket, sides};
 
 use crate::headers::read_indication;
@@ -84,7 +85,8 @@ fn read_demand_answer(cursor: &mut Cursor<'_>, depth: Depth) -> Result<Size, Sho
     }
 }
 
-/// totalLength; pduType; pduSource; shareId; lengthSourceDescriptor; lengthCombinedCapabilities; sourceDescriptor; numberCapabilities and pad2Octets; the General
+/// totalLength; pduType; pduSource; shareId; lengthSourceDescriptor; lengthCombinedCapabilities; sourceDescriptor; numberCapabilities and pad2Octets; the
+/// General
 /// set; the Bitmap set up to desktopWidth.
 fn read_demand_rows(cursor: &mut Cursor<'_>, depth: Depth) -> Result<(), Short>
     ensures { ReadsRows (demand_rows (bits_in depth)) result cursor.old cursor.new }

@@ -16,7 +16,8 @@ const CONTROL: u8 = 0x14;
 
 const FONT_LIST: u8 = 0x27;
 
-/// Writes what answers Demand Active at the end: Confirm Active, Synchronize, Control (cooperate), Control (request control), and Font List. `body` is taken for
+/// Writes what answers Demand Active at the end: Confirm Active, Synchronize, Control (cooperate), Control (request control), and Font List. `body` is taken
+/// for
 /// the data of each.
 pub(crate) fn put_five(
     out: &mut Vec<u8>,

@@ -11,7 +11,8 @@
 
 ghost use Rattle.std.specs.Prelude.{◌≡◌, ◌++◌, ◌<◌, ◌≤◌, length, OnOk};
 ghost use Rattle.caps_sets.specs.DemandActive.{flag};
-ghost use Rattle.viewer_rules.specs.ClientPackets.{number_if, general_flags, general_of, order_flags, order_of, sizes_bytes, bitmap_caches_of, level_by, brush_of, glyph_caches_of, pointer_of, sets_of};
+ghost use Rattle.viewer_rules.specs.ClientPackets.{number_if, general_flags, general_of, order_flags, order_of, sizes_bytes, bitmap_caches_of};
+ghost use Rattle.viewer_rules.specs.ClientPackets.{level_by, brush_of, glyph_caches_of, pointer_of, sets_of};
 ghost use Rattle.viewer_wire.specs.Writes.{order_start, order_end};
 
 use caps_sets::{CacheSize, Confirmed};

@@ -1,4 +1,5 @@
--- Reading bytes field by field, from the front. A refusal carries the bytes from the first field that breaks its rule on, so a place is a difference of two lengths.
+-- Reading bytes field by field, from the front. A refusal carries the bytes from the first field that breaks its rule on, so a place is a difference of two
+-- lengths.
 use Rattle.std.specs.Prelude.{ℕ, zero, suc, ◌-◌, ◌==◌, Bool, true, false, List, [], ◌∷◌, length, Result, Ok, Err}
 
 -- what was read and the bytes after it, or the bytes from the refused field on

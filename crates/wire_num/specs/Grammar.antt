@@ -1,7 +1,8 @@
 -- What the texts of a layout are, apart from reading: field by field, which bytes stand there and which value they have.
 use Rattle.std.specs.Prelude.{◌≡◌, ◌≤◌, ◌<◌, ℕ, ◌+◌, ◌-◌, ◌*◌, true, List, [], ◌∷◌, ◌++◌, length}
 use Rattle.byteorder.specs.Endian.{big_number, little_number}
-use Rattle.wire_num.specs.Layout.{Layout, Open, End, Rest, Body, Content, Exactly, Bytes, Any, Big, Little, CountsRest, AtLeast, Length, Counted, Within, Count, OneByte, Packed, Basic}
+use Rattle.wire_num.specs.Layout.{Layout, Open, End, Rest, Body, Content, Exactly, Bytes, Any, Big, Little, CountsRest, AtLeast, Length, Counted}
+use Rattle.wire_num.specs.Layout.{Within, Count, OneByte, Packed, Basic}
 
 -- these bytes are a packed length of n (X.691, 10.9.3.6 and 10.9.3.7)
 abbrev pub IsPacked : List ℕ → ℕ → Type 0

@@ -1,7 +1,7 @@
 //! Runs worked examples and prints a line for each: scripts with their captures, clients' streams with their answers, and with the lines
 //! of the links by which they come, captures with what they show, and with the pointers behind their lines, hosts' streams with what a
 //! viewer prints of them, scripts with their records and these with what they show, loads with their counts, and command lines with what
-//! they ask for.
+//! they ask for, and with the status and the text of a whole run.
 //!
 //! The words that the program is run with name manifests. A line of a manifest is a kind of row and its words; the row's files lie beside
 //! it. Each row is run whole, byte by byte, cut in two at one place after the other, and with one read or one write failing after the other.
@@ -15,13 +15,16 @@ mod files;
 mod handshake;
 mod job;
 mod joins;
+mod limits;
 mod looks;
+mod odd_words;
 mod pointers;
 mod records;
 mod row;
 mod scripts;
 mod serves;
 mod streams;
+mod tops;
 mod turns;
 mod verdict;
 mod views;

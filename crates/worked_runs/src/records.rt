@@ -6,8 +6,8 @@ use crate::files;
 use crate::job::Job;
 use crate::row::number;
 use crate::scripts::ending_of;
-use crate::turns::{Task, try_task, try_whole};
-use crate::verdict::Trouble;
+use crate::turns::{Task, otherwise, try_task, try_whole};
+use crate::verdict::{Trouble, Way};
 use line_text::read_hexadecimal;
 use std::alloc::Global;
 use std::rt::Files;
@@ -73,6 +73,45 @@ pub fn run_again<R: Files + AllocGlobal + Wait>(rt: &R, words: &[&str]) -> Resul
     };
     try_whole(rt, rt.alloc(), &task, &expected)?;
     Ok(())
+}
+
+/// Replays each front of a record that has its head, for more entries than it has. The words behind its name are the places where its head
+/// and each of its entries end: a front has the entries that end in it.
+pub fn run_fronts<R: Files + AllocGlobal + Wait>(rt: &R, words: &[&str]) -> Result<(), Trouble> {
+    let [name, head, ends @ ..] = words else {
+        return Err(Trouble::NoForm);
+    };
+    let record = files::read_hex(rt, name, "record")?;
+    let head = number(head, u32::MAX.into())? as usize;
+    let mut places = Vec::new(rt.alloc());
+    for end in ends {
+        let end = number(end, u32::MAX.into())? as usize;
+        places.extend_from_slice(&[end])?;
+    }
+    for count in head..=record.len() {
+        let entries = places.iter().filter(|end| **end <= count).count();
+        try_front(rt, &record[..count], entries)?;
+    }
+    Ok(())
+}
+
+/// Replays a front of a record, which has so many entries.
+fn try_front<R: Files + AllocGlobal + Wait>(
+    rt: &R,
+    front: &[u8],
+    entries: usize,
+) -> Result<(), Trouble> {
+    let task = Task {
+        job: Job::Replay { stop: u64::MAX },
+        input: front,
+        ending: Ending::NotShown,
+    };
+    let only = format!(in rt.alloc(); "only {entries}\n")?.into_bytes();
+    match try_whole(rt, rt.alloc(), &task, &Expected::Whole(only)) {
+        Ok(_) => Ok(()),
+        Err(Trouble::Differs { found, .. }) => otherwise(Way::CutAt(front.len()), found),
+        Err(trouble) => Err(trouble),
+    }
 }
 
 /// How a replay ends, and what it writes, by its words.

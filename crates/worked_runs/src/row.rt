@@ -5,8 +5,8 @@ ghost use Rattle.std.specs.Prelude.{◌≤◌, IfOk};
 use crate::streams::Known;
 use crate::verdict::Trouble;
 use crate::{
-    demos, faults, handshake, joins, looks, pointers, records, scripts, serves, streams, views,
-    words,
+    demos, faults, handshake, joins, limits, looks, odd_words, pointers, records, scripts, serves,
+    streams, tops, views, words,
 };
 use line_text::read_number;
 use std::rt::Files;
@@ -25,6 +25,8 @@ pub fn run<R: Files + AllocGlobal + Threads + Wait + Sync>(
     match *kind {
         "script" => scripts::run_row(rt, words),
         "joins" => joins::run_row(rt, words),
+        "entries" => limits::run_entries(rt, words),
+        "images" => limits::run_images(rt, words),
         "stream" => streams::run_row(rt, words, Known::Whole),
         "tail" => streams::run_row(rt, words, Known::Tail),
         "lengths" => streams::run_lengths(rt, words),
@@ -40,6 +42,7 @@ pub fn run<R: Files + AllocGlobal + Threads + Wait + Sync>(
         "points" => pointers::run_row(rt, words),
         "record" => records::run_record(rt, words),
         "replay" => records::run_replay(rt, words),
+        "replay-fronts" => records::run_fronts(rt, words),
         "again" => records::run_again(rt, words),
         "demo" => demos::run_row(rt, words),
         "fault-texts" => faults::run_row(rt.alloc(), words),
@@ -47,6 +50,9 @@ pub fn run<R: Files + AllocGlobal + Threads + Wait + Sync>(
         "viewer" => words::run_viewer(rt.alloc(), words),
         "viewing" => words::run_view(rt.alloc(), words),
         "no-words" => words::run_none(rt.alloc(), words),
+        "no-text" => odd_words::run_row(rt.alloc(), words),
+        "top" => tops::run_host(rt, words),
+        "look-top" => tops::run_look(rt, words),
         _ => Err(Trouble::NoForm),
     }
 }
@@ -55,7 +61,7 @@ pub fn run<R: Files + AllocGlobal + Threads + Wait + Sync>(
 fn title_words(kind: &str) -> usize {
     match kind {
         "look" | "points" | "demo" | "serve" | "replay" | "view-cut" => 3,
-        "request" | "viewer" | "viewing" => usize::MAX,
+        "request" | "viewer" | "viewing" | "top" | "look-top" => usize::MAX,
         _ => 2,
     }
 }

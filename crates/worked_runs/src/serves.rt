@@ -38,7 +38,8 @@ pub fn run_row<R: Files + AllocGlobal + Threads + Wait + Sync>(
     let alloc = rt.alloc();
     let stream = files::read_hex(rt, name, STREAM)?;
     let call = number(call, u32::MAX.into())? as u32;
-    let mut gate = gate_of(alloc, stream, call)?;
+    let writes = vec![in alloc; call; 1]?;
+    let mut gate = gate_of(alloc, stream, writes, Vec::new(alloc))?;
     let mut input = Bytes::new(Vec::new(alloc), Vec::new(alloc));
     let mut output = Keep::new(alloc);
     let asked = command_line(alloc, &[SERVE, PORT, w, h, LINKS, owner])?;
@@ -52,19 +53,23 @@ pub fn run_row<R: Files + AllocGlobal + Threads + Wait + Sync>(
     }
 }
 
-/// A gate with a link that has this stream, and whose write of this number fails.
-fn gate_of(alloc: Global, stream: Vec<u8>, call: u32) -> Result<PlanGate, Trouble>
+/// A gate with a link that has this stream, and whose writes of these numbers fail, as the gate's calls of others do.
+pub fn gate_of(
+    alloc: Global,
+    stream: Vec<u8>,
+    writes: Vec<u32>,
+    calls: Vec<u32>,
+) -> Result<PlanGate, Trouble>
     ensures unused { IfOk result (λ gate. gate.given ≡ []) }
     ensures open { IfOk result (λ gate. gate.ended ≡ false) }
 {
-    let fails = vec![in alloc; call; 1]?;
     let link = MemLink {
         reader: PlanSource::new(stream, Vec::new(alloc), Vec::new(alloc)),
-        writer: PlanSink::new(alloc, fails),
+        writer: PlanSink::new(alloc, writes),
     };
     let mut links = Vec::with_capacity(alloc, 1)?;
     links.push_reserved(link);
-    match PlanGate::new(alloc, links, Vec::new(alloc)) {
+    match PlanGate::new(alloc, links, calls) {
         Ok(gate) => Ok(gate),
         Err(_) => Err(Trouble::OutOfMemory),
     }

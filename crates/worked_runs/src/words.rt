@@ -11,12 +11,18 @@ const NONE: &str = "none";
 
 /// The words of a command line, the program's name first.
 pub fn command_line(alloc: Global, behind: &[&str]) -> Result<Vec<String>, AllocError> {
-    let mut words = Vec::new(alloc);
-    words.push(String::from_str(alloc, "program")?)?;
-    for word in behind {
-        words.push(String::from_str(alloc, word)?)?;
+    let mut words = Vec::from_slice(alloc, &["program"])?;
+    words.extend_from_slice(behind)?;
+    strings_of(alloc, &words)
+}
+
+/// Words that are owned.
+pub fn strings_of(alloc: Global, words: &[&str]) -> Result<Vec<String>, AllocError> {
+    let mut strings = Vec::new(alloc);
+    for word in words {
+        strings.push(String::from_str(alloc, word)?)?;
     }
-    Ok(words)
+    Ok(strings)
 }
 
 /// Reads a command line of the host: its mode and the number of its arguments must be those of the row, or there must be none.

@@ -25,7 +25,7 @@ do_heard-requires-clause-placed g c =
 pub returns-in-Ok-clause-done : goal.returns-in-Ok-clause-done
 returns-in-Ok-clause-done g c =
     let h = c.args.serving.now.conn.hearing in
-    let head = owners_head c.args.size c.args.owner.now in
+    let head = owners_head c.args.host.now.size c.args.host.now.owner in
     let bytes = c.args.bytes.now in
     let replies = c.feed-fed.new.out.items in
     let steps = c.feed-fed.new.steps.items in
@@ -44,4 +44,4 @@ returns-in-Ok-clause-done g c =
     c.do_heard.ensures.ready
 
 pub returns-clause-done : goal.returns-clause-done
-returns-clause-done g c = memory_served fault.OutOfMemory (owners_head c.args.size c.args.owner.now) c.args.serving.now c.args.serving.now c.args.bytes.now (g.K.Sink.told c.args.output.now)
+returns-clause-done g c = memory_served fault.OutOfMemory (owners_head c.args.host.now.size c.args.host.now.owner) c.args.serving.now c.args.serving.now c.args.bytes.now (g.K.Sink.told c.args.output.now)

@@ -6,7 +6,7 @@ use Rattle.answer_run.proofs.visitor.do_step.Goals as goal
 
 pub returns-in-Ok-Some-clause-done : goal.returns-in-Ok-Some-clause-done
 returns-in-Ok-Some-clause-done g c =
-    let head = owners_head c.args.size c.args.owner.now in
+    let head = owners_head c.args.host.now.size c.args.host.now.owner in
     let told = g.K.Sink.told c.args.output.now in
     let telling = g.K.Sink.told c.come.new.output in
     let came : Comes (Ok (Some c.in-Ok-Some.came)) head c.in-Coming.name c.args.step told telling =
@@ -16,7 +16,7 @@ returns-in-Ok-Some-clause-done g c =
 
 pub returns-in-Err-clause-done : goal.returns-in-Err-clause-done
 returns-in-Err-clause-done g c =
-    let head = owners_head c.args.size c.args.owner.now in
+    let head = owners_head c.args.host.now.size c.args.host.now.owner in
     let told = g.K.Sink.told c.args.output.now in
     let telling = g.K.Sink.told c.come.new.output in
     subst (λ v. Visits (Err c.in-Err.fault) head (c.args.step ∷ []) v c.args.visitor.now told telling) (sym c.in-Coming.is)

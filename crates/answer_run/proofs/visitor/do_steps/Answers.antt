@@ -6,7 +6,7 @@ use Rattle.answer_run.proofs.visitor.do_steps.Goals as goal
 
 pub returns-in-Ok-false-clause-done : goal.returns-in-Ok-false-clause-done
 returns-in-Ok-false-clause-done g c =
-    let head = owners_head c.args.size c.args.owner.now in
+    let head = owners_head c.args.host.now.size c.args.host.now.owner in
     let steps = c.args.steps.now in
     let i = c.loop-step.step-index in
     let one = c.step-item.result in
@@ -19,7 +19,7 @@ returns-in-Ok-false-clause-done g c =
 
 pub returns-in-Err-clause-done : goal.returns-in-Err-clause-done
 returns-in-Err-clause-done g c =
-    let head = owners_head c.args.size c.args.owner.now in
+    let head = owners_head c.args.host.now.size c.args.host.now.owner in
     let steps = c.args.steps.now in
     let i = c.loop-step.step-index in
     let one = c.step-item.result in
@@ -29,7 +29,7 @@ returns-in-Err-clause-done g c =
 
 pub loop-step-preserved : goal.loop-step-preserved
 loop-step-preserved g c =
-    let head = owners_head c.args.size c.args.owner.now in
+    let head = owners_head c.args.host.now.size c.args.host.now.owner in
     let steps = c.args.steps.now in
     let i = c.loop-step.step-index in
     let one = c.step-item.result in

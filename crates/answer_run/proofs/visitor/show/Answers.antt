@@ -4,4 +4,4 @@ use Rattle.answer_run.proofs.Visiting.{memory_asked}
 use Rattle.answer_run.proofs.visitor.show.Goals as goal
 
 pub returns-in-Err-clause-done : goal.returns-in-Err-clause-done
-returns-in-Err-clause-done g c = memory_asked fault.OutOfMemory step.Packet c.args.seat.now c.take.new.seat (g.K.Sink.told c.args.output.now)
+returns-in-Err-clause-done g c = memory_asked fault.OutOfMemory step.Packet c.args.solo.now c.take.new.solo (g.K.Sink.told c.args.output.now)

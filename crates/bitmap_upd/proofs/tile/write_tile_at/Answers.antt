@@ -2,7 +2,7 @@ use Rattle.std.proofs.Common.{subst, List, ℕ, refl}
 use Rattle.std.specs.Prelude.{OnErr}
 use Rattle.std.proofs.lemmas.Result.{err_from_is_err_and}
 use Rattle.wire_num.specs.Written.{AppendsFront}
-use Rattle.bitmap_upd.proofs.Bytes.{nothing_put}
+use Rattle.rle_enc.proofs.Bytes.{nothing_put}
 use Rattle.bitmap_upd.proofs.tile.write_tile_at.Goals as goal
 
 pub returns-in_err-packed-clause-memory : goal.returns-in_err-packed-clause-memory

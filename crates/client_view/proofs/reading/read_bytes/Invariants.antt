@@ -1,4 +1,4 @@
-use Rattle.std.proofs.Common.{drop, length, ◌≤◌, ◌-◌}
+use Rattle.std.proofs.Common.{drop, length, ◌-◌}
 use Rattle.order_means.specs.FrameMarks.{ClientReading}
 use Rattle.client_view.specs.Views.{SameViewer}
 use Rattle.client_view.specs.Clients.{StandFor}
@@ -10,7 +10,6 @@ abbrev pub invariant-loop-at : goal.invariant-loop-at
 invariant-loop-at l = record {
   left : (r : ClientReading) → StandFor r l.fn.viewer l.fn.cutter → LeftBytes l.fn.viewer.confirmed l.fn.viewer.pictures.size r l.bytes (drop l.at l.bytes) l.viewer l.cutter;
   same : SameViewer l.fn.viewer l.viewer;
-  within : l.at ≤ length l.bytes;
 }
 
 abbrev pub decreases-loop-at : goal.decreases-loop-at

@@ -5,7 +5,7 @@ use Rattle.session_rules.specs.Journal.{Head, Row}
 use Rattle.session_rules.specs.declared.entry.Role.{Role}
 use Rattle.script_rules.specs.CaptureText.{run_at_first, encoder_frames}
 use Rattle.script_rules.specs.Script.{is_name, is_invited}
-use Rattle.script_host.specs.Hosts.{with_invited}
+use Rattle.script_run.specs.Hosts.{with_invited}
 use Rattle.demo_run.specs.Scene.{demo_size, name_of, role_of, row_of}
 use Rattle.demo_run.specs.Asks.{IsViewer}
 use Rattle.demo_run.proofs.Scenes.{names_are_names, names_are_fresh, listed_next, listed_length}

@@ -1,7 +1,7 @@
 use Rattle.std.specs.Prelude.{◌≡◌, false}
 use Rattle.px_core.specs.Picture.{listed}
 use Rattle.script_rules.specs.CaptureText.{run_at_first, encoder_frames}
-use Rattle.script_host.specs.Runs.{IsRunOf}
+use Rattle.script_run.specs.Runs.{IsRunOf}
 use Rattle.demo_run.specs.Scene.{demo_size, row_of}
 use Rattle.demo_run.proofs.seats.invite_all.Given as goal
 

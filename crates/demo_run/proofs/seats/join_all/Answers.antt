@@ -6,7 +6,7 @@ use Rattle.session_rules.specs.Journal.{Head}
 use Rattle.session_rules.specs.Steps.Step.{JoinStep}
 use Rattle.script_rules.specs.Script.{Asked, is_name}
 use Rattle.script_rules.specs.CaptureText.{run_at_first, run_after, encoder_frames}
-use Rattle.script_host.specs.Runs.{IsRunOf}
+use Rattle.script_run.specs.Runs.{IsRunOf}
 use Rattle.demo_run.specs.Scene.{demo_size, demo_head, name_of, preset_of, join_of}
 use Rattle.demo_run.specs.Asks.{IsViewer}
 use Rattle.demo_run.specs.Standing.{run_of}

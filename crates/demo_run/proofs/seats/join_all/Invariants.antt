@@ -1,6 +1,6 @@
 use Rattle.std.specs.Prelude.{◌≡◌}
 use Rattle.px_core.specs.Picture.{listed}
-use Rattle.script_host.specs.Runs.{IsRunOf}
+use Rattle.script_run.specs.Runs.{IsRunOf}
 use Rattle.demo_run.specs.Scene.{demo_head, join_of}
 use Rattle.demo_run.specs.Standing.{run_of}
 use Rattle.demo_run.proofs.seats.join_all.Given as goal

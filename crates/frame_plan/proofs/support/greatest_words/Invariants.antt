@@ -1,6 +1,6 @@
 use Rattle.std.proofs.Common.{◌≡◌, ◌*◌, drop, map, max}
 use Rattle.std.specs.Prelude.{fold}
-use Rattle.order_means.specs.WirePixels.{glyph_cell_bytes}
+use Rattle.order_means.specs.KeptContent.{glyph_cell_bytes}
 use Rattle.frame_rules.specs.Support.{greatest_cell}
 use Rattle.frame_plan.proofs.support.greatest_words.Given as goal
 

@@ -1,4 +1,4 @@
-use Rattle.frame_shows.proofs.JournalShown.{frame_shows_journal}
+use Rattle.frame_laws.proofs.JournalShown.{frame_shows_journal}
 use Rattle.headline.proofs.TakesPointed.{takes_front_see}
 use Rattle.headline.proofs.step_laws.fronts_of_takes_show_the_journal.Goals as goal
 

@@ -1,5 +1,5 @@
 use Rattle.std.proofs.Common.{sym, ◌∙◌}
-use Rattle.script_host.proofs.Inviting.{is_short_ascii}
+use Rattle.script_run.proofs.Inviting.{is_short_ascii}
 use Rattle.host_program.proofs.answering.client_of_words.Goals as goal
 
 pub new-owner-requires : goal.new-owner-requires

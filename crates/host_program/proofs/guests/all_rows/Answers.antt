@@ -4,7 +4,7 @@ use Rattle.std.specs.Option.{option_map}
 use Rattle.session_rules.specs.Journal.{Row}
 use Rattle.session_core.specs.Heads.{rows_of}
 use Rattle.host_program.specs.Serving.{row_in, guest_rows}
-use Rattle.script_host.proofs.Inviting.{rows_push}
+use Rattle.script_run.proofs.Inviting.{rows_push}
 use Rattle.host_program.proofs.Rowed.{rows_more, rows_from}
 use Rattle.host_program.proofs.guests.all_rows.Goals as goal
 

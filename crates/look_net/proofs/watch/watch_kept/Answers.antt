@@ -5,15 +5,21 @@ use Rattle.viewer_rules.specs.declared.stage.Stage.{Stage}
 use Rattle.viewer_rules.specs.HostStream.{host_packet_at}
 use Rattle.viewer_rules.specs.ViewerHandshake.{packet_told, awaits_fast}
 use Rattle.look_net.specs.Watches.{WatchesPacket}
-use Rattle.look_net.proofs.HostHeads.{awaited_head, stream_of, packet_slow}
+use Rattle.look_net.proofs.HostHeads.{awaited_head, stream_of, packet_slow, whole_kept}
 use Rattle.look_net.proofs.Loop.{whole_is, packet_goes, part_goes, version_goes, length_goes, not_other, not_whole}
 use Rattle.look_net.proofs.watch.watch_kept.Goals as goal
 
-pub watch_packet-done-requires : goal.watch_packet-done-requires
-watch_packet-done-requires c =
+pub watch_packet-done-requires-clause-slow : goal.watch_packet-done-requires-clause-slow
+watch_packet-done-requires-clause-slow c =
     let head = ap (host_packet_at c.awaits_fast.result) (sym c.deref.ensures.value) ∙ sym c.in-Whole.ensures in
     λ silent.
     rw c.deref-in-Whole.ensures.value (packet_slow c.args.viewer.now.confirmed c.args.watcher.now.stage c.args.part.now.items _ (rw c.awaits_fast.ensures at head) (not_whole _) silent)
+
+pub watch_packet-done-requires-clause-whole : goal.watch_packet-done-requires-clause-whole
+watch_packet-done-requires-clause-whole c =
+    let part = c.args.part.now.items in
+    let head = ap (host_packet_at c.awaits_fast.result) (sym c.deref.ensures.value) ∙ sym c.in-Whole.ensures in
+    rw c.deref-in-Whole.ensures.value (whole_kept c.awaits_fast.result part _ head (c.requires _ (stream_of _ part _ head (not_whole _))))
 
 pub returns-in-Whole-clause-gone : goal.returns-in-Whole-clause-gone
 returns-in-Whole-clause-gone c = λ s stays goes.

@@ -1,6 +1,6 @@
 use Rattle.std.proofs.Common.{◌∙◌, ap, length, arith}
 use Rattle.px_core.specs.Colors.{are_colors}
-use Rattle.order_read.proofs.RowsTurned.{rows_left, split_is, turn_step, turn_done, length-turned_over, turned_over_colors}
+use Rattle.px_core.proofs.Turned.{rows_left, split_is, turn_step, turn_done, length-turned_over, turned_over_colors}
 use Rattle.order_read.proofs.pixels.turned_over.Goals as goal
 
 pub loop-y-preserved : goal.loop-y-preserved

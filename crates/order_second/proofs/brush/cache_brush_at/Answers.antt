@@ -4,7 +4,7 @@ use Rattle.std.proofs.lemmas.Result.{err_from_is_err_and}
 use Rattle.wire_num.specs.Written.{AppendsFront}
 use Rattle.px_core.specs.Depth.{shown_colors}
 use Rattle.px_core.specs.Pixels.{pixels_bytes}
-use Rattle.order_means.specs.WirePixels.{turned_over}
+use Rattle.px_core.specs.Picture.{turned_over}
 use Rattle.order_means.specs.CacheOrders.{cache_brush_bytes}
 use Rattle.order_second.proofs.Brushes.{brush_is}
 use Rattle.order_second.proofs.brush.cache_brush_at.Goals as goal

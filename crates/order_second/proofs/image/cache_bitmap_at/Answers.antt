@@ -1,9 +1,9 @@
 use Rattle.std.proofs.Common.{◌≡◌, ◌∙◌, ap, length, map, sym, rules, arith}
 use Rattle.std.proofs.lemmas.Grind.{common_steps}
 use Rattle.px_core.specs.Depth.{shown, shown_colors}
-use Rattle.px_core.specs.Picture.{rows_of}
-use Rattle.order_means.specs.WirePixels.{turned_over, joined, padded, padded_row}
-use Rattle.bitmap_upd.proofs.Turned.{turned_over-map}
+use Rattle.px_core.specs.Picture.{rows_of, turned_over, joined}
+use Rattle.run_lengths.specs.WirePixels.{padded, padded_row}
+use Rattle.px_core.proofs.Turned.{turned_over-map}
 use Rattle.order_second.proofs.Whole.{whole_rows}
 use Rattle.order_second.proofs.image.cache_bitmap_at.Goals as goal
 

@@ -3,7 +3,7 @@ use Rattle.std.proofs.lemmas.Result.{err_from_is_err_and, on_ok_weaker, on_err_w
 use Rattle.edge_io.specs.Sink.{WritesFront}
 use Rattle.line_text.specs.Hexadecimal.{hexadecimal_text}
 use Rattle.script_rules.specs.Capture.{ended}
-use Rattle.script_host.specs.Answers.{frame_end}
+use Rattle.script_run.specs.Answers.{frame_end}
 use Rattle.script_run.specs.Held.{Holds}
 use Rattle.script_run.proofs.Held.{held_then, front_then, front_within}
 use Rattle.script_run.proofs.text.hold_text.Goals as goal

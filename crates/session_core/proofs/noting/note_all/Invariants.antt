@@ -1,6 +1,6 @@
 use Rattle.std.proofs.Common.{take}
-use Rattle.pending_core.specs.Showing.{all_shown}
-use Rattle.pending_core.specs.Marking.{AreNoted}
+use Rattle.session_core.specs.Showing.{all_shown}
+use Rattle.session_core.specs.Marking.{AreNoted}
 use Rattle.session_core.proofs.noting.note_all.Given as goal
 
 -- those so far are noted

@@ -6,8 +6,8 @@ use Rattle.viewer_run.proofs.arriving.serve_arrival.Goals as goal
 
 pub attend_first-pass-requires-clause-first : goal.attend_first-pass-requires-clause-first
 attend_first-pass-requires-clause-first g c κs within = (
-  c.args.confirmed,
-  (arrived c.args.lock.now.head c.args.name.now c.args.confirmed c.args.pass c.arrive-pass.result.0 c.arrive-pass.result.1 c.in-Ok.arrival c.in-Ok.is
+  c.args.guest.now.confirmed,
+  (arrived c.args.host.now.lock.now.head c.args.guest.now.name c.args.guest.now.confirmed c.args.pass c.arrive-pass.result.0 c.arrive-pass.result.1 c.in-Ok.arrival c.in-Ok.is
       c.arrive-pass.ensures.came).first,
 )
 
@@ -15,8 +15,8 @@ pub returns-in-Ok-clause-served : goal.returns-in-Ok-clause-served
 returns-in-Ok-clause-served g c =
     let joined = c.arrive-pass.result.0 in
     let arrival = c.in-Ok.arrival in
-    let arrives : ArrivesIn c.args.lock.now.head c.args.name.now c.args.confirmed c.args.pass joined arrival
-    = arrived c.args.lock.now.head c.args.name.now c.args.confirmed c.args.pass joined c.arrive-pass.result.1 arrival c.in-Ok.is c.arrive-pass.ensures.came in
+    let arrives : ArrivesIn c.args.host.now.lock.now.head c.args.guest.now.name c.args.guest.now.confirmed c.args.pass joined arrival
+    = arrived c.args.host.now.lock.now.head c.args.guest.now.name c.args.guest.now.confirmed c.args.pass joined c.arrive-pass.result.1 arrival c.in-Ok.is c.arrive-pass.ensures.came in
     record {
       joined = joined;
       arrival = arrival;
@@ -24,11 +24,11 @@ returns-in-Ok-clause-served g c =
       arrives = arrives;
       noted_joined = c.note_join.new.noted;
       joined_places = c.note_join.ensures.list
-          ∙ ap (λ (n : ℕ). c.args.noted.now.places.list ++ n ∷ []) (last_place c.args.pass joined arrives.base (Join arrival.v arrives.role) arrives.turn);
+          ∙ ap (λ (n : ℕ). c.args.ends.now.noted.places.list ++ n ∷ []) (last_place c.args.pass joined arrives.base (Join arrival.v arrives.role) arrives.turn);
       joined_notice = c.note_join.ensures.notice;
       viewed = c.attend_first-pass.result.0;
-      noted_viewed = c.attend_first-pass.new.noted;
-      stays = c.attend_first-pass.ensures.stays c.args.confirmed arrives.first;
+      noted_viewed = c.attend_first-pass.new.ends.noted;
+      stays = c.attend_first-pass.ensures.stays c.args.guest.now.confirmed arrives.first;
       leaves = c.leave_noted-pass.ensures.leaves;
       notice = c.leave_noted-pass.ensures.notice;
     }

@@ -1,7 +1,7 @@
 use Rattle.std.proofs.Common.{[], sym, ap, ◌∙◌, append-nil}
 use Rattle.session_core.specs.SessionModel.{SessionModel}
-use Rattle.viewer_sides.proofs.Legal.{legal_so}
-use Rattle.viewer_sides.proofs.Handled.{idled}
+use Rattle.viewer_run.proofs.Legal.{legal_so}
+use Rattle.viewer_run.proofs.Handled.{idled}
 use Rattle.viewer_run.proofs.ending.size_of.Goals as goal
 
 pub leave-pass-requires-clause-list : goal.leave-pass-requires-clause-list

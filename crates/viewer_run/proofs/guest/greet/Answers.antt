@@ -6,8 +6,8 @@ use Rattle.conn_rules.specs.Hearing.{Hearing, end_of}
 use Rattle.conn_rules.specs.Placed.{AreBytes}
 use Rattle.serve_rules.specs.Reading.{IsNoRefusal}
 use Rattle.viewer_run.specs.Greeting.{greeting, Greets, IsRestPlaced}
-use Rattle.viewer_sides.proofs.Stretches.{same_none}
-use Rattle.viewer_sides.proofs.Streams.{silent_steps, silent_after, silent_replies}
+use Rattle.viewer_run.proofs.Stretches.{same_none}
+use Rattle.viewer_run.proofs.Streams.{silent_steps, silent_after, silent_replies}
 use Rattle.viewer_run.proofs.Greeted.{greets_none, greets_then}
 use Rattle.viewer_run.proofs.guest.greet.Goals as goal
 

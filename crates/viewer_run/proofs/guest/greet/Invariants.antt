@@ -3,7 +3,7 @@ use Rattle.edge_io.specs.Outside.{outside_of}
 use Rattle.conn_rules.specs.Hearing.{end_of}
 use Rattle.conn_rules.specs.Placed.{AreBytes}
 use Rattle.serve_rules.specs.Reading.{IsNoRefusal}
-use Rattle.viewer_sides.specs.Feeding.{IsHeard}
+use Rattle.viewer_run.specs.Feeding.{IsHeard}
 use Rattle.viewer_run.specs.Greeting.{Greets}
 use Rattle.viewer_run.proofs.guest.greet.Given as goal
 

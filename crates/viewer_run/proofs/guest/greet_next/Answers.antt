@@ -3,8 +3,8 @@ use Rattle.edge_io.specs.Outside.{input_of, output_of}
 use Rattle.conn_rules.specs.Hearing.{Hearing, end_of}
 use Rattle.serve_rules.specs.Reading.{IsNoRefusal}
 use Rattle.viewer_run.specs.Greeting.{greeting}
-use Rattle.viewer_sides.proofs.Stretches.{at_end, kept_none}
-use Rattle.viewer_sides.proofs.Streams.{silent_steps, silent_after, silent_replies}
+use Rattle.viewer_run.proofs.Stretches.{at_end, kept_none}
+use Rattle.viewer_run.proofs.Streams.{silent_steps, silent_after, silent_replies}
 use Rattle.viewer_run.proofs.Greeted.{greets_none}
 use Rattle.viewer_run.proofs.guest.greet_next.Goals as goal
 

@@ -4,7 +4,7 @@ use Rattle.std.proofs.lemmas.List.Elements.{All-from_get_or}
 use Rattle.conn_rules.specs.Placed.{AreBytes, ArePlaced}
 use Rattle.viewer_run.specs.declared.guest.Guest.{Guest}
 use Rattle.viewer_run.specs.Greeting.{greeting, GuestOf}
-use Rattle.viewer_sides.proofs.Stretches.{fed_placed, fed_part}
+use Rattle.viewer_run.proofs.Stretches.{fed_placed, fed_part}
 use Rattle.viewer_run.proofs.Greeted.{rest_placed, refusal_placed}
 use Rattle.viewer_run.proofs.guest.greet_piece.Goals as goal
 

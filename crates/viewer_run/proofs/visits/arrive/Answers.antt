@@ -1,6 +1,6 @@
 use Rattle.std.proofs.Common.{sym, ap, ◌∙◌}
 use Rattle.session_core.specs.SessionModel.{SessionModel}
-use Rattle.viewer_sides.proofs.Legal.{legal_so}
+use Rattle.viewer_run.proofs.Legal.{legal_so}
 use Rattle.viewer_run.proofs.Coming.{came}
 use Rattle.viewer_run.proofs.visits.arrive.Goals as goal
 

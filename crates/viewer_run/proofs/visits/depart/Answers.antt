@@ -1,6 +1,6 @@
 use Rattle.std.proofs.Common.{sym, ap, ◌∙◌}
 use Rattle.session_core.specs.SessionModel.{SessionModel}
-use Rattle.viewer_sides.proofs.Legal.{legal_so}
+use Rattle.viewer_run.proofs.Legal.{legal_so}
 use Rattle.viewer_run.proofs.Coming.{left}
 use Rattle.viewer_run.proofs.visits.depart.Goals as goal
 

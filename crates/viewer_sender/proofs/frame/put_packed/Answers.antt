@@ -1,7 +1,7 @@
 use Rattle.std.proofs.Common.{◌≡◌, ◌∙◌, ◌*◌, ℕ, List, length, true, ap, sym, subst}
 use Rattle.std.specs.Prelude.{option_copied}
 use Rattle.px_core.specs.declared.depth.Depth.{Depth}
-use Rattle.bitmap_upd.specs.Packed.{IsTilePacked}
+use Rattle.rle_enc.specs.Packed.{IsTilePacked}
 use Rattle.frame_plan.proofs.TileParts.{whole_is_high, whole_is_wide}
 use Rattle.viewer_sender.proofs.frame.put_packed.Goals as goal
 

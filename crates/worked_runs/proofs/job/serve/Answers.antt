@@ -1,5 +1,5 @@
 use Rattle.std.proofs.Common.{sym, ◌∙◌}
-use Rattle.script_host.proofs.Inviting.{is_short_ascii}
+use Rattle.script_run.proofs.Inviting.{is_short_ascii}
 use Rattle.worked_runs.proofs.job.serve.Goals as goal
 
 pub new-name-requires : goal.new-name-requires

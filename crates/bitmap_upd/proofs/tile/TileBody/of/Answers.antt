@@ -1,8 +1,7 @@
 use Rattle.std.proofs.Common.{◌≡◌, ◌∙◌, rules}
 use Rattle.std.specs.Prelude.{option_copied}
-use Rattle.px_core.specs.Picture.{nat_of}
-use Rattle.order_means.specs.WirePixels.{turned_over}
-use Rattle.bitmap_upd.proofs.Bytes.{shown_bytes}
+use Rattle.px_core.specs.Picture.{nat_of, turned_over}
+use Rattle.rle_enc.proofs.Bytes.{shown_bytes}
 use Rattle.bitmap_upd.proofs.Body.{raw_length, body_is, there_as}
 use Rattle.bitmap_upd.proofs.tile.TileBody.of.Goals as goal
 

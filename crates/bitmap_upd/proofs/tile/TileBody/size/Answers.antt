@@ -1,8 +1,8 @@
 use Rattle.std.proofs.Common.{length, length-append, ap, arith}
 use Rattle.std.specs.Prelude.{option_copied}
-use Rattle.order_means.specs.WirePixels.{turned_over}
-use Rattle.bitmap_upd.specs.Packed.{data_given}
-use Rattle.bitmap_upd.proofs.Bytes.{shown_bytes}
+use Rattle.px_core.specs.Picture.{turned_over}
+use Rattle.rle_enc.specs.Packed.{data_given}
+use Rattle.rle_enc.proofs.Bytes.{shown_bytes}
 use Rattle.bitmap_upd.proofs.Body.{raw_length}
 use Rattle.bitmap_upd.proofs.tile.TileBody.size.Goals as goal
 

@@ -2,8 +2,8 @@ use Rattle.std.proofs.Common.{◌≡◌, ◌∙◌, ◌+◌, ◌-◌, [], ap, sy
 use Rattle.script_rules.specs.Script.{without_preset}
 use Rattle.script_rules.specs.CaptureText.{run_after, encoder_frames}
 use Rattle.script_lines.specs.Keywords.{step_of}
-use Rattle.script_host.specs.Answers.{SaysOutcome}
-use Rattle.script_host.specs.Runs.{IsRunOf}
+use Rattle.script_run.specs.Answers.{SaysOutcome}
+use Rattle.script_run.specs.Runs.{IsRunOf}
 use Rattle.demo_run.specs.Counts.{kept}
 use Rattle.demo_run.specs.declared.demo.Demo.{Demo}
 use Rattle.demo_run.specs.Standing.{run_of}

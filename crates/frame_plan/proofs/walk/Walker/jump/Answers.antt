@@ -2,7 +2,7 @@ use Rattle.std.proofs.Common.{◌≡◌, ℕ, List, length, ap, sym, ◌∙◌, 
 use Rattle.std.specs.Prelude.{Bool}
 use Rattle.px_core.specs.TileFlags.{tiles}
 use Rattle.session_rules.specs.Pending.{Pending, pending_between}
-use Rattle.pending_core.specs.Touching.{saved_by}
+use Rattle.session_core.specs.Touching.{saved_by}
 use Rattle.frame_plan.specs.declared.walk.Walker.{Walker}
 use Rattle.frame_plan.proofs.Jumping.{none_freed, one_freed, none_given, all_freed, has_jumped}
 use Rattle.frame_plan.proofs.walk.Walker.jump.Goals as goal

@@ -2,7 +2,7 @@ use Rattle.std.proofs.Common.{◌≡◌, length}
 use Rattle.px_core.specs.Tiles.{either_tiles}
 use Rattle.px_core.specs.TileFlags.{tiles}
 use Rattle.session_rules.specs.Pending.{pending_between}
-use Rattle.pending_core.specs.Touching.{touched_by, saved_by}
+use Rattle.session_core.specs.Touching.{touched_by, saved_by}
 use Rattle.frame_plan.proofs.Jumping.{without_those, up_to}
 use Rattle.frame_plan.proofs.walk.Walker.jump.Given as goal
 

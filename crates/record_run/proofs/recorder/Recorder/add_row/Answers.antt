@@ -3,7 +3,7 @@ use Rattle.std.specs.Prelude.{IsTrue}
 use Rattle.session_rules.specs.Journal.{Head, Row}
 use Rattle.session_core.specs.Heads.{rows_of}
 use Rattle.session_core.specs.SessionModel.{AreInvited}
-use Rattle.script_host.proofs.Inviting.{rows_push, invited_push}
+use Rattle.script_run.proofs.Inviting.{rows_push, invited_push}
 use Rattle.record_rules.specs.Tables.{are_named}
 use Rattle.record_run.proofs.Recorders.{not_begun, named_push, row_kept}
 use Rattle.record_run.proofs.recorder.Recorder.add_row.Goals as goal

@@ -1,4 +1,4 @@
-use Rattle.script_run.proofs.Hosting.{first_stands}
+use Rattle.script_run.proofs.HostedSteps.{first_stands}
 use Rattle.script_run.proofs.host.ScriptHostCourse.begin.Goals as goal
 
 pub returns : goal.returns

@@ -1,4 +1,4 @@
-use Rattle.script_run.proofs.Hosting.{row_stands}
+use Rattle.script_run.proofs.HostedSteps.{row_stands}
 use Rattle.script_run.proofs.host.ScriptHostCourse.invite.Goals as goal
 
 pub returns : goal.returns

@@ -2,7 +2,7 @@ use Rattle.std.specs.Prelude.{IfOk}
 use Rattle.std.proofs.lemmas.Result.{IfOk-weaker}
 use Rattle.line_text.specs.Words.{words_of}
 use Rattle.session_rules.specs.Steps.Step.{JoinStep}
-use Rattle.script_run.proofs.Hosting.{step_stands}
+use Rattle.script_run.proofs.HostedSteps.{step_stands}
 use Rattle.script_run.proofs.host.ScriptHostCourse.join.Goals as goal
 
 pub returns : goal.returns

@@ -3,7 +3,7 @@ use Rattle.std.proofs.lemmas.Result.{IfOk-weaker}
 use Rattle.line_text.specs.Words.{words_of}
 use Rattle.script_rules.specs.Script.{without_preset}
 use Rattle.script_lines.specs.Keywords.{step_of}
-use Rattle.script_run.proofs.Hosting.{step_stands, has_begun}
+use Rattle.script_run.proofs.HostedSteps.{step_stands, has_begun}
 use Rattle.script_run.proofs.host.ScriptHostCourse.step.Goals as goal
 
 pub returns : goal.returns

@@ -1,6 +1,6 @@
 use Rattle.std.proofs.Common.{◌≡◌, ◌+◌, ◌∙◌, [], ◌∷◌, ◌++◌, None, length, Some, ap, sym, subst, arith}
 use Rattle.std.proofs.lemmas.Result.{err_from_is_err_and}
-use Rattle.std.specs.Prelude.{All, option_to_list}
+use Rattle.std.specs.Prelude.{option_to_list}
 use Rattle.draw_ops.specs.Fits.{FitsState, broken_rule, slot_misfit}
 use Rattle.session_rules.specs.Pending.{pending_drawings}
 use Rattle.session_rules.specs.declared.entry.Entry.TheVariants.{Draw}
@@ -9,12 +9,15 @@ use Rattle.session_rules.specs.Steps.Step.{DrawStep}
 use Rattle.session_rules.specs.Steps.Answer.{Accepted}
 use Rattle.session_rules.proofs.OwnSteps.{FitsState-legal}
 use Rattle.session_core.specs.Keeping.{journal_of}
-use Rattle.pending_core.specs.Showing.{all_shown}
+use Rattle.px_core.specs.declared.surface.Size.{Size}
+use Rattle.session_core.specs.Marking.{AreNoted}
+use Rattle.session_core.specs.Showing.{all_shown, shown_with}
+use Rattle.session_core.proofs.Entries.{none_noted}
 use Rattle.std.specs.Vec.{vec_len, vec_capacity}
 use Rattle.session_core.specs.Standing.{reached_of, IsOpen}
 use Rattle.session_core.proofs.Sessions.{sound_now, appended, journal_push, answered, goes_on, entry_now}
-use Rattle.pending_core.proofs.TextShown.{keeps_rules, has_slots}
-use Rattle.session_core.proofs.MarkSteps.{marked_on, one_keeps, noted_as}
+use Rattle.session_core.proofs.TextShown.{keeps_rules, has_slots}
+use Rattle.session_core.proofs.MarkSteps.{marked_on, noted_on}
 use Rattle.session_core.proofs.Typed.{typed_on}
 use Rattle.session_core.proofs.DrawLimits.{draw_room, draw_pixels}
 use Rattle.session_core.proofs.Accepting.{accepted, draw_refused, draw_stays}
@@ -97,14 +100,13 @@ invariant_of-self-then-not-draw c = subst (λ s. IsOpen c.self.inside.head s c.m
   typed_last = rw c.make_room.ensures.items c.self.invariant.typed_last;
 })
 
-pub note_all-requires-clause-rules : goal.note_all-requires-clause-rules
-note_all-requires-clause-rules c =
+pub note_one-requires-clause-rules : goal.note_one-requires-clause-rules
+note_one-requires-clause-rules c =
     let h = c.self.invariant.is_session in
     let s = c.self.inside.standing in
     let ks = c.self.inside.kept.items in
     let legal = c.in_ok-may_draw.ensures c.self.inside.head (length ks) (sym h.surface_size) in
-    subst (λ ds. All (λ d. broken_rule c.size-size.result d ≡ None) ds) (sym c.from_ref.ensures.value) (rw c.size-size.ensures
-    (one_keeps c.self.inside.head.size s.surface.state c.args.d (FitsState-legal c.self.inside.head (reached_of s (length ks)) c.args.v c.args.d legal)))
+    rw c.size-size.ensures (keeps_rules c.self.inside.head.size s.surface.state c.args.d (FitsState-legal c.self.inside.head (reached_of s (length ks)) c.args.v c.args.d legal))
 
 pub invariant_of-self-2 : goal.invariant_of-self-2
 invariant_of-self-2 c =
@@ -124,11 +126,12 @@ invariant_of-self-2 c =
           (c.if-not-draw.ensures.reached (length ks) c.args.v))
           (c.draw.ensures.size ∙ h.surface_size) (ap (λ b. b.size) c.draw.ensures.board ∙ h.board_size));
       room_left = omega (arith, c.if-not-make_room.ensures.room, c.push_reserved.ensures.len, c.push_reserved.ensures.capacity, ap length c.draw.ensures.members, ap length c.list.ensures);
-      marked = rw (c.push_reserved.ensures.items, c.make_room.ensures.items) (marked_on head s ks _ c.self.inside.marks c.note_all.new.marks (all_shown (c.args.d ∷ []) (c.in_ok-shown.shown ∷ [])) (c.len.result + 1) h c.self.invariant.marked
+      marked = rw (c.push_reserved.ensures.items, c.make_room.ensures.items) (marked_on head s ks _ c.self.inside.marks c.note_one.new.marks (all_shown (c.args.d ∷ []) (c.in_ok-shown.shown ∷ [])) (c.len.result + 1) h c.self.invariant.marked
           (sym (subst (λ z. all_shown (c.args.d ∷ []) (c.in_ok-shown.shown ∷ []) ≡ pending_drawings z s.surface.state (c.args.d ∷ [])) h.surface_size c.in_ok-shown.ensures))
           (omega (arith, c.len.ensures, c.make_room.ensures.length, c.self.inside.kept.ok.0))
-          (noted_as head.size c.size-size.result c.from_ref.result.now (c.args.d ∷ []) c.from_ref-2.result.now (c.in_ok-shown.shown ∷ []) (c.len.result + 1) c.self.inside.marks c.note_all.new.marks
-          c.size-size.ensures c.from_ref.ensures.value c.from_ref-2.ensures.value c.note_all.ensures));
+          (subst (λ (z : Size). AreNoted z (shown_with c.args.d c.in_ok-shown.shown ∷ []) (c.len.result + 1) c.self.inside.marks c.note_one.new.marks) c.size-size.ensures
+          (noted_on c.size-size.result [] (shown_with c.args.d c.in_ok-shown.shown) (c.len.result + 1) c.self.inside.marks c.self.inside.marks c.note_one.new.marks
+          (none_noted c.size-size.result (c.len.result + 1) c.self.inside.marks) c.note_one.ensures.tiles c.note_one.ensures.slots)));
       typed_last = rw (c.push_reserved.ensures.items, c.make_room.ensures.items) (typed_on c.self.inside.typed c.self.inside.kept.items _ c.self.invariant.typed_last);
     }
 

@@ -3,8 +3,8 @@ use Rattle.std.specs.Prelude.{IfOk}
 use Rattle.px_core.specs.declared.surface.Size.{Size}
 use Rattle.session_rules.specs.declared.entry.Entry.TheVariants.{Join, Leave, Give}
 use Rattle.session_core.specs.Keeping.{journal_of}
-use Rattle.pending_core.specs.Showing.{all_shown, shown_list}
-use Rattle.pending_core.specs.Putting.{drawings_made}
+use Rattle.session_core.specs.Showing.{all_shown, shown_list}
+use Rattle.session_core.specs.Putting.{drawings_made}
 use Rattle.session_core.proofs.Counted.{item_at, length_journal}
 use Rattle.session_core.proofs.SeenLemmas.{sees_drawn, sees_reaction, sees_none, seen_so}
 use Rattle.session_core.proofs.session.Session.drawings.Goals as goal

@@ -12,7 +12,7 @@ use Rattle.session_rules.specs.Board.{board_reaction}
 use Rattle.session_rules.specs.Journal.{reached_after_entry}
 use Rattle.session_rules.specs.Steps.Answer.{Accepted}
 use Rattle.session_core.specs.Keeping.{journal_of}
-use Rattle.pending_core.specs.Showing.{all_shown, shown_list}
+use Rattle.session_core.specs.Showing.{all_shown, shown_list}
 use Rattle.session_core.specs.Standing.{reached_of, IsOpen}
 use Rattle.session_core.proofs.Sessions.{sound_now, appended, journal_push, answered_entry, goes_on_entry, entry_made}
 use Rattle.session_core.proofs.MarkSteps.{marked_on, all_keep, noted_as}

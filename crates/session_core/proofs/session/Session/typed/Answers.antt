@@ -1,4 +1,3 @@
-use Rattle.std.proofs.Common.{ap}
 use Rattle.session_core.proofs.session.Session.typed.Goals as goal
 
 pub returns : goal.returns

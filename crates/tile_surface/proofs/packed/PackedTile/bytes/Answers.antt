@@ -1,7 +1,7 @@
 use Rattle.std.proofs.Common.{ℕ, List, true, sym, subst}
 use Rattle.std.specs.Prelude.{Option, option_copied}
 use Rattle.std.specs.Arc.{arc_value}
-use Rattle.bitmap_upd.specs.Packed.{IsTilePacked}
+use Rattle.rle_enc.specs.Packed.{IsTilePacked}
 use Rattle.tile_surface.specs.Packings.{PackingOf}
 use Rattle.tile_surface.proofs.packed.PackedTile.bytes.Goals as goal
 

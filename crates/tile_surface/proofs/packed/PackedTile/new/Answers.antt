@@ -1,7 +1,7 @@
 use Rattle.std.proofs.Common.{ℕ, List, true, sym, subst, ◌∙◌}
 use Rattle.std.specs.Prelude.{Option, option_map}
 use Rattle.std.specs.Arc.{arc_value}
-use Rattle.bitmap_upd.specs.Packed.{IsTilePacked}
+use Rattle.rle_enc.specs.Packed.{IsTilePacked}
 use Rattle.tile_surface.proofs.packed.PackedTile.new.Goals as goal
 
 pub invariant_of-result : goal.invariant_of-result

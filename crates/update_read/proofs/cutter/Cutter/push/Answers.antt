@@ -15,14 +15,14 @@ invariant_of-self c =
     let not = c.in_default.not-Refused in
     let room : place.1 < 65535 = rw is (room_by inside.state inside.bytes.items inside.start inside.count not count c.self.invariant.2) in
     let new : CutterOf = record { fast = inside.fast; start = place.0; packet = take (place.1 + 1) (slice_set inside.bytes.items place.1 c.args.byte); state = c.judge-self-inside.result } in
-    let judged : Judged new = rw c.deref.ensures.value at c.judge-self-inside.ensures in
+    let judged : Judged new = rw c.deref.ensures.value at c.judge-self-inside.ensures.told in
     let packet : new.packet ≡ take (place_after inside.state inside.start inside.count).1 inside.bytes.items ++ c.args.byte ∷ [] =
     take_more_set inside.bytes.items place.1 c.args.byte (omega (arith, size, room)) ∙ ap (λ (p : ℕ × ℕ). take p.1 inside.bytes.items ++ c.args.byte ∷ []) is in
     let below : inside.start < 18446744073709551616 = omega arith in
     (length-set inside.bytes.items place.1 c.args.byte ∙ size, omega (arith, room), sound_after inside.state inside.bytes.items inside.start inside.count c.args.byte new not c.self.invariant.2 judged packet (rw is (start_fits inside.state inside.start inside.count below)))
 
-pub returns : goal.returns
-returns c =
+pub returns-clause-cut : goal.returns-clause-cut
+returns-clause-cut c =
     let inside = c.self.inside in
     let place = c.place_after-start.result in
     let is = c.place_after-start.ensures in
@@ -31,12 +31,8 @@ returns c =
     let not = c.in_default.not-Refused in
     let room : place.1 < 65535 = rw is (room_by inside.state inside.bytes.items inside.start inside.count not count c.self.invariant.2) in
     let new : CutterOf = record { fast = inside.fast; start = place.0; packet = take (place.1 + 1) (slice_set inside.bytes.items place.1 c.args.byte); state = c.judge-self-inside.result } in
-    let judged : Judged new = rw c.deref.ensures.value at c.judge-self-inside.ensures in
+    let judged : Judged new = rw c.deref.ensures.value at c.judge-self-inside.ensures.told in
     let packet : new.packet ≡ take (place_after inside.state inside.start inside.count).1 inside.bytes.items ++ c.args.byte ∷ [] =
     take_more_set inside.bytes.items place.1 c.args.byte (omega (arith, size, room)) ∙ ap (λ (p : ℕ × ℕ). take p.1 inside.bytes.items ++ c.args.byte ∷ []) is in
-    record {
-      step = c.step_of.ensures;
-      cut = subst (λ (old : CutterOf). (k : Cutting) → Stands k old → Gives (updates_by old.fast k.place k.stage c.args.byte) new) c.self.view_is
-          (λ k stands. pushed_by inside.state inside.bytes.items inside.start inside.count c.args.byte new k not count judged packet (ap (λ (p : ℕ × ℕ). p.0) is) stands);
-      fast = ap (λ (old : CutterOf). old.fast) c.self.view_is;
-    }
+    subst (λ (old : CutterOf). (k : Cutting) → Stands k old → Gives (updates_by old.fast k.place k.stage c.args.byte) new) c.self.view_is
+    (λ k stands. pushed_by inside.state inside.bytes.items inside.start inside.count c.args.byte new k not count judged packet (ap (λ (p : ℕ × ℕ). p.0) is) stands)

@@ -1,10 +1,6 @@
-use Rattle.std.specs.Prelude.{Result, Ok, Err, IfOk, OnOk}
+use Rattle.viewer_sender.proofs.OkBoth.{ok_both}
 use Rattle.viewer_sender.proofs.Sends.{shows}
 use Rattle.viewer_sender.proofs.sender.Sender.encode.Goals as goal
-
-ok_both : {A E : Type 0} (P : A → Type 0) (Q : Type 0) (R : A → Type 0) (r : Result A E) → IfOk r P → OnOk r Q → ((a : A) → P a → Q → R a) → IfOk r R
-ok_both P Q R (Ok a) p q f = f a p q
-ok_both P Q R (Err e) p q f = p
 
 pub returns-clause-shows : goal.returns-clause-shows
 returns-clause-shows c =

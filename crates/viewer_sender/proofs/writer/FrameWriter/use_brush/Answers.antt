@@ -1,7 +1,7 @@
 use Rattle.std.proofs.Common.{◌∙◌, ◌%◌, sym, refl, ap, get_or}
 use Rattle.order_means.specs.CacheOrders.{cache_brush_bytes}
 use Rattle.frame_rules.specs.FrameOrders.SentOrder.{CacheBrush}
-use Rattle.frame_shows.proofs.CachesFit.{brush_whole}
+use Rattle.frame_laws.proofs.CachesFit.{brush_whole}
 use Rattle.viewer_sender.specs.Gathering.{after_order}
 use Rattle.viewer_sender.proofs.UseSteps.{use_hit, use_missed, wrote_hit, wrote_missed, brush_entry_below, low_byte}
 use Rattle.viewer_sender.proofs.writer.FrameWriter.use_brush.Goals as goal

@@ -4,7 +4,7 @@ use Rattle.cache_plan.specs.Answers as plan
 use Rattle.frame_rules.specs.FrameOrders.{entries_of}
 use Rattle.frame_rules.specs.FrameOrders.SentOrder.{CacheImage}
 use Rattle.viewer_sender.specs.Stands.{CachesStand}
-use Rattle.frame_shows.proofs.CachesFit.{image_whole}
+use Rattle.frame_laws.proofs.CachesFit.{image_whole}
 use Rattle.viewer_sender.proofs.UseSteps.{colors_are, wrote_missed}
 use Rattle.viewer_sender.proofs.writer.FrameWriter.use_image.Goals as goal
 

@@ -1,5 +1,0 @@
-use Rattle.frame_shows.proofs.FrameReads.{frames_read}
-use Rattle.frame_shows.proofs.laws.frames_are_read_as_their_orders.Goals as goal
-
-pub returns : goal.returns
-returns c = frames_read

@@ -1,5 +1,0 @@
-use Rattle.frame_shows.proofs.FrameReads.{frames_go}
-use Rattle.frame_shows.proofs.laws.frames_go_in_packets_of_the_kind_confirmed.Goals as goal
-
-pub returns : goal.returns
-returns k = frames_go

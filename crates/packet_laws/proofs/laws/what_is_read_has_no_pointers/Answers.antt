@@ -1,6 +1,0 @@
-use Rattle.packet_laws.proofs.ReadPieces.{read_has_no_pointers}
-use Rattle.packet_laws.proofs.WithoutPointers.{all_stays, cut_before, kept_before, none_before}
-use Rattle.packet_laws.proofs.laws.what_is_read_has_no_pointers.Goals as goal
-
-pub returns : goal.returns
-returns c = record { unrefused = all_stays; whole = read_has_no_pointers; cut = cut_before; kept = kept_before; none = none_before }

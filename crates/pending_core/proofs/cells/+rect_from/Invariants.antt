@@ -1,5 +1,0 @@
-use Rattle.std.proofs.Common.{length, ◌-◌}
-use Rattle.pending_core.proofs.cells.+rect_from.Given as goal
-
-abbrev pub decreases-rect_from : goal.decreases-rect_from
-decreases-rect_from l = length l.pairs.now - l.i

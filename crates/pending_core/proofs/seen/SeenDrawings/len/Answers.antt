@@ -1,6 +1,0 @@
-use Rattle.std.proofs.Common.{length, ap, sym, ◌∙◌}
-use Rattle.pending_core.proofs.AllShown.{length_shown}
-use Rattle.pending_core.proofs.seen.SeenDrawings.len.Goals as goal
-
-pub returns : goal.returns
-returns c = ap length c.listed.ensures ∙ (sym (length_shown _ _ c.self.invariant) ∙ ap length c.self.view_is)

@@ -1,4 +1,0 @@
-pub mod Answers
-pub mod Hosts
-pub mod Runs
-pub mod Sent
