@@ -1,6 +1,7 @@
-ghost use Rattle.std.specs.Prelude.{◌≡◌};
+ghost use Rattle.std.specs.Prelude.{◌≡◌, false};
 ghost use Rattle.std.specs.Io.{ReadsAtMost};
 ghost use Rattle.std.specs.declared.option.Option.TheVariants.{None};
+ghost use Rattle.tcp_edge.specs.Limits.{is_limited};
 
 use crate::open::Open;
 use crate::stage::Stage;
@@ -24,6 +25,8 @@ impl Source for TcpReader {
 
     ghost faults = { λ s. s.faults };
 
+    ghost limited = { λ s. is_limited s.stage };
+
     fn read(&mut self, buf: &mut [u8]) -> Got {
         match self.read_in_time(buf) {
             Ok(0) => Got::End,
@@ -45,6 +48,7 @@ impl TcpReader {
     fn read_in_time(&mut self, buf: &mut [u8]) -> io::Result<usize>
         ensures count { ReadsAtMost result buf.new }
         ensures faults { self.new.faults ≡ self.old.faults }
+        ensures free { is_limited self.old.stage ≡ false → is_limited self.new.stage ≡ false }
     {
         if !self.stage.limit(&self.stream) {
             return Err(io::Error::from(ErrorKind::TimedOut));
