@@ -164,8 +164,8 @@ no_read_fails_at_want_of_memory : ReadFaults (with_part []) nothing (failed 4) (
 no_read_fails_at_want_of_memory e = cc e
 
 -- a click, a Bye and a word on output take two turns
-_ : turns_in (step.Event click ∷ step.Bye ∷ step.Suppress true ∷ []) ≡ 2
-_ = refl
+two_of_three_steps_take_a_turn : turns_in (step.Event click ∷ step.Bye ∷ step.Suppress true ∷ []) ≡ 2
+two_of_three_steps_take_a_turn = refl
 
 -- wrong: a turn may come before the read that brings its event, which may bring none
 no_turn_comes_before_its_read : (before after : SessionPass) → after.found ≡ before.found ++ 1 ∷ [] → HasTurnsOf [] before after → ⊥

@@ -3,7 +3,7 @@ pub mod Turning
 pub mod Handling
 pub mod Ascending
 pub mod Noticing
-pub mod ReadOn
 pub mod InTurns
+pub mod ReadOn
 pub mod Rows
 mod EventRows

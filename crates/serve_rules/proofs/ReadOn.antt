@@ -18,7 +18,7 @@ use Rattle.conn_rules.proofs.Pieces.{heard_then}
 use Rattle.serve_rules.specs.Turns.{SessionPass, KeepsShare}
 use Rattle.serve_rules.specs.Events.{Handles}
 use Rattle.serve_rules.specs.Notices.{Notice, events_in, notice_after_all, notice_in}
-use Rattle.serve_rules.specs.Reading.{ReadsOn, ReadEnd, ReadFaults, IsOrderly, IsNoRefusal, IsWhole, IsUnended, StopsReading, one_read}
+use Rattle.serve_rules.specs.Reading.{ReadsOn, ReadsInTurns, HasTurnsOf, ReadEnd, ReadFaults, IsOrderly, IsNoRefusal, IsWhole, IsUnended, StopsReading, one_read}
 use Rattle.serve_rules.specs.declared.ends.ConnEnd.{ConnEnd}
 use Rattle.serve_rules.specs.declared.ends.ConnEnd.TheVariants.{Left, Refused, Truncated, NotInvited, RoomFull, JoinsSpent, ReadFault, WriteFault, OutOfMemory}
 use Rattle.serve_rules.specs.declared.ends.SideEnd.{SideEnd}
@@ -26,6 +26,7 @@ use Rattle.serve_rules.specs.declared.ends.SideEnd.TheVariants.{Done, Stopped}
 use Rattle.serve_rules.specs.declared.noted.Noted.{Noted}
 use Rattle.serve_rules.proofs.Handling.{handles_then, handles_more}
 use Rattle.serve_rules.proofs.Noticing.{notice_then, events_then}
+use Rattle.serve_rules.proofs.InTurns.{turns_then}
 
 abbrev OnlyDone : SideEnd → Type 0
 OnlyDone (Done end) = ⊤
@@ -139,6 +140,24 @@ reads_then head v rest flagged conn conn' conn'' p q r s t u i j k end a b =
       ends = subst (λ (h : Heard). ReadEnd flagged (a.fed ++ b.fed) h.after (notice_in u) i k end) (sym both)
           (end_then flagged a.fed b.fed (heard conn' b.fed).after (notice_in u) i j k end
           (consumes_then i.left j.left (Some []) a.fed b.fed a.taken) a.faults b.ends);
+    }
+
+-- with the turns of both
+pub in_turns_then : (head : Head) (v : ℕ) (rest : List ConnStep) (flagged : Bool) (conn conn' conn'' : Hearing) (p q r : SessionPass) (s t u : Noted)
+    (i j k : Input) (end : SideEnd)
+    → ReadsInTurns head v rest true conn conn' p q s t i j Stopped → ReadsInTurns head v [] flagged conn' conn'' q r t u j k end
+    → ReadsInTurns head v rest flagged conn conn'' p r s u i k end
+unfolding reads_then
+in_turns_then head v rest flagged conn conn' conn'' p q r s t u i j k end a b =
+    let after_is : conn' ≡ (heard conn a.reads.fed).after = (a.reads.all orderly_stop).1 in
+    let both : heard conn (a.reads.fed ++ b.reads.fed) ≡ then_heard (heard conn a.reads.fed) (heard conn' b.reads.fed)
+    = heard_then conn a.reads.fed b.reads.fed ∙ ap (λ (h : Hearing). then_heard (heard conn a.reads.fed) (heard h b.reads.fed)) (sym after_is) in
+    let steps : (rest ++ (heard conn a.reads.fed).steps) ++ (heard conn' b.reads.fed).steps ≡ rest ++ (heard conn (a.reads.fed ++ b.reads.fed)).steps
+    = append_assoc rest (heard conn a.reads.fed).steps (heard conn' b.reads.fed).steps ∙ ap (λ (h : Heard). rest ++ h.steps) (sym both) in
+    record {
+      reads = reads_then head v rest flagged conn conn' conn'' p q r s t u i j k end a.reads b.reads;
+      turns = λ orderly. subst (λ (l : List ConnStep). HasTurnsOf l p r) steps
+          (turns_then (rest ++ (heard conn a.reads.fed).steps) (heard conn' b.reads.fed).steps p q r (a.turns orderly_stop) (b.turns orderly));
     }
 
 -- what was handled from a pass, of which some share was split off, was handled from the pass before

@@ -168,6 +168,7 @@ module _ (head : Head) (v : ℕ) where
       → IsFed (heard h bytes) new replies steps end → StepsFront head v steps undone p q t u → WholeIfOk done undone → EndOfPiece done end (notice_in u) out
       → 0 < u.places.room → Consumes i.left j.left bytes → j.faults ≡ i.faults → StopsReading [] h (notice_in t) bytes
       → IfOk done (λ ok. HasTurnsOf steps p q) → ReadsInTurns head v [] true h new p q t u i j out
+  unfolding piece_read
   piece_in_turns h new bytes replies steps undone p q t u end out (Ok done) i j x d whole e room taken calm stops turns = record {
     reads = piece_read h new bytes replies steps undone p q t u end out (Ok done) i j x d whole e room taken calm stops;
     turns = λ orderly. subst (λ (l : List ConnStep). HasTurnsOf l p q) x.given turns;
@@ -243,6 +244,7 @@ module _ (head : Head) (v : ℕ) where
   pub rest_in_turns : (rest undone : List ConnStep) (h new : Hearing) (p q r : SessionPass) (t u w : Noted) (i j : Input) (end : SideEnd)
       → StepsFront head v rest undone p q t u → undone ≡ [] → HasTurnsOf rest p q → ReadsInTurns head v [] true h new q r u w i j end
       → ReadsInTurns head v rest true h new p r t w i j end
+  unfolding rest_then
   rest_in_turns rest undone h new p q r t u w i j end d none turns x = record {
     reads = rest_then rest undone h new p q r t u w i j end d none x.reads;
     turns = λ orderly. turns_then rest (heard h x.reads.fed).steps p q r turns (x.turns orderly);

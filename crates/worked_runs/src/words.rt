@@ -11,18 +11,25 @@ const NONE: &str = "none";
 
 /// The words of a command line, the program's name first.
 pub fn command_line(alloc: Global, behind: &[&str]) -> Result<Vec<String>, AllocError> {
-    let mut words = Vec::from_slice(alloc, &["program"])?;
-    words.extend_from_slice(behind)?;
-    strings_of(alloc, &words)
+    let mut line = Vec::new(alloc);
+    line.push(String::from_str(alloc, "program")?)?;
+    push_words(alloc, &mut line, behind)?;
+    Ok(line)
 }
 
 /// Words that are owned.
 pub fn strings_of(alloc: Global, words: &[&str]) -> Result<Vec<String>, AllocError> {
-    let mut strings = Vec::new(alloc);
+    let mut line = Vec::new(alloc);
+    push_words(alloc, &mut line, words)?;
+    Ok(line)
+}
+
+/// Puts words behind those of a command line.
+fn push_words(alloc: Global, line: &mut Vec<String>, words: &[&str]) -> Result<(), AllocError> {
     for word in words {
-        strings.push(String::from_str(alloc, word)?)?;
+        line.push(String::from_str(alloc, word)?)?;
     }
-    Ok(strings)
+    Ok(())
 }
 
 /// Reads a command line of the host: its mode and the number of its arguments must be those of the row, or there must be none.
