@@ -1,4 +1,4 @@
-use Rattle.std.proofs.Common.{[], ◌<◌, Fits, w8, sym, subst, arith}
+use Rattle.std.proofs.Common.{[], true, ◌<◌, Fits, w8, sym, subst, arith}
 use Rattle.std.specs.Prelude.{slice_index_or, List, IfOk}
 use Rattle.std.proofs.lemmas.List.Elements.{All-from_get_or}
 use Rattle.conn_rules.specs.declared.conn_step.ConnStep.{ConnStep}

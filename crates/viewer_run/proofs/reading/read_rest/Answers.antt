@@ -1,4 +1,4 @@
-use Rattle.std.proofs.Common.{sym, refl, inl, ◌∙◌}
+use Rattle.std.proofs.Common.{true, sym, refl, inl, ◌∙◌}
 use Rattle.serve_rules.specs.Reading.{HasTurnsOf}
 use Rattle.viewer_run.proofs.OneStep.{was_done}
 use Rattle.viewer_run.proofs.Stretches.{rest_in_turns, rest_lost, lost_in_turns, same_none, whole}

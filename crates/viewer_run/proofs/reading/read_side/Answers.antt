@@ -3,9 +3,8 @@ use Rattle.std.specs.Prelude.{true}
 use Rattle.edge_io.specs.Outside.{input_of}
 use Rattle.serve_rules.specs.Reading.{ReadsOn, ReadsInTurns}
 use Rattle.serve_rules.specs.declared.ends.ConnEnd.TheVariants.{OutOfMemory}
-use Rattle.serve_rules.proofs.ReadOn.{not_stopped}
-use Rattle.serve_rules.proofs.InTurns.{in_turns_then}
-use Rattle.viewer_run.proofs.Stretches.{goes_on, done_is_no_stop, reads_done, reads_lost, lost_in_turns}
+use Rattle.serve_rules.proofs.ReadOn.{not_stopped, in_turns_then}
+use Rattle.viewer_run.proofs.Stretches.{goes_on, done_is_no_stop, reads_done, reads_lost, reads_stopped, lost_in_turns}
 use Rattle.viewer_run.proofs.reading.read_side.Goals as goal
 
 pub returns-then-is_done-clause-reads : goal.returns-then-is_done-clause-reads
@@ -79,3 +78,8 @@ loop-preserved g c =
           (in_turns_then c.args.lock.now.head c.args.v c.args.rest.now true c.args.conn.now.hearing c.loop.conn.hearing r.new.conn.hearing c.args.pass c.loop.now r.result.0
           c.args.noted.now c.loop.noted r.new.noted before between after r.result.1 c.loop.invariant.reads r.ensures.reads);
     }
+
+pub returns-then-is_set-clause-reads : goal.returns-then-is_set-clause-reads
+returns-then-is_set-clause-reads g c =
+    reads_stopped c.args.lock.now.head c.args.v (is_some c.args.flag) c.args.rest.now c.args.conn.now.hearing c.loop.conn.hearing c.args.pass c.loop.now c.args.noted.now c.loop.noted
+    (input_of g.S.Source c.args.input.now) (input_of g.S.Source c.loop.input) (c.is_set.ensures c.if-is_set.true) c.loop.invariant.reads

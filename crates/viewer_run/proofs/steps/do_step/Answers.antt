@@ -26,7 +26,7 @@ pub returns-in-Packet-clause-done : goal.returns-in-Packet-clause-done
 returns-in-Packet-clause-done g c = rw c.in-Packet.is (handles_nothing _ _ _ _, refl)
 
 pub returns-in-Event-clause-turns : goal.returns-in-Event-clause-turns
-returns-in-Event-clause-turns g c = rw c.in-Event.is (event_step _ c.note_event.result.1 _ _ c.note_event.ensures.turns)
+returns-in-Event-clause-turns g c = rw c.in-Event.is (event_step c.in-Event.event c.note_event.result.1 c.args.pass c.note_event.result.0 c.note_event.ensures.turns)
 
 pub returns-in-Refresh-clause-turns : goal.returns-in-Refresh-clause-turns
 returns-in-Refresh-clause-turns g c = rw c.in-Refresh.is (turns_idle _ _ c.refresh.ensures.idle)
@@ -35,16 +35,16 @@ pub returns-in-Suppress-clause-turns : goal.returns-in-Suppress-clause-turns
 returns-in-Suppress-clause-turns g c = rw c.in-Suppress.is (turns_idle _ _ c.suppress.ensures.idle)
 
 pub returns-in-Bye-clause-turns : goal.returns-in-Bye-clause-turns
-returns-in-Bye-clause-turns g c = rw c.in-Bye.is (turns_none _)
+returns-in-Bye-clause-turns g c = rw c.in-Bye.is (turns_none c.args.pass)
 
 pub returns-in-Shutdown-clause-turns : goal.returns-in-Shutdown-clause-turns
-returns-in-Shutdown-clause-turns g c = rw c.in-Shutdown.is (turns_none _)
+returns-in-Shutdown-clause-turns g c = rw c.in-Shutdown.is (turns_none c.args.pass)
 
 pub returns-in-Named-clause-turns : goal.returns-in-Named-clause-turns
-returns-in-Named-clause-turns g c = rw c.in-Named.is (turns_none _)
+returns-in-Named-clause-turns g c = rw c.in-Named.is (turns_none c.args.pass)
 
 pub returns-in-Ready-clause-turns : goal.returns-in-Ready-clause-turns
-returns-in-Ready-clause-turns g c = rw c.in-Ready.is (turns_none _)
+returns-in-Ready-clause-turns g c = rw c.in-Ready.is (turns_none c.args.pass)
 
 pub returns-in-Packet-clause-turns : goal.returns-in-Packet-clause-turns
-returns-in-Packet-clause-turns g c = rw c.in-Packet.is (turns_none _)
+returns-in-Packet-clause-turns g c = rw c.in-Packet.is (turns_none c.args.pass)
