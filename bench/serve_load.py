@@ -31,8 +31,9 @@ from sample_answers import packets, pkt, sharedata
 # How many packets the host answers each packet of the sample client with; the first frame comes behind the last answer.
 ANSWERS = [1, 1, 0, 1, 1, 1, 1, 1, 1, 2, 0, 1, 1, 1, 1]
 
-# The update that ends a frame of a client which confirmed no frame markers: a Synchronize.
+# The update that ends a frame of a client which confirmed no frame markers: a Synchronize; and the same on the fast path.
 MARK = bytes.fromhex('0300002402f08068000103eb70161600' '1700ea03ea030100000108000200000003000000')
+FAST_MARK = bytes.fromhex('0005030000')
 
 # A client's ultimatum of reason 3, user requested, and the host's to a client that it doesn't serve.
 BYE = pkt([0x21, 0x80])
@@ -84,6 +85,14 @@ FRAMES = 3
 BURST = 64
 
 
+def length(held, at):
+    """The length of the packet that begins there, by its head: of the fast path ([MS-RDPBCGR] 2.2.9.1.2), whose first byte is 0 with this host,
+    or of the slow one."""
+    if held[at] == 0: return (held[at+1] & 0x7F) << 8 | held[at+2] if held[at+1] & 0x80 else held[at+1]
+    if held[at] == 3: return held[at+2] << 8 | held[at+3]
+    raise ValueError('no packet begins here')
+
+
 class Link:
     """A connection to the host, with what it was sent so far."""
 
@@ -117,8 +126,7 @@ class Link:
         held = self.rest + data
         at = 0
         while len(held) - at >= 4:
-            if held[at] != 3: raise ValueError('no packet begins here')
-            end = at + (held[at+2] << 8 | held[at+3])
+            end = at + length(held, at)
             if end > len(held): break
             self.count(held[at:end])
             at = end
@@ -127,7 +135,12 @@ class Link:
     def count(self, packet):
         self.packets += 1
         self.last = packet
-        if packet == MARK: self.marks += 1
+        if packet in (MARK, FAST_MARK): self.marks += 1
+        elif packet[0] == 0:
+            # behind the length, which has one or two bytes, the update's code and the size of its data
+            at = 2 + (packet[1] >> 7)
+            if packet[at] == 0: self.orders += struct.unpack_from('<H', packet, at + 3)[0]
+            if packet[at] == 1: self.tiles += struct.unpack_from('<H', packet, at + 5)[0]
         elif len(packet) >= 40 and packet[7] == 0x68:
             # behind the header of the data, whose count has one or two bytes, and of the share
             kind = 28 + (packet[13] >> 7)
