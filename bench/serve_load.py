@@ -319,7 +319,8 @@ class Room:
     def memory(self): return self.status('VmRSS')
 
 
-# What was seen to be otherwise than wanted; a part in which something was ends with this status, once all of it is done.
+# The figures that are otherwise than wanted; a part in which some are ends with this status, once all of it is done. What must be so, and
+# isn't, ends it at once.
 MISSED = 3
 missed = []
 
@@ -362,7 +363,8 @@ def idle(room):
     row('memory for each viewer more', f'{(all_of_them - one) / (MOST - 1):.0f} KiB')
     room.stop()
     pictures = len({watcher.picture(GONE, SENT_AWAY) for watcher in watchers})
-    row('pictures that the viewers saw, when the host had gone', pictures, 1, pictures == 1)
+    row('pictures that the viewers saw, when the host had gone', pictures, 1)
+    if pictures != 1: raise ValueError('the viewers saw other pictures')
 
 
 def clicks(room):
@@ -472,7 +474,8 @@ def links(room):
         if i in looks: looks[i] = room.memory(), room.status('Threads')
     took = time.perf_counter() - begin
     row(f'{count} links one after another, each rdp_view from its start to its end', milliseconds(took / count))
-    row('pictures that they saw', len(pictures), 1, len(pictures) == 1)
+    row('pictures that they saw', len(pictures), 1)
+    if len(pictures) != 1: raise ValueError('they saw other pictures')
     for i, (memory, threads) in looks.items(): row(f'after {i} of them: memory, threads', f'{memory} KiB, {threads}', 'flat')
     (first, (little, _)), _, (last, (much, _)) = looks.items()
     row('memory for each link more', f'{1024 * (much - little) / (last - first):.0f} bytes')
@@ -597,6 +600,7 @@ def same(room):
     if passing: passing.picture(SEEN, GONE)
     pictures = {watcher.picture(GONE) for watcher in watchers}
     row(f'{EVENTS} events of two viewers: pictures that 13 others see at the end, by rdp_view, the last of whom came then', len(pictures), 1)
+    if len(pictures) != 1: raise ValueError('they see other pictures')
     picture = min(pictures)
     row('colours of the picture', len({picture[i:i+3] for i in range(0, len(picture), 3)}))
 
