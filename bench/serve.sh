@@ -71,12 +71,12 @@ part() {
         exec "$rdp_host" serve "$port" $size "$links" ann bob cy+ </dev/null >"$work/lines"
     ) &
     host=$!
-    # with 3 the clients say that something isn't as wanted, once all is done
+    # with 3 the clients say that a figure isn't as wanted, once all is done
     ended=0
     clients "$1" "$port" "$host" "$work/wanted" || ended=$?
     case $ended in
     0) ;;
-    3) unmet=1 ;;
+    3) unmet=$((unmet + 1)) ;;
     *) exit 1 ;;
     esac
     ended=0
@@ -93,4 +93,4 @@ for name in "$@"; do
     part "$name"
     [ "$name" != crowd ] || part scarce
 done
-met
+count_unmet
