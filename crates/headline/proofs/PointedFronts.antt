@@ -218,6 +218,14 @@ first_pictures depth size j numbers shown h =
     sym (take-map (λ n. known_picture depth (picture_after_entries size j n)) (length shown) numbers) ∙ ap (take (length shown)) h.joined
     ∙ take-append_seam shown h.rest
 
+pub first_numbers : (depth : Depth) (size : Size) (j : List Entry) (numbers : List ℕ) (shown : List (List (Option ℕ)))
+    → IsFront shown (pictures_after depth size j numbers)
+    → (seen : List ℕ) × (IsFront seen numbers × (pictures_after depth size j seen ≡ shown))
+first_numbers depth size j numbers shown h = (
+  take (length shown) numbers,
+  (record { rest = drop (length shown) numbers; joined = sym (take-append-drop (length shown) numbers) }, first_pictures depth size j numbers shown h),
+)
+
 -- a front of bytes that show a journal without the packets of pointers
 pub front_sees : (size : Size) (confirmed : Confirmed) (j : List Entry) (numbers written front : List ℕ)
     → SeesJournal size confirmed j numbers (without_pointers written) → IsFront front written
@@ -225,11 +233,8 @@ pub front_sees : (size : Size) (confirmed : Confirmed) (j : List Entry) (numbers
 front_sees size confirmed j numbers written front sees h =
     let marks = ap (λ bytes. pictures_at_marks confirmed size (without_pointers bytes)) (sym h.joined) ∙ sees.marks_show_journal in
     let first = fronts_without confirmed size front h.rest (pictures_after (depth_of confirmed) size j numbers) marks in
-    record {
-      seen = take (length first.shown) numbers;
-      are_first = record { rest = drop (length first.shown) numbers; joined = sym (take-append-drop (length first.shown) numbers) };
-      marks_show_journal = first.marks_show ∙ ap Ok (sym (first_pictures (depth_of confirmed) size j numbers first.shown first.are_first));
-    }
+    let seen = first_numbers (depth_of confirmed) size j numbers first.shown first.are_first in
+    record { seen = seen.0; are_first = seen.1.0; marks_show_journal = first.marks_show ∙ ap Ok (sym seen.1.1) }
 
 -- two fronts of a list that are as long are the same
 same_fronts : {A : Type 0} (xs ys zs : List A) → IsFront xs zs → IsFront ys zs → length xs ≡ length ys → xs ≡ ys
