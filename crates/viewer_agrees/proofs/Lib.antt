@@ -3,3 +3,4 @@ pub mod Cutting
 pub mod Heard
 pub mod Turns
 pub mod Watched
+mod Examples

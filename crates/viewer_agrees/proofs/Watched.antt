@@ -14,6 +14,7 @@ use Rattle.session_rules.specs.declared.entry.Entry.{Entry}
 use Rattle.session_rules.specs.Journal.{Head}
 use Rattle.session_rules.specs.Steps.{journal_of_steps, frame_numbers}
 use Rattle.script_rules.specs.Script.{Asked}
+use Rattle.viewer_rules.specs.declared.stage.Stage.{Stage}
 use Rattle.viewer_rules.specs.declared.stage.Stage.TheVariants as stage
 use Rattle.viewer_rules.specs.HostStream.{host_packet_at}
 use Rattle.viewer_rules.specs.ViewerHandshake.{Standing, Told, silent, Watched, is_farewell, shown_by, packet_told, packets_told, with_rest, watched, first_watching, viewer_handshake, refusal_in}
@@ -49,8 +50,8 @@ shown_stays s p true here = record { says = refl; size = refl; behind = inr refl
 shown_stays s p false here = record { says = refl; size = refl; behind = inl here }
 
 packet_stays : (name : List ℕ) (c : Confirmed) (s : Standing) (p : List ℕ) → IsBehind s → Stays s (packet_told name c s.stage s p)
-packet_stays name c s p (inl here) = rw here (shown_stays s p (is_farewell p) here)
-packet_stays name c s p (inr over) = rw over (record { says = refl; size = refl; behind = inr over })
+packet_stays name c s p (inl here) = subst (λ (at : Stage). Stays s (packet_told name c at s p)) (sym here) (shown_stays s p (is_farewell p) here)
+packet_stays name c s p (inr over) = subst (λ (at : Stage). Stays s (packet_told name c at s p)) (sym over) (record { says = refl; size = refl; behind = inr over })
 
 packets_stay : (name : List ℕ) (c : Confirmed) (s : Standing) (ps : List (List ℕ)) → IsBehind s → Stays s (packets_told name c s ps)
 packets_stay name c s [] behind = record { says = refl; size = refl; behind = behind }
