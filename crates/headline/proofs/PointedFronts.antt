@@ -1,6 +1,6 @@
 -- A front of what a viewer is sent with its pointers, wherever it is cut: at its marks the viewer shows the first takes' pictures, and the pointers of the same takes.
-use Rattle.std.proofs.Common.{◌≡◌, ℕ, zero, suc, ◌+◌, ◌-◌, ◌*◌, Bool, true, false, List, [], ◌∷◌, ◌++◌, length, map, take, drop, refl, ap, sym, ◌∙◌, subst, arith, append_assoc, length-append, Some, None, ◌⊎◌, inl, inr}
-use Rattle.std.specs.Prelude.{Option, Result, Ok, Err, nat_lt, nat_le, filter, option_map, option_and_then, replicate, if◌then◌else◌}
+use Rattle.std.proofs.Common.{◌≡◌, ℕ, zero, suc, ◌+◌, ◌-◌, ◌*◌, Bool, true, false, List, [], ◌∷◌, ◌++◌, length, map, take, drop, refl, ap, sym, ◌∙◌, subst, arith, length-append, Some, None, ◌⊎◌, inl, inr}
+use Rattle.std.specs.Prelude.{Option, Result, Ok, Err, nat_lt, filter, option_map, option_and_then, replicate, if◌then◌else◌}
 use Rattle.std.proofs.lemmas.List.{length-replicate, length-map, map-append, take-append-drop, take-map}
 use Rattle.std.proofs.lemmas.List.Elements.{filter-append}
 use Rattle.std.proofs.Math.Seq.{take-append_seam}
@@ -18,17 +18,17 @@ use Rattle.order_means.specs.Updates.{Stage, Cutting, cutting, updates, updates_
 use Rattle.order_means.specs.Updates.Stage.{Between as NoneBegun, One, Two, Three, Inside as Behind, Fast, FastLong as FastHigh, FastInside, Refused}
 use Rattle.order_means.specs.FrameMarks.{Refusal, ClientReading, reading, first_reading, unless_refused_at, view_after_bodies, reading_after, read_on, read_stream, pictures_at_marks}
 use Rattle.order_means.specs.PointerPackets.{pointer_content, is_read, is_pointer}
-use Rattle.order_means.specs.Packets.{PacketStage, Pieces, before_pieces, held_in, pieces_by, pieces_from, pieces_in, kept_pieces, without_pointers, pointer_packets}
+use Rattle.order_means.specs.Packets.{Pieces, before_pieces, held_in, pieces_by, pieces_from, pieces_in, kept_pieces, without_pointers, pointer_packets}
 use Rattle.order_means.specs.Packets.PacketStage.{Between}
 use Rattle.order_means.proofs.Pieces.{read_joined}
 use Rattle.order_means.proofs.PieceJoined.{pieces_joined}
-use Rattle.order_means.proofs.ReadPieces.{stage_of, IsSound, Agrees, all_agree}
+use Rattle.order_means.proofs.ReadPieces.{stage_of, IsSound, all_agree}
 use Rattle.frame_rules.specs.Pointers.{Shape}
 use Rattle.pointer_share.specs.declared.fault.Cause.{Cause}
 use Rattle.pointer_share.specs.Views.{View, view_by, message_in, pointed, view_in, view_fed}
 use Rattle.headline.specs.Headline.{known_picture, pictures_after, steps_of, confirmed_in, SeesJournal, EveryViewerSeesTheJournal}
 use Rattle.headline.specs.Fronts.{IsFront, SeesFirstOfJournal, SeesFirst, EveryViewerSeesTheFirst}
-use Rattle.headline.specs.Pointed.{Watching, first_watching, marks_more, watched_by, watched_as, watched, watched_all, shape_after, packets_told, SeesPointers}
+use Rattle.headline.specs.Pointed.{Watching, first_watching, marks_more, watched_by, watched_as, watched_all, shape_after, packets_told, SeesPointers}
 use Rattle.headline.proofs.PointerFronts.{fronts_without, IsCutting, kept_between, whole_from, held_from, reads_between, unrefused_by, nothing_read, held_or_cutting}
 use Rattle.headline.proofs.StreamFronts.{front_of_itself, front_of_front, ReadingExtends, reading_on_extends}
 use Rattle.headline.proofs.Takes.{read_to}
