@@ -1,3 +1,4 @@
+use Rattle.std.proofs.Common.{[]}
 use Rattle.viewer_agrees.proofs.Watched.{all_shown, first_shown, none_taken_out}
 use Rattle.viewer_agrees.proofs.laws.every_viewer_is_shown_the_journal.Goals as goal
 
