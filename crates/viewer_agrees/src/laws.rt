@@ -11,7 +11,7 @@ ghost use Rattle.conn_rules.specs.declared.conn_step.ConnStep.TheVariants.{Named
 ghost use Rattle.conn_rules.specs.Hearing.{host_handshake, end_of};
 ghost use Rattle.conn_rules.specs.Hearing.StreamEnd.{Between};
 ghost use Rattle.viewer_rules.specs.ClientPackets.{info_body};
-ghost use Rattle.viewer_rules.specs.Rounds.{IsConfirmable, greeting, answers, joined};
+ghost use Rattle.viewer_rules.specs.Rounds.{without_pointers, IsConfirmable, greeting, answers, joined};
 ghost use Rattle.session_rules.specs.Journal.{Head};
 ghost use Rattle.script_rules.specs.Script.{Asked};
 ghost use Rattle.headline.specs.Headline.{HasSessionSize, AreByPresentViewers, ConfirmAllCaches, confirmed_in};
@@ -24,12 +24,13 @@ pub fn name_is_read()
     ensures { (name : List ℕ) → IsName name → name_of (info_body name) ≡ Ok name }
 {}
 
-/// The host hears a viewer's packets to the end: it answers them at the viewer's depth, tells the name and what is confirmed, and refuses nothing.
+/// The host hears a viewer's packets to the end: it answers them at the viewer's depth, tells the name and what is confirmed, without
+/// pointers, and refuses nothing.
 pub fn greeting_is_heard()
     ensures replies { (size : Size) (name : List ℕ) (c : Confirmed) → IsName name → IsConfirmable c
         → (host_handshake size (joined (greeting name c))).replies ≡ joined (answers size (depth_of c)) }
     ensures steps { (size : Size) (name : List ℕ) (c : Confirmed) → IsName name → IsConfirmable c
-        → (host_handshake size (joined (greeting name c))).steps ≡ Named name ∷ Ready c ∷ [] }
+        → (host_handshake size (joined (greeting name c))).steps ≡ Named name ∷ Ready (without_pointers c) ∷ [] }
     ensures end { (size : Size) (name : List ℕ) (c : Confirmed) → IsName name → IsConfirmable c
         → end_of (host_handshake size (joined (greeting name c))).after ≡ Between }
 {}

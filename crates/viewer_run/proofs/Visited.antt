@@ -25,7 +25,7 @@ use Rattle.frame_rules.specs.Encoder.{first_encoder, pointed_of_takes}
 use Rattle.frame_rules.specs.Describes.{HasAllCaches}
 use Rattle.frame_laws.proofs.JournalShown.{frame_shows_journal}
 use Rattle.headline.proofs.TakesPointed.{takes_point, takes_see_without}
-use Rattle.headline.proofs.CaptureFronts.{front_sees}
+use Rattle.headline.proofs.PointedFronts.{front_sees_both}
 use Rattle.grow_lock.specs.Journal.{StartsWith}
 use Rattle.grow_lock.proofs.Lists.{starts_trans, length_starts}
 use Rattle.grow_lock.proofs.Shares.{holds_itself, holds_same, holds_trans}
@@ -383,8 +383,9 @@ module _ (head : Head) (p p1 r : SessionPass) (size : Size) (conn : Hearing) (na
               (append_assoc a.written view.written s.written ∙ ap (λ l. l ++ (view.written ++ s.written)) (sym replied))
               (Appends-trans link.output.told mid.told spent.output.told (a.written ++ view.written) s.written
               (Appends-trans link.output.told between.output.told mid.told a.written view.written a.told view.told) s.told);
-          sees_first = front_sees head.size confirmed r.seen (map (λ (t : TakeOf). t.number) view.takes) frames view.written
+          sees_first = front_sees_both head.size confirmed r.seen (map (λ (t : TakeOf). t.number) view.takes) frames view.written
               (takes_see_without head confirmed (frame_shows_journal head confirmed) sized caches r.seen legal view.takes view.last view.follow within)
+              (takes_point head confirmed (frame_shows_journal head confirmed) sized caches r.seen legal view.takes view.last view.follow within)
               (record { rest = view.unwritten; joined = same_frames ∙ view.bytes });
           ends = view_said read (host_handshake head.size read).after (notice_after_all no_notice steps) link spent.input mid spent.output visit.end said noted.shutdown
               (view_then a.fed view.fed (host_handshake head.size read).after (notice_in t1) (notice_after_all no_notice steps) link between (outside spent.input mid) visit.end

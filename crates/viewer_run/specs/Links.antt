@@ -23,7 +23,7 @@ use Rattle.frame_rules.specs.FrameBytes.{joined_bytes}
 use Rattle.frame_rules.specs.Encoder.{first_encoder, pointed_of_takes}
 use Rattle.headline.specs.Headline.{SeesJournal}
 use Rattle.headline.specs.Pointed.{SeesPointers}
-use Rattle.headline.specs.Fronts.{IsFront, SeesFirstOfJournal}
+use Rattle.headline.specs.Fronts.{IsFront, SeesFirst}
 use Rattle.grow_lock.specs.Journal.{StartsWith}
 use Rattle.serve_rules.specs.Turns.{SessionPass, KeepsShare}
 use Rattle.serve_rules.specs.Events.{Act, HappenFrom, places_of, Ascend, AreOfEvents, IsWithin}
@@ -148,14 +148,14 @@ pub record IsVisit (head : Head) (before after : SessionPass) (report : ConnRepo
   pub points : SeesPointers head.size confirmed after.seen (map (λ (t : TakeOf). t.number) takes)
       (joined_bytes (pointed_of_takes head.size confirmed after.seen first_encoder takes))
   -- of the frames with their pointers this was written, behind the replies and before a front of the last word: wherever it was cut it isn't refused, and its
-  -- marks show the first of these pictures
+  -- marks show the first of these pictures and pointers
   pub viewed : List ℕ
   pub viewed_front : IsFront viewed (joined_bytes (pointed_of_takes head.size confirmed after.seen first_encoder takes))
   pub said : List ℕ
   pub said_front : IsFront said word
   pub in_order : (viewed ≡ joined_bytes (pointed_of_takes head.size confirmed after.seen first_encoder takes)) ⊎ (said ≡ [])
   pub told : Appends link.output.told spent.output.told ((host_handshake head.size read).replies ++ (viewed ++ said))
-  pub sees_first : SeesFirstOfJournal head.size confirmed after.seen (map (λ (t : TakeOf). t.number) takes) (without_pointers viewed)
+  pub sees_first : SeesFirst head.size confirmed after.seen (map (λ (t : TakeOf). t.number) takes) viewed
   -- the connection's end, and the last mark at it, which has all that the pass's last turn before that of the Leave found
   pub ends : ViewEnd read (host_handshake head.size read).after (notice_after_all no_notice steps) link spent report.end
   pub faults : ViewFaults (host_handshake head.size read).after (notice_after_all no_notice steps) link spent report.end
