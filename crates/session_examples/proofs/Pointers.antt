@@ -188,14 +188,6 @@ a_pointer_before_its_frame : SeesFirstPointers size (cells 2) its_journal (1 ∷
 unfolding ternary_raster
 a_pointer_before_its_frame = record { marks_show_pointers = refl; packets_are_first = record { rest = []; joined = refl } }
 
--- wrong: a front is shown any pointers of the journal
-not_a_later_pointer_at_the_first_mark : SeesFirstPointers size (cells 2) its_journal (1 ∷ 2 ∷ []) (1 ∷ []) (brings 0 (pointer 1 0x41) ++ synchronize_packet false) → ⊥
-not_a_later_pointer_at_the_first_mark sees = absurd (let both = sees.marks_show_pointers in cc)
-
--- wrong: a front may have packets of pointers twice
-not_the_same_packet_twice : SeesFirstPointers size (cells 2) its_journal (1 ∷ 2 ∷ []) [] (brings 0 (pointer 1 0) ++ brings 0 (pointer 1 0)) → ⊥
-not_the_same_packet_twice sees = absurd (let both = sees.packets_are_first.joined in cc)
-
 the_latest_pointer_is_shown : shapes_at_marks (cells 2) size (brings 0 (pointer 1 0x41) ++ brings 1 (pointer 1 0x42) ++ synchronize_packet false) ≡ Some (Some (shape_of false (pointer 1 0x42)) ∷ [])
 the_latest_pointer_is_shown = refl
 

@@ -1,5 +1,5 @@
 -- A viewer that hears an honest host is shown the session's journal.
-use Rattle.std.proofs.Common.{◌≡◌, ℕ, Bool, true, false, List, [], ◌∷◌, ◌++◌, refl, ap, sym, ◌∙◌, subst, Some, None, ◌⊎◌, inl, inr}
+use Rattle.std.proofs.Common.{◌≡◌, ℕ, Bool, true, false, List, [], ◌∷◌, ◌++◌, refl, ap, sym, ◌∙◌, subst, Some, ◌⊎◌, inl, inr}
 use Rattle.std.specs.Prelude.{IsTrue, Option, Result, Ok, Err}
 use Rattle.std.proofs.lemmas.List.{append-nil}
 use Rattle.px_core.specs.declared.surface.Size.{Size}
@@ -7,9 +7,8 @@ use Rattle.px_core.specs.Rectangle.{is_session_size}
 use Rattle.caps_sets.specs.declared.confirmed.Confirmed.{Confirmed}
 use Rattle.caps_sets.specs.Confirmed.{depth_of, takes_fast, pointer_cells}
 use Rattle.wire_num.specs.Field.{bind}
-use Rattle.tpkt_x224.specs.Pieces.{Cut, packets_with}
+use Rattle.tpkt_x224.specs.Pieces.{packets_with}
 use Rattle.order_means.specs.FrameMarks.{Refusal, ClientReading, read_stream, pictures_at_marks}
-use Rattle.order_means.specs.Packets.{without_pointers}
 use Rattle.session_rules.specs.declared.entry.Entry.{Entry}
 use Rattle.session_rules.specs.Journal.{Head}
 use Rattle.session_rules.specs.Steps.{journal_of_steps, frame_numbers}
@@ -17,21 +16,20 @@ use Rattle.script_rules.specs.Script.{Asked}
 use Rattle.viewer_rules.specs.declared.stage.Stage.{Stage}
 use Rattle.viewer_rules.specs.declared.stage.Stage.TheVariants as stage
 use Rattle.viewer_rules.specs.HostStream.{host_packet_at}
-use Rattle.viewer_rules.specs.ViewerHandshake.{Standing, Told, silent, Watched, is_farewell, shown_by, packet_told, packets_told, with_rest, watched, first_watching, viewer_handshake, refusal_in}
+use Rattle.viewer_rules.specs.ViewerHandshake.{Standing, Told, silent, Watched, is_farewell, shown_by, packet_told, packets_told, watched, first_watching, refusal_in}
 use Rattle.viewer_rules.specs.ClientPackets.{connection_request}
 use Rattle.viewer_rules.specs.Rounds.{answers, greeting, joined}
-use Rattle.viewer_rules.specs.Shown.{IsShown, shown_read, shown_refusal, first_refusal, standing_at}
+use Rattle.viewer_rules.specs.Shown.{shown_read, shown_refusal, first_refusal, standing_at}
 use Rattle.viewer_rules.proofs.Pieces.{two_pieces}
-use Rattle.viewer_rules.proofs.Answered.{told, at_end, all_watched, sends_all}
+use Rattle.viewer_rules.proofs.Answered.{at_end, all_watched, sends_all}
 use Rattle.viewer_rules.proofs.Shown.{frames_shown}
 use Rattle.headline.specs.Headline.{HasSessionSize, AreByPresentViewers, ConfirmAllCaches, pictures_after, steps_of, confirmed_in, EveryViewerSeesTheJournal}
-use Rattle.headline.specs.Fronts.{IsFront, SeesFirstOfJournal}
 use Rattle.headline.specs.Sent.{sent_to}
 use Rattle.headline.proofs.Interleaved.{every_viewer_sees}
 use Rattle.headline.proofs.StreamFronts.{marks_front}
 use Rattle.headline.proofs.PointedFronts.{first_numbers}
 use Rattle.headline.proofs.Pointerless.{all_read}
-use Rattle.viewer_agrees.specs.Watched.{watched_behind, ShowsJournal, sent_without, ShowsTakes, ShowsAllTakes, ShowsFirstTakes}
+use Rattle.viewer_agrees.specs.Watched.{watched_behind, ShowsJournal, sent_without, ShowsAllTakes, ShowsFirstTakes}
 
 -- ---- behind the Font Map
 

@@ -1,5 +1,5 @@
 -- What a viewer makes of an honest host's bytes: the connection sequence's answers, and then what the steps of a session send it.
-use Rattle.std.specs.Prelude.{◌≡◌, ℕ, List, ◌++◌, Option, Some, None, Ok}
+use Rattle.std.specs.Prelude.{◌≡◌, ℕ, List, ◌++◌, Some, None, Ok}
 use Rattle.px_core.specs.declared.surface.Size.{Size}
 use Rattle.caps_sets.specs.declared.confirmed.Confirmed.{Confirmed}
 use Rattle.caps_sets.specs.Confirmed.{depth_of}
@@ -10,7 +10,7 @@ use Rattle.session_rules.specs.Journal.{Head}
 use Rattle.session_rules.specs.Steps.{journal_of_steps, frame_numbers}
 use Rattle.script_rules.specs.Script.{Asked}
 use Rattle.viewer_rules.specs.declared.stage.Stage.TheVariants as stage
-use Rattle.viewer_rules.specs.ViewerHandshake.{Watching, Watched, viewer_handshake}
+use Rattle.viewer_rules.specs.ViewerHandshake.{Watched, viewer_handshake}
 use Rattle.viewer_rules.specs.Rounds.{answers, greeting, joined}
 use Rattle.viewer_rules.specs.Shown.{shown_read, look_refusal}
 use Rattle.headline.specs.Headline.{pictures_after, steps_of, confirmed_in}
