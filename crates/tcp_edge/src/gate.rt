@@ -64,7 +64,7 @@ impl<'a, R: Net<Listener = TcpListener, Stream = TcpStream> + Clock> TcpGate<'a,
             listener: None,
             asked: None,
             given: 0,
-            open: Open::new(alloc)?,
+            open: Open::new(alloc),
             finished: Vec::with_capacity(alloc, MOST_LINKS)?,
             ended: false,
             faults: 0,
@@ -115,7 +115,7 @@ impl<'a, R: Net<Listener = TcpListener, Stream = TcpStream> + Clock> Gate for Tc
             self.listener = None;
             return Next::End;
         }
-        match next_link(self.rt, &self.listener, &self.limits, &self.open) {
+        match next_link(self.rt, &self.listener, &self.limits, &mut self.open) {
             Some(link) => {
                 self.given += 1;
                 Next::Link(link)
@@ -130,6 +130,11 @@ impl<'a, R: Net<Listener = TcpListener, Stream = TcpStream> + Clock> Gate for Tc
 
     fn done(&mut self, spent: TcpSpent) {
         self.finished.push_reserved(spent);
+    }
+
+    /// Ends the oldest link whose client isn't ready, once that has had a second, unless one was closed meanwhile.
+    fn make_room(&mut self) {
+        self.open.make_room(self.rt);
     }
 }
 
@@ -149,7 +154,7 @@ fn next_link<R: Clock>(
     rt: &R,
     listener: &Option<TcpListener>,
     limits: &Limits,
-    open: &Open,
+    open: &mut Open,
 ) -> Option<TcpLink>
     ensures { IfSome result (λ l. l ≡ fresh) }
 {
@@ -157,8 +162,8 @@ fn next_link<R: Clock>(
     let mut patience = Patience::new(rt, open);
     let stream = accepted(listener, &mut patience)?;
     let other = second_handle(&stream, &mut patience)?;
-    let share = open.another()?;
-    Some(TcpLink::new(stream, other, limits, Some(share)))
+    let share = open.add(&stream);
+    Some(TcpLink::new(stream, other, limits, share))
 }
 
 /// The next connection. Clients that have given up are passed over.

@@ -81,10 +81,11 @@ impl<'a, R: Clock> Patience<'a, R> {
         Patience { rt, open, waits: 0 }
     }
 
-    /// Waits a while: a link that is open gives its descriptors back when it ends. Without any it doesn't wait where it has
-    /// waited long enough. Whether it has waited.
+    /// Waits a while: a link that is open gives its descriptors back when it ends, and one whose client isn't ready is ended for that.
+    /// Without any it doesn't wait where it has waited long enough. Whether it has waited.
     pub fn wait(&mut self) -> bool {
-        if self.open.has_others() {
+        if self.open.has_any() {
+            self.open.end_oldest();
             self.waits = 0;
         } else if self.waits >= MOST_WAITS {
             return false;
