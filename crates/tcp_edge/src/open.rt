@@ -33,6 +33,7 @@ const MOST_LOOKS: u64 = 2 * LEAST_TIME / LOOK;
 
 /// What a gate and the reader of one of its links both know of it: the number of the reader's descriptor, which is its own while the
 /// gate may end it, when it came, and whether the gate may.
+#[derive(Drop)]
 struct Known {
     descriptor: i32,
     since: u64,
@@ -151,17 +152,24 @@ impl Open {
 
     /// Ends the oldest link that the gate may end and that has had its time; whether there was one.
     pub fn end_oldest(&self) -> bool {
+        self.end_oldest_of(self.links.len())
+    }
+
+    /// The same of so many links, the oldest ones.
+    fn end_oldest_of(&self, count: usize) -> bool {
         let now = milliseconds();
         self.links
             .iter()
+            .take(count)
             .any(|link| link.age(now) >= LEAST_TIME && link.end())
     }
 
-    /// Ends the oldest link that the gate may end, as soon as it has had its time, unless one was closed before.
+    /// Ends the oldest link that the gate may end, as soon as it has had its time, unless one was closed before. The last one isn't ended,
+    /// since it is the one that waits.
     pub fn make_room<R: Clock>(&self, rt: &R) {
         let open = self.count();
         for _ in 0..MOST_LOOKS {
-            if self.count() < open || self.end_oldest() {
+            if self.count() < open || self.end_oldest_of(self.links.len().saturating_sub(1)) {
                 return;
             }
             thread::sleep(rt, Duration::from_millis(LOOK));
