@@ -50,10 +50,7 @@ pub struct Job<L: Link> {
 
 impl<L: Link> Job<L> {
     /// The work of a thread.
-    fn running(
-        given: Given<L>,
-        handle: PromisedHandle<Outcome<L::Spent>, Given<L>>,
-    ) -> Job<L>
+    fn running(given: Given<L>, handle: PromisedHandle<Outcome<L::Spent>, Given<L>>) -> Job<L>
         ensures given { result.given ≡ given }
         ensures handle { result.handle ≡ Some handle }
         ensures outcome { result.outcome ≡ None }

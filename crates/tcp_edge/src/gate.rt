@@ -7,13 +7,18 @@ use crate::link::{TcpLink, TcpSpent};
 use crate::open::Open;
 use crate::refusal::{Patience, Refusal};
 use edge_io::{Gate, Next, OutOfMemory};
+use libc::net as c;
 use std::alloc::Global;
 use std::marker::Model;
 use std::net::{Ipv4Addr, Net, SocketAddr, SocketAddrV4, TcpListener, TcpStream};
+use std::os::fd::AsRawFd;
 use std::time::Clock;
 
 /// The most links that a gate can be asked for.
 const MOST_LINKS: usize = 65_535;
+
+/// How many connections may wait to be accepted, if the system allows it (profile). Who comes while so many wait isn't heard, and tries again.
+const MOST_WAITING: i32 = 4_096;
 
 /// A port of all of this machine's IPv4 addresses, and the connections that clients make to it.
 #[derive(Drop)]
@@ -97,6 +102,7 @@ impl<'a, R: Net<Listener = TcpListener, Stream = TcpStream> + Clock> Gate for Tc
         let address = SocketAddr::V4(SocketAddrV4::new(Ipv4Addr::UNSPECIFIED, port));
         match TcpListener::bind(self.rt, address) {
             Ok(listener) => {
+                c::listen(listener.as_raw_fd(), MOST_WAITING);
                 self.listener = Some(listener);
                 self.asked = Some((port, links));
                 true

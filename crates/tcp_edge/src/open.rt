@@ -58,10 +58,10 @@ impl Given {
 
     /// Ends the reading, unless the gate may not; whether it did. A read that waits ends at once.
     fn end(&self) -> bool {
-        let begun =
-            self.known
-                .state
-                .compare_exchange(FREE, ENDING, Ordering::SeqCst, Ordering::SeqCst);
+        let begun = self
+            .known
+            .state
+            .compare_exchange(FREE, ENDING, Ordering::SeqCst, Ordering::SeqCst);
         if begun.is_err() {
             return false;
         }
@@ -87,12 +87,10 @@ impl Share {
     /// From now on the gate may not end the link. It waits while the gate does so at this moment.
     pub fn keep(&self) {
         for _ in 0..u64::MAX {
-            let kept = self.known.state.compare_exchange(
-                FREE,
-                KEPT,
-                Ordering::SeqCst,
-                Ordering::SeqCst,
-            );
+            let kept = self
+                .known
+                .state
+                .compare_exchange(FREE, KEPT, Ordering::SeqCst, Ordering::SeqCst);
             if kept != Err(ENDING) {
                 return;
             }
@@ -102,10 +100,10 @@ impl Share {
 
     /// From now on the gate may end the link, since it is being closed.
     pub fn free(&self) {
-        let _ =
-            self.known
-                .state
-                .compare_exchange(KEPT, FREE, Ordering::SeqCst, Ordering::SeqCst);
+        let _ = self
+            .known
+            .state
+            .compare_exchange(KEPT, FREE, Ordering::SeqCst, Ordering::SeqCst);
     }
 
     /// Whether the gate has ended the link.
