@@ -112,8 +112,8 @@ fn serve_link<R: Threads + Wait + Sync, L: Link>(
     }
 }
 
-/// Starts the work for a link in a thread of the scope. Where no thread can be started it waits for links to end, with so many
-/// started before this one, and does the work here only once none of them is served any more.
+/// Starts the work for a link in a thread of the scope, once there are threads for both sides of a viewer. Where there are none it waits for
+/// links to end, of so many that were started before, and does the work here only once none of them is served any more.
 pub fn start_link<'s, E, R: Threads + Wait + Sync, G: Gate>(
     rt: &'s R,
     alloc: Global,
@@ -155,6 +155,7 @@ where
         pass: Snapshot::of(&pass),
         link: Snapshot::of(&link),
     };
+    wait_for_threads(rt, scope, ended, gate, number);
     let refused = match scope.spawn_with(
         promise,
         move || -> Outcome<<G::Link as Link>::Spent>
@@ -180,7 +181,8 @@ where
     }
 }
 
-/// Waits until threads can be started, each time for one more of so many links to have ended, or until all of them have. Each time it has the gate make room.
+/// Waits until two threads can be started, each time until one more of so many links has ended and for all of them at most. Each time it
+/// has the gate make room.
 fn wait_for_threads<'s, E, R: Threads + Wait + Sync, G: Gate>(
     rt: &'s R,
     scope: &Scope<'s, E>,
