@@ -2,5 +2,6 @@ pub mod Dealing
 pub mod Ending
 pub mod Numbers
 pub mod Opened
+pub mod Refusing
 pub mod Reported
 mod GateRows

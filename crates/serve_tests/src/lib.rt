@@ -8,6 +8,8 @@ mod checks;
 #[cfg(test)]
 mod client;
 #[cfg(test)]
+mod crowd;
+#[cfg(test)]
 mod cue_gate;
 #[cfg(test)]
 mod cues;

@@ -55,7 +55,7 @@ impl Stage {
 }
 
 /// The milliseconds of a clock that never goes back; 0 where the system has none, so that each read has the whole limit.
-fn milliseconds() -> u64 {
+pub fn milliseconds() -> u64 {
     let mut time = timespec {
         tv_sec: 0,
         tv_nsec: 0,
