@@ -8,6 +8,8 @@ mod checks;
 #[cfg(test)]
 mod client;
 #[cfg(test)]
+mod control;
+#[cfg(test)]
 mod cue_gate;
 #[cfg(test)]
 mod cues;
@@ -19,3 +21,5 @@ mod gates;
 mod planned;
 #[cfg(test)]
 mod sockets;
+#[cfg(test)]
+mod watcher;
