@@ -18,6 +18,8 @@ mod failing;
 #[cfg(test)]
 mod gates;
 #[cfg(test)]
+mod monitor;
+#[cfg(test)]
 mod planned;
 #[cfg(test)]
 mod sockets;

@@ -12,7 +12,7 @@ use std::thread;
 use std::time::{Clock, Duration};
 
 /// The port that lets the system choose one.
-const ANY_PORT: u16 = 0;
+pub const ANY_PORT: u16 = 0;
 
 /// How often a client tries to connect,
 const TRIES: u32 = 1_000;
@@ -33,7 +33,7 @@ const MOST_BYTES: u32 = 1_000_000;
 pub const BLACK: u32 = 0;
 
 /// An address of this machine.
-fn local(port: u16) -> SocketAddr {
+pub fn local(port: u16) -> SocketAddr {
     SocketAddr::V4(SocketAddrV4::new(Ipv4Addr::LOCALHOST, port))
 }
 

@@ -13,7 +13,7 @@ use std::thread;
 use std::thread::Threads;
 use viewer_sender::SendFault;
 
-/// How often the tile is drawn, packed and drawn over.
+/// How often the tile of a new session is drawn, packed and drawn over.
 const ROUNDS: u8 = 200;
 
 /// What viewers confirm who take packed pixels without a header, at each depth.
@@ -153,9 +153,9 @@ fn must_be_same(rt: &impl Abort, found: Frame, alone: &[u8]) -> Result<(), Fail>
 #[test]
 fn threads_that_pack_one_tile_give_what_one_gives_alone(rt: HostRuntime) -> Result<(), Fail> {
     let alloc = rt.alloc();
-    let mut quiet = with_four(&rt, alloc)?;
-    let mut busy = with_four(&rt, alloc)?;
     for round in 0..ROUNDS {
+        let mut quiet = with_four(&rt, alloc)?;
+        let mut busy = with_four(&rt, alloc)?;
         let (at_24, at_16) = alone(&rt, alloc, &mut quiet, round)?;
         let (at_24, at_16) = (at_24?, at_16?);
         let ((one, two), (three, four)) = at_once(&rt, alloc, &mut busy, round)?;
