@@ -12,12 +12,12 @@ needs "$rdp_host"
 viewers=16
 
 # A picture of twelve tiles, on each of which is a line. So many viewers, at these bits for each pixel in turn, ask for all of it and take it,
-# one after the other; or each behind a line on each tile.
+# one after the other; or each behind the line in another colour.
 watched() {
     awk -v viewers="$1" -v depths="$2" -v drawn="$3" '
     function lines(i, x, y) {
         for (x = 0; x < 256; x += 64) for (y = 0; y < 192; y += 64)
-            printf "line %d %d %d %d %06X\n", x, y + i, x + 63, y + 40 + i, (i * 7919 + 8421504) % 16777216
+            printf "line %d %d %d %d %06X\n", x, y, x + 63, y + 40, (i * 7919 + 8421504) % 16777216
     }
     BEGIN {
         count = split(depths, bits)
@@ -37,7 +37,7 @@ watched() {
 # The instructions of packing in such a run.
 packing() {
     script_instructions watched "$@" >/dev/null
-    inclusive ::packed_tile
+    inclusive ::packed_pixels
 }
 
 # Whether a count is as many times another one as is wanted, to a tenth.
