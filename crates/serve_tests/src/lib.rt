@@ -8,6 +8,8 @@ mod checks;
 #[cfg(test)]
 mod client;
 #[cfg(test)]
+mod control;
+#[cfg(test)]
 mod crowd;
 #[cfg(test)]
 mod cue_gate;
@@ -18,6 +20,10 @@ mod failing;
 #[cfg(test)]
 mod gates;
 #[cfg(test)]
+mod monitor;
+#[cfg(test)]
 mod planned;
 #[cfg(test)]
 mod sockets;
+#[cfg(test)]
+mod watcher;
