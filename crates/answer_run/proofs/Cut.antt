@@ -120,7 +120,7 @@ nothing_shows size owner stream =
           pointers = record {
             marks_show_pointers = refl;
             packets_are_first = record {
-              rest = packets_told size (confirmed_in head asked client) (journal_of_steps head (steps_of asked)) [] (frame_numbers head (steps_of asked) client);
+              rest = packets_told (confirmed_in head asked client) size (journal_of_steps head (steps_of asked)) [] (frame_numbers head (steps_of asked) client);
               joined = refl;
             };
           };
