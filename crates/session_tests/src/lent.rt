@@ -1,9 +1,10 @@
 //! Takes that are encoded only when the session has gone on.
-ghost use Rattle.std.specs.Prelude.{◌≡◌, true, [], ◌∷◌};
+ghost use Rattle.std.specs.Prelude.{◌≡◌, true, [], ◌∷◌, IfOk};
 ghost use Rattle.px_core.specs.Colors.{are_colors};
 ghost use Rattle.draw_ops.specs.Ranges.{colors_of};
 ghost use Rattle.session_core.specs.Heads.{rows_of};
 ghost use Rattle.session_core.specs.SessionModel.{AreInvited};
+ghost use Rattle.viewer_sender.specs.OwnTakes.{IsOwnTake};
 
 use caps_sets::preset;
 use client_view::Client;
@@ -12,25 +13,24 @@ use info_lic::Name;
 use px_core::{Rect, Size};
 use session_core::{DrawRefusal, Invite, JoinFault, OutOfMemory, Role, Session};
 use std::alloc::Global;
-use std::marker::Model;
 use std::process::Abort;
 use std::test::Fail;
-use viewer_sender::{SendFault, Sender, Take, Taken};
+use viewer_sender::{Sender, Take, Taken};
 
 /// A picture of one tile,
-pub const SIZE: Size = Size { w: 64, h: 64 };
+const SIZE: Size = Size { w: 64, h: 64 };
 
 /// and all of it.
-pub const WHOLE: Rect = Rect {
+const WHOLE: Rect = Rect {
     x: 0,
     y: 0,
     w: 64,
     h: 64,
 };
 
-pub const RED: u32 = 0xFF0000;
+const RED: u32 = 0xFF0000;
 
-pub const BLUE: u32 = 0x0000FF;
+const BLUE: u32 = 0x0000FF;
 
 /// An owner, and one who may only view.
 fn two_rows() -> [Invite; 2]
@@ -48,12 +48,12 @@ fn two_rows() -> [Invite; 2]
     ]
 }
 
-pub fn join(session: &mut Session, name: &Name) -> Result<u32, JoinFault> {
+fn join(session: &mut Session, name: &Name) -> Result<u32, JoinFault> {
     session.join(name)
 }
 
 /// A session that ann has joined as viewer 1, and eve as viewer 2. Ann holds control.
-pub fn with_two(rt: &impl Abort, alloc: Global) -> Result<Session, OutOfMemory> {
+fn with_two(rt: &impl Abort, alloc: Global) -> Result<Session, OutOfMemory> {
     let mut session = Session::new(alloc, SIZE, &two_rows())?;
     assert!(rt; join(&mut session, &Name::new(b"ann")) == Ok(1));
     assert!(rt; join(&mut session, &Name::new(b"eve")) == Ok(2));
@@ -61,7 +61,7 @@ pub fn with_two(rt: &impl Abort, alloc: Global) -> Result<Session, OutOfMemory> 
 }
 
 /// What a drawing of ann's is answered.
-pub fn draw(rt: &impl Abort, session: &mut Session, shape: Shape) -> Result<(), DrawRefusal>
+fn draw(rt: &impl Abort, session: &mut Session, shape: Shape) -> Result<(), DrawRefusal>
     requires { are_colors (colors_of shape) ≡ true }
 {
     assert!(rt; session.present(1));
@@ -69,7 +69,7 @@ pub fn draw(rt: &impl Abort, session: &mut Session, shape: Shape) -> Result<(), 
 }
 
 /// Ann gives the picture one colour.
-pub fn must_fill(rt: &impl Abort, session: &mut Session, color: u32)
+fn must_fill(rt: &impl Abort, session: &mut Session, color: u32)
     requires { are_colors (color ∷ []) ≡ true }
 {
     assert!(rt; draw(rt, session, Shape::Fill { rect: WHOLE, color }) == Ok(()));
@@ -87,48 +87,25 @@ fn must_draw_a_line(rt: &impl Abort, session: &mut Session) {
     assert!(rt; draw(rt, session, line) == Ok(()));
 }
 
-/// A frame that was taken, and the sender that is to encode it next. Contracts see nothing of it.
+/// A frame that was taken, and the sender that is to encode it.
 #[derive(Drop)]
-pub struct Due {
+struct Due {
     sender: Sender,
     take: Take,
 }
 
-impl Model for Due {
-    ghost use Rattle.std.specs.Prelude.{◌≡◌};
-    ghost use Rattle.viewer_sender.specs.OwnTakes.{IsOwnTake};
-
-    ghost Value = { Unit {0} };
-
-    ghost view = { λ _. tt };
-
-    ghost invariant = { λ d. (d.take.serial ≡ d.sender.encoded) × IsOwnTake d.sender.confirmed d.take };
-}
-
-impl Due {
-    /// The first frame of a viewer that confirms what these words say.
-    pub fn first(
-        rt: &impl Abort,
-        alloc: Global,
-        session: &mut Session,
-        v: u32,
-        words: &[u8],
-    ) -> Result<Due, Fail> {
-        let confirmed = preset(words).ok_or("no preset words")?;
-        let mut sender = Sender::new(alloc, v, confirmed)?;
-        assert!(rt; session.present(v));
-        let Taken::Frame(take) = sender.take(alloc, session)? else {
-            panic!(rt; "no frame");
-        };
-        Ok(Due { sender, take })
-    }
-
-    /// Its bytes.
-    pub fn encoded(self, alloc: Global) -> Result<Vec<u8>, SendFault> {
-        let Due { sender, take } = self;
-        let mut sender = sender;
-        sender.encode(alloc, take)
-    }
+/// A viewer's first frame, which has the tile.
+fn first_take(rt: &impl Abort, alloc: Global, session: &mut Session, v: u32) -> Result<Due, Fail>
+    ensures serial { IfOk result (λ due. due.take.serial ≡ due.sender.encoded) }
+    ensures own { IfOk result (λ due. IsOwnTake due.sender.confirmed due.take) }
+{
+    let confirmed = preset(b"plain").ok_or("no preset words")?;
+    let mut sender = Sender::new(alloc, v, confirmed)?;
+    assert!(rt; session.present(v));
+    let Taken::Frame(take) = sender.take(alloc, session)? else {
+        panic!(rt; "no frame");
+    };
+    Ok(Due { sender, take })
 }
 
 /// The colours that a client shows at two corners of its last mark.
@@ -148,6 +125,17 @@ fn must_show(rt: &impl Abort, alloc: Global, bytes: &[u8], color: u32) -> Result
     Ok(())
 }
 
+/// The bytes of a frame.
+fn encoded(alloc: Global, due: Due) -> Result<Vec<u8>, Fail>
+    requires serial { due.take.serial ≡ due.sender.encoded }
+    requires own { IsOwnTake due.sender.confirmed due.take }
+{
+    let Due { sender, take } = due;
+    let mut sender = sender;
+    let bytes = sender.encode(alloc, take)?;
+    Ok(bytes)
+}
+
 /// Both takes have the same tile. The first one is encoded only when the picture was drawn over, and the second was taken.
 #[test]
 fn a_take_keeps_the_tiles_that_it_was_lent(rt: HostRuntime) -> Result<(), Fail> {
@@ -155,12 +143,12 @@ fn a_take_keeps_the_tiles_that_it_was_lent(rt: HostRuntime) -> Result<(), Fail> 
     let mut session = with_two(&rt, alloc)?;
     must_fill(&rt, &mut session, RED);
     must_draw_a_line(&rt, &mut session);
-    let first = Due::first(&rt, alloc, &mut session, 1, b"plain")?;
+    let first = first_take(&rt, alloc, &mut session, 1)?;
     must_fill(&rt, &mut session, BLUE);
-    let second = Due::first(&rt, alloc, &mut session, 2, b"plain")?;
-    let red = first.encoded(alloc)?;
+    let second = first_take(&rt, alloc, &mut session, 2)?;
+    let red = encoded(alloc, first)?;
     must_show(&rt, alloc, red.as_slice(), RED)?;
-    let blue = second.encoded(alloc)?;
+    let blue = encoded(alloc, second)?;
     must_show(&rt, alloc, blue.as_slice(), BLUE)?;
     Ok(())
 }

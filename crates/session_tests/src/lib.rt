@@ -1,5 +1,5 @@
-//! Tests of two threads that share a session by the lock, of a take that goes to another thread or waits while the session goes on, of a lent
-//! tile that threads pack at once, and of a surface of tiles beside one of a whole picture.
+//! Tests of two threads that share a session by the lock, of a take that goes to another thread or waits while the session goes on, and of a
+//! surface of tiles beside one of a whole picture.
 //!
 //! They use public calls alone, so they stand apart: a crate with tests of its own is proved a second time for them.
 #![tactic(auto)]
@@ -10,8 +10,6 @@ mod alike;
 mod handed;
 #[cfg(test)]
 mod lent;
-#[cfg(test)]
-mod packed;
 #[cfg(test)]
 mod room;
 #[cfg(test)]
