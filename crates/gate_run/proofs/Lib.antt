@@ -2,6 +2,5 @@ pub mod Dealing
 pub mod Ending
 pub mod Numbers
 pub mod Opened
-pub mod Refusing
 pub mod Reported
 mod GateRows

@@ -12,8 +12,6 @@ use Rattle.gate_run.specs.declared.served.GateEnd.{GateEnd}
 use Rattle.gate_run.specs.declared.served.GateEnd.TheVariants.{Ended, Failed, NoListen}
 use Rattle.gate_run.specs.Gates.{GateState, EachServed, AreApart, IsAllReported, AskedFor, EndCause, ServesGate}
 use Rattle.gate_run.specs.OpenGate.{GivesNoMore, ServesLinks}
-use Rattle.gate_run.specs.Refusals.{EachRightlyRefused}
-use Rattle.gate_run.proofs.Refusing.{each_rightly}
 
 -- a gate was opened for so many links, and else is as before
 pub record Opens (port links : ℕ) (before opened : GateState) : Type 0 where
@@ -45,7 +43,6 @@ serves_opened head first port links before opened after j reports end new o s =
       given = s.given ∙ ap (λ l. l ++ s.joined) o.given;
       finished = s.finished ∙ ap (λ l. l ++ s.spent) o.finished;
       served = s.served;
-      rightly = each_rightly head first j s.joined reports s.spent s.served;
       legal = s.legal;
       apart = s.apart;
       whole = s.whole;
@@ -71,7 +68,6 @@ serves_none head first port links before after j reports s legal none begins min
       given = s.given ∙ sym (append-nil before.given);
       finished = s.finished ∙ sym (append-nil before.finished);
       served = subst (λ rs. EachServed head first j [] rs []) (sym none) tt;
-      rightly = subst (λ rs. EachRightlyRefused head first j [] rs []) (sym none) tt;
       legal = legal;
       whole = subst (IsAllReported first j) (sym none) record { begins = begins; reported = λ n low lt. absurd (none_has n (subst (λ (l : List ℕ). Contains l n) empty (all n low lt))) };
       apart = subst (AllPairs AreApart) (sym none) (λ i k d lt within. absurd (omega (arith, within)));

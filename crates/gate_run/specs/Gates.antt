@@ -13,7 +13,6 @@ use Rattle.serve_rules.specs.Turns.{SessionPass}
 use Rattle.serve_rules.specs.declared.noted.ConnReport.{ConnReport}
 use Rattle.edge_io.specs.Outside.{Outside, outside_given, outside_spent}
 use Rattle.viewer_run.specs.Links.{ServesViewer}
-use Rattle.gate_run.specs.Refusals.{EachRightlyRefused}
 use Rattle.gate_run.specs.declared.served.GateEnd.{GateEnd}
 use Rattle.gate_run.specs.declared.served.GateEnd.TheVariants.{Ended, Failed, NoListen}
 
@@ -98,7 +97,7 @@ EndCause Failed joined before after = (after.ended ≡ before.ended) × Rose bef
 EndCause NoListen joined before after = (joined ≡ []) × (after.ended ≡ before.ended) × Rose before.faults after.faults
 
 -- a gate was opened and its links were served, over a session that had a first journal and ends with another one: the links that were given and those that came
--- back, in one order with the reports, which have all that was appended; who wasn't let in was refused by the journal of all of them
+-- back, in one order with the reports, which have all that was appended
 pub record ServesGate (head : Head) (first : List Entry) (port links : ℕ) (before after : GateState) (j : List Entry) (reports : List ConnReport)
     (end : GateEnd) : Type 0 where
   pub joined : List Outside
@@ -106,7 +105,6 @@ pub record ServesGate (head : Head) (first : List Entry) (port links : ℕ) (bef
   pub given : after.given ≡ before.given ++ joined
   pub finished : after.finished ≡ before.finished ++ spent
   pub served : EachServed head first j joined reports spent
-  pub rightly : EachRightlyRefused head first j joined reports spent
   pub legal : IsLegalJournal head j
   pub apart : AllPairs AreApart reports
   pub whole : IsAllReported first j reports

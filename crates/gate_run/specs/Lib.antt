@@ -1,5 +1,4 @@
 pub mod Gates
-pub mod Refusals
 pub mod Working
 pub mod OpenGate
 pub mod Taking

@@ -9,7 +9,7 @@ ghost use Rattle.gate_run.specs.Working.{IsFresh, IsWork, IsDealtOut};
 
 use crate::GateEnd;
 use crate::ended::Ended;
-use crate::jobs::{Job, start_link};
+use crate::jobs::{Job, start_link, wait_for_threads};
 use edge_io::{Gate, Link, Next};
 use grow_lock::{GrowLock, Pass};
 use session_core::Session;
@@ -111,8 +111,9 @@ where
             Next::Link(link) => {
                 let number = jobs.len();
                 wait_for_room(rt, ended, gate, number);
+                wait_for_threads(rt, scope, ended, gate, number);
                 let part = lock.split(&mut pass);
-                let job = start_link(rt, alloc, scope, lock, ended, gate, number, part, link);
+                let job = start_link(rt, alloc, scope, lock, ended, number, part, link);
                 jobs.push_reserved(job);
             }
             Next::End => return (pass, jobs, gate, GateEnd::Ended),

@@ -1,5 +1,5 @@
 //! The work for one link: in a thread, or done.
-ghost use Rattle.std.specs.Prelude.{◌≡◌, ◌<◌, [], ◌||◌, true, Some, None, is_some, IfSome, vec_len};
+ghost use Rattle.std.specs.Prelude.{◌≡◌, ◌<◌, [], ◌||◌, true, is_some, IfSome, vec_len};
 ghost use Rattle.std.specs.Thread.{IsSync};
 ghost use Rattle.session_rules.specs.declared.entry.Entry.{Entry};
 ghost use Rattle.session_rules.specs.Journal.{Head};
@@ -49,19 +49,6 @@ pub struct Job<L: Link> {
 }
 
 impl<L: Link> Job<L> {
-    /// The work of a thread.
-    fn running(given: Given<L>, handle: PromisedHandle<Outcome<L::Spent>, Given<L>>) -> Job<L>
-        ensures given { result.given ≡ given }
-        ensures handle { result.handle ≡ Some handle }
-        ensures outcome { result.outcome ≡ None }
-    {
-        Job {
-            given,
-            handle: Some(handle),
-            outcome: None,
-        }
-    }
-
     /// Waits for the work's thread, if it has one that wasn't waited for, and keeps what it came to.
     pub fn collect<R: Threads>(&mut self, rt: &R)
         ensures given { self.new.given ≡ self.old.given }
@@ -112,33 +99,27 @@ fn serve_link<R: Threads + Wait + Sync, L: Link>(
     }
 }
 
-/// Starts the work for a link in a thread of the scope, once there are threads for both sides of a viewer. Where there are none it waits for
-/// links to end, of so many that were started before, and does the work here only once none of them is served any more.
-pub fn start_link<'s, E, R: Threads + Wait + Sync, G: Gate>(
+/// Starts the work for a link in a thread of the scope. Where no thread can be started it does the work here, once none of the links is served any
+/// more that were started before, so many.
+pub fn start_link<'s, E, R: Threads + Wait + Sync, L: Link>(
     rt: &'s R,
     alloc: Global,
     scope: &Scope<'s, E>,
     lock: &'s GrowLock<Session>,
     ended: &'s Ended,
-    gate: &mut G,
     number: usize,
     pass: Pass<Session>,
-    link: G::Link,
-) -> Job<G::Link>
+    link: L,
+) -> Job<L>
 where
-    G::Link: 's,
+    L: 's,
     requires lock { IsPassOf lock.now pass }
     requires fresh { IsFresh pass }
     requires since { StartsWith pass.seen lock.now.first }
     requires number { number < vec_len ended.now.behind }
     ensures link { result.given.link.value ≡ link }
     ensures pass { result.given.pass.value ≡ pass }
-    ensures work { IsWork G.Link.Link lock.now result }
-    ensures given { G.given gate.new ≡ G.given gate.old }
-    ensures finished { G.finished gate.new ≡ G.finished gate.old }
-    ensures asked { G.asked gate.new ≡ G.asked gate.old }
-    ensures ended { G.ended gate.new ≡ G.ended gate.old }
-    ensures faults { G.faults gate.new ≡ G.faults gate.old }
+    ensures work { IsWork L.Link lock.now result }
 {
     let given = Given {
         lock: Snapshot::of(lock),
@@ -150,25 +131,18 @@ where
         pass: Snapshot::of(&pass),
         link: Snapshot::of(&link),
     };
-    let again = Given {
-        lock: Snapshot::of(lock),
-        pass: Snapshot::of(&pass),
-        link: Snapshot::of(&link),
-    };
-    wait_for_threads(rt, scope, ended, gate, number);
-    let refused = match scope.spawn_with(
+    match scope.spawn_with(
         promise,
-        move || -> Outcome<<G::Link as Link>::Spent>
+        move || -> Outcome<L::Spent>
             requires { IsPassOf lock.now pass × (number < vec_len ended.now.behind) × IsSync R.row }
-            ensures { IsDone lock.entry.now pass (outside_given G.Link.Link link) result.pass result.report (outside_spent G.Link.Link result.spent) }
+            ensures { IsDone lock.entry.now pass (outside_given L.Link link) result.pass result.report (outside_spent L.Link result.spent) }
         { serve_link(rt, alloc, lock, ended, number, pass, link) },
     ) {
-        Ok(handle) => return Job::running(given, handle),
-        Err(refused) => refused,
-    };
-    wait_for_threads(rt, scope, ended, gate, number);
-    match scope.spawn_with(again, refused.value) {
-        Ok(handle) => Job::running(given, handle),
+        Ok(handle) => Job {
+            given,
+            handle: Some(handle),
+            outcome: None,
+        },
         Err(refused) => {
             ended.wait_for(rt, number);
             let outcome = (refused.value)();
@@ -183,7 +157,7 @@ where
 
 /// Waits until two threads can be started, each time until one more of so many links has ended and for all of them at most. Each time it
 /// has the gate make room.
-fn wait_for_threads<'s, E, R: Threads + Wait + Sync, G: Gate>(
+pub fn wait_for_threads<'s, E, R: Threads + Wait + Sync, G: Gate>(
     rt: &'s R,
     scope: &Scope<'s, E>,
     ended: &Ended,

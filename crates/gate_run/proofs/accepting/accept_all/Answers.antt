@@ -41,7 +41,7 @@ returns-in-Failed-clause-dealt g c = subst (IsDealtOut c.args.pass.share c.loop.
 pub loop-preserved : goal.loop-preserved
 loop-preserved g c =
     let inv = c.loop.invariant in let next = c.in-Link.ensures in let kept = c.collect_ended.ensures in let jobs = c.collect_ended.new.jobs in
-    let wait = c.wait_for_room.ensures in let job = c.start_link-job in let started = job.ensures in let push = c.push_reserved.ensures in let given = g.G.Gate.given c.loop.gate in
+    let wait = c.wait_for_room.ensures in let job = c.start_link-job in let started = c.wait_for_threads.ensures in let push = c.push_reserved.ensures in let given = g.G.Gate.given c.loop.gate in
     let below : length given < c.args.links = subst (IsBelow (length given)) (inv.asked ∙ c.requires.gate.asked.1) next.limit.0 in
     let count = ap length inv.given ∙ length-map c.loop.jobs.items (λ j. j.given.link.value) in
     record {
