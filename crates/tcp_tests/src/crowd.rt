@@ -104,7 +104,7 @@ fn a_link_that_was_closed_is_passed_over(rt: HostRuntime) -> Result<(), Fail> {
     let (_youngest, _third) = linked(&rt, &mut gate);
     drop(client);
     let (reader, writer) = first.split();
-    gate.done(TcpLink::close(reader, writer));
+    let _spent = TcpLink::close(reader, writer);
     let (mut second, _) = second.split();
     gate.make_room();
     let mut buf = [0u8; 8];
