@@ -46,27 +46,6 @@ fn two_rows() -> [Invite; 2]
     ]
 }
 
-/// An owner, and one who may hold control.
-fn rows_of_two_drawers() -> [Invite; 2]
-    ensures { AreInvited (rows_of result) }
-{
-    [
-        Invite {
-            name: Name::new(b"ann"),
-            role: Role::Owner,
-        },
-        Invite {
-            name: Name::new(b"ben"),
-            role: Role::Control,
-        },
-    ]
-}
-
-/// A session whose two guests may hold control, that nobody has joined.
-pub fn new_session_of_drawers(alloc: Global) -> Result<Session, OutOfMemory> {
-    Session::new(alloc, SIZE, &rows_of_two_drawers())
-}
-
 /// A session that nobody has joined.
 pub fn new_session(alloc: Global) -> Result<Session, OutOfMemory> {
     Session::new(alloc, SIZE, &two_rows())
@@ -98,23 +77,10 @@ pub const WHITE: u32 = 0xFFFFFF;
 
 /// The closing session shows that the mouse was pressed.
 pub fn must_be_pressed(rt: &impl Abort, served: &Served) {
-    must_show(rt, served, X, Y, WHITE);
-}
-
-/// The closing session shows this colour at a pixel.
-pub fn must_show(rt: &impl Abort, served: &Served, x: u32, y: u32, color: u32) {
     let surface = served.session.look();
     let size = surface.size();
-    assert!(rt; x < size.w && y < size.h);
-    assert_eq!(rt; surface.pixel(x, y), color);
-}
-
-/// A link's connection appended so many entries.
-pub fn must_have_entered(rt: &impl Abort, served: &Served, link: usize, entries: u64) {
-    match served.reports.get(link) {
-        Some(report) => must_count(rt, report.places.list().len() as u64, entries),
-        None => panic!(rt; "no report"),
-    }
+    assert!(rt; X < size.w && Y < size.h);
+    assert_eq!(rt; surface.pixel(X, Y), WHITE);
 }
 
 /// So much was counted.

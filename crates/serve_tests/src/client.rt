@@ -32,14 +32,13 @@ struct Said {
 }
 
 /// A share data PDU: its type, and what stands behind its header of 18 bytes, at most 200 bytes.
-#[derive(Clone, Copy, Drop)]
-pub struct Data<'a> {
-    pub kind: u8,
-    pub body: &'a [u8],
+pub struct Data {
+    kind: u8,
+    body: &'static [u8],
 }
 
 /// An Input PDU with one event: the first button of the mouse is pressed at (20, 20) ([MS-RDPBCGR] 2.2.8.1.1.3).
-pub const PRESS: Data<'static> = Data {
+pub const PRESS: Data = Data {
     kind: 0x1C,
     body: &[
         0x01, 0x00, 0x00, 0x00, // one event
@@ -49,7 +48,7 @@ pub const PRESS: Data<'static> = Data {
 };
 
 /// A Refresh Rect PDU: all of 64 by 48 pixels ([MS-RDPBCGR] 2.2.11.2).
-pub const REFRESH_ALL: Data<'static> = Data {
+pub const REFRESH_ALL: Data = Data {
     kind: 0x21,
     body: &[
         0x01, 0x00, 0x00, 0x00, // one area
@@ -58,13 +57,13 @@ pub const REFRESH_ALL: Data<'static> = Data {
 };
 
 /// A Suppress Output PDU: SUPPRESS_DISPLAY_UPDATES ([MS-RDPBCGR] 2.2.11.3).
-pub const STOP_OUTPUT: Data<'static> = Data {
+pub const STOP_OUTPUT: Data = Data {
     kind: 0x23,
     body: &[0x00, 0x00, 0x00, 0x00],
 };
 
 /// Puts a share data PDU in its packet behind bytes.
-fn put_data(out: &mut Vec<u8>, data: &Data<'_>) -> Result<(), AllocError> {
+fn put_data(out: &mut Vec<u8>, data: &Data) -> Result<(), AllocError> {
     let length = u8::try_from(data.body.len()).unwrap_or(0);
     let user_data = length.wrapping_add(18);
     out.extend_from_slice(&[0x03, 0x00, 0x00, length.wrapping_add(32)])?; // TPKT
@@ -133,7 +132,7 @@ pub fn whole_of(alloc: Global, name: &Name, words: &[u8]) -> Result<Vec<u8>, Out
 }
 
 /// The packets of share data PDUs.
-pub fn packets(alloc: Global, list: &[Data<'_>]) -> Result<Vec<u8>, AllocError> {
+pub fn packets(alloc: Global, list: &[Data]) -> Result<Vec<u8>, AllocError> {
     let mut out = Vec::new(alloc);
     for data in list {
         put_data(&mut out, data)?;

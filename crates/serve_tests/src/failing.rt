@@ -8,7 +8,7 @@ use crate::checks::{
 };
 use crate::client::{ANSWER, PRESS, packets, whole};
 use crate::planned::{served, written};
-use crate::watcher::{BLACK, pixel};
+use crate::sockets::{BLACK, pixel};
 use caps_sets::preset;
 use client_view::Client;
 use edge_io::{MemLink, OutOfMemory, PlanGate, PlanSink, PlanSource};

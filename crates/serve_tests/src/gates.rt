@@ -25,7 +25,7 @@ fn part(alloc: Global, cue: Cue, bytes: Vec<u8>) -> Part {
 }
 
 /// Packets that come with a cue.
-fn data(alloc: Global, cue: Cue, list: &[Data<'_>]) -> Result<Part, OutOfMemory> {
+fn data(alloc: Global, cue: Cue, list: &[Data]) -> Result<Part, OutOfMemory> {
     Ok(part(alloc, cue, packets(alloc, list)?))
 }
 

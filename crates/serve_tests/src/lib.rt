@@ -8,10 +8,6 @@ mod checks;
 #[cfg(test)]
 mod client;
 #[cfg(test)]
-mod control;
-#[cfg(test)]
-mod crowd;
-#[cfg(test)]
 mod cue_gate;
 #[cfg(test)]
 mod cues;
@@ -20,10 +16,6 @@ mod failing;
 #[cfg(test)]
 mod gates;
 #[cfg(test)]
-mod monitor;
-#[cfg(test)]
 mod planned;
 #[cfg(test)]
 mod sockets;
-#[cfg(test)]
-mod watcher;

@@ -15,7 +15,7 @@ use std::test::Fail;
 use std::thread::Threads;
 
 /// Disconnect Provider Ultimatum to a client that is refused.
-pub const ULTIMATUM: [u8; 9] = [0x03, 0x00, 0x00, 0x09, 0x02, 0xF0, 0x80, 0x20, 0x80];
+const ULTIMATUM: [u8; 9] = [0x03, 0x00, 0x00, 0x09, 0x02, 0xF0, 0x80, 0x20, 0x80];
 
 /// A link with the stream of a client of this name, whose writer fails in these calls.
 fn link(alloc: Global, name: &Name, fails: &[u32]) -> Result<MemLink, OutOfMemory> {

@@ -1,22 +1,150 @@
 //! Two clients over the loopback interface.
 
 use crate::checks::{SIZE, WHITE, X, Y, must_have_left, new_session, owner, viewer};
-use crate::client::{FAST, PLAIN, PLAIN_AT_16_BITS, PRESS, packets, whole_of};
-use crate::watcher::{BLACK, Guest, Watcher, free_port, pixel};
+use crate::client::{ANSWER, FAST, PLAIN, PLAIN_AT_16_BITS, PRESS, packets, whole_of};
+use caps_sets::preset;
 use client_view::Client;
 use gate_run::{OutOfMemory, Served, serve_gate};
 use std::alloc::Global;
-use std::net::{Net, TcpListener, TcpStream};
+use std::io::{Read, Write};
+use std::net::{Ipv4Addr, Net, Shutdown, SocketAddr, SocketAddrV4, TcpListener, TcpStream};
 use std::process::Abort;
 use std::sync::Wait;
 use std::test::Fail;
 use std::thread;
 use std::thread::Threads;
-use std::time::Clock;
+use std::time::{Clock, Duration};
 use tcp_edge::TcpGate;
+
+/// The port that lets the system choose one.
+const ANY_PORT: u16 = 0;
+
+/// How often a client tries to connect,
+const TRIES: u32 = 1_000;
+
+/// and how many milliseconds it waits after each try.
+const PAUSE: u64 = 10;
+
+/// How many milliseconds a client waits for what comes next.
+const PATIENCE: u64 = 30_000;
+
+/// How many reads a client makes.
+const MOST_READS: u32 = 10_000;
+
+/// The board before it is drawn on.
+pub const BLACK: u32 = 0;
 
 /// The ink of the board as a client at 16 bits shows it: of its five, six and five bits the rest is 0.
 const WHITE_AT_16_BITS: u32 = 0xF8FCF8;
+
+/// An address of this machine.
+fn local(port: u16) -> SocketAddr {
+    SocketAddr::V4(SocketAddrV4::new(Ipv4Addr::LOCALHOST, port))
+}
+
+/// A port that was free a moment ago.
+fn free_port<R: Net<Listener = TcpListener, Stream = TcpStream>>(rt: &R) -> Result<u16, Fail> {
+    let listener = TcpListener::bind(rt, local(ANY_PORT))?;
+    Ok(listener.local_addr()?.port())
+}
+
+/// What a client confirms and sends, and as what it shows the ink of the board.
+#[derive(Clone, Copy, Drop)]
+struct Guest<'a> {
+    words: &'a [u8],
+    bytes: &'a [u8],
+    ink: u32,
+}
+
+/// A client, as what it shows the ink of the board, and how much of the answer to its connection sequence is still to come.
+#[derive(Drop)]
+struct Watcher {
+    stream: TcpStream,
+    answer: usize,
+    client: Client,
+    ink: u32,
+}
+
+impl Watcher {
+    /// A client that has connected to a port, perhaps after some time, and sent its bytes.
+    fn new<R: Net<Listener = TcpListener, Stream = TcpStream> + Clock>(
+        rt: &R,
+        alloc: Global,
+        port: u16,
+        guest: &Guest<'_>,
+    ) -> Option<Watcher> {
+        let mut stream = connected(rt, port)?;
+        stream
+            .set_read_timeout(Some(Duration::from_millis(PATIENCE)))
+            .ok()?;
+        stream.write_all(guest.bytes).ok()?;
+        let client = Client::new(alloc, preset(guest.words)?, SIZE).ok()?;
+        Some(Watcher {
+            stream,
+            answer: ANSWER,
+            client,
+            ink: guest.ink,
+        })
+    }
+
+    /// Reads what comes next; how many bytes these are. None where they aren't what a client is to be sent.
+    fn read(&mut self) -> Option<usize> {
+        let mut buf = [0u8; 4_096];
+        let count = self.stream.read(&mut buf).ok()?;
+        let passed = count.min(self.answer);
+        self.answer -= passed;
+        self.client.feed(&buf[passed..count]).ok()?;
+        Some(count)
+    }
+
+    /// Reads until the last mark shows the board's ink where the mouse was pressed.
+    fn watch(&mut self) -> Option<()> {
+        for _ in 0..MOST_READS {
+            if pixel(&self.client, X, Y) == Some(self.ink) {
+                return Some(());
+            }
+            if self.read()? == 0 {
+                return None;
+            }
+        }
+        None
+    }
+
+    /// Sends no more, and reads what is left.
+    fn leave(&mut self) -> Option<()> {
+        self.stream.shutdown(Shutdown::Write).ok()?;
+        for _ in 0..MOST_READS {
+            if self.read()? == 0 {
+                return Some(());
+            }
+        }
+        None
+    }
+}
+
+/// A connection to a port, which may not be open yet.
+fn connected<R: Net<Listener = TcpListener, Stream = TcpStream> + Clock>(
+    rt: &R,
+    port: u16,
+) -> Option<TcpStream> {
+    for _ in 0..TRIES {
+        if let Ok(stream) = TcpStream::connect(rt, local(port)) {
+            return Some(stream);
+        }
+        thread::sleep(rt, Duration::from_millis(PAUSE));
+    }
+    None
+}
+
+/// The colour of a pixel at the last mark.
+pub fn pixel(client: &Client, x: u32, y: u32) -> Option<u32> {
+    let size = client.size();
+    if x < size.w && y < size.h {
+        client.marked(x, y)
+    } else {
+        None
+    }
+}
 
 /// A gate at a port, which was served to two clients.
 fn served<R: Net<Listener = TcpListener, Stream = TcpStream> + Clock + Threads + Wait + Sync>(
@@ -36,9 +164,15 @@ fn attend<R: Net<Listener = TcpListener, Stream = TcpStream> + Clock>(
     guest: &Guest<'_>,
 ) -> Option<Client> {
     let mut watcher = Watcher::new(rt, alloc, port, guest)?;
-    watcher.watch(X, Y)?;
+    watcher.watch()?;
     watcher.leave()?;
-    Some(watcher.shown())
+    let Watcher {
+        stream: _,
+        answer: _,
+        client,
+        ink: _,
+    } = watcher;
+    Some(client)
 }
 
 /// Whether a row of two pictures is the same.
