@@ -1,6 +1,6 @@
 #!/bin/sh
 # Runs the benches that measure the programs, one after the other, and keeps the whole output of each in a folder, as NAME.txt, with how it
-# ended. It ends with 0 where each of them did.
+# ended. It prints that, and how many figures aren't as they are wanted, and ends with 0 where each bench did.
 #
 # usage: sh bench/all.sh FOLDER [BENCH ..]      (scripts turns look handshake demo view plain serve, of serve the parts clicks, rate and idle.
 #                                                PROGRAMS=FOLDER has other programs measured than those that are built here)
@@ -22,6 +22,7 @@ for bench in "$@"; do
         echo "it ended with $ended at $(date -u '+%H:%M')"
     } >"$folder/$bench.txt" 2>&1
     echo "$bench: $ended"
+    grep "^$bench: figures that" "$folder/$bench.txt" || :
     [ "$ended" -eq 0 ] || failed=1
 done
 exit "$failed"

@@ -42,4 +42,4 @@ if command -v valgrind >/dev/null; then
     echo "the ten functions that take most of $total instructions, of $steps steps:"
     callgrind_annotate "$work/profile" | grep -v '^--' | grep '%' | sed -n '2,11p'
 fi
-met
+count_unmet

@@ -37,4 +37,4 @@ ends=0
 through=
 row 'its Font List, with the first frame' $(($(served "$work/sample") - whole))
 row 'an Input packet of one event, with its take' $((($(served "$work/many") - $(served "$work/few")) / 100))
-met
+count_unmet

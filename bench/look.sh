@@ -63,4 +63,4 @@ capture "$small$(packet 03000000)" 1 >"$work/line"
 read -r seconds kibibytes <"$work/time"
 echo "a capture of $(wc -c <"$work/capture") bytes: $seconds s of processor time (wanted: 0.24, open), $kibibytes KiB (wanted: 40000)"
 want "$kibibytes" 40000 'KiB for the capture'
-met
+count_unmet

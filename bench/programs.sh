@@ -1,7 +1,7 @@
 # What the benches share. To be sourced with the bench's name in `bench`: it has where the programs stand, the folder $work for what
 # a run reads and writes, and the functions below. PROGRAMS names another folder of programs, and RDP_HOST, RDP_LOOK and RDP_VIEW one of
-# them each. A wish that docs/performance.md shows as met, and that isn't met any more, makes a bench end with 1; one that was never met is
-# `open`, and only printed.
+# them each. A figure is a wish: where one that docs/performance.md shows as met isn't met any more, that is said, and the bench goes on; one
+# that was never met is `open`, and only printed. A bench ends with 0 where it was done, whatever its figures, and else with another status.
 set -eu
 LC_ALL=C
 export LC_ALL
@@ -64,15 +64,15 @@ least() {
     if [ "$1" -lt "$2" ]; then echo "$1"; else echo "$2"; fi
 }
 
-# A wish that was met: where the figure is above it now, that is said, and `met`, a bench's last line, ends it with 1.
-unmet=
+# A wish that was met: where the figure is above it now, that is said, and `count_unmet`, a bench's last line, says how many there were.
+unmet=0
 want() {
     awk -v figure="$1" -v most="$2" 'BEGIN { exit !(figure <= most) }' || {
         echo "$bench: $3: $1, and at most $2 is wanted" >&2
-        unmet=1
+        unmet=$((unmet + 1))
     }
 }
-met() { [ -z "$unmet" ]; }
+count_unmet() { [ "$unmet" -eq 0 ] || echo "$bench: figures that aren't as they are wanted, as told above: $unmet" >&2; }
 
 # Looks at a figure, by its name: what is wanted of it, if anything; `open` where that was never met; and then maybe an older wish that is met.
 judge() {

@@ -5,11 +5,11 @@
 #
 # A host is started as README says, on its port; where xfreerdp, rdesktop and Xvfb are there they show its session as README says, black windows,
 # and the same pixels when `ann` has drawn; `./run view` looks in; and a client of bench/serve_load.py joins it as `ann`. Then lists of words, right and wrong, are
-# given to ./run and to the proved program, which must agree. Not run here: `./run build`, which proves the repository, unless the word `build`
+# given to ./run and to the proved programs, which must agree. Not run here: `./run build`, which proves the repository, unless the word `build`
 # is given (then its programs are the proved ones), and `rt ci`, the gate.
 #
 # usage: sh bench/readme.sh [build]      (it needs the kit, python3 and pngtopnm of netpbm; xvfb, freerdp2-x11, rdesktop, xdotool and imagemagick
-#                                         for the clients. Without proof each program is built anew, which takes a minute or two each time)
+#                                         for the clients. Without proof each program is built once, which takes a minute or two)
 bench=readme
 . "$(dirname "$0")/programs.sh"
 clone=$work/clone
@@ -21,6 +21,10 @@ fail() {
     echo "$bench: $*" >&2
     exit 1
 }
+
+# A fresh machine has kept nothing.
+XDG_CACHE_HOME=$work/cache
+export XDG_CACHE_HOME
 
 for tool in python3 pngtopnm rt; do
     command -v "$tool" >/dev/null || fail "no $tool here"
@@ -36,7 +40,14 @@ shown_below() { sed -n "$(($1 + 1)),\$p" "$clone/README.md" | sed '/^```$/,$d'; 
 picture_below() { sed -n "$1,\$p" "$clone/README.md" | sed -n 's/^!\[[^]]*\](\(.*\))$/\1/p' | head -n 1; }
 
 # Runs a command in the clone, as a reader types it; what ./run says is kept.
-typed() { (cd "$clone" && sh -c "$1") </dev/null >"$work/output" 2>"$work/voice" || { tail -n 5 "$work/voice" >&2; fail "it ends with $?: $1"; }; }
+typed() {
+    ended=0
+    (cd "$clone" && sh -c "$1") </dev/null >"$work/output" 2>"$work/voice" || ended=$?
+    [ "$ended" -eq 0 ] || {
+        tail -n 5 "$work/voice" >&2
+        fail "it ends with $ended: $1"
+    }
+}
 
 # ./run must say that a run isn't proved, and only of one that isn't.
 must_be_told() {
@@ -94,11 +105,13 @@ found = head.match(text) or sys.exit(f"no picture: {text[:80]}")
 sys.stdout.buffer.write(b"%s %s\n" % found.groups() + text[found.end():])'
 }
 
-# A client that joins at a port by the name ann, draws, sees it and leaves.
+# A client that joins at a port by the name ann, draws in a picture of these sides, sees it and leaves.
 visit() {
-    (cd "$here/bench" && python3 - "$1") <<'END'
+    (cd "$here/bench" && python3 - "$@") <<'END'
 import sys
+import serve_load
 from serve_load import BYE, Room, click
+serve_load.WIDE, serve_load.HIGH = map(int, sys.argv[2].split('x'))
 room = Room(int(sys.argv[1]), 0)
 viewer = room.join('ann')
 for i in range(20): room.follow(click(i))
@@ -133,7 +146,7 @@ has_said() { grep -q "$1" "$work/voice" || ! kill -0 "$host"; }
 
 # Ends it, when one more client was there: nothing is written, and nothing is left.
 stop() {
-    visit "$port"
+    visit "$port" "$sides"
     seen 'a client of bench/serve_load.py, as ann' 'joined, drew, saw it and left'
     kill -TERM "$host"
     ended=0
@@ -177,7 +190,7 @@ clients() {
     wait_until env DISPLAY=:92 xdotool search --onlyvisible --name 127.0.0.1
     wait_until are_black
     seen "$1; $2" "two windows of $(head -n 1 "$work/window91" | tr ' ' x), both black"
-    for place in '300 200' '500 400' '700 300'; do
+    for place in '300 200' '500 400' '600 300'; do
         # shellcheck disable=SC2086 # it is two numbers
         DISPLAY=:91 xdotool mousemove $place click 1
     done
@@ -256,14 +269,56 @@ serve 3389 64 48 1 ann+ b
 serve 3389 64 48 1 ann -b
 serve 3389 64 48 1 ann ''
 serve 3389 64 48 1 ann $(seq 64)
+look
+look 0
+look 1
+look 01
+look 65535
+look 65536
+look 1 2
+look x
+view
+view 1
+view 1 bob
+view 1 bob 1
+view 0 bob 1 full
+view 65536 bob 1 full
+view 1 -b 1 full
+view 1 bob 0 full
+view 1 bob 65536 full
+view 1 bob 1 full
+view 1 bob 1 plain bpp=16
+view 1 bob 1 'full bpp=16'
+view 1 bob 1 full bpp=24
+view 1 bob 1 marked bc0=1,2 bc2=65535,65535 gc0=0,0 gc9=1,1 cautious fast fast
+view 1 bob 1 full bc3=1,2
+view 1 bob 1 full gc10=1,2
+view 1 bob 1 full bc0=1
+view 1 bob 1 full bc0=
+view 1 bob 1 full bc0=,
+view 1 bob 1 full bc0=01,2
+view 1 bob 1 full bc0=1,65536
+view 1 bob 1 full bc0=1,2,3
+view 1 bob 1 full BC0=1,2
+view 1 bob 1 full pointer=5
+view 1 bob 1 full plain
+view 1 bob 1 fast
+view 1 bob 1 bare bare
+view 1 bob 1 FULL
+view 1 bob 1 ''
+view 1 bob 1 full ''
+view 1 bob 1 full -fast
 END
 }
 
 # ./run ends as the program does with these words, writes what it writes, and says that they aren't accepted just where the program refuses
-# them; but with `--` among them, which it leaves to the program.
-agrees() {
+# them; but with `--` among them, which it leaves to the program. (At port 1 nobody takes a call.)
+agrees() (
     ended=0
-    "$clone/crates/rdp_host/out/rdp_host" "$@" </dev/null >"$work/wanted" || ended=$?
+    program=rdp_host
+    [ "${1-}" != look ] && [ "${1-}" != view ] || program=rdp_$1
+    words_of() { [ "$program" = rdp_host ] || shift; "$clone/crates/$program/out/$program" "$@"; }
+    words_of "$@" </dev/null >"$work/wanted" || ended=$?
     ran=0
     (cd "$clone" && ./run "$@") </dev/null >"$work/output" 2>"$work/voice" || ran=$?
     cmp -s "$work/wanted" "$work/output" || return 1
@@ -273,7 +328,7 @@ agrees() {
     *' -- '*) [ "$ran" -eq "$ended" ] ;;
     *) [ "$ran" -eq "$ended" ] && [ $((said == 2)) -eq $((ended == 2)) ] ;;
     esac
-}
+)
 
 # All of these lists.
 lists_agree() {
@@ -320,11 +375,11 @@ how=proved
 if [ "${1-}" = build ]; then
     (cd "$clone" && ./run build) >"$work/built" 2>&1 || { tail -n 5 "$work/built" >&2; fail './run build proves nothing'; }
     built='run'
-elif [ -x "$rdp_host" ] && [ -x "$rdp_look" ] && [ -x "$rdp_view" ]; then
+elif [ -f "$rdp_host.proved" ] && [ -f "$rdp_look.proved" ] && [ -f "$rdp_view.proved" ]; then
     mkdir -p "$clone/crates/rdp_host/out" "$clone/crates/rdp_look/out" "$clone/crates/rdp_view/out"
-    cp "$rdp_host" "$clone/crates/rdp_host/out/rdp_host"
-    cp "$rdp_look" "$clone/crates/rdp_look/out/rdp_look"
-    cp "$rdp_view" "$clone/crates/rdp_view/out/rdp_view"
+    cp "$rdp_host" "$rdp_host.proved" "$clone/crates/rdp_host/out/"
+    cp "$rdp_look" "$rdp_look.proved" "$clone/crates/rdp_look/out/"
+    cp "$rdp_view" "$rdp_view.proved" "$clone/crates/rdp_view/out/"
     built='not run: the programs are those that it left here'
 else
     seen 'all of them' "not run: no proved programs here; './run build' makes them"

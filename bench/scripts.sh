@@ -167,4 +167,4 @@ if command -v strace >/dev/null; then
     strace -f -c -e trace=write -o "$work/calls" "$rdp_host" script <"$work/greatest" >"$work/output"
     row 'its calls of write' "$(awk '$NF == "write" { print $4 }' "$work/calls")"
 fi
-met
+count_unmet

@@ -13,7 +13,7 @@
 #
 # usage: sh bench/serve.sh [PART ..]      (idle clicks rate stuck links, of which idle and links need rdp_view; there are hostile, and same,
 #                                          which needs it too; rdp_look is needed by the parts of clients that mean no good: silent
-#                                          halves unread resets passers crowd full asks. The part crowd
+#                                          halves unread resets passers crowd grab full asks. The part crowd
 #                                          takes ten minutes: it comes once more, as scarce, to a host that has 64 descriptors.
 #                                          It needs python3 and Linux's /proc. MANY=N: the part links has N links, 10,000; DRAWS=N: the
 #                                          owner draws N times, 100,000, beside a client that reads nothing)
@@ -29,7 +29,7 @@ load() { RDP_VIEW=$rdp_view python3 "$here/bench/serve_load.py" "$@"; }
 # The clients of a part.
 clients() {
     case $part in
-    silent | halves | unread | resets | passers | crowd | scarce | full | asks)
+    silent | halves | unread | resets | passers | crowd | scarce | grab | full | asks)
         needs "$rdp_look"
         RDP_LOOK=$rdp_look python3 "$here/bench/serve_hostile.py" "$@"
         ;;
@@ -56,10 +56,10 @@ part() {
     part=$1
     port=$(load port)
     size='1024 768'
-    # a part whose viewers watch until the host ends ends it by SIGTERM
+    # a part whose viewers watch until the host ends, or whose links nobody counts, ends it by SIGTERM
     wanted=0
     case $1 in
-    idle | same) wanted=143 ;;
+    idle | same | grab) wanted=143 ;;
     esac
     case $1 in
     idle | same | links) needs "$rdp_view" ;;
@@ -71,12 +71,12 @@ part() {
         exec "$rdp_host" serve "$port" $size "$links" ann bob cy+ </dev/null >"$work/lines"
     ) &
     host=$!
-    # with 3 the clients say that something isn't as wanted, once all is done
+    # with 3 the clients say that a figure isn't as wanted, once all is done
     ended=0
     clients "$1" "$port" "$host" "$work/wanted" || ended=$?
     case $ended in
     0) ;;
-    3) unmet=1 ;;
+    3) unmet=$((unmet + 1)) ;;
     *) exit 1 ;;
     esac
     ended=0
@@ -93,4 +93,4 @@ for name in "$@"; do
     part "$name"
     [ "$name" != crowd ] || part scarce
 done
-met
+count_unmet

@@ -42,8 +42,17 @@ CROWD = 1000
 MOST_SERVED = 256
 EACH = 2
 
-# How long a client has for its connection sequence, in seconds.
-SEQUENCE = 60
+# How long a client that isn't ready has before the host ends it for one that waits, in seconds.
+LEAST_TIME = 1
+
+# How many sockets one process has, each opened again as soon as the host ends it; how many come beside them, and how long each of these may
+# wait for its first frame, in seconds.
+GRABBED = 500
+NEWCOMERS = 10
+WAIT = 5
+
+# The most links that a host can be asked for: a part that doesn't know how many it makes ends the host itself.
+MOST_LINKS = 65535
 
 # How many descriptors the host has in the part `scarce`: bench/serve.sh sees to that.
 SCARCE = 64
@@ -326,8 +335,8 @@ class Late(threading.Thread):
 
 
 def stay(room, what):
-    """A crowd that says a byte and stays, one viewer beside the owner who draws, and one more who comes when the first of the crowd are
-    ended."""
+    """A crowd that says a byte and stays, one viewer beside the owner who draws, and one more who comes when some of the crowd were ended
+    for others of it."""
     room.open(what, 1)
     alone = room.descriptors()
     most = alone + EACH * (MOST_SERVED - len(room.viewers))
@@ -346,8 +355,8 @@ def stay(room, what):
         crowd.look_for(0.5)
 
     while not crowd.ended: draw()
-    row(f'{what}: until the first of them was ended', f'{crowd.ended[0]:.1f} s', f'{SEQUENCE} s')
-    if crowd.ended[0] < SEQUENCE: raise ValueError('somebody was ended too early')
+    row(f'{what}: until the first of them was ended', f'{crowd.ended[0]:.1f} s', f'{LEAST_TIME} s')
+    if crowd.ended[0] < LEAST_TIME: raise ValueError('somebody was ended too early')
     late = Late(room)
     while late.is_alive(): draw()
     link = late.link
@@ -357,7 +366,7 @@ def stay(room, what):
     room.viewers.append(link)
     room.by_number[link.socket.fileno()] = link
     room.ready.register(link.socket, select.EPOLLIN)
-    row(f'{what}: until one who came then was let in', f'{late.took:.1f} s')
+    row(f'{what}: until one who came then was let in', f'{late.took:.1f} s', f'below {WAIT} s', late.took < WAIT)
     crowd.look()
     row(f'{what}: the host had ended by then; had said their byte', f'{len(crowd.ended)}; {crowd.have_said}')
     row(f'{what}: descriptors of the host with two viewers; at most', f'{alone}; {descriptors}', f'at most {most}')
@@ -389,6 +398,72 @@ def crowd(room):
 def scarce(room):
     """The host takes as many as it has descriptors for."""
     stay(room, f'{CROWD} that stay, with {SCARCE} descriptors')
+
+
+class Grabbers(multiprocessing.Process):
+    """Has so many sockets all the while: each says a byte, and is opened again when the host has ended it."""
+
+    def __init__(self, port):
+        super().__init__()
+        self.port = port
+        self.opened, self.is_told = multiprocessing.Value('i', 0), multiprocessing.Event()
+        self.start()
+
+    def run(self):
+        self.ready, self.links = select.epoll(), {}
+        for _ in range(GRABBED): self.another()
+        while not self.is_told.is_set():
+            for number, events in self.ready.poll(0.1): self.look(number, events)
+
+    def another(self):
+        link = socket.socket()
+        link.setblocking(False)
+        link.connect_ex(('127.0.0.1', self.port))
+        self.links[link.fileno()] = link
+        self.ready.register(link, select.EPOLLOUT)
+        self.opened.value += 1
+
+    def look(self, number, events):
+        link = self.links[number]
+        if events & select.EPOLLOUT and not events & (select.EPOLLERR | select.EPOLLHUP):
+            try:
+                link.send(b'\x03')
+                self.ready.modify(number, select.EPOLLIN)
+                return
+            except OSError: pass
+        # the host ended it, or the system gave up connecting
+        del self.links[number]
+        link.close()
+        self.another()
+
+    def leave(self):
+        self.is_told.set()
+        self.join(PATIENCE)
+
+
+def grab(room):
+    """A process that has more sockets than the host serves, and opens each again; ten who come one after another beside them."""
+    what = f'{GRABBED} sockets that say a byte and come again'
+    room.open(what, 1)
+    grabbers = Grabbers(room.port)
+    time.sleep(5)
+    waited, clicks, left = [], [], []
+    for _ in range(NEWCOMERS):
+        begin = time.perf_counter()
+        link = room.join()
+        waited.append(time.perf_counter() - begin)
+        clicks.extend(room.times_of_clicks(20))
+        room.end(link, lambda link: link.send(BYE))
+        left.append(link)
+    opened = grabbers.opened.value
+    grabbers.leave()
+    seen = ', '.join(f'{it:.2f}' for it in waited)
+    row(f'{what}: until each of {NEWCOMERS} who came beside them had its first frame', f'{seen} s', f'each below {WAIT} s', max(waited) < WAIT)
+    clicked(f'{what}: from a click to the last mark, meanwhile', clicks)
+    row(f'{what}: how often one was opened', opened)
+    for link in left: room.must_show_the_board(link)
+    room.close()
+    room.stop()
 
 
 def refused(room, name, code):
@@ -461,7 +536,7 @@ def asks(room):
 # The parts, with the links that each makes: the owner, two viewers, those that mean no good, and a viewer at the end.
 PARTS = {
     'silent': (silent, 4 + 4), 'halves': (halves, 4 + 5), 'unread': (unread, 4 + 1), 'resets': (resets, 4 + 8), 'passers': (passers, 4 + PASSERS),
-    'crowd': (crowd, 4 + CROWD), 'scarce': (scarce, 4 + CROWD), 'full': (full, MOST + 3), 'asks': (asks, 4 + 1),
+    'crowd': (crowd, 4 + CROWD), 'scarce': (scarce, 4 + CROWD), 'grab': (grab, MOST_LINKS), 'full': (full, MOST + 3), 'asks': (asks, 4 + 1),
 }
 
 

@@ -31,8 +31,9 @@ from sample_answers import packets, pkt, sharedata
 # How many packets the host answers each packet of the sample client with; the first frame comes behind the last answer.
 ANSWERS = [1, 1, 0, 1, 1, 1, 1, 1, 1, 2, 0, 1, 1, 1, 1]
 
-# The update that ends a frame of a client which confirmed no frame markers: a Synchronize.
+# The update that ends a frame of a client which confirmed no frame markers: a Synchronize; and the same on the fast path.
 MARK = bytes.fromhex('0300002402f08068000103eb70161600' '1700ea03ea030100000108000200000003000000')
+FAST_MARK = bytes.fromhex('0005030000')
 
 # A client's ultimatum of reason 3, user requested, and the host's to a client that it doesn't serve.
 BYE = pkt([0x21, 0x80])
@@ -84,6 +85,14 @@ FRAMES = 3
 BURST = 64
 
 
+def length(held, at):
+    """The length of the packet that begins there, by its head: of the fast path ([MS-RDPBCGR] 2.2.9.1.2), whose first byte is 0 with this host,
+    or of the slow one."""
+    if held[at] == 0: return (held[at+1] & 0x7F) << 8 | held[at+2] if held[at+1] & 0x80 else held[at+1]
+    if held[at] == 3: return held[at+2] << 8 | held[at+3]
+    raise ValueError('no packet begins here')
+
+
 class Link:
     """A connection to the host, with what it was sent so far."""
 
@@ -117,8 +126,7 @@ class Link:
         held = self.rest + data
         at = 0
         while len(held) - at >= 4:
-            if held[at] != 3: raise ValueError('no packet begins here')
-            end = at + (held[at+2] << 8 | held[at+3])
+            end = at + length(held, at)
             if end > len(held): break
             self.count(held[at:end])
             at = end
@@ -127,7 +135,12 @@ class Link:
     def count(self, packet):
         self.packets += 1
         self.last = packet
-        if packet == MARK: self.marks += 1
+        if packet in (MARK, FAST_MARK): self.marks += 1
+        elif packet[0] == 0:
+            # behind the length, which has one or two bytes, the update's code and the size of its data
+            at = 2 + (packet[1] >> 7)
+            if packet[at] == 0: self.orders += struct.unpack_from('<H', packet, at + 3)[0]
+            if packet[at] == 1: self.tiles += struct.unpack_from('<H', packet, at + 5)[0]
         elif len(packet) >= 40 and packet[7] == 0x68:
             # behind the header of the data, whose count has one or two bytes, and of the share
             kind = 28 + (packet[13] >> 7)
@@ -306,7 +319,8 @@ class Room:
     def memory(self): return self.status('VmRSS')
 
 
-# What was seen to be otherwise than wanted; a part in which something was ends with this status, once all of it is done.
+# The figures that are otherwise than wanted; a part in which some are ends with this status, once all of it is done. What must be so, and
+# isn't, ends it at once.
 MISSED = 3
 missed = []
 
@@ -349,7 +363,8 @@ def idle(room):
     row('memory for each viewer more', f'{(all_of_them - one) / (MOST - 1):.0f} KiB')
     room.stop()
     pictures = len({watcher.picture(GONE, SENT_AWAY) for watcher in watchers})
-    row('pictures that the viewers saw, when the host had gone', pictures, 1, pictures == 1)
+    row('pictures that the viewers saw, when the host had gone', pictures, 1)
+    if pictures != 1: raise ValueError('the viewers saw other pictures')
 
 
 def clicks(room):
@@ -459,7 +474,8 @@ def links(room):
         if i in looks: looks[i] = room.memory(), room.status('Threads')
     took = time.perf_counter() - begin
     row(f'{count} links one after another, each rdp_view from its start to its end', milliseconds(took / count))
-    row('pictures that they saw', len(pictures), 1, len(pictures) == 1)
+    row('pictures that they saw', len(pictures), 1)
+    if len(pictures) != 1: raise ValueError('they saw other pictures')
     for i, (memory, threads) in looks.items(): row(f'after {i} of them: memory, threads', f'{memory} KiB, {threads}', 'flat')
     (first, (little, _)), _, (last, (much, _)) = looks.items()
     row('memory for each link more', f'{1024 * (much - little) / (last - first):.0f} bytes')
@@ -584,6 +600,7 @@ def same(room):
     if passing: passing.picture(SEEN, GONE)
     pictures = {watcher.picture(GONE) for watcher in watchers}
     row(f'{EVENTS} events of two viewers: pictures that 13 others see at the end, by rdp_view, the last of whom came then', len(pictures), 1)
+    if len(pictures) != 1: raise ValueError('they see other pictures')
     picture = min(pictures)
     row('colours of the picture', len({picture[i:i+3] for i in range(0, len(picture), 3)}))
 

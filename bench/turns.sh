@@ -3,7 +3,7 @@
 # a late joiner behind N entries; a take of all tiles of the largest picture, for each tile; a drawing on tiles that were lent and given
 # back; and the memory of a new session of the largest picture. A count is the difference of two runs: of all instructions, or of what the
 # profile gives for a function with all that it calls (`Sender::take`, which is what a turn does, and `Session::draw`). Then what it costs that
-# sixteen viewers watch a window full of text, who are sent it as packed tiles or as orders.
+# sixteen viewers watch a window full of text, who are sent it as packed tiles or as orders. A figure that isn't as it is wanted is told.
 #
 # usage: sh bench/turns.sh      (it needs valgrind)
 bench=turns
@@ -84,4 +84,4 @@ row 'the last of them joins behind the others, a tile' $(((joined - alone) / 192
 few=$(script_instructions window 16 'ten fills' 10)
 many=$(script_instructions window 16 'ten fills' 20)
 row 'ten fills, and a take of each' $(((many - few) / 10)) 110000 open
-met
+count_unmet

@@ -1,6 +1,6 @@
 #!/bin/sh
-# Makes pelzsukan_VERSION_amd64.deb of the three programs: these, their manual pages, the pages for whoever runs a host, the examples and the
-# unit of a room. VERSION is the date and the hash of the commit that is checked out; a `+changed` behind it says that files differ from it.
+# Makes pelzsukan_VERSION_amd64.deb of the three programs: these, without their symbols, their manual pages, the pages for whoever runs a host
+# with those that they name, the examples and the unit of a room. VERSION is the date and the hash of the commit that is checked out; a `+changed` behind it says that files differ from it.
 # The same programs and the same commit give the same package, byte for byte: every time in it is that of the commit (or SOURCE_DATE_EPOCH),
 # owners and modes are fixed, and one thread packs it. It prints where the package is.
 #
@@ -23,8 +23,8 @@ fail() {
     exit 1
 }
 
-for tool in git dpkg-deb dpkg-shlibdeps; do
-    command -v "$tool" >/dev/null || fail "no $tool here; Debian has it in ${tool%%-*}-dev or ${tool%%-*}"
+for tool in git dpkg-deb dpkg-shlibdeps strip; do
+    command -v "$tool" >/dev/null || fail "no $tool here; Debian has it in git, dpkg, dpkg-dev or binutils"
 done
 for program in "$rdp_host" "$rdp_look" "$rdp_view"; do
     [ -x "$program" ] || fail "no $program"
@@ -52,6 +52,12 @@ put() {
     install -m 644 -- "$@" "$to"
 }
 
+# A program of the package: what is proved but for the symbols, which nothing reads when it runs.
+put_program() {
+    install -m 755 -- "$1" "$root/usr/bin/$2"
+    strip --strip-unneeded --remove-section=.comment --remove-section=.note -- "$root/usr/bin/$2"
+}
+
 # A text of the package, packed as Debian wants it: without a name or a time in it.
 pack() {
     mkdir -p "$(dirname -- "$2")"
@@ -69,7 +75,7 @@ changelog() {
     cat <<END
 pelzsukan ($version) unstable; urgency=medium
 
-  * $(git -C "$here" log -1 --format=%s)
+$(git -C "$here" log -1 --format=%s | fold -s -w 74 | sed -e '1s/^/  * /' -e '2,$s/^/    /' -e 's/ *$//')
 
  -- Pelzsukan maintainers <maintainers@users.noreply.pelzsukan.example>  $(date -u -R -d "@$SOURCE_DATE_EPOCH")
 END
@@ -82,14 +88,17 @@ export SOURCE_DATE_EPOCH
 version=$(version)
 
 mkdir -p "$root/DEBIAN" "$root/usr/bin" "$root/etc/pelzsukan"
-install -m 755 -- "$rdp_host" "$root/usr/bin/rdp_host"
-install -m 755 -- "$rdp_look" "$root/usr/bin/rdp_look"
-install -m 755 -- "$rdp_view" "$root/usr/bin/rdp_view"
+put_program "$rdp_host" rdp_host
+put_program "$rdp_look" rdp_look
+put_program "$rdp_view" rdp_view
 for page in rdp_host rdp_look rdp_view; do
     pack "$here/docs/$page.1" "$root/usr/share/man/man1/$page.1.gz"
 done
 put usr/lib/systemd/system "$here/packaging/rdp-host@.service"
-put usr/share/doc/pelzsukan "$here/docs/operating.md" "$here/docs/session.md" "$here/docs/errors.md" "$here/docs/signs.png" "$here/docs/pointers.png" "$here/packaging/copyright"
+put usr/share/doc/pelzsukan "$here/packaging/copyright"
+for page in operating.md session.md errors.md protocol.md performance.md signs.png pointers.png; do
+    put usr/share/doc/pelzsukan "$here/docs/$page"
+done
 changelog >"$work/changelog"
 pack "$work/changelog" "$doc/changelog.gz"
 put usr/share/doc/pelzsukan/examples "$here/examples/"*.script

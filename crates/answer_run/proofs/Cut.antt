@@ -4,9 +4,12 @@ use Rattle.std.specs.Prelude.{All}
 use Rattle.std.proofs.lemmas.List.Elements.{All-nil, All-cons, All-head, All-tail}
 use Rattle.px_core.specs.declared.surface.Size.{Size}
 use Rattle.session_rules.specs.Steps.{journal_of_steps, frame_numbers}
+use Rattle.session_rules.proofs.Journals.{IsLegalJournal-journal_of_steps}
+use Rattle.session_rules.proofs.Changes.{ChangesAreTheHolders-legal}
 use Rattle.headline.specs.Headline.{ConfirmAllCaches, HasSessionSize, steps_of, confirmed_in}
 use Rattle.headline.specs.Fronts.{IsFront}
-use Rattle.headline.proofs.CaptureFronts.{front_sees}
+use Rattle.headline.specs.Pointed.{packets_told}
+use Rattle.headline.proofs.PointedFronts.{front_sees_both}
 use Rattle.conn_rules.specs.declared.conn_step.ConnStep.{ConnStep}
 use Rattle.conn_rules.specs.declared.conn_step.ConnStep.TheVariants as step
 use Rattle.conn_rules.specs.Sound.{ConfirmsCaches, AllConfirmCaches}
@@ -83,9 +86,14 @@ front_shows size owner stream text sized f =
     let sees = client_sees size owner [] (heard_of (first_service size) stream).steps sized (stream_caches size owner stream) in
     record {
       front = f;
-      shows_journal = front_sees size (confirmed_in head asked client) (journal_of_steps head (steps_of asked)) (frame_numbers head (steps_of asked) client)
-          (frames_of_stream size owner stream) (frames_in (replies_of_stream size owner stream) (frames_of_stream size owner stream) text) (sees.viewers client)
-          (frames_front (replies_of_stream size owner stream) (frames_of_stream size owner stream) (ultimatum_of (ending_of_stream size owner stream)) text f.rest f.joined);
+      shows_journal = record {
+        client_sees = front_sees_both size (confirmed_in head asked client) (journal_of_steps head (steps_of asked)) (frame_numbers head (steps_of asked) client)
+            (frames_of_stream size owner stream) (frames_in (replies_of_stream size owner stream) (frames_of_stream size owner stream) text)
+            (sees.viewers client) (sees.pointers client)
+            (frames_front (replies_of_stream size owner stream) (frames_of_stream size owner stream) (ultimatum_of (ending_of_stream size owner stream)) text f.rest f.joined);
+        journal_is_legal = sees.journal_is_legal;
+        changes_are_the_holders = sees.changes_are_the_holders;
+      };
     }
 
 -- a service that wrote nothing
@@ -99,11 +107,25 @@ pub nothing_shows : (size : Size) (owner stream : List ℕ) → IsFrontOfAnswer 
 nothing_shows size owner stream =
     let head = owners_head size owner in
     let asked = asked_of_stream size owner stream in
+    let legal = IsLegalJournal-journal_of_steps head (steps_of asked) in
     record {
       front = record { rest = answer_of_stream size owner stream; joined = refl };
       shows_journal = subst (λ xs. ShowsFirstTakes head asked xs) (no_frames (replies_of_stream size owner stream) (frames_of_stream size owner stream)) (record {
-        seen = [];
-        are_first = record { rest = frame_numbers head (steps_of asked) client; joined = refl };
-        marks_show_journal = refl;
+        client_sees = record {
+          pictures = record {
+            seen = [];
+            are_first = record { rest = frame_numbers head (steps_of asked) client; joined = refl };
+            marks_show_journal = refl;
+          };
+          pointers = record {
+            marks_show_pointers = refl;
+            packets_are_first = record {
+              rest = packets_told (confirmed_in head asked client) size (journal_of_steps head (steps_of asked)) [] (frame_numbers head (steps_of asked) client);
+              joined = refl;
+            };
+          };
+        };
+        journal_is_legal = legal;
+        changes_are_the_holders = ChangesAreTheHolders-legal head (journal_of_steps head (steps_of asked)) legal;
       });
     }

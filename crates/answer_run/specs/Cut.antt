@@ -4,13 +4,12 @@ use Rattle.std.specs.Io.KnownBytes.{Appends, Consumes}
 use Rattle.std.specs.declared.option.Option.{Option}
 use Rattle.std.specs.declared.option.Option.TheVariants.{Some, None}
 use Rattle.px_core.specs.declared.surface.Size.{Size}
-use Rattle.session_rules.specs.Journal.{Head}
+use Rattle.session_rules.specs.Journal.{Head, IsLegalJournal, ChangesAreTheHolders}
 use Rattle.session_rules.specs.Steps.{journal_of_steps, frame_numbers}
-use Rattle.order_means.specs.Packets.{without_pointers}
 use Rattle.script_rules.specs.Script.{Asked}
 use Rattle.script_rules.specs.CaptureText.{run_at_first, sent_from, encoder_frames}
 use Rattle.headline.specs.Headline.{steps_of, confirmed_in, EveryViewerSeesTheJournal}
-use Rattle.headline.specs.Fronts.{IsFront, SeesFirstOfJournal}
+use Rattle.headline.specs.Fronts.{IsFront, SeesFirst}
 use Rattle.answer_run.specs.Asking.{owners_head, client}
 use Rattle.answer_run.specs.Service.{asked_of_stream, replies_of_stream, frames_of_stream, written_of_stream, end_so_far_of_stream, answer_of_stream}
 
@@ -18,12 +17,12 @@ use Rattle.answer_run.specs.Service.{asked_of_stream, replies_of_stream, frames_
 abbrev pub frames_in : (replies frames : List ℕ) → List ℕ → List ℕ
 frames_in replies frames text = take (length frames) (drop (length replies) text)
 
--- bytes show the client, without the packets of pointers, its first takes among the steps that are asked for, by the pictures after exactly as
--- many entries of the journal as these takes found, and aren't refused
-abbrev pub ShowsFirstTakes : Head → List Asked → List ℕ → Type 0
-ShowsFirstTakes head asked bytes =
-    SeesFirstOfJournal head.size (confirmed_in head asked client) (journal_of_steps head (steps_of asked)) (frame_numbers head (steps_of asked) client)
-    (without_pointers bytes)
+-- bytes, with packets of pointers, show the client its first takes among the steps that are asked for, and aren't refused: by the pictures after exactly as
+-- many entries of the journal as these takes found, and by the pointers after them; that journal is legal, and each change in it was made by the holder of control
+pub record ShowsFirstTakes (head : Head) (asked : List Asked) (bytes : List ℕ) : Type 0 where
+  pub client_sees : SeesFirst head.size (confirmed_in head asked client) (journal_of_steps head (steps_of asked)) (frame_numbers head (steps_of asked) client) bytes
+  pub journal_is_legal : IsLegalJournal head (journal_of_steps head (steps_of asked))
+  pub changes_are_the_holders : ChangesAreTheHolders head.size (journal_of_steps head (steps_of asked))
 
 -- a text is a front of the answer to a stream, and the frames in it show the client its first takes
 pub record IsFrontOfAnswer (size : Size) (owner stream text : List ℕ) : Type 0 where

@@ -44,6 +44,16 @@ impl Cache {
         }
     }
 
+    /// What a use of a key would answer.
+    pub fn peek(&self, key: u64) -> Use
+        ensures { (past : List ℕ) → IsAfterUses self.now past → result ≡ use_of self.now.entries past key }
+    {
+        match self.keys.peek(&key).copied() {
+            Some(index) => Use::Hit(index),
+            None => Use::Miss(self.miss_index()),
+        }
+    }
+
     /// Uses a key: a hit at the index where it is held, or a miss at a new index, or, where all
     /// are taken, at that of the key used longest ago, which is given up.
     ///

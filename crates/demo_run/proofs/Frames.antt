@@ -25,7 +25,7 @@ use Rattle.demo_run.specs.Watching.{read_behind, IsAccepted, ReadsOn}
 use Rattle.demo_run.specs.Standing.{run_of, Watches, AreWatching}
 use Rattle.demo_run.proofs.Runs.{run_more, sent_more, play_is, takes_more}
 use Rattle.demo_run.proofs.Drawn.{Comes, frames_in}
-use Rattle.demo_run.proofs.Pointerless.{all_read}
+use Rattle.headline.proofs.Pointerless.{all_read}
 
 -- a count that stands still may be raised part by part
 pub kept_more : (n m : ℕ) → kept (kept n + m) ≡ kept (n + m)

@@ -1,7 +1,6 @@
 pub mod Runs
 pub mod Drawn
 pub mod Scenes
-pub mod Pointerless
 pub mod Frames
 pub mod Asked
 pub mod Beginning

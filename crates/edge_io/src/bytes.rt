@@ -1,4 +1,4 @@
-ghost use Rattle.std.specs.Prelude.{◌≡◌, ◌≤◌, ◌<◌, ◌++◌, ℕ, length, vec_len, take, drop};
+ghost use Rattle.std.specs.Prelude.{◌≡◌, ◌≤◌, ◌<◌, ◌++◌, false, ℕ, length, vec_len, take, drop};
 ghost use Rattle.std.specs.declared.option.Option.TheVariants.{Some};
 ghost use Rattle.edge_io.specs.Supply.{Supply, next_piece, read_count, answer_of_count, buffer_after_read, supply_after_read};
 ghost use Rattle.edge_io.specs.Source.{FitsRoom, Takes, ReadCause};
@@ -71,6 +71,8 @@ impl Source for Bytes {
 
     ghost faults = { λ s. 0 };
 
+    ghost limited = { λ _. false };
+
     fn read(&mut self, buf: &mut [u8]) -> Got
         requires { 0 < length buf.old }
         ensures count { FitsRoom result (length buf.old) }
@@ -83,6 +85,10 @@ impl Source for Bytes {
     {
         self.hand_out(buf)
     }
+
+    fn lift_limit(&mut self)
+        ensures { self.new ≡ self.old }
+    {}
 }
 
 /// Takes the next piece from the list, and gives its largest size.

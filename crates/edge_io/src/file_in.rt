@@ -1,4 +1,4 @@
-ghost use Rattle.std.specs.Prelude.{◌≡◌};
+ghost use Rattle.std.specs.Prelude.{◌≡◌, false};
 ghost use Rattle.std.specs.declared.option.Option.TheVariants.{None};
 
 use crate::{Got, Source};
@@ -28,6 +28,8 @@ impl<I: Read + Drop> Source for FileIn<I> {
 
     ghost faults = { λ s. s.faults };
 
+    ghost limited = { λ _. false };
+
     fn read(&mut self, buf: &mut [u8]) -> Got {
         match self.file.read(buf) {
             Ok(0) => Got::End,
@@ -38,4 +40,6 @@ impl<I: Read + Drop> Source for FileIn<I> {
             }
         }
     }
+
+    fn lift_limit(&mut self) {}
 }

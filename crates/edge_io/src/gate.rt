@@ -62,4 +62,13 @@ pub trait Gate {
         ensures asked { asked self.new ≡ asked self.old }
         ensures ended { ended self.new ≡ ended self.old }
         ensures faults { faults self.new ≡ faults self.old };
+
+    /// Says that one client more waits than can be served. A gate may end a link whose client isn't ready; one that can't does nothing.
+    fn make_room(&mut self)
+        ensures faults { faults self.new ≡ faults self.old }
+        ensures given { given self.new ≡ given self.old }
+        ensures finished { finished self.new ≡ finished self.old }
+        ensures asked { asked self.new ≡ asked self.old }
+        ensures ended { ended self.new ≡ ended self.old }
+    {}
 }

@@ -1,4 +1,4 @@
-ghost use Rattle.std.specs.Prelude.{◌≡◌, ◌<◌, length};
+ghost use Rattle.std.specs.Prelude.{◌≡◌, ◌<◌, false, length};
 ghost use Rattle.std.specs.declared.option.Option.TheVariants.{Some};
 ghost use Rattle.edge_io.specs.Supply.{read_count};
 ghost use Rattle.edge_io.specs.Source.{FitsRoom, Takes, ReadCause};
@@ -51,6 +51,8 @@ impl Source for PlanSource {
 
     ghost faults = { λ s. s.plan.faults };
 
+    ghost limited = { λ _. false };
+
     fn read(&mut self, buf: &mut [u8]) -> Got
         requires { 0 < length buf.old }
         ensures count { FitsRoom result (length buf.old) }
@@ -66,4 +68,8 @@ impl Source for PlanSource {
         }
         self.bytes.read(buf)
     }
+
+    fn lift_limit(&mut self)
+        ensures { self.new ≡ self.old }
+    {}
 }

@@ -9,7 +9,7 @@ ghost use Rattle.gate_run.specs.Working.{IsFresh, IsWork, IsDealtOut};
 
 use crate::GateEnd;
 use crate::ended::Ended;
-use crate::jobs::{Job, start_link};
+use crate::jobs::{Job, start_link, wait_for_threads};
 use edge_io::{Gate, Link, Next};
 use grow_lock::{GrowLock, Pass};
 use session_core::Session;
@@ -80,8 +80,8 @@ fn accept_in_scope<'g, R: Threads + Wait + Sync, G: Gate>(
     )
 }
 
-/// Starts a job for each link that an open gate gives until it gives no more. Before it waits for the next one it waits for
-/// one that is served to end, where the most are, and collects the jobs whose threads have ended.
+/// Starts a job for each link that an open gate gives until it gives no more. Where the most are served it has the gate make room
+/// first, and waits for one of them to end. Before it waits for the next one it collects the jobs whose threads have ended.
 fn accept_all<'s, 'g, E, R: Threads + Wait + Sync, G: Gate>(
     rt: &'s R,
     alloc: Global,
@@ -106,11 +106,12 @@ where
     let mut pass = pass;
     let mut jobs = jobs;
     for _ in 0..u32::from(links) + 1 {
-        wait_for_room(rt, ended, jobs.len(), links);
         collect_ended(rt, &mut jobs, ended);
         match gate.next() {
             Next::Link(link) => {
                 let number = jobs.len();
+                wait_for_room(rt, ended, gate, number);
+                wait_for_threads(rt, scope, ended, gate, number);
                 let part = lock.split(&mut pass);
                 let job = start_link(rt, alloc, scope, lock, ended, number, part, link);
                 jobs.push_reserved(job);
@@ -122,10 +123,18 @@ where
     unreachable!()
 }
 
-/// Waits while the most links are served, of those that were given, unless there are to be no more.
-fn wait_for_room<R: Wait>(rt: &R, ended: &Ended, given: usize, links: u16) {
-    if given < usize::from(links) {
-        ended.wait_for(rt, given.saturating_sub(MOST_SERVED - 1));
+/// Where the most links are served, of so many that were started, has the gate make room and waits until one of them has ended.
+fn wait_for_room<R: Wait, G: Gate>(rt: &R, ended: &Ended, gate: &mut G, started: usize)
+    ensures given { G.given gate.new ≡ G.given gate.old }
+    ensures finished { G.finished gate.new ≡ G.finished gate.old }
+    ensures asked { G.asked gate.new ≡ G.asked gate.old }
+    ensures ended { G.ended gate.new ≡ G.ended gate.old }
+    ensures faults { G.faults gate.new ≡ G.faults gate.old }
+{
+    let enough = started.saturating_sub(MOST_SERVED - 1);
+    if ended.count() < enough {
+        gate.make_room();
+        ended.wait_for(rt, enough);
     }
 }
 

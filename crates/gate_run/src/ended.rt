@@ -57,10 +57,15 @@ impl Ended {
         unreachable!()
     }
 
+    /// How many numbers were ever put on the chain.
+    pub fn count(&self) -> usize {
+        self.count.load(Ordering::SeqCst)
+    }
+
     /// Sleeps until so many numbers were ever put on the chain. One thread at a time may wait.
     pub fn wait_for<R: Wait>(&self, rt: &R, count: usize) {
         for _ in rt.forever() {
-            if self.count.load(Ordering::SeqCst) >= count {
+            if self.count() >= count {
                 return;
             }
             self.news.park(rt);

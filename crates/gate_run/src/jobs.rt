@@ -9,13 +9,14 @@ ghost use Rattle.edge_io.specs.Outside.{outside_given, outside_spent};
 ghost use Rattle.gate_run.specs.Working.{IsFresh, IsDone, IsWork};
 
 use crate::ended::Ended;
-use edge_io::Link;
+use edge_io::{Gate, Link};
 use grow_lock::{GrowLock, Pass};
 use serve_rules::ConnReport;
 use session_core::Session;
 use std::alloc::Global;
 use std::snapshot::Snapshot;
 use std::sync::Wait;
+use std::thread;
 use std::thread::{Promise, PromisedHandle, Scope, Threads};
 use viewer_run::serve_viewer;
 
@@ -98,7 +99,8 @@ fn serve_link<R: Threads + Wait + Sync, L: Link>(
     }
 }
 
-/// Starts the work for a link in a thread of the scope, and does it here where no thread can be started.
+/// Starts the work for a link in a thread of the scope. Where no thread can be started it does the work here, once none of the links is served any
+/// more that were started before, so many.
 pub fn start_link<'s, E, R: Threads + Wait + Sync, L: Link>(
     rt: &'s R,
     alloc: Global,
@@ -142,6 +144,7 @@ where
             outcome: None,
         },
         Err(refused) => {
+            ended.wait_for(rt, number);
             let outcome = (refused.value)();
             Job {
                 given,
@@ -149,5 +152,50 @@ where
                 outcome: Some(outcome),
             }
         }
+    }
+}
+
+/// Waits until two threads can be started, each time until one more of so many links has ended and for all of them at most. Each time it
+/// has the gate make room.
+pub fn wait_for_threads<'s, E, R: Threads + Wait + Sync, G: Gate>(
+    rt: &'s R,
+    scope: &Scope<'s, E>,
+    ended: &Ended,
+    gate: &mut G,
+    started: usize,
+)
+    ensures given { G.given gate.new ≡ G.given gate.old }
+    ensures finished { G.finished gate.new ≡ G.finished gate.old }
+    ensures asked { G.asked gate.new ≡ G.asked gate.old }
+    ensures ended { G.ended gate.new ≡ G.ended gate.old }
+    ensures faults { G.faults gate.new ≡ G.faults gate.old }
+{
+    for _ in rt.forever() {
+        let count = ended.count();
+        if count >= started || can_start_two(rt, scope) {
+            return;
+        }
+        gate.make_room();
+        ended.wait_for(rt, count.saturating_add(1));
+    }
+    unreachable!()
+}
+
+/// Whether a thread can be started that starts another one, as a link's does for its viewer.
+fn can_start_two<'s, E, R: Threads + Sync>(rt: &'s R, scope: &Scope<'s, E>) -> bool {
+    match scope.spawn(move || can_start_one(rt)) {
+        Ok(handle) => handle.join(rt),
+        Err(_) => false,
+    }
+}
+
+/// Whether a thread can be started.
+fn can_start_one<R: Threads>(rt: &R) -> bool {
+    match thread::spawn(rt, || ()) {
+        Ok(handle) => {
+            handle.join(rt);
+            true
+        }
+        Err(_) => false,
     }
 }

@@ -48,8 +48,8 @@ impl<L: Link> Room<L> {
 /// says that no further link will come, or fails. Then it waits for all that were started, gives each link back in the order
 /// in which they were given, and hands out the closing session and a report for each link.
 ///
-/// An `Err` comes before the gate is opened, leaves it as it was, and drops the session. Where no thread can be started a
-/// link is served before the next one is taken.
+/// An `Err` comes before the gate is opened, leaves it as it was, and drops the session. Where no two threads can be started a link waits
+/// until others have ended; where none is served any more it is served before the next one is taken.
 pub fn serve_gate<R: Threads + Wait + Sync, G: Gate>(
     rt: &R,
     alloc: Global,

@@ -1,12 +1,12 @@
 -- What was written of a script's capture shows each viewer its first takes.
 use Rattle.std.proofs.Common.{ℕ, List, [], ◌∷◌, ◌++◌, ap, sym, subst, ◌∙◌}
 use Rattle.session_rules.specs.Journal.{Head}
-use Rattle.session_rules.specs.Steps.{Play, journal_of_steps, frame_numbers, play_at_first, outcome}
+use Rattle.session_rules.specs.Steps.{Play, play_at_first, outcome}
 use Rattle.script_rules.specs.Script.{Asked, Script, Opening, opening_of}
 use Rattle.script_rules.specs.Script.Opening.{NoSize, Unended, Opened}
 use Rattle.script_rules.specs.Capture.{written_bytes}
 use Rattle.script_rules.specs.CaptureText.{run_at_first, sent_from, encoder_frames}
-use Rattle.headline.specs.Headline.{AreByPresentFrom, steps_of, confirmed_in, IfOpened}
+use Rattle.headline.specs.Headline.{AreByPresentFrom, IfOpened}
 use Rattle.headline.proofs.StepsOfScripts.{HasPremises, scripts_have}
 use Rattle.headline.specs.Sent.{sent_to, run_of, PresetsConfirm}
 use Rattle.headline.specs.Fronts.{IsFront, script_of, IsCutCapture, IsSentWhatIsWritten, EveryViewerOfFront, EveryViewerOfOpeningFront}
@@ -14,7 +14,7 @@ use Rattle.headline.proofs.LineRuns.{capture_is_read}
 use Rattle.headline.proofs.CapturesOfScripts.{scripts_confirm}
 use Rattle.headline.proofs.StreamFronts.{front_of_front}
 use Rattle.headline.proofs.TextFronts.{bytes_in_front}
-use Rattle.headline.proofs.CaptureFronts.{front_sees}
+use Rattle.headline.proofs.PointedFronts.{fronts_see}
 use Rattle.headline.proofs.LinesGoOn.{sent_goes_on}
 
 -- the premises hold of the first steps
@@ -43,10 +43,9 @@ cut_bytes_are_first s front has confirms cut v =
     (record { rest = later; joined = goes })
 
 script_cut_shows : (s : Script) (front : List ℕ) → HasPremises s → PresetsConfirm s.asked → IsSentWhatIsWritten s front → EveryViewerOfFront s front
-script_cut_shows s front has confirms sends v =
-    front_sees s.head.size (confirmed_in s.head s.asked v) (journal_of_steps s.head (steps_of s.asked)) (frame_numbers s.head (steps_of s.asked) v)
-    (sent_to s.head s.asked v) (written_bytes v front) ((sends.0 has.size has.present has.caches).viewers v)
-    (cut_bytes_are_first s front has confirms sends.1 v)
+script_cut_shows s front has confirms sends =
+    fronts_see s.head s.asked (sent_to s.head s.asked) (λ v. written_bytes v front) (sends.0 has.size has.present has.caches)
+    (cut_bytes_are_first s front has confirms sends.1)
 
 opening_cut_shows : (o : Opening) (front : List ℕ) → IfOpened o HasPremises → IfOpened o (λ s. PresetsConfirm s.asked)
     → IfOpened o (λ s. IsSentWhatIsWritten s front) → EveryViewerOfOpeningFront o front

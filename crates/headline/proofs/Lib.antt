@@ -16,6 +16,8 @@ pub mod CapturesOfScripts
 pub mod StreamFronts
 pub mod Watched
 pub mod PointerFronts
+pub mod PointedFronts
+pub mod Pointerless
 pub mod TextFronts
 pub mod CaptureFronts
 pub mod TakesPointed

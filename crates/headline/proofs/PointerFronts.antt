@@ -130,7 +130,7 @@ abbrev IsHeld : PacketStage → Type 0
 IsHeld s = pieces_in (held_in s) ≡ pieces [] s
 
 -- packets can still be cut
-abbrev IsCutting : PacketStage → Type 0
+abbrev pub IsCutting : PacketStage → Type 0
 IsCutting Between = ⊤
 IsCutting (Head held) = ⊤
 IsCutting FastHead = ⊤
@@ -146,7 +146,7 @@ passing_stays (b ∷ bs) = passing_stays bs
 byte_cut : (s : PacketStage) (b : ℕ) → IsHeld s → pieces_in (held_in s ++ b ∷ []) ≡ pieces ((pieces_by s b).pieces ++ []) (pieces_by s b).next
 byte_cut s b held = pieces_joined Between (held_in s) (b ∷ []) ∙ ap (λ p. before_pieces p.pieces (pieces_from p.next (b ∷ []))) held
 
-whole_from : (s : PacketStage) (bs : List ℕ) → IsHeld s → IsCutting (pieces_from s bs).next → AreWhole (pieces_from s bs).pieces
+pub whole_from : (s : PacketStage) (bs : List ℕ) → IsHeld s → IsCutting (pieces_from s bs).next → AreWhole (pieces_from s bs).pieces
 whole_from s [] held going = tt
 whole_from s (b ∷ bs) held going = by (byte_one s b) (λ h. whole_from (pieces_by s b).next bs h going)
   where
@@ -167,8 +167,22 @@ whole_from s (b ∷ bs) held going = by (byte_one s b) (λ h. whole_from (pieces
     by (OnePiece piece one (inr there)) rest =
         absurd (subst IsCutting (ap (λ t. (pieces_from t bs).next) there ∙ passing_stays bs) going)
 
+-- what is held behind whole packets leads there too
+pub held_from : (s : PacketStage) (bs : List ℕ) → IsHeld s → IsCutting (pieces_from s bs).next → IsHeld (pieces_from s bs).next
+held_from s [] held going = held
+held_from s (b ∷ bs) held going = by (byte_one s b) (λ h. held_from (pieces_by s b).next bs h going)
+  where
+    first : Pieces
+    first = pieces_by s b
+
+    by : EndsOne first → (IsHeld first.next → IsHeld (pieces_from first.next bs).next) → IsHeld (pieces_from first.next bs).next
+    by (NoPiece none) rest = rest (ap pieces_in (grows s b none) ∙ byte_cut s b held ∙ ap (λ cut. pieces (cut ++ []) first.next) none)
+    by (OnePiece piece one (inl there)) rest = rest (subst IsHeld (sym there) refl)
+    by (OnePiece piece one (inr there)) rest =
+        absurd (subst IsCutting (ap (λ t. (pieces_from t bs).next) there ∙ passing_stays bs) going)
+
 -- whole packets of which some are left out are whole packets
-kept_between : (cut : List (List ℕ)) → AreWhole cut → (pieces_in (kept_pieces cut)).next ≡ Between
+pub kept_between : (cut : List (List ℕ)) → AreWhole cut → (pieces_in (kept_pieces cut)).next ≡ Between
 kept_between [] h = refl
 kept_between (piece ∷ cut) h = by (is_pointer piece) (kept_between cut h.1)
   where
@@ -190,14 +204,14 @@ only_between (FastHigh high) e = absurd (let no : ⊥ = cc in no)
 only_between (FastInside missing head front) e = absurd (let no : ⊥ = cc in no)
 only_between (Refused place) e = absurd (let no : ⊥ = cc in no)
 
-unrefused_by : (c : Confirmed) (size : Size) (w : Result View Refusal) (o : Option ℕ) (next : Cutting) (r : ClientReading)
+pub unrefused_by : (c : Confirmed) (size : Size) (w : Result View Refusal) (o : Option ℕ) (next : Cutting) (r : ClientReading)
     → bind w (λ v. unless_refused_at o (reading v next)) ≡ Ok r → o ≡ None
 unrefused_by c size (Ok v) None next r e = refl
 unrefused_by c size (Ok v) (Some place) next r e = absurd (cc e)
 unrefused_by c size (Err refusal) o next r e = absurd (cc e)
 
 -- a viewer that isn't refused is between packets where these are whole
-reads_between : (c : Confirmed) (size : Size) (bytes : List ℕ) (r : ClientReading) → read_stream c size bytes ≡ Ok r → (pieces_in bytes).next ≡ Between
+pub reads_between : (c : Confirmed) (size : Size) (bytes : List ℕ) (r : ClientReading) → read_stream c size bytes ≡ Ok r → (pieces_in bytes).next ≡ Between
     → r.cut.stage ≡ NoneBegun
 reads_between c size bytes r e whole =
     let u = updates_in (takes_fast c) bytes in
@@ -231,7 +245,7 @@ pointer_is_packet packet e =
 pointer_front : (xs ys : List ℕ) → is_pointer (xs ++ ys) ≡ true → 0 < length ys → packet_at xs ≡ Part
 pointer_front xs ys e some = (part_head xs).1 (ys, some, pointer_is_packet (xs ++ ys) e)
 
-nothing_read : (c : Confirmed) (size : Size) (v : View) (bodies : List Body) (o : Option ℕ) (next : Cutting) → bodies ≡ [] → o ≡ None
+pub nothing_read : (c : Confirmed) (size : Size) (v : View) (bodies : List Body) (o : Option ℕ) (next : Cutting) → bodies ≡ [] → o ≡ None
     → bind (view_after_bodies c size v bodies) (λ w. unless_refused_at o (reading w next)) ≡ Ok (reading v next)
 nothing_read c size v bodies o next none calm =
     ap (λ bs. bind (view_after_bodies c size v bs) (λ w. unless_refused_at o (reading w next))) none ∙ ap (λ p. unless_refused_at p (reading v next)) calm
@@ -260,7 +274,7 @@ without_joined front rest =
     ap left_of (pieces_joined Between front rest) ∙ kept_behind f.pieces (pieces_from f.next rest)
 
 -- a stage at which nothing is held, or one at which packets can be cut
-held_or_cutting : (s : PacketStage) → (held_in s ≡ []) ⊎ IsCutting s
+pub held_or_cutting : (s : PacketStage) → (held_in s ≡ []) ⊎ IsCutting s
 held_or_cutting Between = inr tt
 held_or_cutting (Head held) = inr tt
 held_or_cutting FastHead = inr tt

@@ -36,12 +36,12 @@ use Rattle.pointer_share.proofs.Shown.{take_points, key_tells}
 use Rattle.pointer_share.proofs.Noted.{typed_small}
 use Rattle.session_rules.proofs.Takes.{TakesFollow-≤}
 use Rattle.headline.specs.Headline.{SeesJournal}
-use Rattle.headline.specs.Fronts.{SeesFirstOfJournal}
+use Rattle.headline.specs.Fronts.{SeesFirst}
 use Rattle.headline.specs.Pointed.{Watching, first_watching, marks_more, watched_as, watched_all, shape_after, listed_packet, packet_told, packets_told, SeesPointers}
 use Rattle.headline.proofs.Takes.{read_to, takes_see}
 use Rattle.headline.proofs.Watched.{pointer_fed, watched_append, watched_to, watched_others}
 use Rattle.headline.proofs.PointerFronts.{left_of, kept_behind}
-use Rattle.headline.proofs.CaptureFronts.{front_sees}
+use Rattle.headline.proofs.PointedFronts.{front_sees_both}
 
 -- ---- the packet before a frame
 
@@ -299,6 +299,7 @@ module _ (head : Head) (c : Confirmed) (shows : FrameShowsJournal head c) (sized
   -- a front of what it is sent
   pub takes_front_see : (ts : List TakeOf) (to : ℕ) → TakesFollow 0 ts to → to ≤ length j
       → (front rest : List ℕ) → joined_bytes (pointed_of_takes head.size c j first_encoder ts) ≡ front ++ rest
-      → SeesFirstOfJournal head.size c j (map (λ t. t.number) ts) (without_pointers front)
+      → SeesFirst head.size c j (map (λ t. t.number) ts) front
   takes_front_see ts to follow within front rest e =
-      front_sees head.size c j (numbers ts) (sent first_encoder ts) front (takes_see_without ts to follow within) (record { rest = rest; joined = e })
+      front_sees_both head.size c j (numbers ts) (sent first_encoder ts) front (takes_see_without ts to follow within) (takes_point ts to follow within)
+      (record { rest = rest; joined = e })

@@ -27,7 +27,7 @@ other_by wide v packet (Ok content) e = absurd (cc e)
 other_by wide v packet (Err left) e = refl
 
 -- a packet that is no pointer's leaves what is shown
-other_fed : (wide : Bool) (v : View) (packet : List ℕ) → is_pointer packet ≡ false → view_fed wide v packet ≡ Ok (v, false)
+pub other_fed : (wide : Bool) (v : View) (packet : List ℕ) → is_pointer packet ≡ false → view_fed wide v packet ≡ Ok (v, false)
 other_fed wide v packet e = other_by wide v packet (pointer_content packet) e
 
 pointed_by : (after : View) (r : Result View (Cause × ℕ)) → its_view (pointed r) ≡ Ok after → pointed r ≡ Ok (after, true)
@@ -71,7 +71,7 @@ still w =
     let none : marks_more w.reading w.reading ≡ 0 = omega arith in
     ap (λ n. record w { shapes = w.shapes ++ replicate n w.pointer.shown }) none ∙ ap (λ ss. record w { shapes = ss }) (append-nil w.shapes)
 
-front_length : {A : Type 0} (xs ys : List A) → IsFront xs ys → length xs ≤ length ys
+pub front_length : {A : Type 0} (xs ys : List A) → IsFront xs ys → length xs ≤ length ys
 front_length xs ys h = let e : length ys ≡ length (xs ++ h.rest) = ap length h.joined in omega (arith, e, length-append xs h.rest)
 
 -- reading on twice
@@ -91,7 +91,7 @@ module _ (c : Confirmed) (size : Size) where
   reached_or r (Ok s) = s
   reached_or r (Err refusal) = r
 
-  reads_no_more : (r s : ClientReading) (o : Option ℕ) → unless_refused_at o r ≡ Ok s → r ≡ s
+  pub reads_no_more : (r s : ClientReading) (o : Option ℕ) → unless_refused_at o r ≡ Ok s → r ≡ s
   reads_no_more r s None e = ap (reached_or r) e
   reads_no_more r s (Some place) e = absurd (cc e)
 

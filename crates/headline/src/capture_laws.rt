@@ -3,6 +3,8 @@
 ghost use Rattle.std.specs.Prelude.{◌≡◌, ℕ, List, [], ◌∷◌, ◌++◌, Option, Ok};
 ghost use Rattle.px_core.specs.declared.surface.Size.{Size};
 ghost use Rattle.caps_sets.specs.declared.confirmed.Confirmed.{Confirmed};
+ghost use Rattle.caps_sets.specs.Confirmed.{pointer_cells};
+ghost use Rattle.session_rules.specs.declared.entry.Entry.{Entry};
 ghost use Rattle.session_rules.specs.Journal.{Head};
 ghost use Rattle.session_rules.specs.Steps.{outcome};
 ghost use Rattle.order_means.specs.FrameMarks.{ClientReading, read_stream, pictures_at_marks};
@@ -15,10 +17,11 @@ ghost use Rattle.frame_rules.specs.FrameOrders.{Uses, orders_before_tiles};
 ghost use Rattle.frame_rules.specs.FrameBytes.{frame_bytes};
 ghost use Rattle.frame_rules.specs.Encoder.{Encoder};
 ghost use Rattle.order_fields.specs.OrderTable.{Registers};
-ghost use Rattle.headline.specs.Headline.{AreByPresentViewers, IfOpened, EveryViewerOfCapture};
+ghost use Rattle.headline.specs.Headline.{AreByPresentViewers, IfOpened, SeesJournal, EveryViewerOfCapture};
+ghost use Rattle.headline.specs.Pointed.{SeesPointers};
 ghost use Rattle.headline.specs.Sent.{AreBytes, sent_to, run_of, SendsBytes, PresetsConfirm, EveryViewerIsSentTheJournal};
 ghost use Rattle.headline.specs.OrderBytes.{HoldBytes, FramesHoldBytes};
-ghost use Rattle.headline.specs.Fronts.{IsFront, ReadsFront, ShowsFirst, IsSentWhatIsWritten, EveryViewerOfOpeningFront};
+ghost use Rattle.headline.specs.Fronts.{IsFront, ReadsFront, ShowsFirst, SeesFirst, IsSentWhatIsWritten, EveryViewerOfOpeningFront};
 
 /// The bytes of each viewer's lines in the capture of any steps are those that it was sent, with pointers, whatever line ends the capture.
 pub fn viewer_bytes_are_those_sent()
@@ -50,6 +53,19 @@ pub fn fronts_of_a_stream_are_read()
 pub fn fronts_without_pointers_are_read()
     ensures { (confirmed : Confirmed) (size : Size) (front rest : List ℕ) (pictures : List (List (Option ℕ)))
         → pictures_at_marks confirmed size (without_pointers (front ++ rest)) ≡ Ok pictures → ShowsFirst confirmed size (without_pointers front) pictures }
+{}
+
+/// Where a viewer's bytes show it a journal, and with their packets of pointers the journal's pointers, each front of them shows it the first takes: their
+/// pictures, and the pointers of these same takes, wherever it is cut.
+pub fn fronts_with_pointers_are_read()
+    ensures { (size : Size) (confirmed : Confirmed) (j : List Entry) (numbers front rest : List ℕ) → SeesJournal size confirmed j numbers (without_pointers (front ++ rest))
+        → SeesPointers size confirmed j numbers (front ++ rest) → SeesFirst size confirmed j numbers front }
+{}
+
+/// Where a viewer without pointer cells is shown a journal, none of its bytes is of a pointer: without packets of pointers they are the same.
+pub fn bytes_without_pointer_cells_have_no_pointers()
+    ensures { (size : Size) (confirmed : Confirmed) (j : List Entry) (numbers bytes : List ℕ) → pointer_cells confirmed ≡ 0 → SeesPointers size confirmed j numbers bytes
+        → without_pointers bytes ≡ bytes }
 {}
 
 /// The bytes of a viewer in a front of a text are a front of its bytes in the text.

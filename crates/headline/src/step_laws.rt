@@ -15,7 +15,7 @@ ghost use Rattle.frame_rules.specs.Describes.{DescribesClient, HasAllCaches};
 ghost use Rattle.script_rules.specs.Script.{Asked};
 ghost use Rattle.script_rules.specs.CaptureText.{run_at_first, sent_from, encoder_frames};
 ghost use Rattle.headline.specs.Headline.{SeesJournal, EveryViewerOfSteps, AreByPresentViewers, steps_of, confirmed_in};
-ghost use Rattle.headline.specs.Fronts.{SeesFirstOfJournal};
+ghost use Rattle.headline.specs.Fronts.{SeesFirst};
 ghost use Rattle.headline.specs.Pointed.{SeesPointers};
 ghost use Rattle.headline.specs.Interleaving.{frames_from};
 
@@ -34,12 +34,12 @@ pub fn takes_show_the_journal()
         → SeesPointers head.size c j (map (λ t. t.number) ts) (joined_bytes (pointed_of_takes head.size c j first_encoder ts)) }
 {}
 
-/// Each front of what a viewer is sent for its takes, with pointers, shows it its first takes, wherever it is cut.
+/// Each front of what a viewer is sent for its takes, with pointers, shows it its first takes, wherever it is cut: their pictures, and their pointers.
 pub fn fronts_of_takes_show_the_journal()
     ensures { (head : Head) (c : Confirmed) (j : List Entry) (ts : List TakeOf) (last : ℕ) → is_session_size head.size.w head.size.h ≡ true → HasAllCaches c
         → IsLegalJournal head j → TakesFollow 0 ts last → last ≤ length j
         → (front rest : List ℕ) → joined_bytes (pointed_of_takes head.size c j first_encoder ts) ≡ front ++ rest
-        → SeesFirstOfJournal head.size c j (map (λ t. t.number) ts) (without_pointers front) }
+        → SeesFirst head.size c j (map (λ t. t.number) ts) front }
 {}
 
 /// What a viewer is sent in the course of any steps of any viewers who are present is what its takes come to over the journal of all of these steps.

@@ -5,7 +5,7 @@ use Rattle.std.specs.Fmt.{digits}
 use Rattle.session_rules.specs.declared.entry.Role.TheVariants.{Owner, Control, View}
 use Rattle.serve_rules.specs.declared.ends.ConnEnd.{ConnEnd}
 use Rattle.serve_rules.specs.declared.noted.ConnReport.{ConnReport}
-use Rattle.gate_run.specs.declared.served.GateEnd.TheVariants.{Ended, Failed}
+use Rattle.gate_run.specs.declared.served.GateEnd.TheVariants.{Ended, Failed, NoListen}
 use Rattle.host_program.specs.Links.{served_text}
 use Rattle.host_program.specs.Hosting.{served_status}
 use Rattle.host_program.specs.Serving.{guest_row, rows_of_words, hosting_of_args}
@@ -34,6 +34,13 @@ a_line_for_each_end = refl
 -- wrong: after a gate that failed the status is that of the output (by reading)
 a_gate_that_failed_is_7_whatever_the_output_does : served_status Failed (Err fault.WriteFault) ≡ 7
 a_gate_that_failed_is_7_whatever_the_output_does = refl
+
+-- wrong: it is 7 where memory was wanted for the lines, so that none need stand there (no line at a gate fault)
+lines_for_which_memory_was_wanted_are_6 : served_status Failed (Err fault.OutOfMemory) ≡ 6
+lines_for_which_memory_was_wanted_are_6 = refl
+
+a_gate_that_cannot_be_opened_is_7 : served_status NoListen (Err fault.OutOfMemory) ≡ 7
+a_gate_that_cannot_be_opened_is_7 = refl
 
 an_output_that_failed_is_5 : served_status Ended (Err fault.WriteFault) ≡ 5
 an_output_that_failed_is_5 = refl

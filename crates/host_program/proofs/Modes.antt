@@ -11,6 +11,7 @@ use Rattle.script_run.specs.declared.fault.ScriptFault.TheVariants.{OutOfMemory}
 use Rattle.script_run.proofs.Whole.{nothing_written}
 use Rattle.script_run.proofs.Continued.{tells_of_all}
 use Rattle.record_run.proofs.Whole.{nothing_written as nothing_recorded}
+use Rattle.record_run.proofs.Runs.{stops_reading}
 use Rattle.record_run.specs.Shown.{shown, text_of}
 use Rattle.demo_run.specs.Scene.{demo_head}
 use Rattle.demo_run.specs.Load.{demo_asked}
@@ -85,8 +86,7 @@ memory_wanted (Demo load) before gate = record {
 memory_wanted (Replay stop) before gate = record {
   answer = Err OutOfMemory;
   status_is = refl;
-  replay = tells_of_all _ (λ bytes. WritesFront before.output.told before.output.told (text_of stop (shown stop bytes)))
-      (λ bytes. record { front = []; rest = text_of stop (shown stop bytes); whole = refl; written = Appends-nil _ });
+  replay = stops_reading OutOfMemory stop before.input.left before.input.left before.output.told tt;
   read_cause = refl;
   write_cause = refl;
 }

@@ -3,6 +3,7 @@ use Rattle.std.specs.Prelude.{◌≡◌, ℕ, List, [], OnOk, OnErr, IfErr}
 use Rattle.std.specs.Io.KnownBytes.{Appends}
 use Rattle.std.specs.declared.option.Option.{Option}
 use Rattle.std.specs.declared.result.Result.{Result}
+use Rattle.std.specs.declared.result.Result.TheVariants.{Ok, Err}
 use Rattle.edge_io.specs.Sink.{WritesFront}
 use Rattle.edge_io.specs.Outside.{Output}
 use Rattle.session_rules.specs.declared.entry.Entry.{Entry}
@@ -14,6 +15,7 @@ use Rattle.gate_run.specs.Gates.{GateState, ServesGate}
 use Rattle.script_run.specs.Run.{WritesCause}
 use Rattle.script_run.specs.Steps.{IsWriteFault}
 use Rattle.script_run.specs.declared.fault.ScriptFault.{ScriptFault}
+use Rattle.script_run.specs.declared.fault.ScriptFault.TheVariants.{Line, ReadFault, WriteFault, OutOfMemory}
 use Rattle.host_program.specs.Changes.{ChangedByHolders}
 use Rattle.host_program.specs.Statuses.{script_status}
 use Rattle.host_program.specs.Serving.{HostingOf}
@@ -23,10 +25,19 @@ use Rattle.host_program.specs.Links.{served_text}
 abbrev pub head_of : HostingOf → Head
 head_of hosting = record { size = hosting.size; rows = hosting.rows }
 
--- the exit status, by how the gate ended and by what the writing of the links' lines is answered: a gate that failed, or can't be opened, is 7 whatever that is
+-- the exit status after a gate that failed, by what the writing of the links' lines is answered: 7, also where the output failed; but where memory was wanted it
+-- is 6, so that 7 never stands for lines that nobody wrote
+abbrev pub failed_status : Result (Unit {0}) ScriptFault → ℕ
+failed_status (Ok x) = 7
+failed_status (Err (Line k rule)) = 7
+failed_status (Err ReadFault) = 7
+failed_status (Err WriteFault) = 7
+failed_status (Err OutOfMemory) = 6
+
+-- the exit status, by how the gate ended and by what the writing of the links' lines is answered: a gate that can't be opened is 7 whatever that is
 abbrev pub served_status : GateEnd → Result (Unit {0}) ScriptFault → ℕ
 served_status Ended answer = script_status answer
-served_status Failed answer = 7
+served_status Failed answer = failed_status answer
 served_status NoListen answer = 7
 
 -- the links' lines were written; after a fault of the sink, whose count rose, and after want of memory a front of them
@@ -36,8 +47,8 @@ pub record WritesLinks (answer : Result (Unit {0}) ScriptFault) (reports : List 
   pub fault : IfErr answer IsWriteFault
   pub write_cause : WritesCause answer before.faults now.faults
 
--- the links' lines were written, also where the gate failed: all of them unless the output's count of faults rose or memory was wanted, and else a front; but nothing
--- where the gate can't be opened
+-- the links' lines were written, also where the gate failed: all of them unless the output's count of faults rose or memory was wanted, and then a front; but
+-- nothing where the gate can't be opened
 abbrev pub WritesIfOpened : GateEnd → Result (Unit {0}) ScriptFault → List ConnReport → (before now : Output) → Type 0
 WritesIfOpened Ended answer reports before now = WritesLinks answer reports before now
 WritesIfOpened Failed answer reports before now = WritesLinks answer reports before now
@@ -50,7 +61,8 @@ pub record PrintsLinks (status : ℕ) (end : GateEnd) (reports : List ConnReport
   pub writes_links : WritesIfOpened end answer reports before now
 
 -- the links of the gate were served, over one session whose journal is legal, with each change made by the holder of control, and the line of each one's report was written: 0 is that the gate ended and all of them
--- stand there, 5 and 6 are a fault of the sink and want of memory behind a front of them, and 7 is a fault of the gate, whose count rose
+-- stand there, 5 is a fault of the sink and 6 want of memory, behind a front of them, and 7 is a fault of the gate, whose count rose: where it could be opened all
+-- of them stand there too, or the sink's count of faults rose as well and a front of them does
 pub record HostsLinks (status : ℕ) (hosting : HostingOf) (given spent : GateState) (before now : Output) : Type 0 where
   pub j : List Entry
   pub reports : List ConnReport

@@ -4,7 +4,7 @@ ghost use Rattle.std.specs.Prelude.{◌≡◌, [], false};
 ghost use Rattle.edge_io.specs.Outside.{output_of};
 ghost use Rattle.gate_run.specs.Gates.{gate_state};
 ghost use Rattle.host_program.specs.Serving.{IsHostable};
-ghost use Rattle.host_program.specs.Hosting.{PrintsLinks, RunsServe, served_status};
+ghost use Rattle.host_program.specs.Hosting.{PrintsLinks, RunsServe, failed_status, served_status};
 
 use crate::host::status;
 use crate::links::put_links;
@@ -44,7 +44,7 @@ pub(crate) fn host_links<R: Threads + Wait + Sync, K: Sink, G: Gate>(
 }
 
 /// Writes the line of each link after the gate's end, unless the gate couldn't be opened, and answers the exit status. Where the gate
-/// failed it is that of its fault, whatever the output does.
+/// failed it is that of its fault, also where the output fails; but not where memory was wanted for the lines.
 fn print_links<K: Sink>(alloc: Global, output: &mut K, reports: &[ConnReport], end: GateEnd) -> u8
     ensures { PrintsLinks result end reports.now (output_of K.Sink output.old) (output_of K.Sink output.new) }
 {
@@ -60,6 +60,20 @@ fn served_status(end: GateEnd, answer: Result<(), ScriptFault>) -> u8
 {
     match end {
         GateEnd::Ended => status(answer),
-        GateEnd::NoListen | GateEnd::Failed => PORT_FAULT,
+        GateEnd::Failed => failed_status(answer),
+        GateEnd::NoListen => PORT_FAULT,
+    }
+}
+
+/// The exit status after a gate that failed, by the answer of writing the links' lines.
+fn failed_status(answer: Result<(), ScriptFault>) -> u8
+    ensures { result ≡ failed_status answer }
+{
+    match answer {
+        Ok(()) => PORT_FAULT,
+        Err(ScriptFault::Line { .. }) => PORT_FAULT,
+        Err(ScriptFault::ReadFault) => PORT_FAULT,
+        Err(ScriptFault::WriteFault) => PORT_FAULT,
+        Err(ScriptFault::OutOfMemory) => OUT_OF_MEMORY,
     }
 }

@@ -1,6 +1,7 @@
 //! A host that is watched over a link, until its bytes decide how that ends.
 ghost use Rattle.std.specs.Prelude.{◌≡◌, ◌≢◌, ◌++◌, ◌<◌, Some, None, Err, length};
 ghost use Rattle.std.specs.Bool.{MatchBool};
+ghost use Rattle.edge_io.specs.Source.{FitsRoom, Takes, ReadCause};
 ghost use Rattle.edge_io.specs.Outside.{Input, output_of, outside, outside_of};
 ghost use Rattle.client_view.specs.Views.{capped};
 ghost use Rattle.command_words.specs.ViewWords.{ViewingOf};
@@ -84,11 +85,24 @@ fn watch_turn<S: Source, K: Sink>(
     ensures look { IsLookOf viewing.now look.new }
     ensures room { length buf.new ≡ length buf.old }
 {
-    match reader.read(buf) {
+    match read_on(look, reader, buf) {
         Got::Bytes(count) => hear(viewing, look, &buf[..count], text, writer),
         Got::End => Some(End::Closed),
         Got::Failed => Some(End::ReadFault),
     }
+}
+
+/// Reads once. From the first mark on the host may be silent.
+fn read_on<S: Source>(look: &Look, reader: &mut S, buf: &mut [u8]) -> Got
+    requires { 0 < length buf.old }
+    ensures count { FitsRoom result (length buf.old) }
+    ensures bytes { Takes (S.left reader.old) (S.left reader.new) result buf.new }
+    ensures cause { ReadCause result (S.faults reader.old) (S.faults reader.new) }
+{
+    if marks_of(look) > 0 {
+        reader.lift_limit();
+    }
+    reader.read(buf)
 }
 
 /// Hears what was read, and says what is due for it.

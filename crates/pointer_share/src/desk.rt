@@ -1,6 +1,6 @@
 //! The desk of one viewer's pointer: what the viewer was told of it, and what there is to tell.
 
-ghost use Rattle.std.specs.Prelude.{◌≡◌, ℕ, ◌<◌, List, length, true, false, IfOk, IfErr, OnOk, Err};
+ghost use Rattle.std.specs.Prelude.{◌≡◌, ℕ, ◌<◌, List, length, true, false, IfOk, IfErr, OnOk, OnErr, Err};
 ghost use Rattle.pointer_share.specs.declared.fault.DeskFault.TheVariants.{NoCache, OutOfMemory as no_memory};
 ghost use Rattle.frame_rules.specs.Pointers.{pointer_at, pointer_key};
 ghost use Rattle.frame_rules.specs.Told.{told_packet, told_after, is_last};
@@ -65,8 +65,8 @@ impl PointerDesk {
         self.noted = noted(session);
     }
 
-    /// The packet that tells the viewer the pointer that was noted, where that isn't the one last told. After an `Err` nothing is said of
-    /// the desk.
+    /// The packet that tells the viewer the pointer that was noted, where that isn't the one last told. After an `Err` the desk is as
+    /// before.
     pub fn packet(&mut self) -> Result<Option<Vec<u8>>, OutOfMemory>
         ensures told { (keys : List ℕ) → HasTold self.old keys
             → IfOk result (λ packet. packet_bytes packet ≡ told_packet self.old.wide self.old.cache.entries keys self.old.noted) }
@@ -74,13 +74,15 @@ impl PointerDesk {
         ensures wide { self.new.wide ≡ self.old.wide }
         ensures cells { self.new.cache.entries ≡ self.old.cache.entries }
         ensures noted { self.new.noted ≡ self.old.noted }
+        ensures unchanged { OnErr result (self.new ≡ self.old) }
     {
         let key = self.noted;
         if is_last(self.told, key) {
             return Ok(None);
         }
-        let answer = self.cache.use_key(u64::from(key))?;
+        let answer = self.cache.peek(u64::from(key));
         let packet = told_packet(self.alloc, self.wide, answer, key)?;
+        self.cache.use_key(u64::from(key))?;
         self.told = Some(key);
         Ok(Some(packet))
     }

@@ -1,6 +1,6 @@
 //! The desks of viewers with a pointer cache and of those without, which have none and are told nothing.
 
-ghost use Rattle.std.specs.Prelude.{◌≡◌, ℕ, List, [], length, IfOk, OnOk};
+ghost use Rattle.std.specs.Prelude.{◌≡◌, ℕ, List, [], length, IfOk, OnOk, OnErr};
 ghost use Rattle.frame_rules.specs.Told.{told_after, key_at, pointer_bytes};
 ghost use Rattle.pointer_share.specs.Desk.{IsDeskOf, IsNoted, noted_with, bytes_of};
 
@@ -38,11 +38,12 @@ pub fn note(desk: &mut Option<PointerDesk>, session: &Session)
 }
 
 /// The packet that goes before a frame: it tells the viewer the pointer that was noted, where that isn't the one last told. After an `Err`
-/// nothing is said of the desk.
+/// the desk is as before.
 pub fn told_bytes(desk: &mut Option<PointerDesk>) -> Result<Option<Vec<u8>>, OutOfMemory>
     ensures told { (c : Confirmed) (told : List ℕ) (key : ℕ) → IsDeskOf c told desk.old → IsNoted desk.old key
         → IfOk result (λ packet. bytes_of packet ≡ pointer_bytes c told key) }
     ensures after { OnOk result ((c : Confirmed) (told : List ℕ) (key : ℕ) → IsDeskOf c told desk.old → IsNoted desk.old key → IsDeskOf c (told_after told key) desk.new) }
+    ensures unchanged { OnErr result (desk.new ≡ desk.old) }
 {
     match desk {
         None => Ok(None),

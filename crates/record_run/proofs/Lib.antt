@@ -5,6 +5,6 @@ pub mod Appended
 pub mod Recorders
 mod Written
 mod Shows
-mod Runs
+pub mod Runs
 mod ShownRows
 mod WrittenRows

@@ -12,9 +12,9 @@ use Rattle.script_run.specs.Run.{Tells, ReadsCause, WritesCause}
 use Rattle.script_run.specs.Steps.{IsWriteFault}
 use Rattle.record_file.specs.Replays.{ReplayOf, HasRead}
 use Rattle.record_run.specs.Shown.{shown, text_of}
-use Rattle.record_run.specs.Replays.{HasFed, HasFedAll, IsReadFault, WritesShown, ReplaysRecord}
+use Rattle.record_run.specs.Replays.{HasFed, HasFedAll, IsReadFault, WritesShown, WritesReplayFront, ReplaysRecord}
 use Rattle.record_run.proofs.Written.{nothing}
-use Rattle.record_run.proofs.Shows.{shows_journal}
+use Rattle.record_run.proofs.Shows.{shows_journal, by_holders}
 
 -- ---- reading
 
@@ -42,9 +42,12 @@ fed_all r (Some bytes) (Some m) (Some x) h end same =
 
 -- ---- the run
 
-no_text : (left told : Option (List ℕ)) (stop : ℕ) → Tells left (λ bytes. WritesFront told told (text_of stop (shown stop bytes)))
+front_of : (stop : ℕ) (bytes : List ℕ) (told telling : Option (List ℕ)) → WritesFront told telling (text_of stop (shown stop bytes)) → WritesReplayFront stop bytes told telling
+front_of stop bytes told telling w = record { written = w; shows_journal = shows_journal stop bytes; by_holders = by_holders bytes }
+
+no_text : (left told : Option (List ℕ)) (stop : ℕ) → Tells left (λ bytes. WritesReplayFront stop bytes told told)
 no_text None told stop = tt
-no_text (Some bytes) told stop = nothing told (text_of stop (shown stop bytes))
+no_text (Some bytes) told stop = front_of stop bytes told told (nothing told (text_of stop (shown stop bytes)))
 
 -- a reading failed
 pub stops_reading : (f : ScriptFault) (stop : ℕ) (left rest told : Option (List ℕ)) → IsReadFault f → ReplaysRecord (Err f) stop left rest told told
@@ -71,13 +74,13 @@ pub shown_whole : (answer : Result Bool ScriptFault) (r : ReplayOf) (stop : ℕ)
 shown_whole (Ok pictured) r stop None rest told telling is writes all = tt
 shown_whole (Ok pictured) r stop (Some bytes) rest told telling is writes all =
     let w = writes bytes all.0 in
-    record { written = w.0; pictured_is = w.1; at_end = all.1; shows_journal = shows_journal stop bytes }
+    record { written = w.0; pictured_is = w.1; at_end = all.1; shows_journal = shows_journal stop bytes; by_holders = by_holders bytes }
 shown_whole (Err (fault.Line k rule)) r stop left rest told telling is writes all = absurd is
 shown_whole (Err fault.ReadFault) r stop left rest told telling is writes all = absurd is
 shown_whole (Err fault.WriteFault) r stop None rest told telling is writes all = tt
-shown_whole (Err fault.WriteFault) r stop (Some bytes) rest told telling is writes all = writes bytes all.0
+shown_whole (Err fault.WriteFault) r stop (Some bytes) rest told telling is writes all = front_of stop bytes told telling (writes bytes all.0)
 shown_whole (Err fault.OutOfMemory) r stop None rest told telling is writes all = tt
-shown_whole (Err fault.OutOfMemory) r stop (Some bytes) rest told telling is writes all = writes bytes all.0
+shown_whole (Err fault.OutOfMemory) r stop (Some bytes) rest told telling is writes all = front_of stop bytes told telling (writes bytes all.0)
 
 pub reads_same : (answer : Result Bool ScriptFault) (n m : ℕ) → IfErr answer IsWriteFault → m ≡ n → ReadsCause answer n m
 reads_same (Ok pictured) n m f is = is

@@ -45,7 +45,8 @@ pub record WritesTheCapture (script : List ℕ) (refused : Option LineRefusal) (
   pub shows_journal : EveryViewerOfCapture script text
   pub refuses : refusal_of (opening_of script) ≡ refused
 
--- a text is a front of a script's capture, and shows each viewer its first takes
+-- a text is a front of a script's capture, and shows each viewer its first takes, by their pictures and by their pointers; the journal of all the script's
+-- steps is legal, and each change in it was made by the holder of control
 pub record IsFrontOfCapture (script text : List ℕ) : Type 0 where
   pub front : IsFront text (capture_of encoder_frames script)
   pub shows_journal : EveryViewerOfOpeningFront (opening_of script) text

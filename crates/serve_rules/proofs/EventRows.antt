@@ -1,5 +1,5 @@
 -- Worked turns of a viewer: where the entries of its events stand, what its steps announce, and how its read side ends.
-use Rattle.std.proofs.Common.{◌≡◌, ◌∷◌, ◌⊎◌, [], ◌||◌, ℕ, List, refl, ap, sym, subst, true, false, arith, inl, inr, ⊎_elim}
+use Rattle.std.proofs.Common.{◌≡◌, ◌∷◌, ◌++◌, ◌⊎◌, [], ◌||◌, ℕ, suc, List, length, refl, ap, sym, ◌∙◌, subst, true, false, arith, inl, inr, ⊎_elim}
 use Rattle.std.specs.Prelude.{codes, Bool}
 use Rattle.input_pdu.specs.declared.event.Event.{Event}
 use Rattle.input_pdu.specs.declared.event.Event.TheVariants.{Scan, Mouse}
@@ -11,9 +11,10 @@ use Rattle.edge_io.specs.Outside as edge
 use Rattle.session_rules.specs.Journal.{Head}
 use Rattle.conn_rules.specs.Hearing.{Hearing, heard}
 use Rattle.conn_rules.specs.declared.conn_step.ConnStep.{ConnStep}
+use Rattle.serve_rules.specs.Turns.{SessionPass}
 use Rattle.serve_rules.specs.Events.{Act, HappenFrom, places_of, Ascend, IsWithin, AreOfEvents}
 use Rattle.serve_rules.specs.Notices.{Notice, events_in, notice_after_all}
-use Rattle.serve_rules.specs.Reading.{ReadEnd, StopsReading}
+use Rattle.serve_rules.specs.Reading.{ReadEnd, ReadFaults, StopsReading, turns_in, HasTurnsOf}
 use Rattle.serve_rules.specs.declared.ends.SideEnd.TheVariants.{Done}
 use Rattle.session_rules.specs.Entering.{IsOfEvent}
 use Rattle.serve_rules.specs.declared.ends.ConnEnd.TheVariants as end
@@ -145,6 +146,36 @@ who_is_refused_has_not_left e = absurd (cc (e (λ over. cc over)).1)
 -- wrong: a read may fail while the count of faults stands
 nothing_fails_while_the_count_stands : ReadEnd false [] (with_part []) nothing (failed 4) (failed 4) (Done end.ReadFault) → ⊥
 nothing_fails_while_the_count_stands e = omega (arith, e.1)
+
+-- wrong: who is refused may be read on until a read fails
+no_read_fails_of_who_is_refused : ReadFaults refused nothing (failed 4) (failed 5) (Done end.ReadFault) → ⊥
+no_read_fails_of_who_is_refused e = e.0
+
+-- wrong: it may then be told that it was refused
+who_is_refused_is_told_before_a_read_fails : ReadFaults refused nothing (failed 4) (failed 5) (Done (end.Refused 1 0)) → ⊥
+who_is_refused_is_told_before_a_read_fails e = cc e
+
+-- wrong: who has said Bye may be read on until a read fails
+no_read_fails_behind_a_bye : ReadFaults (with_part []) (record nothing { bye = true }) (failed 4) (failed 5) (Done end.ReadFault) → ⊥
+no_read_fails_behind_a_bye e = e.1 refl
+
+-- wrong: want of memory may hide a read that failed
+no_read_fails_at_want_of_memory : ReadFaults (with_part []) nothing (failed 4) (failed 5) (Done end.OutOfMemory) → ⊥
+no_read_fails_at_want_of_memory e = cc e
+
+-- a click, a Bye and a word on output take two turns
+two_of_three_steps_take_a_turn : turns_in (step.Event click ∷ step.Bye ∷ step.Suppress true ∷ []) ≡ 2
+two_of_three_steps_take_a_turn = refl
+
+-- wrong: a turn may come before the read that brings its event, which may bring none
+no_turn_comes_before_its_read : (before after : SessionPass) → after.found ≡ before.found ++ 1 ∷ [] → HasTurnsOf [] before after → ⊥
+no_turn_comes_before_its_read before after found turns =
+    let more : length after.found ≡ suc (length before.found) = ap (λ (l : List ℕ). length l) found ∙ pushed before.found in
+    omega (arith, more, turns)
+  where
+    pushed : (l : List ℕ) → length (l ++ 1 ∷ []) ≡ suc (length l)
+    pushed [] = refl
+    pushed (x ∷ l) = ap suc (pushed l)
 
 -- whatever follows a Bye, there was one
 bye_stays : (xs : List ConnStep) (n : Notice) → n.bye ≡ true → (notice_after_all n xs).bye ≡ true

@@ -1,7 +1,7 @@
 -- Lists: what stands in a longer list, and lists within lists.
-use Rattle.std.proofs.Common.{◌≡◌, ℕ, zero, suc, ◌+◌, ◌<◌, List, [], ◌∷◌, ◌++◌, length, refl, ap, ◌∙◌, subst, inl, inr, ⊎_elim, arith, drop, get_or, Some, None}
+use Rattle.std.proofs.Common.{◌≡◌, ℕ, zero, suc, ◌+◌, ◌<◌, List, [], ◌∷◌, ◌++◌, length, refl, ap, ◌∙◌, subst, inl, inr, ⊎_elim, arith, drop, take, get_or, Some, None}
 use Rattle.std.specs.Prelude.{Option, slice_get, ⊤, All}
-use lib.Seq.{drop-cons}
+use lib.Seq.{drop-cons, take-suc}
 use Rattle.serve_rules.specs.Events.{IsWithin}
 
 module _ {E : Type 0} where
@@ -40,6 +40,10 @@ within_then (x ∷ xs) (y ∷ ys) xs' ys' h h' = ⊎_elim (λ l. inl (l.0, withi
 -- the items from a place on are the one there and those behind it
 pub drop_next : {A : Type 0} (l : List A) (i : ℕ) (d : A) → i < length l → drop i l ≡ get_or l i d ∷ drop (i + 1) l
 drop_next l i d h = let same : suc i ≡ i + 1 = omega arith in drop-cons l i d h ∙ ap (λ n. get_or l i d ∷ drop n l) same
+
+-- and the items up to it are those before it and the one there
+pub take_next : {A : Type 0} (l : List A) (i : ℕ) (d : A) → i < length l → take (i + 1) l ≡ take i l ++ get_or l i d ∷ []
+take_next l i d h = let same : i + 1 ≡ suc i = omega arith in ap (λ n. take n l) same ∙ take-suc l i d h
 
 -- a fact of an item is a fact of each item of the list that has it alone
 pub all_one : {A : Type 0} (P : A → Type 0) (x : A) → P x → All P (x ∷ [])

@@ -12,12 +12,13 @@ use Rattle.grow_lock.specs.Journal.{StartsWith}
 use Rattle.grow_lock.specs.Shares.{Share, left_half, right_half, both, HoldsShare}
 use Rattle.grow_lock.proofs.Shares.{both_first, both_of_halves}
 use Rattle.conn_rules.specs.declared.conn_step.ConnStep.{ConnStep}
-use Rattle.conn_rules.specs.Hearing.{Hearing, Heard, heard, then_heard}
+use Rattle.conn_rules.specs.Hearing.{Hearing, Heard, StreamEnd, heard, then_heard, end_of}
+use Rattle.conn_rules.specs.Hearing.StreamEnd.{RefusedAt}
 use Rattle.conn_rules.proofs.Pieces.{heard_then}
 use Rattle.serve_rules.specs.Turns.{SessionPass, KeepsShare}
 use Rattle.serve_rules.specs.Events.{Handles}
 use Rattle.serve_rules.specs.Notices.{Notice, events_in, notice_after_all, notice_in}
-use Rattle.serve_rules.specs.Reading.{ReadsOn, ReadEnd, IsOrderly, IsWhole, IsUnended, StopsReading, one_read}
+use Rattle.serve_rules.specs.Reading.{ReadsOn, ReadsInTurns, HasTurnsOf, ReadEnd, ReadFaults, IsOrderly, IsNoRefusal, IsWhole, IsUnended, StopsReading, one_read}
 use Rattle.serve_rules.specs.declared.ends.ConnEnd.{ConnEnd}
 use Rattle.serve_rules.specs.declared.ends.ConnEnd.TheVariants.{Left, Refused, Truncated, NotInvited, RoomFull, JoinsSpent, ReadFault, WriteFault, OutOfMemory}
 use Rattle.serve_rules.specs.declared.ends.SideEnd.{SideEnd}
@@ -25,6 +26,7 @@ use Rattle.serve_rules.specs.declared.ends.SideEnd.TheVariants.{Done, Stopped}
 use Rattle.serve_rules.specs.declared.noted.Noted.{Noted}
 use Rattle.serve_rules.proofs.Handling.{handles_then, handles_more}
 use Rattle.serve_rules.proofs.Noticing.{notice_then, events_then}
+use Rattle.serve_rules.proofs.InTurns.{turns_then}
 
 abbrev OnlyDone : SideEnd → Type 0
 OnlyDone (Done end) = ⊤
@@ -57,6 +59,35 @@ end_then flagged xs ys h notice i j l (Done ReadFault) whole same e = subst (λ 
 end_then flagged xs ys h notice i j l (Done WriteFault) whole same e = e
 end_then flagged xs ys h notice i j l (Done OutOfMemory) whole same e = e
 end_then flagged xs ys h notice i j l Stopped whole same e = e
+
+-- and no read of the first stretch failed
+faults_then : (h : Hearing) (notice : Notice) (i j l : Input) (end : SideEnd) → j.faults ≡ i.faults → ReadFaults h notice j l end → ReadFaults h notice i l end
+faults_then h notice i j l (Done Left) same e = e ∙ same
+faults_then h notice i j l (Done (Refused k at)) same e = e ∙ same
+faults_then h notice i j l (Done Truncated) same e = e ∙ same
+faults_then h notice i j l (Done NotInvited) same e = e ∙ same
+faults_then h notice i j l (Done RoomFull) same e = e ∙ same
+faults_then h notice i j l (Done JoinsSpent) same e = e ∙ same
+faults_then h notice i j l (Done ReadFault) same e = e
+faults_then h notice i j l (Done WriteFault) same e = e ∙ same
+faults_then h notice i j l (Done OutOfMemory) same e = e ∙ same
+faults_then h notice i j l Stopped same e = e ∙ same
+
+refused_goes_on : (e : StreamEnd) (k at : ℕ) → e ≡ RefusedAt k at → IsNoRefusal e → ⊥
+refused_goes_on e k at is goes_on = subst IsNoRefusal is goes_on
+
+-- behind a refusal no read has failed
+pub calm_refusal : (h : Hearing) (notice : Notice) (i j : Input) (end : SideEnd) (k at : ℕ) → end_of h ≡ RefusedAt k at → ReadFaults h notice i j end → j.faults ≡ i.faults
+calm_refusal h notice i j (Done Left) k at is e = e
+calm_refusal h notice i j (Done (Refused m n)) k at is e = e
+calm_refusal h notice i j (Done Truncated) k at is e = e
+calm_refusal h notice i j (Done NotInvited) k at is e = e
+calm_refusal h notice i j (Done RoomFull) k at is e = e
+calm_refusal h notice i j (Done JoinsSpent) k at is e = e
+calm_refusal h notice i j (Done ReadFault) k at is e = absurd (refused_goes_on (end_of h) k at is e.0)
+calm_refusal h notice i j (Done WriteFault) k at is e = e
+calm_refusal h notice i j (Done OutOfMemory) k at is e = e
+calm_refusal h notice i j Stopped k at is e = e
 
 -- bytes behind others: where nothing was read behind a Bye or a Shutdown of the second ones, none was of both, if the first ones had none
 stops_then : (rest steps : List ConnStep) (h k : Hearing) (n m : Notice) (xs ys : List ℕ) → rest ++ (heard h xs).steps ≡ steps → m ≡ notice_after_all n steps
@@ -104,10 +135,29 @@ reads_then head v rest flagged conn conn' conn'' p q r s t u i j k end a b =
       stops = stops_then rest a.steps conn conn' (notice_in s) (notice_in t) a.fed b.fed (a.front ∙ (ap (λ l. a.steps ++ l) whole.0 ∙ append-nil a.steps)) a.notice
           (λ before. ap (λ (h : Heard). h.steps) (heard_then conn a.fed before)
           ∙ ap (λ (h : Hearing). (heard conn a.fed).steps ++ (heard h before).steps) (sym after_is)) a.stops b.stops;
-      calm = λ stopped. b.calm stopped ∙ a.calm refl;
+      faults = subst (λ (h : Heard). ReadFaults h.after (notice_in u) i k end) (sym both)
+          (faults_then (heard conn' b.fed).after (notice_in u) i j k end a.faults b.faults);
       ends = subst (λ (h : Heard). ReadEnd flagged (a.fed ++ b.fed) h.after (notice_in u) i k end) (sym both)
           (end_then flagged a.fed b.fed (heard conn' b.fed).after (notice_in u) i j k end
-          (consumes_then i.left j.left (Some []) a.fed b.fed a.taken) (a.calm refl) b.ends);
+          (consumes_then i.left j.left (Some []) a.fed b.fed a.taken) a.faults b.ends);
+    }
+
+-- with the turns of both
+pub in_turns_then : (head : Head) (v : ℕ) (rest : List ConnStep) (flagged : Bool) (conn conn' conn'' : Hearing) (p q r : SessionPass) (s t u : Noted)
+    (i j k : Input) (end : SideEnd)
+    → ReadsInTurns head v rest true conn conn' p q s t i j Stopped → ReadsInTurns head v [] flagged conn' conn'' q r t u j k end
+    → ReadsInTurns head v rest flagged conn conn'' p r s u i k end
+unfolding reads_then
+in_turns_then head v rest flagged conn conn' conn'' p q r s t u i j k end a b =
+    let after_is : conn' ≡ (heard conn a.reads.fed).after = (a.reads.all orderly_stop).1 in
+    let both : heard conn (a.reads.fed ++ b.reads.fed) ≡ then_heard (heard conn a.reads.fed) (heard conn' b.reads.fed)
+    = heard_then conn a.reads.fed b.reads.fed ∙ ap (λ (h : Hearing). then_heard (heard conn a.reads.fed) (heard h b.reads.fed)) (sym after_is) in
+    let steps : (rest ++ (heard conn a.reads.fed).steps) ++ (heard conn' b.reads.fed).steps ≡ rest ++ (heard conn (a.reads.fed ++ b.reads.fed)).steps
+    = append_assoc rest (heard conn a.reads.fed).steps (heard conn' b.reads.fed).steps ∙ ap (λ (h : Heard). rest ++ h.steps) (sym both) in
+    record {
+      reads = reads_then head v rest flagged conn conn' conn'' p q r s t u i j k end a.reads b.reads;
+      turns = λ orderly. subst (λ (l : List ConnStep). HasTurnsOf l p r) steps
+          (turns_then (rest ++ (heard conn a.reads.fed).steps) (heard conn' b.reads.fed).steps p q r (a.turns orderly_stop) (b.turns orderly));
     }
 
 -- what was handled from a pass, of which some share was split off, was handled from the pass before
@@ -153,6 +203,6 @@ reads_met head v rest flagged conn conn' p' p a b m s t i j end same h grows fou
       room = h.room;
       notice = h.notice;
       stops = h.stops;
-      calm = h.calm;
+      faults = h.faults;
       ends = h.ends;
     }

@@ -29,6 +29,10 @@ pub record IsTurn (before after : SessionPass) (base added : List Entry) : Type 
 abbrev pub Idles : SessionPass → SessionPass → Type 0
 Idles before after = (base : List Entry) × IsTurn before after base []
 
+-- what a pass has seen is what its last turn found
+abbrev pub FoundAll : SessionPass → Type 0
+FoundAll pass = (earlier : List ℕ) × (pass.found ≡ earlier ++ length pass.seen ∷ [])
+
 -- the place of an entry, if there is one, that is appended to a journal
 abbrev pub place_after : List Entry → Option Entry → Option ℕ
 place_after base None = None

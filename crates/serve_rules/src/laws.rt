@@ -8,10 +8,12 @@ ghost use Rattle.edge_io.specs.Outside.{Input};
 ghost use Rattle.grow_lock.specs.Journal.{StartsWith};
 ghost use Rattle.grow_lock.specs.Shares.{left_half, right_half, both, HoldsShare};
 ghost use Rattle.conn_rules.specs.declared.conn_step.ConnStep.{ConnStep};
-ghost use Rattle.conn_rules.specs.Hearing.{Hearing};
+ghost use Rattle.conn_rules.specs.Hearing.{Hearing, end_of};
+ghost use Rattle.conn_rules.specs.Hearing.StreamEnd.{RefusedAt};
 ghost use Rattle.serve_rules.specs.Turns.{SessionPass, KeepsShare, IsHandled, Idles};
 ghost use Rattle.serve_rules.specs.Events.{Act, HappenFrom, places_of, Ascend, AreOfEvents, Handles};
-ghost use Rattle.serve_rules.specs.Reading.{ReadsOn};
+ghost use Rattle.serve_rules.specs.Notices.{Notice};
+ghost use Rattle.serve_rules.specs.Reading.{ReadsOn, ReadsInTurns, ReadFaults};
 ghost use Rattle.serve_rules.specs.declared.ends.SideEnd.{SideEnd};
 ghost use Rattle.serve_rules.specs.declared.ends.SideEnd.TheVariants.{Stopped};
 ghost use Rattle.serve_rules.specs.declared.noted.Noted.{Noted};
@@ -51,4 +53,17 @@ pub fn reading_goes_on()
         (before after : Input) (end : SideEnd) → split ≡ record p { share = left_half p.share } → ReadsOn head v rest flagged conn last split mine a b before after end
         → StartsWith met.seen mine.seen → met.found ≡ mine.found ++ theirs.found → met.mine ≡ mine.mine ++ theirs.mine → theirs.mine ≡ []
         → met.share ≡ both mine.share theirs.share → HoldsShare theirs.share (right_half p.share) → ReadsOn head v rest flagged conn last p met a b before after end }
+{}
+
+/// A read side that has its turns to itself goes on so after a stretch that went well.
+pub fn turns_go_on()
+    ensures { (head : Head) (v : ℕ) (rest : List ConnStep) (flagged : Bool) (conn mid last : Hearing) (p q r : SessionPass) (a b c : Noted)
+        (before between after : Input) (end : SideEnd) → ReadsInTurns head v rest true conn mid p q a b before between Stopped
+        → ReadsInTurns head v [] flagged mid last q r b c between after end → ReadsInTurns head v rest flagged conn last p r a c before after end }
+{}
+
+/// Who reads on behind a refusal has no end to give where such a read fails.
+pub fn no_read_fails_behind_a_refusal()
+    ensures { (h : Hearing) (notice : Notice) (before now : Input) (end : SideEnd) (k at : ℕ) → end_of h ≡ RefusedAt k at → ReadFaults h notice before now end
+        → now.faults ≡ before.faults }
 {}

@@ -1,4 +1,5 @@
 //! The halves of links whose readers wait for what viewers were shown.
+ghost use Rattle.std.specs.Prelude.{false};
 ghost use Rattle.std.specs.declared.option.Option.TheVariants.{None};
 
 use edge_io::{Bytes, Got, Sink, Source, Wrote};
@@ -127,6 +128,8 @@ impl Source for CueReader {
 
     ghost faults = { λ s. s.faults };
 
+    ghost limited = { λ _. false };
+
     fn read(&mut self, buf: &mut [u8]) -> Got {
         match self.now.read(buf) {
             Got::Bytes(n) => return Got::Bytes(n),
@@ -142,6 +145,8 @@ impl Source for CueReader {
         self.now = part.bytes;
         self.now.read(buf)
     }
+
+    fn lift_limit(&mut self) {}
 }
 
 /// The half of a link that is written, which counts its marks. It tells no content.

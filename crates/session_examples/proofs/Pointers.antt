@@ -24,6 +24,7 @@ use Rattle.frame_rules.specs.Told.{message_6, message_7}
 use Rattle.frame_rules.specs.Encoder.{first_encoder, pointed_of_takes}
 use Rattle.script_rules.specs.Capture.{ended, viewer_bytes}
 use Rattle.script_rules.specs.CaptureText.{capture_of, encoder_frames}
+use Rattle.headline.specs.Fronts.{SeesFirst, SeesFirstPointers}
 use Rattle.headline.specs.Pointed.{shapes_at_marks, packets_told, shape_after}
 use Rattle.session_examples.proofs.Takes.{alone, join, take as take_now}
 
@@ -157,6 +158,35 @@ no_pointer_without_cells = refl
 -- wrong: a viewer without cells is to show the arrow
 none_is_to_be_shown : shape_after (cells 0) size both 2 ≡ None
 none_is_to_be_shown = refl
+
+-- ---- fronts of what a viewer is sent
+
+abbrev its_journal : List Entry
+its_journal = journal_of_steps (alone 8 2) a_sign
+
+-- the first take's pointer and frame
+abbrev first_take : List ℕ
+first_take = sent (cells 2) (join ∷ take_now ∷ [])
+
+-- 37 bytes of the next pointer's packet are there
+-- wrong: a packet that isn't whole is refused
+-- wrong: a front is to show the pointers of all takes
+-- wrong: a front has the packets of pointers before all takes
+a_front_shows_the_first_pointer : SeesFirst size (cells 2) its_journal (1 ∷ 2 ∷ []) (first_take ++ take 37 (brings 1 (pointer 1 0x41)))
+unfolding ternary_raster
+a_front_shows_the_first_pointer = record {
+  pictures = record { seen = 1 ∷ []; are_first = record { rest = 2 ∷ []; joined = refl }; marks_show_journal = refl };
+  pointers = record {
+    marks_show_pointers = refl;
+    packets_are_first = record { rest = brings 1 (pointer 1 0x41) ∷ []; joined = refl };
+  };
+}
+
+-- all of that packet is there, and nothing of its frame
+-- wrong: the packets of pointers in a front are those before its marks
+a_pointer_before_its_frame : SeesFirstPointers size (cells 2) its_journal (1 ∷ 2 ∷ []) (1 ∷ []) (first_take ++ brings 1 (pointer 1 0x41))
+unfolding ternary_raster
+a_pointer_before_its_frame = record { marks_show_pointers = refl; packets_are_first = record { rest = []; joined = refl } }
 
 the_latest_pointer_is_shown : shapes_at_marks (cells 2) size (brings 0 (pointer 1 0x41) ++ brings 1 (pointer 1 0x42) ++ synchronize_packet false) ≡ Some (Some (shape_of false (pointer 1 0x42)) ∷ [])
 the_latest_pointer_is_shown = refl

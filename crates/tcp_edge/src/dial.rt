@@ -33,17 +33,24 @@ impl<'a, R: Net<Stream = TcpStream>> Model for TcpDial<'a, R> {
 }
 
 impl<'a, R: Net<Stream = TcpStream>> TcpDial<'a, R> {
-    /// Before any call, with the limits `LIMITS` but none for the connection sequence, which the other side has, and room for what is
-    /// left of one link.
+    /// Before any call, with the limits `LIMITS`, and room for what is left of one link.
     pub fn new(rt: &'a R, alloc: Global) -> Result<TcpDial<'a, R>, OutOfMemory>
+        ensures { IfOk result (λ d. d ≡ new_dial) }
+    {
+        TcpDial::with_limits(rt, alloc, LIMITS)
+    }
+
+    /// The same with these limits.
+    pub fn with_limits(
+        rt: &'a R,
+        alloc: Global,
+        limits: Limits,
+    ) -> Result<TcpDial<'a, R>, OutOfMemory>
         ensures { IfOk result (λ d. d ≡ new_dial) }
     {
         Ok(TcpDial {
             rt,
-            limits: Limits {
-                sequence: None,
-                ..LIMITS
-            },
+            limits,
             asked: None,
             given: 0,
             finished: Vec::with_capacity(alloc, 1)?,

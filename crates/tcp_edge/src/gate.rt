@@ -7,13 +7,18 @@ use crate::link::{TcpLink, TcpSpent};
 use crate::open::Open;
 use crate::refusal::{Patience, Refusal};
 use edge_io::{Gate, Next, OutOfMemory};
+use libc::net as c;
 use std::alloc::Global;
 use std::marker::Model;
 use std::net::{Ipv4Addr, Net, SocketAddr, SocketAddrV4, TcpListener, TcpStream};
+use std::os::fd::AsRawFd;
 use std::time::Clock;
 
 /// The most links that a gate can be asked for.
 const MOST_LINKS: usize = 65_535;
+
+/// How many connections may wait to be accepted, if the system allows it (profile). Who comes while so many wait isn't heard, and tries again.
+const MOST_WAITING: i32 = 4_096;
 
 /// A port of all of this machine's IPv4 addresses, and the connections that clients make to it.
 #[derive(Drop)]
@@ -64,7 +69,7 @@ impl<'a, R: Net<Listener = TcpListener, Stream = TcpStream> + Clock> TcpGate<'a,
             listener: None,
             asked: None,
             given: 0,
-            open: Open::new(alloc)?,
+            open: Open::new(alloc),
             finished: Vec::with_capacity(alloc, MOST_LINKS)?,
             ended: false,
             faults: 0,
@@ -97,6 +102,7 @@ impl<'a, R: Net<Listener = TcpListener, Stream = TcpStream> + Clock> Gate for Tc
         let address = SocketAddr::V4(SocketAddrV4::new(Ipv4Addr::UNSPECIFIED, port));
         match TcpListener::bind(self.rt, address) {
             Ok(listener) => {
+                c::listen(listener.as_raw_fd(), MOST_WAITING);
                 self.listener = Some(listener);
                 self.asked = Some((port, links));
                 true
@@ -115,7 +121,7 @@ impl<'a, R: Net<Listener = TcpListener, Stream = TcpStream> + Clock> Gate for Tc
             self.listener = None;
             return Next::End;
         }
-        match next_link(self.rt, &self.listener, &self.limits, &self.open) {
+        match next_link(self.rt, &self.listener, &self.limits, &mut self.open) {
             Some(link) => {
                 self.given += 1;
                 Next::Link(link)
@@ -130,6 +136,11 @@ impl<'a, R: Net<Listener = TcpListener, Stream = TcpStream> + Clock> Gate for Tc
 
     fn done(&mut self, spent: TcpSpent) {
         self.finished.push_reserved(spent);
+    }
+
+    /// Ends the oldest link whose client isn't ready, once that has had a second, unless one was closed meanwhile.
+    fn make_room(&mut self) {
+        self.open.make_room(self.rt);
     }
 }
 
@@ -149,7 +160,7 @@ fn next_link<R: Clock>(
     rt: &R,
     listener: &Option<TcpListener>,
     limits: &Limits,
-    open: &Open,
+    open: &mut Open,
 ) -> Option<TcpLink>
     ensures { IfSome result (λ l. l ≡ fresh) }
 {
@@ -157,8 +168,8 @@ fn next_link<R: Clock>(
     let mut patience = Patience::new(rt, open);
     let stream = accepted(listener, &mut patience)?;
     let other = second_handle(&stream, &mut patience)?;
-    let share = open.another()?;
-    Some(TcpLink::new(stream, other, limits, Some(share)))
+    let share = open.add(&stream);
+    Some(TcpLink::new(stream, other, limits, share))
 }
 
 /// The next connection. Clients that have given up are passed over.

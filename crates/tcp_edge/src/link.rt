@@ -3,7 +3,7 @@ ghost use Rattle.std.specs.declared.option.Option.TheVariants.{None};
 ghost use Rattle.tcp_edge.specs.Counts.{fresh};
 
 use crate::limits::Limits;
-use crate::open::Open;
+use crate::open::Share;
 use crate::options;
 use crate::reader::TcpReader;
 use crate::stage::Stage;
@@ -56,7 +56,7 @@ impl TcpLink {
         stream: TcpStream,
         other: TcpStream,
         limits: &Limits,
-        open: Option<Open>,
+        share: Option<Share>,
     ) -> TcpLink
         ensures { result ≡ fresh }
     {
@@ -66,11 +66,11 @@ impl TcpLink {
         options::watch(&stream);
         TcpLink {
             reader: TcpReader {
+                share,
                 stream,
                 stage: Stage::Silent {
                     sequence: limits.sequence,
                 },
-                open,
                 faults: 0,
             },
             writer: TcpWriter {
@@ -111,18 +111,22 @@ impl Link for TcpLink {
 
     fn close(reader: TcpReader, writer: TcpWriter) -> TcpSpent {
         let TcpReader {
+            share,
             stream: mut rest,
             stage: _,
-            open: _,
             faults: read_faults,
         } = reader;
         let TcpWriter {
             stream,
             faults: write_faults,
         } = writer;
+        if let Some(share) = &share {
+            share.free();
+        }
         if stream.shutdown(Shutdown::Write).is_ok() {
             drain(&mut rest);
         }
+        drop(share);
         TcpSpent {
             read_faults,
             write_faults,
@@ -130,7 +134,7 @@ impl Link for TcpLink {
     }
 }
 
-/// Reads what the client still sends, for a while. Bytes that nobody read would make the system reset the connection,
+/// Reads what the client still sends, for a while, unless its gate ends that. Bytes that nobody read would make the system reset the connection,
 /// and a reset can overtake what was written last.
 fn drain(stream: &mut TcpStream) {
     let each = Duration::from_millis(LAST_READ);

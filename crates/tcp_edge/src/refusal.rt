@@ -34,8 +34,11 @@ const EHOSTUNREACH: i32 = 113;
 /// How often a gate that has no open link waits for descriptors or memory before that is a fault (profile),
 const MOST_WAITS: u32 = 600;
 
-/// and how many milliseconds each time.
+/// how many milliseconds each time,
 const WAIT: u64 = 100;
+
+/// and how many where it has ended a link for that.
+const SHORT_WAIT: u64 = 10;
 
 /// What an error says of a connection that wasn't made.
 pub enum Refusal {
@@ -81,17 +84,21 @@ impl<'a, R: Clock> Patience<'a, R> {
         Patience { rt, open, waits: 0 }
     }
 
-    /// Waits a while: a link that is open gives its descriptors back when it ends. Without any it doesn't wait where it has
-    /// waited long enough. Whether it has waited.
+    /// Waits a while: a link that is open gives its descriptors back when it ends, and one whose client isn't ready is ended for that.
+    /// Without any it doesn't wait where it has waited long enough. Whether it has waited.
     pub fn wait(&mut self) -> bool {
-        if self.open.has_others() {
+        let mut pause = WAIT;
+        if self.open.has_any() {
+            if self.open.end_oldest() {
+                pause = SHORT_WAIT;
+            }
             self.waits = 0;
         } else if self.waits >= MOST_WAITS {
             return false;
         } else {
             self.waits += 1;
         }
-        thread::sleep(self.rt, Duration::from_millis(WAIT));
+        thread::sleep(self.rt, Duration::from_millis(pause));
         true
     }
 }

@@ -1,4 +1,7 @@
 //! How long the reads of a connection wait, by how far its client has come.
+ghost use Rattle.std.specs.Prelude.{◌≡◌, false};
+ghost use Rattle.tcp_edge.specs.Limits.{is_limited};
+
 use libc::CLOCK_MONOTONIC;
 use libc::types::timespec;
 use std::net::TcpStream;
@@ -18,7 +21,9 @@ pub enum Stage {
 
 impl Stage {
     /// From now on a read waits for as long as it takes.
-    pub fn free(stream: &TcpStream) -> Stage {
+    pub fn free(stream: &TcpStream) -> Stage
+        ensures { is_limited result ≡ false }
+    {
         let _ = stream.set_read_timeout(None);
         Stage::Free
     }
@@ -34,7 +39,9 @@ impl Stage {
     }
 
     /// The stage after some bytes.
-    pub fn after_bytes(self, stream: &TcpStream) -> Stage {
+    pub fn after_bytes(self, stream: &TcpStream) -> Stage
+        ensures { is_limited self ≡ false → is_limited result ≡ false }
+    {
         match self {
             Stage::Silent {
                 sequence: Some(time),
@@ -48,7 +55,7 @@ impl Stage {
 }
 
 /// The milliseconds of a clock that never goes back; 0 where the system has none, so that each read has the whole limit.
-fn milliseconds() -> u64 {
+pub fn milliseconds() -> u64 {
     let mut time = timespec {
         tv_sec: 0,
         tv_nsec: 0,

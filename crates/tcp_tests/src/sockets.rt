@@ -204,6 +204,41 @@ fn a_gate_ends_after_its_links_and_refuses_who_comes_later(rt: HostRuntime) -> R
     Ok(())
 }
 
+/// A link that a dial with short limits has dialled at a gate.
+fn dialled<R: Net<Listener = TcpListener, Stream = TcpStream> + Alloc<A = Global> + Abort>(
+    rt: &R,
+    port: u16,
+) -> TcpLink {
+    let dial = TcpDial::with_limits(rt, rt.alloc(), SHORT);
+    let mut dial = dial.expect(rt, "ample memory");
+    dial.dial(port).expect(rt, "an open port")
+}
+
+#[test]
+fn a_host_that_says_nothing_at_first_is_a_fault(rt: HostRuntime) -> Result<(), Fail> {
+    let mut gate = open(&rt);
+    let (mut near, _out) = dialled(&rt, gate.port()).split();
+    let link = next_link(&rt, &mut gate);
+    let mut buf = [0u8; 8];
+    assert_eq!(rt; near.read(&mut buf), Got::Failed);
+    drop(link);
+    Ok(())
+}
+
+/// A host says one packet and nothing more; its viewer isn't shown a mark.
+#[test]
+fn a_host_that_stops_before_the_first_mark_is_a_fault(rt: HostRuntime) -> Result<(), Fail> {
+    let mut gate = open(&rt);
+    let (mut near, _out) = dialled(&rt, gate.port()).split();
+    let (reader, mut writer) = next_link(&rt, &mut gate).split();
+    assert_eq!(rt; writer.write_all(b"confirm"), Wrote::All);
+    let mut buf = [0u8; 8];
+    assert_eq!(rt; near.read(&mut buf), Got::Bytes(7));
+    assert_eq!(rt; near.read(&mut buf), Got::Failed);
+    drop(reader);
+    Ok(())
+}
+
 /// The viewer's last words are small and its host has said what it doesn't read; they arrive before the end all the same.
 #[test]
 fn a_dialled_link_reaches_the_gate_and_comes_back(rt: HostRuntime) -> Result<(), Fail> {

@@ -67,7 +67,7 @@ use Rattle.conn_rules.specs.Packets.{joins_judged, packet_judged}
 use Rattle.conn_rules.specs.Shares.{sets_read, other_deed}
 use Rattle.conn_rules.proofs.Pieces.{packets_then}
 use Rattle.viewer_rules.specs.ClientPackets.{connection_request, connect_initial as viewer_initial, erect_domain, attach_user, channel_join, request_data, send_data, wide, info_body, client_info, confirm_fields, confirm_body, confirm_active, synchronize, cooperate, request_control, font_list, last_five}
-use Rattle.viewer_rules.specs.Rounds.{IsConfirmable, the_user, greeting, joined}
+use Rattle.viewer_rules.specs.Rounds.{without_pointers, IsConfirmable, the_user, greeting, joined}
 use Rattle.viewer_rules.proofs.ConfirmedBack.{with_caches, cells, cells_are, confirmed_back}
 use Rattle.viewer_agrees.proofs.Cutting.{host_cuts}
 use Rattle.viewer_agrees.proofs.Info.{length_wide, info_back}
@@ -168,7 +168,7 @@ Seen c = packet_judged (stage.Shares 3 (phase.Confirm (depth_of c))) (confirm_ac
     ≡ found_judged 3 7 the_user (phase.Confirm (depth_of c)) 15 (bind (sets_read 21 (confirmed_of (depth_of c) (confirm_fields c))) (λ k. other_deed (Some (deed.Confirm k))))
 
 pub confirm_judged : (c : Confirmed) → IsConfirmable c
-    → packet_judged (stage.Shares 3 (phase.Confirm (depth_of c))) (confirm_active the_user c) ≡ alone (goes_to (stage.Shares 3 (phase.Finish c final.Synchronize)))
+    → packet_judged (stage.Shares 3 (phase.Confirm (depth_of c))) (confirm_active the_user c) ≡ alone (goes_to (stage.Shares 3 (phase.Finish (without_pointers c) final.Synchronize)))
 confirm_judged c h =
     let seen : Seen c =
     subst (λ (xs : List CacheSize). Seen (with_caches c xs c.glyphs)) (cells_are 3 c.bitmaps h.bitmaps)
@@ -199,7 +199,7 @@ last_place name c =
 
 abbrev pub all_heard : Size → List ℕ → Confirmed → Heard
 all_heard size name c =
-    heard_as (first_answers ++ (two_answers size (depth_of c) ++ ([] ++ four_answers))) (step.Named name ∷ step.Ready c ∷ []) (stands size (stage.Shares 3 phase.Ready) (last_place name c))
+    heard_as (first_answers ++ (two_answers size (depth_of c) ++ ([] ++ four_answers))) (step.Named name ∷ step.Ready (without_pointers c) ∷ []) (stands size (stage.Shares 3 phase.Ready) (last_place name c))
 
 -- up to Client Info
 pub ten_heard : (size : Size) (depth : Depth) (name : List ℕ) → IsName name → packets_heard (first_hearing size) (first_nine depth ++ client_info the_user name ∷ [])
@@ -216,7 +216,7 @@ packets_are_heard size name c n h =
     let at_info : Hearing = stands size (stage.Joins (client (depth_of c)) true true) 435 in
     let confirm_place : ℕ = place_behind 435 (length (client_info the_user name)) in
     let at_confirm : Hearing = stands size (stage.Shares 3 (phase.Confirm (depth_of c))) confirm_place in
-    let at_finals : Hearing = stands size (stage.Shares 3 (phase.Finish c final.Synchronize)) (place_behind confirm_place (length (confirm_active the_user c))) in
+    let at_finals : Hearing = stands size (stage.Shares 3 (phase.Finish (without_pointers c) final.Synchronize)) (place_behind confirm_place (length (confirm_active the_user c))) in
     let nine : Heard = heard_as first_answers [] at_info in
     let info : Heard = heard_as (two_answers size (depth_of c)) (step.Named name ∷ []) at_confirm in
     let confirm : Heard = heard_as [] [] at_finals in
@@ -224,7 +224,7 @@ packets_are_heard size name c n h =
     ∙ ap (λ (x : Heard). then_heard x (packets_heard x.after (client_info the_user name ∷ last_five the_user c))) (nine_heard size (depth_of c))
     ∙ ap (λ (j : Result (Telling Answer) Refusal). then_heard nine (then_heard (judged_heard at_info (client_info the_user name) j) (packets_heard (judged_heard at_info (client_info the_user name) j).after (last_five the_user c)))) (info_judged_so (depth_of c) name n)
     ∙ ap (λ (j : Result (Telling Answer) Refusal). then_heard nine (then_heard info (then_heard (judged_heard at_confirm (confirm_active the_user c) j) (packets_heard (judged_heard at_confirm (confirm_active the_user c) j).after last_four)))) (confirm_judged c h)
-    ∙ ap (λ (x : Heard). then_heard nine (then_heard info (then_heard confirm x))) (four_heard size (place_behind confirm_place (length (confirm_active the_user c))) c)
+    ∙ ap (λ (x : Heard). then_heard nine (then_heard info (then_heard confirm x))) (four_heard size (place_behind confirm_place (length (confirm_active the_user c))) (without_pointers c))
 
 -- ---- bytes
 

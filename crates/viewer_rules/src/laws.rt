@@ -12,7 +12,7 @@ ghost use Rattle.viewer_rules.specs.declared.stage.Stage.TheVariants.{Shown};
 ghost use Rattle.viewer_rules.specs.ClientPackets.{confirm_fields};
 ghost use Rattle.viewer_rules.specs.ViewerHandshake.{Standing, Watching, watched, viewer_handshake, refusal_in};
 ghost use Rattle.viewer_rules.specs.Shown.{IsShown, standing_at};
-ghost use Rattle.viewer_rules.specs.Rounds.{IsConfirmable, greeting, answers, joined};
+ghost use Rattle.viewer_rules.specs.Rounds.{without_pointers, IsConfirmable, greeting, answers, joined};
 
 /// It doesn't matter in what pieces a host's stream comes.
 pub fn hosts_bytes_are_heard_in_any_pieces()
@@ -22,9 +22,9 @@ pub fn hosts_bytes_are_heard_in_any_pieces()
         → (watched name c w (xs ++ ys)).after ≡ (watched name c (watched name c w xs).after ys).after }
 {}
 
-/// The host of a viewer's depth reads in its Confirm Active just what the viewer was given to confirm.
+/// The host of a viewer's depth reads in its Confirm Active just what the viewer was given to confirm, and that it keeps no shapes of pointers.
 pub fn what_is_confirmed_is_read()
-    ensures { (c : Confirmed) → IsConfirmable c → confirmed_of (depth_of c) (confirm_fields c) ≡ Ok c }
+    ensures { (c : Confirmed) → IsConfirmable c → confirmed_of (depth_of c) (confirm_fields c) ≡ Ok (without_pointers c) }
 {}
 
 /// Whatever preset words confirm has as many caches as a viewer confirms, and numbers of two bytes.

@@ -1,5 +1,5 @@
 -- A viewer's sides and its first frame, until its connection ends.
-use Rattle.std.proofs.Common.{◌≡◌, ℕ, ◌<◌, ⊎_elim, List, [], ◌++◌, map, sym, refl, ap, ◌∙◌, subst, arith, append_assoc, inl, inr}
+use Rattle.std.proofs.Common.{◌≡◌, ℕ, ◌<◌, ⊎_elim, List, [], ◌++◌, map, sym, refl, ap, ◌∙◌, subst, arith, append_assoc, append-nil, inl, inr}
 use Rattle.std.specs.Prelude.{Bool, true, false, Option}
 use Rattle.edge_io.specs.Faults.{Rose}
 use Rattle.edge_io.specs.Outside.{Input, Output, Outside, outside}
@@ -16,8 +16,8 @@ use Rattle.pointer_share.specs.Desk.{DeskOf}
 use Rattle.grow_lock.specs.Journal.{StartsWith}
 use Rattle.grow_lock.proofs.Lists.{starts_trans, length_starts}
 use Rattle.serve_rules.specs.Turns.{SessionPass}
-use Rattle.serve_rules.specs.Notices.{Notice, events_in, notice_in}
-use Rattle.serve_rules.specs.Reading.{ReadsOn, ReadEnd}
+use Rattle.serve_rules.specs.Notices.{Notice, events_in, notice_after_all, notice_in}
+use Rattle.serve_rules.specs.Reading.{ReadsOn, ReadEnd, ReadFaults, IsOrderly, GoesOn}
 use Rattle.serve_rules.specs.declared.ends.ConnEnd.{ConnEnd}
 use Rattle.serve_rules.specs.declared.ends.ConnEnd.TheVariants.{Left, Refused, Truncated, NotInvited, RoomFull, JoinsSpent, ReadFault, WriteFault, OutOfMemory}
 use Rattle.serve_rules.specs.declared.ends.SideEnd.{SideEnd}
@@ -29,7 +29,7 @@ use Rattle.serve_rules.proofs.Lists.{within_back}
 use Rattle.serve_rules.proofs.ReadOn.{reads_then}
 use Rattle.viewer_run.specs.Sending.{IsSendEnd, FollowsWith, SendsOn}
 use Rattle.viewer_run.specs.Frames.{FirstSent, FramesSent}
-use Rattle.viewer_run.specs.Serving.{ViewEnd, ReadsTo, EndsSending, SidesServe, Attends, ended_by, wants_last, end_of_last}
+use Rattle.viewer_run.specs.Serving.{ViewEnd, ViewFaults, FailsAtMostBeside, ReadsTo, EndsSending, SidesServe, Attends, ended_by, wants_last, end_of_last}
 use Rattle.viewer_run.proofs.FromFirst.{first_alone, first_then, frames_then}
 use Rattle.viewer_run.proofs.Stretches.{same_none}
 use Rattle.viewer_run.proofs.TakesOn.{present_stays, pointed_stay, encoder_stays}
@@ -46,6 +46,49 @@ view_end flagged fed h n i j JoinsSpent e = e
 view_end flagged fed h n i j ReadFault e = e
 view_end flagged fed h n i j WriteFault e = absurd e
 view_end flagged fed h n i j OutOfMemory e = tt
+
+-- and what it says of reads that failed, where no write had
+view_faults : (h : Hearing) (n m : Notice) (i j : Outside) (end : ConnEnd) → (IsOrderly (Done end) → n ≡ m) → ReadFaults h n i.input j.input (Done end)
+    → j.output.faults ≡ i.output.faults → ViewFaults h m i j end
+view_faults h n m i j Left same e calm = e
+view_faults h n m i j (Refused k at) same e calm = e
+view_faults h n m i j Truncated same e calm = e
+view_faults h n m i j NotInvited same e calm = e
+view_faults h n m i j RoomFull same e calm = e
+view_faults h n m i j JoinsSpent same e calm = e
+view_faults h n m i j ReadFault same e calm = (subst (GoesOn h) (same (λ is. cc is)) e, calm)
+view_faults h n m i j WriteFault same e calm = inl e
+view_faults h n m i j OutOfMemory same e calm = inl e
+
+-- whatever end of the reading is beside that of the sending
+beside : (h : Hearing) (n m : Notice) (i j : Outside) (read : SideEnd) → (IsOrderly read → n ≡ m) → ReadFaults h n i.input j.input read → FailsAtMostBeside h m i j
+beside h n m i j (Done Left) same e = inl e
+beside h n m i j (Done (Refused k at)) same e = inl e
+beside h n m i j (Done Truncated) same e = inl e
+beside h n m i j (Done NotInvited) same e = inl e
+beside h n m i j (Done RoomFull) same e = inl e
+beside h n m i j (Done JoinsSpent) same e = inl e
+beside h n m i j (Done ReadFault) same e = inr (subst (GoesOn h) (same (λ is. cc is)) e)
+beside h n m i j (Done WriteFault) same e = inl e
+beside h n m i j (Done OutOfMemory) same e = inl e
+beside h n m i j Stopped same e = inl e
+
+cut_faults : (h : Hearing) (m : Notice) (i j : Outside) (end : ConnEnd) → IsSendEnd (Done end) → FailsAtMostBeside h m i j → ViewFaults h m i j end
+cut_faults h m i j Left only e = absurd only
+cut_faults h m i j (Refused k at) only e = absurd only
+cut_faults h m i j Truncated only e = absurd only
+cut_faults h m i j NotInvited only e = absurd only
+cut_faults h m i j RoomFull only e = absurd only
+cut_faults h m i j JoinsSpent only e = absurd only
+cut_faults h m i j ReadFault only e = absurd only
+cut_faults h m i j WriteFault only e = e
+cut_faults h m i j OutOfMemory only e = e
+
+-- what was noted is what all steps announce, where they were all done
+all_noted : (head : Head) (v : ℕ) (rest : List ConnStep) (flagged : Bool) (conn conn' : Hearing) (p q : SessionPass) (a b : Noted) (i j : Input) (end : SideEnd)
+    → (x : ReadsOn head v rest flagged conn conn' p q a b i j end) → IsOrderly end → notice_in b ≡ notice_after_all (notice_in a) (rest ++ (heard conn x.fed).steps)
+all_noted head v rest flagged conn conn' p q a b i j end x orderly =
+    x.notice ∙ ap (notice_after_all (notice_in a)) (sym (x.front ∙ (ap (λ l. x.steps ++ l) (x.all orderly).0 ∙ append-nil x.steps)))
 
 -- and where it is that of the sending
 cut_end : (fed : List ℕ) (h : Hearing) (n : Notice) (i j : Outside) (end : ConnEnd) → IsSendEnd (Done end)
@@ -74,8 +117,8 @@ cut_only OutOfMemory only no_write no_memory = no_memory refl
 module _ (head : Head) (v : ℕ) (rest : List ConnStep) (conn : Hearing) (p q : SessionPass) (a b : Noted) (i j : Outside) (end : ConnEnd) where
   -- the stream was read to its end
   pub read_to : (flagged : Bool) (conn' : Hearing) → ReadsOn head v rest flagged conn conn' p q a b i.input j.input (Done end)
-      → ReadsTo head v rest conn p q a b i j end
-  read_to flagged conn' h = record {
+      → j.output.faults ≡ i.output.faults → ReadsTo head v rest conn p q a b i j end
+  read_to flagged conn' h calm = record {
     fed = h.fed;
     taken = h.taken;
     steps = h.steps;
@@ -87,6 +130,8 @@ module _ (head : Head) (v : ℕ) (rest : List ConnStep) (conn : Hearing) (p q : 
     notice = h.notice;
     stops = h.stops;
     ends = view_end flagged h.fed (heard conn h.fed).after (notice_in b) i j end h.ends;
+    faults = view_faults (heard conn h.fed).after (notice_in b) (notice_after_all (notice_in a) (rest ++ (heard conn h.fed).steps)) i j end
+        (all_noted head v rest flagged conn conn' p q a b i.input j.input (Done end) h) h.faults calm;
   }
 
   -- sending came to its end before
@@ -104,6 +149,9 @@ module _ (head : Head) (v : ℕ) (rest : List ConnStep) (conn : Hearing) (p q : 
     notice = h.notice;
     stops = h.stops;
     ends = cut_end h.fed (heard conn h.fed).after (notice_in b) i j end only cause;
+    faults = cut_faults (heard conn h.fed).after (notice_after_all (notice_in a) (rest ++ (heard conn h.fed).steps)) i j end only
+        (beside (heard conn h.fed).after (notice_in b) (notice_after_all (notice_in a) (rest ++ (heard conn h.fed).steps)) i j read
+        (all_noted head v rest flagged conn conn' p q a b i.input j.input read h) h.faults);
   }
 
 -- nothing was read
@@ -122,6 +170,7 @@ unread_to head v rest conn p noted i o o' end room only cause = record {
   notice = refl;
   stops = inl refl;
   ends = cut_end [] (heard conn []).after (notice_in noted) (outside i o) (outside i o') end only cause;
+  faults = cut_faults (heard conn []).after (notice_after_all (notice_in noted) (rest ++ (heard conn []).steps)) (outside i o) (outside i o') end only (inl refl);
 }
 
 -- ---- what was sent stays so as the pass goes on
@@ -144,6 +193,7 @@ sends_stay head s s' d d' p q r o o' end turns h grows found =
       within_seen = omega (arith, h.within_seen, length_starts r.seen q.seen grows);
       up_to_date = h.up_to_date;
       present = present_stays head s.v r.seen q.seen h.takes s.number h.last h.follow h.within_seen grows h.present;
+      work = h.work;
       more_found = h.more_found ++ turns;
       found = found ∙ (ap (λ l. l ++ turns) h.found ∙ append_assoc p.found h.more_found turns);
       in_found = within_back turns (map (λ (t : TakeOf). t.number) h.takes) h.more_found h.in_found;
@@ -172,7 +222,7 @@ module _ (head : Head) (v : ℕ) (rest : List ConnStep) (conn conn' : Hearing) (
       }
   sides_ended read Stopped end r x e = record {
     reads = read_to head v rest conn p q a b (outside i o) (outside j o') end true conn'
-        (subst (λ (y : SideEnd). ReadsOn head v rest true conn conn' p q a b i j y) (sym e) r);
+        (subst (λ (y : SideEnd). ReadsOn head v rest true conn conn' p q a b i j y) (sym e) r) (x.calm refl);
     sent = Stopped;
     sends = x;
     ended = inl refl;
@@ -186,7 +236,7 @@ module _ (head : Head) (v : ℕ) (rest : List ConnStep) (conn conn' : Hearing) (
   sides_read_on read Stopped end conn'' z c l r x e on = record {
     reads = read_to head v rest conn p z a c (outside i o) (outside l o') end false conn''
         (reads_then head v rest false conn conn' conn'' p q z a b c i j l (Done end)
-        (subst (λ (y : SideEnd). ReadsOn head v rest true conn conn' p q a b i j y) (sym e) r) on);
+        (subst (λ (y : SideEnd). ReadsOn head v rest true conn conn' p q a b i j y) (sym e) r) on) (x.calm refl);
     sent = Stopped;
     sends = sends_stay head s s' d d' p q z o o' Stopped on.handles.more_found x on.handles.grows on.handles.found;
     ended = inl refl;
@@ -211,6 +261,18 @@ view_before fed h n i o o' now JoinsSpent calm e = e
 view_before fed h n i o o' now ReadFault calm e = e
 view_before fed h n i o o' now WriteFault calm e = subst (λ (m : ℕ). Rose m now.output.faults) calm e
 view_before fed h n i o o' now OutOfMemory calm e = tt
+
+faults_before : (h : Hearing) (m : Notice) (i : Input) (o o' : Output) (now : Outside) (end : ConnEnd) → o'.faults ≡ o.faults
+    → ViewFaults h m (outside i o') now end → ViewFaults h m (outside i o) now end
+faults_before h m i o o' now Left calm e = e
+faults_before h m i o o' now (Refused k at) calm e = e
+faults_before h m i o o' now Truncated calm e = e
+faults_before h m i o o' now NotInvited calm e = e
+faults_before h m i o o' now RoomFull calm e = e
+faults_before h m i o o' now JoinsSpent calm e = e
+faults_before h m i o o' now ReadFault calm e = (e.0, e.1 ∙ calm)
+faults_before h m i o o' now WriteFault calm e = e
+faults_before h m i o o' now OutOfMemory calm e = e
 
 module _ (head : Head) (v : ℕ) (confirmed : Confirmed) (rest : List ConnStep) (conn : Hearing) where
   -- it wasn't sent
@@ -241,6 +303,7 @@ module _ (head : Head) (v : ℕ) (confirmed : Confirmed) (rest : List ConnStep) 
           notice = h.notice;
           stops = h.stops;
           ends = view_before h.fed (heard conn h.fed).after (notice_in b) i o o' now end (first.calm refl) h.ends;
+          faults = faults_before (heard conn h.fed).after (notice_after_all (notice_in a) (rest ++ (heard conn h.fed).steps)) i o o' now end (first.calm refl) h.faults;
         };
         sent = x.sent;
         frames = first_then head v confirmed t u d d' p q o o' now.output x.sent first x.sends;
@@ -273,6 +336,11 @@ last_end : (fed : List ℕ) (h : Hearing) (n : Notice) (before : Outside) (j : I
 last_end fed h n before j o o' (Done end) only cause e = cut_end fed h n before (outside j o') end only cause
 last_end fed h n before j o o' Stopped only cause e = e
 
+last_faults : (h : Hearing) (m : Notice) (before : Outside) (j : Input) (o o' : Output) (sent : SideEnd) → IsSendEnd sent
+    → ViewFaults h m before (outside j o) Left → ViewFaults h m before (outside j o') (end_of_last sent)
+last_faults h m before j o o' (Done end) only e = cut_faults h m before (outside j o') end only (inl e)
+last_faults h m before j o o' Stopped only e = e
+
 ends_last : (sent : SideEnd) → EndsSending sent (end_of_last sent)
 ends_last (Done end) = inr refl
 ends_last Stopped = inl refl
@@ -300,6 +368,8 @@ module _ (head : Head) (v : ℕ) (confirmed : Confirmed) (rest : List ConnStep) 
           stops = h.stops;
           ends = last_end h.fed (heard conn h.fed).after (notice_in c) before j o o' sent x.only both.cause
               (subst (ViewEnd h.fed (heard conn h.fed).after (notice_in c) before (outside j o)) is h.ends);
+          faults = last_faults (heard conn h.fed).after (notice_after_all (notice_in b) (rest ++ (heard conn h.fed).steps)) before j o o' sent x.only
+              (subst (ViewFaults (heard conn h.fed).after (notice_after_all (notice_in b) (rest ++ (heard conn h.fed).steps)) before (outside j o)) is h.faults);
         };
         sent = sent;
         frames = both;

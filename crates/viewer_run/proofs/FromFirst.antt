@@ -29,7 +29,7 @@ use Rattle.viewer_run.specs.Frames.{first_take, FirstSent, FramesSent}
 use Rattle.std.proofs.lemmas.List.{map-append}
 use Rattle.serve_rules.specs.Events.{IsWithin}
 use Rattle.serve_rules.proofs.Lists.{within_then}
-use Rattle.viewer_run.proofs.TakesOn.{follow_then, at_least_lower, at_least_then, present_then, present_stays, joined_then, pointed_then, encoder_then, pointed_stay, encoder_stays}
+use Rattle.viewer_run.proofs.TakesOn.{follow_then, at_least_lower, at_least_then, work_then, present_then, present_stays, joined_then, pointed_then, encoder_then, pointed_stay, encoder_stays}
 use Rattle.viewer_run.proofs.OneTake.{stands_taken, stands_told}
 
 -- the first take's frame was sent
@@ -100,6 +100,7 @@ module _ (head : Head) (v : ℕ) (confirmed : Confirmed) where
     within_seen = omega arith;
     up_to_date = tt;
     present = tt;
+    work = tt;
     more_found = [];
     found = sym (append-nil p.found);
     in_found = tt;
@@ -142,6 +143,7 @@ module _ (head : Head) (v : ℕ) (confirmed : Confirmed) where
         within_seen = b.within_seen;
         up_to_date = b.up_to_date;
         present = subst (λ (n : ℕ). IsPresentAtEach head n q.seen b.takes) w.0 b.present;
+        work = b.work;
         more_found = b.more_found;
         found = b.found;
         in_found = b.in_found;
@@ -193,6 +195,7 @@ module _ (head : Head) (v : ℕ) (confirmed : Confirmed) where
         present = present_then head v r.seen a.later b.takes
             (present_stays head v r.seen q.seen a.later (length p.seen) a.last a.follow.2 a.within_seen b.grows a.present)
             (subst (λ (n : ℕ). IsPresentAtEach head n r.seen b.takes) w.0 b.present);
+        work = work_then size a.later b.takes a.work b.work;
         more_found = a.more_found ++ b.more_found;
         found = b.found ∙ (ap (λ l. l ++ b.more_found) a.found ∙ append_assoc p.found a.more_found b.more_found);
         in_found = subst (λ l. IsWithin l (a.more_found ++ b.more_found)) (sym (map-append (λ (t : TakeOf). t.number) a.later b.takes))

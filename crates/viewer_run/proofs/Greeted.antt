@@ -19,7 +19,7 @@ use Rattle.std.proofs.lemmas.List.Elements.{All-tail}
 use Rattle.conn_rules.specs.Placed.{AreBytes, IsStepPlaced, ArePlaced}
 use Rattle.serve_rules.specs.declared.ends.SideEnd.{SideEnd}
 use Rattle.serve_rules.specs.declared.ends.SideEnd.TheVariants.{Done, Stopped}
-use Rattle.viewer_run.specs.Greeting.{Greeting, greeting, GreetEnd, Greets, IsRestPlaced, refusal_of}
+use Rattle.viewer_run.specs.Greeting.{Greeting, greeting, GreetEnd, GreetFaults, Greets, IsRestPlaced, refusal_of}
 use Rattle.viewer_run.specs.Greeting.Greeting.{Connects, IsReady}
 
 -- steps behind others of a client that still connects
@@ -50,6 +50,20 @@ end_then xs ys unwritten g after new name i j l (Err ReadFault) whole a b e = (e
 end_then xs ys unwritten g after new name i j l (Err WriteFault) whole a b e = subst (λ (n : ℕ). Rose n l.output.faults) b e
 end_then xs ys unwritten g after new name i j l (Err OutOfMemory) whole a b e = e
 
+-- and no read or write of the first stretch failed
+faults_then : (g : Greeting) (h : Hearing) (i j l : Outside) (r : Result (Option Guest) ConnEnd) → j.input.faults ≡ i.input.faults → j.output.faults ≡ i.output.faults
+    → GreetFaults g h j l r → GreetFaults g h i l r
+faults_then g h i j l (Ok met) a b e = e ∙ a
+faults_then g h i j l (Err Left) a b e = e ∙ a
+faults_then g h i j l (Err (Refused k at)) a b e = e ∙ a
+faults_then g h i j l (Err Truncated) a b e = e ∙ a
+faults_then g h i j l (Err NotInvited) a b e = e ∙ a
+faults_then g h i j l (Err RoomFull) a b e = e ∙ a
+faults_then g h i j l (Err JoinsSpent) a b e = e ∙ a
+faults_then g h i j l (Err ReadFault) a b e = (e.0, e.1, e.2 ∙ b)
+faults_then g h i j l (Err WriteFault) a b e = e ∙ a
+faults_then g h i j l (Err OutOfMemory) a b e = e ∙ a
+
 -- a stretch after one that went well
 pub greets_then : (h m k : Hearing) (n n' n'' : List ℕ) (before between after : Outside) (r : Result (Option Guest) ConnEnd)
     → Greets h m n n' before between (Ok None) → Greets m k n' n'' between after r → Greets h k n n'' before after r
@@ -71,13 +85,16 @@ greets_then h m k n n' n'' before between after r a b =
           (subst (λ (g : Greeting). GreetEnd (a.fed ++ b.fed) b.unwritten g (heard m b.fed).after k n'' before after r) (sym steps)
           (end_then a.fed b.fed b.unwritten (greeting n' (heard m b.fed).steps) (heard m b.fed).after k n'' before between after r
           (consumes_then before.input.left between.input.left (Some []) a.fed b.fed a.taken) a.came.3 a.came.4 b.came));
+      faults = subst (λ (x : Hearing). GreetFaults (greeting n (heard h (a.fed ++ b.fed)).steps) x before after r) (sym stands)
+          (subst (λ (g : Greeting). GreetFaults g (heard m b.fed).after before after r) (sym steps)
+          (faults_then (greeting n' (heard m b.fed).steps) (heard m b.fed).after before between after r a.came.3 a.came.4 b.faults));
     }
 
 -- nothing was read
 pub greets_none : (h : Hearing) (n : List ℕ) (i j : Input) (o : Output) (r : Result (Option Guest) ConnEnd) → Consumes i.left j.left []
     → (heard h []).replies ≡ [] → GreetEnd [] [] (greeting n (heard h []).steps) (heard h []).after h n (outside i o) (outside j o) r
-    → Greets h h n n (outside i o) (outside j o) r
-greets_none h n i j o r taken quiet e = record {
+    → GreetFaults (greeting n (heard h []).steps) (heard h []).after (outside i o) (outside j o) r → Greets h h n n (outside i o) (outside j o) r
+greets_none h n i j o r taken quiet e faults = record {
   fed = [];
   taken = taken;
   written = [];
@@ -85,6 +102,7 @@ greets_none h n i j o r taken quiet e = record {
   replies = quiet;
   told = Appends-nil o.told;
   came = e;
+  faults = faults;
 }
 
 -- steps behind Ready are among those whose areas are placed

@@ -1,17 +1,20 @@
 -- One step of a client's stream.
 use Rattle.std.proofs.Common.{◌≡◌, ℕ, List, [], ◌∷◌, ◌++◌, sym, refl, ap, ◌∙◌, subst}
 use Rattle.std.proofs.lemmas.List.{append_assoc, append-nil}
-use Rattle.std.specs.Prelude.{Bool, true, false, is_err, Option, option_to_list, Result, Ok, Err, MatchResult}
+use Rattle.std.specs.Prelude.{Bool, true, false, is_err, Option, option_to_list, Result, Ok, Err, IfOk, MatchResult}
 use Rattle.wire_num.specs.declared.out_of_memory.OutOfMemory.{OutOfMemory}
 use Rattle.input_pdu.specs.declared.event.Event.{Event}
 use Rattle.session_rules.specs.Journal.{Head}
 use Rattle.conn_rules.specs.declared.conn_step.ConnStep.{ConnStep}
+use Rattle.conn_rules.specs.declared.conn_step.ConnStep.TheVariants as step
 use Rattle.serve_rules.specs.Turns.{SessionPass, IsHandled, Idles}
 use Rattle.serve_rules.specs.Events.{Handles}
 use Rattle.serve_rules.specs.Notices.{event_in, events_in, notice_after, notice_in}
 use Rattle.serve_rules.specs.declared.noted.Noted.{Noted}
 use Rattle.serve_rules.proofs.Handling.{handles_one, handles_idle, handles_then, handles_nothing}
+use Rattle.serve_rules.specs.Reading.{HasTurns, HasTurnsOf, turns_of}
 use Rattle.serve_rules.proofs.Noticing.{events_snoc, notice_snoc}
+use Rattle.serve_rules.proofs.InTurns.{turns_then, turns_one, turns_idle}
 use Rattle.viewer_run.specs.Doing.{NotesPlace, EventDone, StepDone, StepsFront, WholeIfOk}
 
 abbrev OnlyTrue : Bool → Type 0
@@ -30,6 +33,30 @@ noted head v event p q (Ok place) r P' P Q h same n =
 noted head v event p q (Err refusal) r P' P Q h same n =
     subst (λ (x : Result (Unit {0}) OutOfMemory). EventDone x head v event p q P Q) (sym n.0)
     (subst (λ l. Handles head v [] p q P l) (sym (n.1 ∙ same)) (handles_idle head v p q P h))
+
+-- an event had one turn, whether memory sufficed or not
+pub event_turns : (head : Head) (v : ℕ) (event : Event) (p q : SessionPass) (done : Result (Option ℕ) OutOfMemory)
+    → MatchResult done (λ place. IsHandled head v event p q place) (λ _. Idles p q) → HasTurns 1 p q
+event_turns head v event p q (Ok place) h = turns_one p q h.base _ h.turn
+event_turns head v event p q (Err refusal) h = turns_idle p q h
+
+pub if_done : (A : Type 0) (r : Result (Unit {0}) OutOfMemory) → A → IfOk r (λ done. A)
+if_done A (Ok done) a = a
+if_done A (Err refusal) a = tt
+
+pub was_done : (A : Type 0) (r : Result (Unit {0}) OutOfMemory) → is_err r ≡ false → IfOk r (λ done. A) → A
+was_done A (Ok done) ok a = a
+was_done A (Err refusal) ok a = absurd (is-true-false ok)
+
+-- an event is a step of one turn
+pub event_step : (event : Event) (r : Result (Unit {0}) OutOfMemory) (p q : SessionPass) → IfOk r (λ done. HasTurns 1 p q) → IfOk r (λ done. HasTurnsOf (step.Event event ∷ []) p q)
+event_step event (Ok done) p q h = h
+event_step event (Err refusal) p q h = tt
+
+-- the turns of one more step
+pub turns_more : (steps : List ConnStep) (step : ConnStep) (p q r : SessionPass) (answer : Result (Unit {0}) OutOfMemory) → is_err answer ≡ false → HasTurnsOf steps p q
+    → IfOk answer (λ done. HasTurnsOf (step ∷ []) q r) → HasTurnsOf (steps ++ step ∷ []) p r
+turns_more steps step p q r answer ok before h = turns_then steps (step ∷ []) p q r before (was_done (HasTurnsOf (step ∷ []) q r) answer ok h)
 
 -- one more step was done
 pub step_done : (head : Head) (v : ℕ) (steps left : List ConnStep) (step : ConnStep) (p q r : SessionPass) (s t u : Noted) (answer : Result (Unit {0}) OutOfMemory)

@@ -1,7 +1,7 @@
 -- A take in a turn, whose frame was sent outside it.
 use Rattle.std.proofs.Common.{◌≡◌, ℕ, ◌+◌, ◌≤◌, List, [], ◌∷◌, ◌++◌, length, sym, refl, ap, ap₂, ◌∙◌, subst, arith, append-nil, inl}
 use Rattle.std.proofs.KnownBytes.{Appends-nil}
-use Rattle.std.specs.Prelude.{Bool, true, false, ⊤, Option, Result, Ok, Err, IfOk, OnOk, OnErr}
+use Rattle.std.specs.Prelude.{Bool, true, false, ◌&&◌, ◌||◌, ◌==◌, not, ⊤, Option, Result, Ok, Err, IfOk, OnOk, OnErr}
 use Rattle.edge_io.specs.Outside.{Output}
 use Rattle.std.specs.Io.KnownBytes.{Appends}
 use Rattle.wire_num.specs.declared.out_of_memory.OutOfMemory.{OutOfMemory as NoMemory}
@@ -10,7 +10,8 @@ use Rattle.caps_sets.specs.declared.confirmed.Confirmed.{Confirmed}
 use Rattle.session_rules.specs.declared.entry.Entry.{Entry}
 use Rattle.session_rules.specs.Journal.{Head, is_present, reached_at}
 use Rattle.session_rules.specs.Steps.{TakeOf}
-use Rattle.session_core.specs.SessionModel.{SessionModel, asked_by}
+use Rattle.px_core.specs.Tiles.{all_tiles, share_tile}
+use Rattle.session_core.specs.SessionModel.{SessionModel, asked_by, is_suppressed}
 use Rattle.save_plan.specs.Blocks.{Held}
 use Rattle.frame_rules.specs.Frame.{FrameOf, frame_of}
 use Rattle.frame_rules.specs.FrameBytes.{frame_bytes}
@@ -44,12 +45,17 @@ pub of_seat : (result : Result Taken NoMemory) (session session' : SessionModel)
 of_seat (Ok taken) session session' x y h = tt
 of_seat (Err refusal) session session' x y h = (h.0, ap (λ (s : SeatModel). s.sender) h.1)
 
+has_work : (stopped some : Bool) → not stopped && some ≡ true → some ≡ true
+has_work true some e = absurd (cc e)
+has_work false some e = e
+
 -- what a take of a session gives
-took_if : (b : Bool) (session : SessionModel) (s s' : SenderModel) (d d' : Option DeskOf) (taken : Taken) → taken ≡ taken_if b session (desk_of s) → IsOwn s.confirmed taken
+took_if : (b : Bool) (session : SessionModel) (s s' : SenderModel) (d d' : Option DeskOf) (taken : Taken) → is_work session (desk_of s) ≡ b → taken ≡ taken_if b session (desk_of s) → IsOwn s.confirmed taken
     → s' ≡ with_desk s (desk_if b session (desk_of s)) → d' ≡ desk_after (Ok taken) (key_at session.head.size session.journal (length session.journal)) d → TakesAs session.head session.journal s s' d d' (Ok taken)
-took_if true session s s' d d' (Frame take) e own after noted =
+took_if true session s s' d d' (Frame take) on e own after noted =
     let is : take ≡ taken_at session (desk_of s) = cc e in record {
       asked = asked_by session s.v;
+      work = has_work (is_suppressed session s.v) (not (s.number == length session.journal) || share_tile session.head.size (asked_by session s.v) all_tiles) on;
       serial = ap (λ (t : TakeModel). t.serial) is;
       size = ap (λ (t : TakeModel). t.size) is;
       frame = ap (λ (t : TakeModel). t.frame) is;
@@ -57,16 +63,16 @@ took_if true session s s' d d' (Frame take) e own after noted =
       own = own;
       desk = noted;
     }
-took_if true session s s' d d' Nothing e own after noted = absurd (cc e)
-took_if false session s s' d d' (Frame take) e own after noted = absurd (cc e)
-took_if false session s s' d d' Nothing e own after noted = (after, noted)
+took_if true session s s' d d' Nothing on e own after noted = absurd (cc e)
+took_if false session s s' d d' (Frame take) on e own after noted = absurd (cc e)
+took_if false session s s' d d' Nothing on e own after noted = (after, noted)
 
 pub took : (session session' : SessionModel) (s s' : SenderModel) (d d' : Option DeskOf) (result : Result Taken NoMemory)
     → IfOk result (λ taken. taken ≡ taken_if (is_work session (desk_of s)) session (desk_of s)) → IfOk result (IsOwn s.confirmed)
     → OnOk result (s' ≡ with_desk s (desk_if (is_work session (desk_of s)) session (desk_of s))) → OnErr result ((session' ≡ session) × (s' ≡ s))
     → d' ≡ desk_after result (key_at session.head.size session.journal (length session.journal)) d
     → TakesAs session.head session.journal s s' d d' result
-took session session' s s' d d' (Ok taken) e own after kept noted = took_if (is_work session (desk_of s)) session s s' d d' taken e own after noted
+took session session' s s' d d' (Ok taken) e own after kept noted = took_if (is_work session (desk_of s)) session s s' d d' taken refl e own after noted
 took session session' s s' d d' (Err refusal) e own after kept noted = (kept.1, noted)
 
 -- a take in a turn
@@ -183,6 +189,7 @@ module _ (head : Head) (p q : SessionPass) (s t u : SenderModel) (d d' d'' : Opt
     within_seen = omega (arith, seen, length_starts q.seen p.seen turn.goes_on);
     up_to_date = tt;
     present = tt;
+    work = tt;
     more_found = length q.seen ∷ [];
     found = turn.found;
     in_found = tt;
@@ -228,6 +235,7 @@ module _ (head : Head) (p q : SessionPass) (s t u : SenderModel) (d d' d'' : Opt
         within_seen = omega arith;
         up_to_date = (longer, tt);
         present = (here, tt);
+        work = (h.work, tt);
         more_found = length q.seen ∷ [];
         found = turn.found;
         in_found = inl (refl, tt);

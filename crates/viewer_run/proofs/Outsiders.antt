@@ -26,7 +26,7 @@ use Rattle.serve_rules.specs.declared.ends.ConnEnd.{ConnEnd}
 use Rattle.serve_rules.specs.declared.ends.ConnEnd.TheVariants.{Left, Refused, Truncated, NotInvited, RoomFull, JoinsSpent, ReadFault, WriteFault, OutOfMemory}
 use Rattle.serve_rules.specs.declared.noted.ConnReport.{ConnReport}
 use Rattle.viewer_run.specs.declared.guest.Guest.{Guest}
-use Rattle.viewer_run.specs.Greeting.{Greeting, greeting, GreetEnd, Greets}
+use Rattle.viewer_run.specs.Greeting.{Greeting, greeting, GreetEnd, Greets, OutsideFaults}
 use Rattle.viewer_run.specs.Greeting.Greeting.{IsReady}
 use Rattle.viewer_run.specs.Visiting.{IsTurnedAwayIn}
 use Rattle.viewer_run.specs.Arriving.{end_of_join, DoesNotJoin}
@@ -73,12 +73,45 @@ module _ (head : Head) (after : SessionPass) (g : Greeting) (h : Hearing) (read 
       r.how)
       s.stays
 
+  -- likewise of reads that failed
+  faults_onto : (end : ConnEnd) → now.faults ≡ mid.faults → OutsideFaults g h link (outside input mid) end → OutsideFaults g h link (outside input now) end
+  faults_onto Left w e = e
+  faults_onto (Refused k at) w e = e
+  faults_onto Truncated w e = e
+  faults_onto NotInvited w e = e
+  faults_onto RoomFull w e = e
+  faults_onto JoinsSpent w e = e
+  faults_onto ReadFault w e = (e.0, e.1, w ∙ e.2)
+  faults_onto WriteFault w e = e
+  faults_onto OutOfMemory w e = e
+
+  calm_due : (end : ConnEnd) → (ultimatum_at end false ≡ [] → ⊥) → OutsideFaults g h link (outside input mid) end → input.faults ≡ link.input.faults
+  calm_due Left due e = e
+  calm_due (Refused k at) due e = e
+  calm_due Truncated due e = e
+  calm_due NotInvited due e = e
+  calm_due RoomFull due e = e
+  calm_due JoinsSpent due e = e
+  calm_due ReadFault due e = absurd (due refl)
+  calm_due WriteFault due e = e
+  calm_due OutOfMemory due e = e
+
+  faults_said : (end said : ConnEnd) → OutsideFaults g h link (outside input mid) end → Said end false said mid now → OutsideFaults g h link (outside input now) said
+  faults_said end said e s = ⊎_elim
+      (λ (l : (said ≡ end) × (now.faults ≡ mid.faults)). subst (OutsideFaults g h link (outside input now)) (sym l.0) (faults_onto end l.1 e))
+      (λ (r : IsCutShort end false said mid now). ⊎_elim
+      (λ (x : (said ≡ WriteFault) × Rose mid.faults now.faults). subst (OutsideFaults g h link (outside input now)) (sym x.0) (calm_due end r.due e))
+      (λ (m : said ≡ OutOfMemory). subst (OutsideFaults g h link (outside input now)) (sym m) (calm_due end r.due e))
+      r.how)
+      s.stays
+
   -- the last word to a client that didn't join
   pub stays_outside : (end : ConnEnd) (report : ConnReport) (w u : List ℕ) → g ≡ greeting [] (host_handshake head.size read).steps → h ≡ (host_handshake head.size read).after
       → (host_handshake head.size read).replies ≡ w ++ u → Appends link.output.told mid.told w → (is_cut end ≡ false → u ≡ [])
       → OutsideEnd head after g h read link (outside input mid) end → ((ultimatum_at end false ≡ [] → ⊥) → mid.faults ≡ link.output.faults)
+      → OutsideFaults g h link (outside input mid) end
       → ReportsNobody report → SaysLast end false report.end mid now → IsOutside head after report link (outside input now) read
-  stays_outside end report w u is_g is_h whole told all e calm nobody s =
+  stays_outside end report w u is_g is_h whole told all e calm faults nobody s =
       let x : Said end false report.end mid now = said_last end false report.end mid now s in record {
         nobody = nobody.nobody;
         none = nobody.none;
@@ -87,6 +120,8 @@ module _ (head : Head) (after : SessionPass) (g : Greeting) (h : Hearing) (read 
         writes = writes_said end false report.end (host_handshake head.size read).replies w u link (outside input now) mid whole told all x;
         ends = subst (λ (k : Greeting). OutsideEnd head after k (host_handshake head.size read).after read link (outside input now) report.end) is_g
             (subst (λ (k : Hearing). OutsideEnd head after g k read link (outside input now) report.end) is_h (ends_said end report.end e calm x));
+        faults = subst (λ (k : Greeting). OutsideFaults k (host_handshake head.size read).after link (outside input now) report.end) is_g
+            (subst (λ (k : Hearing). OutsideFaults g k link (outside input now) report.end) is_h (faults_said end report.end faults x));
       }
 
 -- ---- before it is ready
@@ -152,7 +187,7 @@ module _ (head : Head) (p q : SessionPass) (report : ConnReport) where
       (stays_outside head q g h a.fed link input mid now end report a.written a.unwritten refl refl a.replies a.told
       (greet_all a.fed a.unwritten g h new name link (outside input mid) end a.came)
       (greet_ends a.fed a.unwritten g h new name link (outside input mid) head q end a.came)
-      (greet_calm a.fed a.unwritten g h new name link (outside input mid) end a.came) nobody s)
+      (greet_calm a.fed a.unwritten g h new name link (outside input mid) end a.came) a.faults nobody s)
 
   -- memory was wanted before it
   pub not_heard : (input : Input) (output now : Output) → Idles p q → IsLegalJournal head q.seen → (host_handshake head.size []).replies ≡ [] → ReportsNobody report
@@ -160,7 +195,7 @@ module _ (head : Head) (p q : SessionPass) (report : ConnReport) where
   not_heard input output now idle legal quiet nobody s =
       serves_nobody (outside input output) (outside input now) [] idle legal (Consumes-nil input.left)
       (stays_outside head q (greeting [] (host_handshake head.size []).steps) (host_handshake head.size []).after [] (outside input output) input output now OutOfMemory report [] [] refl refl quiet
-      (Appends-nil output.told) (λ free. refl) tt (λ due. refl) nobody s)
+      (Appends-nil output.told) (λ free. refl) tt (λ due. refl) refl nobody s)
 
 -- ---- ready, and turned away
 
@@ -193,6 +228,19 @@ module _ (head : Head) (p q r : SessionPass) where
       (λ (m : (r ≡ q) × (end ≡ OutOfMemory)). subst (OutsideEnd head r g h read link spent) (sym m.1) tt)
       d
 
+  away_faults : (g : Greeting) (h : Hearing) (link spent : Outside) (name : List ℕ) (end : ConnEnd) → spent.input.faults ≡ link.input.faults → DoesNotJoin head name q r end
+      → OutsideFaults g h link spent end
+  away_faults g h link spent name end calm d = ⊎_elim
+      (λ (t : (fault : JoinFault) × IsTurnedAwayIn head name q r fault × (end ≡ end_of_join fault)). subst (OutsideFaults g h link spent) (sym t.2) (joins t.0))
+      (λ (m : (r ≡ q) × (end ≡ OutOfMemory)). subst (OutsideFaults g h link spent) (sym m.1) calm)
+      d
+    where
+      joins : (fault : JoinFault) → OutsideFaults g h link spent (end_of_join fault)
+      joins join.NotInvited = calm
+      joins join.RoomFull = calm
+      joins join.JoinsSpent = calm
+      joins join.OutOfMemory = calm
+
   away_grows : (name : List ℕ) (end : ConnEnd) → DoesNotJoin head name q r end → StartsWith r.seen q.seen
   away_grows name end d = ⊎_elim (λ (t : (fault : JoinFault) × IsTurnedAwayIn head name q r fault × (end ≡ end_of_join fault)). turn_grows q r t.1.base [] t.1.turn)
       (λ (m : (r ≡ q) × (end ≡ OutOfMemory)). subst (λ (x : SessionPass). StartsWith x.seen q.seen) (sym m.0) (starts_itself q.seen)) d
@@ -218,7 +266,8 @@ module _ (head : Head) (p q r : SessionPass) where
       let h : Hearing = (host_handshake head.size a.fed).after in
       let o : IsOutside head r report link (outside spent now) a.fed
       = stays_outside head r g h a.fed link spent mid now end report a.written a.unwritten refl refl a.replies a.told (λ free. a.came.0)
-      (away_ends g h a.fed link (outside spent mid) guest guest.rest.items end a.came.2 d) (λ due. a.came.4) nobody s in record {
+      (away_ends g h a.fed link (outside spent mid) guest guest.rest.items end a.came.2 d) (λ due. a.came.4)
+      (away_faults g h link (outside spent mid) guest.name end a.came.3 d) nobody s in record {
         read = a.fed;
         taken = a.taken;
         grows = starts_trans r.seen q.seen p.seen (away_grows guest.name end d) (idle_grows p q idle);

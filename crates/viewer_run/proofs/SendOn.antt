@@ -21,7 +21,7 @@ use Rattle.serve_rules.specs.declared.ends.SideEnd.{SideEnd}
 use Rattle.serve_rules.specs.declared.ends.SideEnd.TheVariants.{Stopped}
 use Rattle.serve_rules.proofs.Lists.{within_front, within_then}
 use Rattle.viewer_run.specs.Sending.{AtLeast, IsPresentAtEach, FollowsWith, SendsOn}
-use Rattle.viewer_run.proofs.TakesOn.{follow_then, at_least_lower, at_least_then, present_then, present_stays, joined_then, pointed_then, encoder_then, pointed_stay, encoder_stays}
+use Rattle.viewer_run.proofs.TakesOn.{follow_then, at_least_lower, at_least_then, work_then, present_then, present_stays, joined_then, pointed_then, encoder_then, pointed_stay, encoder_stays}
 use Rattle.viewer_run.proofs.OneTake.{stopped_is_no_fault}
 
 -- nothing was done
@@ -35,6 +35,7 @@ sends_none head s d p out idle seen = record {
   within_seen = seen;
   up_to_date = tt;
   present = tt;
+  work = tt;
   more_found = [];
   found = sym (append-nil p.found);
   in_found = tt;
@@ -77,6 +78,7 @@ module _ (head : Head) where
         present = present_then head s.v r.seen a.takes b.takes
             (present_stays head s.v r.seen q.seen a.takes s.number a.last a.follow a.within_seen b.grows a.present)
             (subst (λ (v : ℕ). IsPresentAtEach head v r.seen b.takes) w.0 b.present);
+        work = work_then size a.takes b.takes a.work b.work;
         more_found = a.more_found ++ b.more_found;
         found = b.found ∙ (ap (λ l. l ++ b.more_found) a.found ∙ append_assoc p.found a.more_found b.more_found);
         in_found = subst (λ l. IsWithin l (a.more_found ++ b.more_found)) (sym (map-append (λ (t : TakeOf). t.number) a.takes b.takes))
@@ -134,6 +136,7 @@ module _ (head : Head) where
         within_seen = omega (arith, h.within_seen, length_starts m.seen b.seen grows);
         up_to_date = subst (λ (l : List Entry). AtLeast (length l) h.takes) same h.up_to_date;
         present = present_stays head s.v m.seen b.seen h.takes s.number h.last h.follow h.within_seen grows h.present;
+        work = h.work;
         more_found = turns ++ b.found;
         found = found ∙ (ap (λ l. l ++ b.found) ahead ∙ append_assoc p.found turns b.found);
         in_found = within_front turns (numbers h.takes) b.found

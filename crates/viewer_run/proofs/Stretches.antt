@@ -1,6 +1,6 @@
 -- Stretches of reading.
 use Rattle.std.proofs.Common.{◌≡◌, ℕ, zero, suc, ◌<◌, ◌≤◌, List, [], ◌++◌, length, sym, refl, ap, ap₂, ◌∙◌, subst, append_assoc, append-nil, ⊎_elim, inl, inr}
-use Rattle.std.specs.Prelude.{Bool, true, false, ◌||◌, ⊤, Result, Ok, Err, is_err}
+use Rattle.std.specs.Prelude.{Bool, true, false, ◌||◌, ⊤, Result, Ok, Err, IfOk, is_err}
 use Rattle.std.specs.declared.option.Option.{Option}
 use Rattle.std.specs.declared.option.Option.TheVariants.{Some, None}
 use Rattle.std.specs.Io.KnownBytes.{Consumes, Keeps, IsAtEnd}
@@ -18,7 +18,7 @@ use Rattle.conn_rules.proofs.Near.{heard_near}
 use Rattle.serve_rules.specs.Turns.{SessionPass}
 use Rattle.serve_rules.specs.Events.{Handles}
 use Rattle.serve_rules.specs.Notices.{Notice, events_in, notice_after_all, notice_in}
-use Rattle.serve_rules.specs.Reading.{ReadsOn, ReadEnd, IsUnended, IsWhole, StopsReading, one_read}
+use Rattle.serve_rules.specs.Reading.{ReadsOn, ReadsInTurns, ReadEnd, ReadFaults, HasTurnsOf, IsUnended, IsWhole, StopsReading, one_read}
 use Rattle.serve_rules.specs.declared.ends.ConnEnd.TheVariants.{Left, Refused, Truncated, NotInvited, RoomFull, JoinsSpent, ReadFault, WriteFault, OutOfMemory}
 use Rattle.serve_rules.specs.declared.ends.SideEnd.{SideEnd}
 use Rattle.serve_rules.specs.declared.ends.SideEnd.TheVariants.{Done, Stopped}
@@ -26,6 +26,7 @@ use Rattle.serve_rules.specs.declared.noted.Noted.{Noted}
 use Rattle.serve_rules.proofs.Handling.{handles_then, handles_nothing}
 use Rattle.serve_rules.proofs.Noticing.{events_then, notice_then}
 use Rattle.serve_rules.proofs.ReadOn.{not_stopped}
+use Rattle.serve_rules.proofs.InTurns.{turns_none, turns_then}
 use Rattle.viewer_run.specs.Doing.{StepsFront, WholeIfOk}
 use Rattle.viewer_run.specs.Feeding.{RefusedAs, EndsAs, IsFed, EndOfPiece, end_with, is_done, end_by_part, IsHeard, IsOpen}
 use Rattle.viewer_run.proofs.Streams.{silent_steps, silent_after, ends_between, ends_within}
@@ -107,6 +108,23 @@ ended_with : (end : SideEnd) (h : Hearing) (notice : Notice) (bytes : List ℕ) 
 ended_with end h notice bytes i j true is r = λ unended. absurd (unended is)
 ended_with end h notice bytes i j false is r = refused_end end h notice bytes i j r
 
+-- no read failed at an end behind a piece that was read
+piece_faults : (end : SideEnd) (h : Hearing) (notice : Notice) (i j : Input) → RefusedAs end h.stage → j.faults ≡ i.faults → ReadFaults h notice i j end
+piece_faults Stopped h notice i j r calm = calm
+piece_faults (Done Left) h notice i j r calm = calm
+piece_faults (Done (Refused k at)) h notice i j r calm = calm
+piece_faults (Done Truncated) h notice i j r calm = calm
+piece_faults (Done NotInvited) h notice i j r calm = calm
+piece_faults (Done RoomFull) h notice i j r calm = calm
+piece_faults (Done JoinsSpent) h notice i j r calm = calm
+piece_faults (Done ReadFault) h notice i j r calm = absurd r
+piece_faults (Done WriteFault) h notice i j r calm = calm
+piece_faults (Done OutOfMemory) h notice i j r calm = calm
+
+faults_with : (end : SideEnd) (h : Hearing) (notice : Notice) (i j : Input) (over : Bool) → RefusedAs end h.stage → j.faults ≡ i.faults → ReadFaults h notice i j (end_with end over)
+faults_with end h notice i j true r calm = calm
+faults_with end h notice i j false r calm = piece_faults end h notice i j r calm
+
 module _ (head : Head) (v : ℕ) where
   pub piece_read : (h new : Hearing) (bytes replies : List ℕ) (steps undone : List ConnStep) (p q : SessionPass) (t u : Noted) (end out : SideEnd)
       (done : Result (Unit {0}) NoMemory) (i j : Input)
@@ -124,7 +142,8 @@ module _ (head : Head) (v : ℕ) where
     room = room;
     notice = d.notice;
     stops = stops;
-    calm = λ stopped. calm;
+    faults = subst (ReadFaults (heard h bytes).after (notice_in u) i j) (sym e)
+        (faults_with end (heard h bytes).after (notice_in u) i j ((notice_in u).bye || (notice_in u).shutdown) x.refused calm);
     ends = subst (ReadEnd true bytes (heard h bytes).after (notice_in u) i j) (sym e)
         (ended_with end (heard h bytes).after (notice_in u) bytes i j ((notice_in u).bye || (notice_in u).shutdown) refl x.refused);
   }
@@ -139,8 +158,24 @@ module _ (head : Head) (v : ℕ) where
     room = room;
     notice = d.notice;
     stops = stops;
-    calm = λ stopped. calm;
+    faults = subst (ReadFaults (heard h bytes).after (notice_in u) i j) (sym e) calm;
     ends = subst (ReadEnd true bytes (heard h bytes).after (notice_in u) i j) (sym e) tt;
+  }
+
+  -- with the turns of its steps
+  pub piece_in_turns : (h new : Hearing) (bytes replies : List ℕ) (steps undone : List ConnStep) (p q : SessionPass) (t u : Noted) (end out : SideEnd)
+      (done : Result (Unit {0}) NoMemory) (i j : Input)
+      → IsFed (heard h bytes) new replies steps end → StepsFront head v steps undone p q t u → WholeIfOk done undone → EndOfPiece done end (notice_in u) out
+      → 0 < u.places.room → Consumes i.left j.left bytes → j.faults ≡ i.faults → StopsReading [] h (notice_in t) bytes
+      → IfOk done (λ ok. HasTurnsOf steps p q) → ReadsInTurns head v [] true h new p q t u i j out
+  unfolding piece_read
+  piece_in_turns h new bytes replies steps undone p q t u end out (Ok done) i j x d whole e room taken calm stops turns = record {
+    reads = piece_read h new bytes replies steps undone p q t u end out (Ok done) i j x d whole e room taken calm stops;
+    turns = λ orderly. subst (λ (l : List ConnStep). HasTurnsOf l p q) x.given turns;
+  }
+  piece_in_turns h new bytes replies steps undone p q t u end out (Err refusal) i j x d whole e room taken calm stops turns = record {
+    reads = piece_read h new bytes replies steps undone p q t u end out (Err refusal) i j x d whole e room taken calm stops;
+    turns = λ orderly. absurd (orderly e);
   }
 
   -- nothing was done of a piece for want of memory
@@ -157,9 +192,14 @@ module _ (head : Head) (v : ℕ) where
     room = room;
     notice = refl;
     stops = stops;
-    calm = λ stopped. calm;
+    faults = calm;
     ends = tt;
   }
+
+  -- where memory was wanted nothing is said of its turns
+  pub lost_in_turns : (flagged : Bool) (rest : List ConnStep) (h new : Hearing) (p q : SessionPass) (t u : Noted) (i j : Input)
+      → ReadsOn head v rest flagged h new p q t u i j (Done OutOfMemory) → ReadsInTurns head v rest flagged h new p q t u i j (Done OutOfMemory)
+  lost_in_turns flagged rest h new p q t u i j x = record { reads = x; turns = λ orderly. absurd (orderly refl) }
 
   -- where the steps before were done
   rest_stops : (rest steps : List ConnStep) (h : Hearing) (n m : Notice) (bytes : List ℕ) → rest ≡ steps → m ≡ notice_after_all n steps → StopsReading [] h m bytes
@@ -196,9 +236,19 @@ module _ (head : Head) (v : ℕ) where
         room = x.room;
         notice = x.notice ∙ (ap (λ n. notice_after_all n x.steps) d.notice ∙ sym (notice_then (notice_in t) d.front x.steps));
         stops = rest_stops rest d.front h (notice_in t) (notice_in u) x.fed all d.notice x.stops;
-        calm = x.calm;
+        faults = x.faults;
         ends = x.ends;
       }
+
+  -- with the turns of both
+  pub rest_in_turns : (rest undone : List ConnStep) (h new : Hearing) (p q r : SessionPass) (t u w : Noted) (i j : Input) (end : SideEnd)
+      → StepsFront head v rest undone p q t u → undone ≡ [] → HasTurnsOf rest p q → ReadsInTurns head v [] true h new q r u w i j end
+      → ReadsInTurns head v rest true h new p r t w i j end
+  unfolding rest_then
+  rest_in_turns rest undone h new p q r t u w i j end d none turns x = record {
+    reads = rest_then rest undone h new p q r t u w i j end d none x.reads;
+    turns = λ orderly. turns_then rest (heard h x.reads.fed).steps p q r turns (x.turns orderly);
+  }
 
   -- of those steps some weren't done for want of memory
   pub rest_lost : (rest undone : List ConnStep) (h : Hearing) (p q : SessionPass) (t u : Noted) (i : Input)
@@ -214,7 +264,7 @@ module _ (head : Head) (v : ℕ) where
     room = room;
     notice = d.notice;
     stops = inl refl;
-    calm = λ stopped. refl;
+    faults = refl;
     ends = tt;
   }
 
@@ -222,20 +272,23 @@ module _ (head : Head) (v : ℕ) where
 
   -- the side ends so where nothing more was read
   pub nothing_read : (h : Hearing) (p : SessionPass) (t : Noted) (i j : Input) (end : SideEnd) → IsHeard h → 0 < t.places.room → Consumes i.left j.left []
-      → (end ≡ Stopped → j.faults ≡ i.faults) → ReadEnd true [] h (notice_in t) i j end → ReadsOn head v [] true h h p p t t i j end
-  nothing_read h p t i j end led room none calm e = record {
-    fed = [];
-    taken = none;
-    steps = [];
-    undone = [];
-    front = silent_steps h led;
-    all = λ orderly. (refl, sym (silent_after h led));
-    handles = handles_nothing head v p t.places.list;
-    room = room;
-    notice = refl;
-    stops = inl refl;
-    calm = calm;
-    ends = subst (λ (x : Hearing). ReadEnd true [] x (notice_in t) i j end) (sym (silent_after h led)) e;
+      → ReadFaults h (notice_in t) i j end → ReadEnd true [] h (notice_in t) i j end → ReadsInTurns head v [] true h h p p t t i j end
+  nothing_read h p t i j end led room none faults e = record {
+    reads = record {
+      fed = [];
+      taken = none;
+      steps = [];
+      undone = [];
+      front = silent_steps h led;
+      all = λ orderly. (refl, sym (silent_after h led));
+      handles = handles_nothing head v p t.places.list;
+      room = room;
+      notice = refl;
+      stops = inl refl;
+      faults = subst (λ (x : Hearing). ReadFaults x (notice_in t) i j end) (sym (silent_after h led)) faults;
+      ends = subst (λ (x : Hearing). ReadEnd true [] x (notice_in t) i j end) (sym (silent_after h led)) e;
+    };
+    turns = λ orderly. subst (λ (l : List ConnStep). HasTurnsOf l p p) (sym (silent_steps h led)) (turns_none p);
   }
 
   -- what was read without a flag that could stop it
@@ -254,26 +307,29 @@ module _ (head : Head) (v : ℕ) where
 
   -- likewise all of it
   pub reads_done : (flagged : Bool) (rest : List ConnStep) (h h' : Hearing) (p q : SessionPass) (t u : Noted) (i j : Input) (end : SideEnd)
-      → is_done end ≡ true → ReadsOn head v rest true h h' p q t u i j end → ReadsOn head v rest flagged h h' p q t u i j end
-  reads_done flagged rest h h' p q t u i j end d x = record {
-    fed = x.fed;
-    taken = x.taken;
-    steps = x.steps;
-    undone = x.undone;
-    front = x.front;
-    all = x.all;
-    handles = x.handles;
-    room = x.room;
-    notice = x.notice;
-    stops = x.stops;
-    calm = x.calm;
-    ends = unstopped flagged end x.fed (heard h x.fed).after (notice_in u) i j d x.ends;
+      → is_done end ≡ true → ReadsInTurns head v rest true h h' p q t u i j end → ReadsInTurns head v rest flagged h h' p q t u i j end
+  reads_done flagged rest h h' p q t u i j end d y = let x = y.reads in record {
+    reads = record {
+      fed = x.fed;
+      taken = x.taken;
+      steps = x.steps;
+      undone = x.undone;
+      front = x.front;
+      all = x.all;
+      handles = x.handles;
+      room = x.room;
+      notice = x.notice;
+      stops = x.stops;
+      faults = x.faults;
+      ends = unstopped flagged end x.fed (heard h x.fed).after (notice_in u) i j d x.ends;
+    };
+    turns = y.turns;
   }
 
   -- after what went well memory was wanted
-  pub reads_lost : (flagged : Bool) (rest : List ConnStep) (h h' : Hearing) (p q : SessionPass) (t u : Noted) (i j : Input) (end : SideEnd)
-      → ReadsOn head v rest true h h' p q t u i j end → ReadsOn head v rest flagged h h' p q t u i j (Done OutOfMemory)
-  reads_lost flagged rest h h' p q t u i j end x = record {
+  pub reads_lost : (flagged : Bool) (rest : List ConnStep) (h h' : Hearing) (p q : SessionPass) (t u : Noted) (i j : Input)
+      → ReadsOn head v rest true h h' p q t u i j Stopped → ReadsOn head v rest flagged h h' p q t u i j (Done OutOfMemory)
+  reads_lost flagged rest h h' p q t u i j x = record {
     fed = x.fed;
     taken = x.taken;
     steps = x.steps;
@@ -284,14 +340,14 @@ module _ (head : Head) (v : ℕ) where
     room = x.room;
     notice = x.notice;
     stops = x.stops;
-    calm = λ stopped. absurd (not_stopped OutOfMemory stopped);
+    faults = x.faults;
     ends = tt;
   }
 
   -- the flag was found set
   pub reads_stopped : (flagged : Bool) (rest : List ConnStep) (h h' : Hearing) (p q : SessionPass) (t u : Noted) (i j : Input)
-      → flagged ≡ true → ReadsOn head v rest true h h' p q t u i j Stopped → ReadsOn head v rest flagged h h' p q t u i j Stopped
-  reads_stopped flagged rest h h' p q t u i j is x = subst (λ (b : Bool). ReadsOn head v rest b h h' p q t u i j Stopped) (sym is) x
+      → flagged ≡ true → ReadsInTurns head v rest true h h' p q t u i j Stopped → ReadsInTurns head v rest flagged h h' p q t u i j Stopped
+  reads_stopped flagged rest h h' p q t u i j is x = subst (λ (b : Bool). ReadsInTurns head v rest b h h' p q t u i j Stopped) (sym is) x
 
 -- ---- the stream goes on
 
@@ -326,6 +382,11 @@ pub input_ended : (h : Hearing) (n : Notice) (i j : Input) (l : ℕ) → IsOpen 
     → ReadEnd true [] h n i j (end_by_part l)
 input_ended h n i j zero o e is = λ unended. (at_end i.left e, ends_between h o.unrefused is)
 input_ended h n i j (suc l) o e is = (o.unended, at_end i.left e, ends_within h l o.led o.unrefused is)
+
+-- and no read failed before
+pub part_faults : (h : Hearing) (n : Notice) (i j : Input) (l : ℕ) → j.faults ≡ i.faults → ReadFaults h n i j (end_by_part l)
+part_faults h n i j zero calm = calm
+part_faults h n i j (suc l) calm = calm
 
 pub part_done : (l : ℕ) → is_done (end_by_part l) ≡ true
 part_done zero = refl

@@ -10,7 +10,7 @@ use Rattle.frame_rules.specs.FrameBytes.{joined_bytes}
 use Rattle.frame_rules.specs.Encoder.{Encoder, pointed_bytes, encoder_after, pointed_of_takes, encoder_after_takes}
 use Rattle.frame_rules.proofs.FrameLaws.{pointed_bytes-append, encoder_after-append}
 use Rattle.grow_lock.specs.Journal.{StartsWith}
-use Rattle.viewer_run.specs.Sending.{AtLeast, IsPresentAtEach}
+use Rattle.viewer_run.specs.Sending.{AtLeast, HaveWork, IsPresentAtEach}
 
 pub follow_up : (from : ℕ) (ts : List TakeOf) (to : ℕ) → TakesFollow from ts to → from ≤ to
 follow_up from [] to h = omega (arith, h)
@@ -28,6 +28,10 @@ at_least_lower low less (t ∷ ts) le h = (omega (arith, le, h.0), at_least_lowe
 pub at_least_then : (low : ℕ) (ts us : List TakeOf) → AtLeast low ts → AtLeast low us → AtLeast low (ts ++ us)
 at_least_then low [] us h k = k
 at_least_then low (t ∷ ts) us h k = (h.0, at_least_then low ts us h.1 k)
+
+pub work_then : (size : Size) (ts us : List TakeOf) → HaveWork size ts → HaveWork size us → HaveWork size (ts ++ us)
+work_then size [] us h k = k
+work_then size (t ∷ ts) us h k = (h.0, work_then size ts us h.1 k)
 
 -- who is present at takes, and at those behind them
 pub present_then : (head : Head) (v : ℕ) (j : List Entry) (ts us : List TakeOf) → IsPresentAtEach head v j ts → IsPresentAtEach head v j us → IsPresentAtEach head v j (ts ++ us)

@@ -1,5 +1,5 @@
 -- What was done for a viewer between its Join and the end of its connection.
-use Rattle.std.proofs.Common.{◌≡◌, ℕ, ◌≤◌, List, [], ◌∷◌, ◌++◌, length, sym, refl, ap, ◌∙◌, subst, ⊎_elim, arith, map, drop}
+use Rattle.std.proofs.Common.{◌≡◌, ℕ, ◌≤◌, List, [], ◌∷◌, ◌++◌, length, sym, refl, ap, ◌∙◌, subst, inl, ⊎_elim, arith, map, drop}
 use Rattle.std.specs.Prelude.{true, false, Option, Result, Ok, Err}
 use Rattle.std.specs.Io.KnownBytes.{Consumes, Appends}
 use Rattle.std.proofs.KnownBytes.{Consumes-nil, Appends-nil}
@@ -16,7 +16,7 @@ use Rattle.frame_rules.specs.FrameBytes.{joined_bytes}
 use Rattle.frame_rules.specs.Encoder.{first_encoder, pointed_of_takes}
 use Rattle.viewer_sender.specs.Senders.{SenderModel}
 use Rattle.pointer_share.specs.Desk.{DeskOf}
-use Rattle.serve_rules.specs.Turns.{SessionPass}
+use Rattle.serve_rules.specs.Turns.{SessionPass, FoundAll}
 use Rattle.serve_rules.specs.Events.{Handles, IsWithin}
 use Rattle.serve_rules.specs.Notices.{Notice, events_in, notice_after_all, notice_in}
 use Rattle.serve_rules.specs.declared.ends.ConnEnd.{ConnEnd}
@@ -25,9 +25,9 @@ use Rattle.serve_rules.specs.declared.ends.SideEnd.{SideEnd}
 use Rattle.serve_rules.specs.declared.ends.SideEnd.TheVariants.{Done, Stopped}
 use Rattle.serve_rules.specs.declared.noted.Noted.{Noted}
 use Rattle.serve_rules.proofs.Handling.{handles_nothing}
-use Rattle.viewer_run.specs.Sending.{AtLeast, IsPresentAtEach, IsSendEnd}
+use Rattle.viewer_run.specs.Sending.{AtLeast, HaveWork, IsPresentAtEach, IsSendEnd}
 use Rattle.viewer_run.specs.Frames.{first_take, FramesSent}
-use Rattle.viewer_run.specs.Serving.{ViewEnd, EndsSending, Attends, IsShownLast, wants_last}
+use Rattle.viewer_run.specs.Serving.{ViewEnd, ViewFaults, EndsSending, Attends, IsShownLast, wants_last}
 use Rattle.viewer_run.specs.Arriving.{Stays}
 use Rattle.viewer_run.specs.declared.visits.FirstFrame.{FirstFrame}
 use Rattle.viewer_run.proofs.Attending.{wants_left}
@@ -46,6 +46,7 @@ pub record Viewed (head : Head) (v : ℕ) (confirmed : Confirmed) (rest : List C
   pub handles : Handles head v (events_in steps) joined after places places'
   pub notice : n' ≡ notice_after_all n steps
   pub ends : ViewEnd fed (heard conn fed).after n' before now end
+  pub faults : ViewFaults (heard conn fed).after (notice_after_all n (rest ++ (heard conn fed).steps)) before now end
   pub takes : List TakeOf
   pub last : ℕ
   pub follow : TakesFollow 0 takes last
@@ -53,6 +54,7 @@ pub record Viewed (head : Head) (v : ℕ) (confirmed : Confirmed) (rest : List C
   pub begins : BeginsWith (length joined.seen) end takes
   pub up_to_date : AtLeast (length joined.seen) (drop 1 takes)
   pub present : IsPresentAtEach head v after.seen takes
+  pub work : HaveWork head.size (drop 1 takes)
   pub more_found : List ℕ
   pub found : after.found ≡ joined.found ++ more_found
   pub takes_found : IsWithin (map (λ (t : TakeOf). t.number) (drop 1 takes)) more_found
@@ -62,7 +64,8 @@ pub record Viewed (head : Head) (v : ℕ) (confirmed : Confirmed) (rest : List C
   pub told : Appends before.output.told now.output.told written
   pub all_written : is_cut end ≡ false → unwritten ≡ []
   pub calm : is_cut end ≡ false → now.output.faults ≡ before.output.faults
-  pub shown : wants_last end n' ≡ true → is_present v (reached_at head.size after.seen (length after.seen)).viewers ≡ true → last ≡ length after.seen
+  pub shown : wants_last end n' ≡ true → is_present v (reached_at head.size after.seen (length after.seen)).viewers ≡ true
+      → (last ≡ length after.seen) × FoundAll after
 
 cut_sending : (end : ConnEnd) → IsSendEnd (Done end) → is_cut end ≡ false → ⊥
 cut_sending Left only free = only
@@ -102,6 +105,7 @@ module _ (head : Head) (v : ℕ) (confirmed : Confirmed) (rest : List ConnStep) 
         handles = r.handles;
         notice = r.notice;
         ends = r.ends;
+        faults = r.faults;
         takes = first_take p.seen f.asked ∷ f.later;
         last = f.last;
         follow = f.follow;
@@ -113,6 +117,7 @@ module _ (head : Head) (v : ℕ) (confirmed : Confirmed) (rest : List ConnStep) 
               ∙ (ap (λ (y : Reached). is_present v y.viewers) (reached_at-append head.size p.seen f.grows.0 (length p.seen) (omega arith)) ∙ here),
           f.present,
         );
+        work = f.work;
         more_found = f.more_found;
         found = f.found;
         takes_found = f.in_found;
@@ -124,7 +129,7 @@ module _ (head : Head) (v : ℕ) (confirmed : Confirmed) (rest : List ConnStep) 
         calm = λ free. f.calm (uncut_stopped x.sent end x.ended f.only free);
         shown = λ wants still.
             let free : is_cut end ≡ false = ap is_cut (wants_left end (notice_in b) wants) in
-            sym (f.after_is (uncut_stopped x.sent end x.ended f.only free)).2 ∙ shown wants still;
+            let all = shown wants still in (sym (f.after_is (uncut_stopped x.sent end x.ended f.only free)).2 ∙ all.0, all.1);
       }
 
   viewed_none : q ≡ p → b ≡ a → now ≡ before → end ≡ OutOfMemory
@@ -141,6 +146,8 @@ module _ (head : Head) (v : ℕ) (confirmed : Confirmed) (rest : List ConnStep) 
             (subst (λ (t : Noted). Handles head v [] p p a.places.list t.places.list) (sym noted) (handles_nothing head v p a.places.list));
         notice = ap notice_in noted;
         ends = subst (ViewEnd [] (heard conn []).after (notice_in b) before now) (sym is) tt;
+        faults = subst (ViewFaults (heard conn []).after (notice_after_all (notice_in a) (rest ++ (heard conn []).steps)) before now) (sym is)
+            (inl (ap (λ (x : Outside). x.input.faults) still));
         takes = [];
         last = 0;
         follow = refl;
@@ -148,6 +155,7 @@ module _ (head : Head) (v : ℕ) (confirmed : Confirmed) (rest : List ConnStep) 
         begins = is;
         up_to_date = tt;
         present = tt;
+        work = tt;
         more_found = [];
         found = ap (λ (x : SessionPass). x.found) same ∙ sym (nil p.found);
         takes_found = tt;

@@ -25,11 +25,11 @@ use Rattle.frame_rules.specs.Encoder.{first_encoder, pointed_of_takes}
 use Rattle.frame_rules.specs.Describes.{HasAllCaches}
 use Rattle.frame_laws.proofs.JournalShown.{frame_shows_journal}
 use Rattle.headline.proofs.TakesPointed.{takes_point, takes_see_without}
-use Rattle.headline.proofs.CaptureFronts.{front_sees}
+use Rattle.headline.proofs.PointedFronts.{front_sees_both}
 use Rattle.grow_lock.specs.Journal.{StartsWith}
 use Rattle.grow_lock.proofs.Lists.{starts_trans, length_starts}
 use Rattle.grow_lock.proofs.Shares.{holds_itself, holds_same, holds_trans}
-use Rattle.serve_rules.specs.Turns.{SessionPass, IsTurn, Idles}
+use Rattle.serve_rules.specs.Turns.{SessionPass, IsTurn, Idles, FoundAll}
 use Rattle.serve_rules.specs.Events.{Act, Handles, HappenFrom, places_of, Ascend, AreOfEvents, IsWithin}
 use Rattle.serve_rules.specs.Notices.{Notice, events_in, notice_after_all, notice_in}
 use Rattle.serve_rules.specs.Reading.{IsUnended, IsWhole}
@@ -46,7 +46,7 @@ use Rattle.viewer_run.specs.declared.guest.Guest.{Guest}
 use Rattle.viewer_run.specs.declared.arriving.Visit.{Visit}
 use Rattle.viewer_run.specs.Greeting.{Greets}
 use Rattle.viewer_run.specs.Sending.{AtLeast}
-use Rattle.viewer_run.specs.Serving.{ViewEnd, wants_last}
+use Rattle.viewer_run.specs.Serving.{ViewEnd, ViewFaults, FailsAtMostBeside, wants_last}
 use Rattle.viewer_run.specs.Visiting.{leave_if, leave_place}
 use Rattle.viewer_run.specs.Arriving.{no_notice, IsUnnoted, ServesArrival}
 use Rattle.viewer_run.specs.Ending.{ultimatum_at}
@@ -55,7 +55,7 @@ use Rattle.viewer_run.proofs.Coming.{present_by}
 use Rattle.viewer_run.proofs.TakesOn.{present_stays, pointed_stay}
 use Rattle.viewer_run.specs.LastWords.{is_cut, SaysLast, Writes}
 use Rattle.viewer_run.specs.LetIn.{ReportsVisit}
-use Rattle.viewer_run.specs.Links.{HasLeftElsewhere, BeginsWith, ServesViewer}
+use Rattle.viewer_run.specs.Links.{HasLeftElsewhere, BeginsWith, IsTakenLast, ServesViewer}
 use Rattle.viewer_run.proofs.Words.{IsCutShort, Said, said_last, word_of, uncut_before, writes_said, whole_or_still}
 use Rattle.viewer_run.proofs.LinkStreams.{IsReadyStream, ready_stream}
 use Rattle.viewer_run.proofs.Outsiders.{turn_grows, idle_grows, idle_mine}
@@ -104,6 +104,61 @@ view_said read h n link input mid now end said asked e calm s = ⊎_elim
     r.how)
     s.stays
 
+-- ---- reads that failed
+
+-- counted from before, where none had failed
+beside_since : (h : Hearing) (m : Notice) (link between now : Outside) → between.input.faults ≡ link.input.faults → FailsAtMostBeside h m between now
+    → FailsAtMostBeside h m link now
+beside_since h m link between now a e = ⊎_elim (λ calm. inl (calm ∙ a)) (λ on. inr on) e
+
+faults_since : (h : Hearing) (m : Notice) (link between now : Outside) (end : ConnEnd) → between.input.faults ≡ link.input.faults
+    → between.output.faults ≡ link.output.faults → ViewFaults h m between now end → ViewFaults h m link now end
+faults_since h m link between now Left a b e = e ∙ a
+faults_since h m link between now (Refused k at) a b e = e ∙ a
+faults_since h m link between now Truncated a b e = e ∙ a
+faults_since h m link between now NotInvited a b e = e ∙ a
+faults_since h m link between now RoomFull a b e = e ∙ a
+faults_since h m link between now JoinsSpent a b e = e ∙ a
+faults_since h m link between now ReadFault a b e = (e.0, e.1 ∙ b)
+faults_since h m link between now WriteFault a b e = beside_since h m link between now a e
+faults_since h m link between now OutOfMemory a b e = beside_since h m link between now a e
+
+-- an end that stays behind the last word
+faults_onto : (h : Hearing) (m : Notice) (link : Outside) (input : Input) (mid now : Output) (end : ConnEnd) → now.faults ≡ mid.faults
+    → ViewFaults h m link (outside input mid) end → ViewFaults h m link (outside input now) end
+faults_onto h m link input mid now Left w e = e
+faults_onto h m link input mid now (Refused k at) w e = e
+faults_onto h m link input mid now Truncated w e = e
+faults_onto h m link input mid now NotInvited w e = e
+faults_onto h m link input mid now RoomFull w e = e
+faults_onto h m link input mid now JoinsSpent w e = e
+faults_onto h m link input mid now ReadFault w e = (e.0, w ∙ e.1)
+faults_onto h m link input mid now WriteFault w e = e
+faults_onto h m link input mid now OutOfMemory w e = e
+
+calm_due : (h : Hearing) (m : Notice) (link now : Outside) (end : ConnEnd) (asked : Bool) → (ultimatum_at end asked ≡ [] → ⊥) → ViewFaults h m link now end
+    → now.input.faults ≡ link.input.faults
+calm_due h m link now Left asked due e = e
+calm_due h m link now (Refused k at) asked due e = e
+calm_due h m link now Truncated asked due e = e
+calm_due h m link now NotInvited asked due e = e
+calm_due h m link now RoomFull asked due e = e
+calm_due h m link now JoinsSpent asked due e = e
+calm_due h m link now ReadFault asked due e = absurd (due refl)
+calm_due h m link now WriteFault asked due e = absurd (due refl)
+calm_due h m link now OutOfMemory asked due e = absurd (due refl)
+
+-- behind the last word
+faults_said : (h : Hearing) (m : Notice) (link : Outside) (input : Input) (mid now : Output) (end said : ConnEnd) (asked : Bool)
+    → ViewFaults h m link (outside input mid) end → Said end asked said mid now → ViewFaults h m link (outside input now) said
+faults_said h m link input mid now end said asked e s = ⊎_elim
+    (λ (l : (said ≡ end) × (now.faults ≡ mid.faults)). subst (ViewFaults h m link (outside input now)) (sym l.0) (faults_onto h m link input mid now end l.1 e))
+    (λ (r : IsCutShort end asked said mid now). let calm = calm_due h m link (outside input mid) end asked r.due e in ⊎_elim
+    (λ (x : (said ≡ WriteFault) × Rose mid.faults now.faults). subst (ViewFaults h m link (outside input now)) (sym x.0) (inl calm))
+    (λ (w : said ≡ OutOfMemory). subst (ViewFaults h m link (outside input now)) (sym w) (inl calm))
+    r.how)
+    s.stays
+
 -- a word is due only where nothing is cut
 due_uncut : (end : ConnEnd) (asked : Bool) → (ultimatum_at end asked ≡ [] → ⊥) → is_cut end ≡ false
 due_uncut Left asked due = refl
@@ -131,17 +186,28 @@ pushed (y ∷ xs) x = ap suc (pushed xs x)
 -- ---- the last mark
 
 -- a viewer who is still present when its connection has ended has a mark behind all of its events; one who isn't was made to leave
-last_shown : (size : Size) (v : ℕ) (viewed base j : List Entry) (a : ℕ) (role : Role) (ns : List ℕ) (high last : ℕ) (here : Bool) (place : Option ℕ) (places : List ℕ) (b : Bool)
+last_shown : (size : Size) (v : ℕ) (Taken : Type 0) (viewed base j : List Entry) (a : ℕ) (role : Role) (ns : List ℕ) (high last : ℕ) (here : Bool) (place : Option ℕ) (places : List ℕ) (b : Bool)
     → is_present v (reached_at size viewed (length viewed)).viewers ≡ b
-    → (is_present v (reached_at size viewed (length viewed)).viewers ≡ true → last ≡ length viewed)
+    → (is_present v (reached_at size viewed (length viewed)).viewers ≡ true → (last ≡ length viewed) × Taken)
     → slice_get viewed a ≡ Some (Join v role) → a < length viewed → StartsWith base viewed → j ≡ base ++ leave_if here v → place ≡ leave_place here base → AreOfEvents v j ns
     → Ascend (suc a) ns high → high ≤ length viewed → places ≡ a ∷ (ns ++ option_to_list place)
-    → All (λ n. n < last) (a ∷ ns) ⊎ HasLeftElsewhere v j places
-last_shown size v viewed base j a role ns high last here place places true is shown is_join below on grows at of asc within same =
-    let whole : last ≡ length viewed = shown is in
-    inl (All-cons (λ m. m < last) a ns (omega (arith, below, whole)) (subst (λ (m : ℕ). All (λ n. n < m) ns) (sym whole) (ascend_below (suc a) ns high (length viewed) asc within)))
-last_shown size v viewed base j a role ns high last here place places false is shown is_join below on grows at of asc within same =
+    → (All (λ n. n < last) (a ∷ ns) × Taken) ⊎ HasLeftElsewhere v j places
+last_shown size v Taken viewed base j a role ns high last here place places true is shown is_join below on grows at of asc within same =
+    let whole : last ≡ length viewed = (shown is).0 in
+    inl (
+      All-cons (λ m. m < last) a ns (omega (arith, below, whole)) (subst (λ (m : ℕ). All (λ n. n < m) ns) (sym whole) (ascend_below (suc a) ns high (length viewed) asc within)),
+      (shown is).1,
+    )
+last_shown size v Taken viewed base j a role ns high last here place places false is shown is_join below on grows at of asc within same =
     inr (subst (HasLeftElsewhere v j) (sym same) (left_before size v viewed base j a role ns here place is is_join below on grows at of))
+
+-- what the last take found is what the turn before that of the Leave did
+taken_last : (last leave : ℕ) (u : SessionPass) (found : List ℕ) → found ≡ u.found ++ leave ∷ [] → last ≡ length u.seen → FoundAll u → IsTakenLast last found
+taken_last last leave u found turns whole all = (
+  all.0,
+  leave,
+  turns ∙ (ap (λ (l : List ℕ). l ++ leave ∷ []) (all.1 ∙ ap (λ (n : ℕ). all.0 ++ n ∷ []) (sym whole)) ∙ append_assoc all.0 (last ∷ []) (leave ∷ [])),
+)
 
 leave_mine : (v : ℕ) (base : List Entry) (here : Bool) (place : Option ℕ) → place ≡ leave_place here base
     → range_with_len (length base) (length (leave_if here v)) ≡ option_to_list place
@@ -289,6 +355,7 @@ module _ (head : Head) (p p1 r : SessionPass) (size : Size) (conn : Hearing) (na
               (subst (λ (n : ℕ). BeginsWith n visit.end view.takes) q_len view.begins);
           up_to_date = subst (λ (n : ℕ). AtLeast n (drop 1 view.takes)) q_len view.up_to_date;
           present = present_stays head v r.seen u.seen view.takes 0 view.last view.follow view.within_seen on_r view.present;
+          work = view.work;
           more_found = length idle.0 ∷ (length b ∷ (view.more_found ++ length c ∷ []));
           found = found_0;
           acts_found = inr (inl (refl, acts_in));
@@ -316,20 +383,27 @@ module _ (head : Head) (p p1 r : SessionPass) (size : Size) (conn : Hearing) (na
               (append_assoc a.written view.written s.written ∙ ap (λ l. l ++ (view.written ++ s.written)) (sym replied))
               (Appends-trans link.output.told mid.told spent.output.told (a.written ++ view.written) s.written
               (Appends-trans link.output.told between.output.told mid.told a.written view.written a.told view.told) s.told);
-          sees_first = front_sees head.size confirmed r.seen (map (λ (t : TakeOf). t.number) view.takes) frames view.written
+          sees_first = front_sees_both head.size confirmed r.seen (map (λ (t : TakeOf). t.number) view.takes) frames view.written
               (takes_see_without head confirmed (frame_shows_journal head confirmed) sized caches r.seen legal view.takes view.last view.follow within)
+              (takes_point head confirmed (frame_shows_journal head confirmed) sized caches r.seen legal view.takes view.last view.follow within)
               (record { rest = view.unwritten; joined = same_frames ∙ view.bytes });
           ends = view_said read (host_handshake head.size read).after (notice_after_all no_notice steps) link spent.input mid spent.output visit.end said noted.shutdown
               (view_then a.fed view.fed (host_handshake head.size read).after (notice_in t1) (notice_after_all no_notice steps) link between (outside spent.input mid) visit.end
               (consumes_then link.input.left between.input.left (std.Some []) a.fed view.fed a.taken) a.came.3 a.came.4 same_notice
               (subst (λ (h : Hearing). ViewEnd view.fed h (notice_in t1) between (outside spent.input mid) visit.end) (sym stream.after) view.ends))
               (λ due. view.calm (due_uncut visit.end noted.shutdown due) ∙ a.came.4) s;
+          faults = faults_said (host_handshake head.size read).after (notice_after_all no_notice steps) link spent.input mid spent.output visit.end said noted.shutdown
+              (faults_since (host_handshake head.size read).after (notice_after_all no_notice steps) link between (outside spent.input mid) visit.end a.came.3 a.came.4
+              (subst (λ (h : Hearing). ViewFaults h (notice_after_all no_notice steps) between (outside spent.input mid) visit.end) (sym stream.after)
+              (subst (λ (n : Notice). ViewFaults (heard conn view.fed).after (notice_after_all n steps) between (outside spent.input mid) visit.end)
+              (sa.joined_notice ∙ unnoted.1) view.faults))) s;
           shown = λ wants.
               let free : is_cut said ≡ false = ap is_cut (wants_left said (notice_after_all no_notice steps) wants) in
               let stays : said ≡ visit.end = uncut_before visit.end noted.shutdown said mid spent.output s free in
-              last_shown head.size v u.seen c r.seen (length b) role (places_of head v r.seen done.acts) view.handles.high view.last here place noted.places.list
+              last_shown head.size v (IsTakenLast view.last r.found) u.seen c r.seen (length b) role (places_of head v r.seen done.acts) view.handles.high view.last here place noted.places.list
               (is_present v (reached_at head.size u.seen (length u.seen)).viewers) refl
-              (view.shown (ap₂ wants_last (sym stays) (same_notice (free_of free)) ∙ wants)) join_u below_u turn.goes_on turn.seen sa.leaves.1.place_is of asc
+              (λ here. let all = view.shown (ap₂ wants_last (sym stays) (same_notice (free_of free)) ∙ wants) here in
+              (all.0, taken_last view.last (length c) u r.found turn.found all.0 all.1)) join_u below_u turn.goes_on turn.seen sa.leaves.1.place_is of asc
               view.handles.within_seen all_places;
         });
       }

@@ -18,7 +18,7 @@ use Rattle.serve_rules.specs.Events.{IsWithin}
 use Rattle.serve_rules.specs.declared.ends.ConnEnd.TheVariants.{WriteFault}
 use Rattle.serve_rules.specs.declared.ends.SideEnd.{SideEnd}
 use Rattle.serve_rules.specs.declared.ends.SideEnd.TheVariants.{Done, Stopped}
-use Rattle.viewer_run.specs.Sending.{AtLeast, IsPresentAtEach, IsSendEnd, FollowsWith}
+use Rattle.viewer_run.specs.Sending.{AtLeast, HaveWork, IsPresentAtEach, IsSendEnd, FollowsWith}
 
 -- a viewer's first take, over the journal of its Join's turn
 abbrev pub first_take : List Entry → Tiles → TakeOf
@@ -55,6 +55,7 @@ pub record FramesSent (head : Head) (v : ℕ) (confirmed : Confirmed) (sender : 
   pub within_seen : last ≤ length after.seen
   pub up_to_date : AtLeast (length joined.seen) later
   pub present : IsPresentAtEach head v after.seen later
+  pub work : HaveWork head.size later
   pub more_found : List ℕ
   pub found : after.found ≡ joined.found ++ more_found
   pub in_found : IsWithin (map (λ (t : TakeOf). t.number) later) more_found

@@ -61,6 +61,24 @@ GreetEnd fed unwritten g after new name before now (Err ReadFault) = (unwritten 
 GreetEnd fed unwritten g after new name before now (Err WriteFault) = Rose before.output.faults now.output.faults
 GreetEnd fed unwritten g after new name before now (Err OutOfMemory) = ⊤
 
+-- what the end of a connection says of reads that failed, of a client that isn't ready: at a failed read it still connects and its stream isn't refused, and no
+-- write had failed; at each other end no read had failed
+abbrev pub OutsideFaults : Greeting → Hearing → (before now : Outside) → ConnEnd → Type 0
+OutsideFaults g h before now Left = now.input.faults ≡ before.input.faults
+OutsideFaults g h before now (Refused k at) = now.input.faults ≡ before.input.faults
+OutsideFaults g h before now Truncated = now.input.faults ≡ before.input.faults
+OutsideFaults g h before now NotInvited = now.input.faults ≡ before.input.faults
+OutsideFaults g h before now RoomFull = now.input.faults ≡ before.input.faults
+OutsideFaults g h before now JoinsSpent = now.input.faults ≡ before.input.faults
+OutsideFaults g h before now ReadFault = StillConnects g × IsNoRefusal (end_of h) × (now.output.faults ≡ before.output.faults)
+OutsideFaults g h before now WriteFault = now.input.faults ≡ before.input.faults
+OutsideFaults g h before now OutOfMemory = now.input.faults ≡ before.input.faults
+
+-- likewise of a connection sequence that goes on or is done
+abbrev pub GreetFaults : Greeting → Hearing → (before now : Outside) → Result (Option Guest) ConnEnd → Type 0
+GreetFaults g h before now (Ok met) = now.input.faults ≡ before.input.faults
+GreetFaults g h before now (Err end) = OutsideFaults g h before now end
+
 -- a stretch of a connection sequence: what was read was fed to the connection, and its replies, or a front of them, were written
 pub record Greets (conn_old conn_new : Hearing) (name_old name_new : List ℕ) (before now : Outside) (result : Result (Option Guest) ConnEnd) : Type 0 where
   pub fed : List ℕ
@@ -70,6 +88,7 @@ pub record Greets (conn_old conn_new : Hearing) (name_old name_new : List ℕ) (
   pub replies : (heard conn_old fed).replies ≡ written ++ unwritten
   pub told : Appends before.output.told now.output.told written
   pub came : GreetEnd fed unwritten (greeting name_old (heard conn_old fed).steps) (heard conn_old fed).after conn_new name_new before now result
+  pub faults : GreetFaults (greeting name_old (heard conn_old fed).steps) (heard conn_old fed).after before now result
 
 -- the whole sequence: a client is ready, or its connection ends
 abbrev pub with_guest : Result Guest ConnEnd → Result (Option Guest) ConnEnd

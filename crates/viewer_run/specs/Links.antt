@@ -23,7 +23,7 @@ use Rattle.frame_rules.specs.FrameBytes.{joined_bytes}
 use Rattle.frame_rules.specs.Encoder.{first_encoder, pointed_of_takes}
 use Rattle.headline.specs.Headline.{SeesJournal}
 use Rattle.headline.specs.Pointed.{SeesPointers}
-use Rattle.headline.specs.Fronts.{IsFront, SeesFirstOfJournal}
+use Rattle.headline.specs.Fronts.{IsFront, SeesFirst}
 use Rattle.grow_lock.specs.Journal.{StartsWith}
 use Rattle.serve_rules.specs.Turns.{SessionPass, KeepsShare}
 use Rattle.serve_rules.specs.Events.{Act, HappenFrom, places_of, Ascend, AreOfEvents, IsWithin}
@@ -32,10 +32,10 @@ use Rattle.serve_rules.specs.Reading.{IsWhole, IsNoRefusal}
 use Rattle.serve_rules.specs.declared.ends.ConnEnd.{ConnEnd}
 use Rattle.serve_rules.specs.declared.ends.ConnEnd.TheVariants.{Left, Refused, Truncated, NotInvited, RoomFull, JoinsSpent, ReadFault, WriteFault, OutOfMemory}
 use Rattle.serve_rules.specs.declared.noted.ConnReport.{ConnReport}
-use Rattle.viewer_run.specs.Greeting.{Greeting, greeting, StillConnects}
+use Rattle.viewer_run.specs.Greeting.{Greeting, greeting, StillConnects, OutsideFaults}
 use Rattle.viewer_run.specs.Greeting.Greeting.{IsReady, HasLeft}
-use Rattle.viewer_run.specs.Sending.{AtLeast, IsPresentAtEach}
-use Rattle.viewer_run.specs.Serving.{ViewEnd, wants_last}
+use Rattle.viewer_run.specs.Sending.{AtLeast, HaveWork, IsPresentAtEach}
+use Rattle.viewer_run.specs.Serving.{ViewEnd, ViewFaults, wants_last}
 use Rattle.viewer_run.specs.Arriving.{no_notice}
 use Rattle.edge_io.specs.Outside.{Outside}
 use Rattle.viewer_run.specs.LastWords.{is_cut, IsLastWord, Writes}
@@ -72,6 +72,7 @@ pub record IsOutside (head : Head) (after : SessionPass) (report : ConnReport) (
   pub last : IsLastWord report.end false word
   pub writes : Writes report.end ((host_handshake head.size read).replies ++ word) link spent
   pub ends : OutsideEnd head after (greeting [] (host_handshake head.size read).steps) (host_handshake head.size read).after read link spent report.end
+  pub faults : OutsideFaults (greeting [] (host_handshake head.size read).steps) (host_handshake head.size read).after link spent report.end
 
 -- ---- a viewer
 
@@ -89,6 +90,10 @@ IsLeave v j places (place ∷ other ∷ more) = ⊥
 abbrev pub BeginsWith : ℕ → ConnEnd → List TakeOf → Type 0
 BeginsWith n end [] = end ≡ OutOfMemory
 BeginsWith n end (t ∷ takes) = t.number ≡ n
+
+-- a take found this number in the last turn but one
+abbrev pub IsTakenLast : ℕ → List ℕ → Type 0
+IsTakenLast last found = (earlier : List ℕ) × (leave : ℕ) × (found ≡ earlier ++ last ∷ leave ∷ [])
 
 -- a client joined as a viewer and was served until its connection ended
 pub record IsVisit (head : Head) (before after : SessionPass) (report : ConnReport) (link spent : Outside) (read : List ℕ) : Type 0 where
@@ -127,6 +132,7 @@ pub record IsVisit (head : Head) (before after : SessionPass) (report : ConnRepo
   pub begins : BeginsWith (suc join) report.end takes
   pub up_to_date : AtLeast (suc join) (drop 1 takes)
   pub present : IsPresentAtEach head report.viewer after.seen takes
+  pub work : HaveWork head.size (drop 1 takes)
   -- the lengths that the pass found in its turns: the Join's, those of the events, those of the later takes
   pub more_found : List ℕ
   pub found : after.found ≡ before.found ++ more_found
@@ -142,18 +148,20 @@ pub record IsVisit (head : Head) (before after : SessionPass) (report : ConnRepo
   pub points : SeesPointers head.size confirmed after.seen (map (λ (t : TakeOf). t.number) takes)
       (joined_bytes (pointed_of_takes head.size confirmed after.seen first_encoder takes))
   -- of the frames with their pointers this was written, behind the replies and before a front of the last word: wherever it was cut it isn't refused, and its
-  -- marks show the first of these pictures
+  -- marks show the first of these pictures and pointers
   pub viewed : List ℕ
   pub viewed_front : IsFront viewed (joined_bytes (pointed_of_takes head.size confirmed after.seen first_encoder takes))
   pub said : List ℕ
   pub said_front : IsFront said word
   pub in_order : (viewed ≡ joined_bytes (pointed_of_takes head.size confirmed after.seen first_encoder takes)) ⊎ (said ≡ [])
   pub told : Appends link.output.told spent.output.told ((host_handshake head.size read).replies ++ (viewed ++ said))
-  pub sees_first : SeesFirstOfJournal head.size confirmed after.seen (map (λ (t : TakeOf). t.number) takes) (without_pointers viewed)
-  -- the connection's end, and the last mark at it
+  pub sees_first : SeesFirst head.size confirmed after.seen (map (λ (t : TakeOf). t.number) takes) viewed
+  -- the connection's end, and the last mark at it, which has all that the pass's last turn before that of the Leave found
   pub ends : ViewEnd read (host_handshake head.size read).after (notice_after_all no_notice steps) link spent report.end
+  pub faults : ViewFaults (host_handshake head.size read).after (notice_after_all no_notice steps) link spent report.end
   pub shown : wants_last report.end (notice_after_all no_notice steps) ≡ true
-      → All (λ place. place < last) (join ∷ places_of head report.viewer after.seen acts) ⊎ HasLeftElsewhere report.viewer after.seen report.places.list
+      → (All (λ place. place < last) (join ∷ places_of head report.viewer after.seen acts) × IsTakenLast last after.found)
+      ⊎ HasLeftElsewhere report.viewer after.seen report.places.list
 
 -- ---- a connection
 

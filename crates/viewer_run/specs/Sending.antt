@@ -1,8 +1,9 @@
 -- What the send side of a viewer does.
-use Rattle.std.specs.Prelude.{◌≡◌, ℕ, ◌≤◌, ⊤, ◌+◌, true, false, Option, Result, Ok, Err, List, [], ◌∷◌, ◌++◌, length, map}
+use Rattle.std.specs.Prelude.{◌≡◌, ℕ, ◌≤◌, ⊤, ◌+◌, ◌||◌, ◌==◌, not, true, false, Option, Result, Ok, Err, List, [], ◌∷◌, ◌++◌, length, map}
 use Rattle.std.specs.Io.KnownBytes.{Appends}
 use Rattle.wire_num.specs.declared.out_of_memory.OutOfMemory.{OutOfMemory as NoMemory}
-use Rattle.px_core.specs.Tiles.{Tiles}
+use Rattle.px_core.specs.declared.surface.Size.{Size}
+use Rattle.px_core.specs.Tiles.{Tiles, all_tiles, share_tile}
 use Rattle.caps_sets.specs.declared.confirmed.Confirmed.{Confirmed}
 use Rattle.edge_io.specs.Faults.{Rose}
 use Rattle.edge_io.specs.Outside.{Output}
@@ -32,9 +33,14 @@ use Rattle.serve_rules.specs.declared.ends.SideEnd.TheVariants.{Done, Stopped}
 abbrev pub due : SenderModel → List Entry → Tiles → TakeOf
 due s j asked = record { before = s.number; number = length j; asked = asked }
 
+-- a take has work: the journal has grown since its viewer's last frame, or a tile is asked for
+abbrev pub HasWork : Size → TakeOf → Type 0
+HasWork size t = not (t.before == t.number) || share_tile size t.asked all_tiles ≡ true
+
 -- a take found a frame of this journal, which is the sender's next; the pointer of this journal is noted for it, where the viewer has a desk for pointers
 pub record TakesFrame (head : Head) (j : List Entry) (s s' : SenderModel) (d d' : Option DeskOf) (take : TakeModel) : Type 0 where
   pub asked : Tiles
+  pub work : HasWork head.size (due s j asked)
   pub serial : take.serial ≡ s.taken
   pub size : take.size ≡ head.size
   pub frame : take.frame ≡ taken_as head.size (frame_of head.size s.confirmed j s.held (due s j asked))
@@ -135,6 +141,11 @@ abbrev pub AtLeast : ℕ → List TakeOf → Type 0
 AtLeast low [] = ⊤
 AtLeast low (t ∷ ts) = (low ≤ t.number) × AtLeast low ts
 
+-- each take has work
+abbrev pub HaveWork : Size → List TakeOf → Type 0
+HaveWork size [] = ⊤
+HaveWork size (t ∷ ts) = HasWork size t × HaveWork size ts
+
 -- at each take its viewer is present, after so many of a journal's entries as the take found
 abbrev pub IsPresentAtEach : Head → ℕ → List Entry → List TakeOf → Type 0
 IsPresentAtEach head v j [] = ⊤
@@ -157,6 +168,7 @@ pub record SendsOn (head : Head) (before after : SenderModel) (d d' : Option Des
   pub within_seen : last ≤ length pass_after.seen
   pub up_to_date : AtLeast (length pass_before.seen) takes
   pub present : IsPresentAtEach head before.v pass_after.seen takes
+  pub work : HaveWork head.size takes
   pub more_found : List ℕ
   pub found : pass_after.found ≡ pass_before.found ++ more_found
   pub in_found : IsWithin (map (λ (t : TakeOf). t.number) takes) more_found

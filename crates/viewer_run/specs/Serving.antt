@@ -9,10 +9,10 @@ use Rattle.conn_rules.specs.declared.conn_step.ConnStep.{ConnStep}
 use Rattle.conn_rules.specs.Hearing.{Hearing, heard}
 use Rattle.viewer_sender.specs.Senders.{SenderModel}
 use Rattle.pointer_share.specs.Desk.{DeskOf}
-use Rattle.serve_rules.specs.Turns.{SessionPass}
+use Rattle.serve_rules.specs.Turns.{SessionPass, FoundAll}
 use Rattle.serve_rules.specs.Events.{Handles}
 use Rattle.serve_rules.specs.Notices.{Notice, events_in, notice_after_all, notice_in}
-use Rattle.serve_rules.specs.Reading.{ReadEnd, StopsReading}
+use Rattle.serve_rules.specs.Reading.{ReadEnd, GoesOn, StopsReading}
 use Rattle.serve_rules.specs.declared.ends.ConnEnd.{ConnEnd}
 use Rattle.serve_rules.specs.declared.ends.ConnEnd.TheVariants.{Left, Refused, Truncated, NotInvited, RoomFull, JoinsSpent, ReadFault, WriteFault, OutOfMemory}
 use Rattle.serve_rules.specs.declared.ends.SideEnd.{SideEnd}
@@ -33,6 +33,23 @@ ViewEnd fed h notice before now ReadFault = Rose before.input.faults now.input.f
 ViewEnd fed h notice before now WriteFault = Rose before.output.faults now.output.faults
 ViewEnd fed h notice before now OutOfMemory = ⊤
 
+-- no read failed, unless it did beside a failed write, or beside sending that wanted memory, of a stream that goes on
+abbrev pub FailsAtMostBeside : Hearing → Notice → (before now : Outside) → Type 0
+FailsAtMostBeside h notice before now = (now.input.faults ≡ before.input.faults) ⊎ GoesOn h notice
+
+-- what the end of a connection of a client that is ready says of reads that failed: at a failed read the stream goes on, and no write had failed; at each other
+-- end no read had failed, but that reading and sending, which go on beside each other, may both meet a fault
+abbrev pub ViewFaults : Hearing → Notice → (before now : Outside) → ConnEnd → Type 0
+ViewFaults h notice before now Left = now.input.faults ≡ before.input.faults
+ViewFaults h notice before now (Refused k at) = now.input.faults ≡ before.input.faults
+ViewFaults h notice before now Truncated = now.input.faults ≡ before.input.faults
+ViewFaults h notice before now NotInvited = now.input.faults ≡ before.input.faults
+ViewFaults h notice before now RoomFull = now.input.faults ≡ before.input.faults
+ViewFaults h notice before now JoinsSpent = now.input.faults ≡ before.input.faults
+ViewFaults h notice before now ReadFault = GoesOn h notice × (now.output.faults ≡ before.output.faults)
+ViewFaults h notice before now WriteFault = FailsAtMostBeside h notice before now
+ViewFaults h notice before now OutOfMemory = FailsAtMostBeside h notice before now
+
 -- a client's stream was read until its connection ended: the events of the steps before it and of those that were heard were handled in order, all of them
 -- unless a write failed or memory was wanted; nothing was read behind a Bye or a Shutdown
 pub record ReadsTo (head : Head) (v : ℕ) (rest : List ConnStep) (conn : Hearing) (before after : SessionPass) (noted_old noted_new : Noted)
@@ -48,6 +65,7 @@ pub record ReadsTo (head : Head) (v : ℕ) (rest : List ConnStep) (conn : Hearin
   pub notice : notice_in noted_new ≡ notice_after_all (notice_in noted_old) steps
   pub stops : StopsReading rest conn (notice_in noted_old) fed
   pub ends : ViewEnd fed (heard conn fed).after (notice_in noted_new) outside_old outside_new end
+  pub faults : ViewFaults (heard conn fed).after (notice_after_all (notice_in noted_old) (rest ++ (heard conn fed).steps)) outside_old outside_new end
 
 -- the end of the sending is that of the connection, unless it was stopped
 abbrev pub EndsSending : SideEnd → ConnEnd → Type 0
@@ -91,7 +109,7 @@ abbrev pub end_of_last : SideEnd → ConnEnd
 end_of_last (Done end) = end
 end_of_last Stopped = Left
 
--- a viewer who is still present when its connection has ended in such a way has a frame with all of the journal
+-- a viewer who is still present when its connection has ended in such a way has a frame with all of the journal, as the pass's last turn found it
 abbrev pub IsShownLast : Head → ℕ → SessionPass → SenderModel → ConnEnd → Notice → Type 0
 IsShownLast head v after sender end n = wants_last end n ≡ true → is_present v (reached_at head.size after.seen (length after.seen)).viewers ≡ true
-    → sender.number ≡ length after.seen
+    → (sender.number ≡ length after.seen) × FoundAll after

@@ -1,5 +1,5 @@
 //! A client's connection sequence, until it is ready.
-ghost use Rattle.std.specs.Prelude.{◌≡◌, ◌<◌, ℕ, [], List, IfOk, IsOk, length};
+ghost use Rattle.std.specs.Prelude.{◌≡◌, ◌<◌, ℕ, [], false, List, IfOk, IsOk, length};
 ghost use Rattle.std.specs.Io.KnownBytes.{Consumes};
 ghost use Rattle.edge_io.specs.Outside.{Input, output_of, outside, outside_of};
 ghost use Rattle.conn_rules.specs.Hearing.{end_of};
@@ -24,8 +24,8 @@ pub struct Guest {
     pub rest: Vec<ConnStep>,
 }
 
-/// Answers a client's connection sequence until it is ready; from then on it may be silent. An `Err` says how the connection ends
-/// instead; nothing is read behind a refusal.
+/// Answers a client's connection sequence until it is ready; from then on its reads have no limit of time. An `Err` says how the connection ends
+/// instead; nothing is read behind a refusal, and nothing before what was read is answered.
 pub fn greet<S: Source, K: Sink>(
     alloc: Global,
     conn: &mut Conn,
@@ -38,6 +38,7 @@ pub fn greet<S: Source, K: Sink>(
     ensures greets { (name : List ℕ) × Greets conn.old.hearing conn.new.hearing [] name
         (outside_of S.Source K.Sink input.old output.old) (outside_of S.Source K.Sink input.new output.new) (with_guest result) }
     ensures placed { IfOk result (λ guest. AreBytes conn.new.hearing.part × ArePlaced guest.rest.items) }
+    ensures free { IfOk result (λ guest. S.Source.limited input.new ≡ false) }
 {
     let mut name = Name::new(b"");
     let Ok(mut buffer) = new_buffer(alloc) else {

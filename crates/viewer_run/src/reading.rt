@@ -6,7 +6,7 @@ ghost use Rattle.conn_rules.specs.Hearing.{heard};
 ghost use Rattle.conn_rules.specs.Placed.{AreBytes, ArePlaced};
 ghost use Rattle.grow_lock.specs.Passes.{IsPassOf};
 ghost use Rattle.serve_rules.specs.Notices.{notice_in};
-ghost use Rattle.serve_rules.specs.Reading.{ReadsOn, StopsReading, one_read};
+ghost use Rattle.serve_rules.specs.Reading.{ReadsInTurns, StopsReading, one_read};
 ghost use Rattle.serve_rules.specs.declared.ends.SideEnd.TheVariants.{Stopped};
 ghost use Rattle.viewer_run.specs.Feeding.{EndOfPiece, EndsAs, IsFed, IsOpen, is_done, end_by_part};
 
@@ -30,7 +30,7 @@ pub const NO_MEMORY: SideEnd = SideEnd::Done {
 };
 
 /// The read side of a viewer. First it does the steps that the connection gave after Ready; then it reads, and does what it reads, until
-/// the stream ends or, where a flag is handed in, until it finds that set before a read.
+/// the stream ends or, where a flag is handed in, until it finds that set before a read. It has no turn but those of the steps that it read.
 pub fn read_side<R: Wait, S: Source>(
     rt: &R,
     alloc: Global,
@@ -48,7 +48,7 @@ pub fn read_side<R: Wait, S: Source>(
     requires placed { ArePlaced rest.now }
     requires room { 0 < noted.old.places.room }
     ensures lock { IsPassOf lock.now result.0 }
-    ensures reads { ReadsOn lock.now.head v rest.now (is_some flag.entry) conn.old.hearing conn.new.hearing pass result.0 noted.old noted.new
+    ensures reads { ReadsInTurns lock.now.head v rest.now (is_some flag.entry) conn.old.hearing conn.new.hearing pass result.0 noted.old noted.new
         (input_of S.Source input.old) (input_of S.Source input.new) result.1 }
     ensures part { result.1 ≡ Stopped → AreBytes conn.new.hearing.part }
 {
@@ -116,7 +116,7 @@ fn read_rest<R: Wait>(
     requires placed { ArePlaced rest.now }
     requires room { 0 < noted.old.places.room }
     ensures lock { IsPassOf stay.now.lock.now result.0 }
-    ensures reads { (input : Input) → ReadsOn stay.now.lock.now.head stay.now.v rest.now true conn.old.hearing conn.new.hearing pass result.0 noted.old
+    ensures reads { (input : Input) → ReadsInTurns stay.now.lock.now.head stay.now.v rest.now true conn.old.hearing conn.new.hearing pass result.0 noted.old
         noted.new input input result.1 }
     ensures going { result.1 ≡ Stopped → IsOpen conn.new.hearing (notice_in noted.new) }
 {
@@ -143,7 +143,7 @@ fn read_next<R: Wait, S: Source>(
     requires room { 0 < noted.old.places.room }
     ensures lock { IsPassOf stay.now.lock.now result.0 }
     ensures buffer { length buffer.new ≡ length buffer.old }
-    ensures reads { ReadsOn stay.now.lock.now.head stay.now.v [] true conn.old.hearing conn.new.hearing pass result.0 noted.old noted.new
+    ensures reads { ReadsInTurns stay.now.lock.now.head stay.now.v [] true conn.old.hearing conn.new.hearing pass result.0 noted.old noted.new
         (input_of S.Source input.old) (input_of S.Source input.new) result.1 }
     ensures going { result.1 ≡ Stopped → IsOpen conn.new.hearing (notice_in noted.new) }
 {
@@ -186,7 +186,7 @@ fn read_piece<R: Wait>(
     requires stops { StopsReading [] conn.old.hearing (notice_in noted.old) bytes.now }
     ensures lock { IsPassOf stay.now.lock.now result.0 }
     ensures reads { (before after : Input) → Consumes before.left after.left bytes.now → after.faults ≡ before.faults
-        → ReadsOn stay.now.lock.now.head stay.now.v [] true conn.old.hearing conn.new.hearing pass result.0 noted.old noted.new before after result.1 }
+        → ReadsInTurns stay.now.lock.now.head stay.now.v [] true conn.old.hearing conn.new.hearing pass result.0 noted.old noted.new before after result.1 }
     ensures going { result.1 ≡ Stopped → IsOpen conn.new.hearing (notice_in noted.new) }
 {
     let mut replies = Vec::new(stay.alloc);

@@ -1,9 +1,10 @@
 //! The steps of a client's stream that follow Ready, each in a turn of its own.
-ghost use Rattle.std.specs.Prelude.{◌≡◌, ◌<◌, List};
+ghost use Rattle.std.specs.Prelude.{◌≡◌, ◌<◌, ◌∷◌, [], List, IfOk};
 ghost use Rattle.conn_rules.specs.declared.conn_step.ConnStep.{ConnStep};
 ghost use Rattle.conn_rules.specs.Placed.{IsStepPlaced, ArePlaced};
 ghost use Rattle.grow_lock.specs.Passes.{IsPassOf};
 ghost use Rattle.serve_rules.specs.Notices.{notice_in};
+ghost use Rattle.serve_rules.specs.Reading.{HasTurns, HasTurnsOf};
 ghost use Rattle.viewer_run.specs.Doing.{NotesPlace, EventDone, StepDone, StepsFront, WholeIfOk};
 
 use crate::turns::{handle_event, refresh, suppress};
@@ -28,6 +29,7 @@ pub fn do_steps<R: Wait>(
     ensures room { 0 < noted.new.places.room }
     ensures done { (undone : List ConnStep) × StepsFront stay.now.lock.now.head stay.now.v steps.now undone pass result.0 noted.old noted.new
         × WholeIfOk result.1 undone }
+    ensures turns { IfOk result.1 (λ done. HasTurnsOf steps.now pass result.0) }
 {
     let mut now = pass;
     for step in steps {
@@ -53,6 +55,7 @@ fn do_step<R: Wait>(
     ensures lock { IsPassOf stay.now.lock.now result.0 }
     ensures room { 0 < noted.new.places.room }
     ensures done { StepDone result.1 stay.now.lock.now.head stay.now.v step pass result.0 noted.old noted.new }
+    ensures turns { IfOk result.1 (λ done. HasTurnsOf (step ∷ []) pass result.0) }
 {
     match step {
         ConnStep::Event(event) => note_event(stay, pass, event, noted),
@@ -88,6 +91,7 @@ fn note_event<R: Wait>(
     ensures room { 0 < noted.new.places.room }
     ensures notice { notice_in noted.new ≡ notice_in noted.old }
     ensures done { EventDone result.1 stay.now.lock.now.head stay.now.v event pass result.0 noted.old.places.list noted.new.places.list }
+    ensures turns { IfOk result.1 (λ done. HasTurns 1 pass result.0) }
 {
     if noted.places.make_room().is_err() {
         return (pass, Err(OutOfMemory));

@@ -10,6 +10,7 @@ ghost use Rattle.viewer_run.specs.Sending.{SendsOn};
 ghost use Rattle.viewer_run.specs.Visiting.{IsFirst, IsShownAll};
 ghost use Rattle.viewer_run.specs.Serving.{SidesServe, Attends, IsShownLast, ended_by, wants_last, end_of_last};
 ghost use Rattle.serve_rules.specs.Notices.{notice_in};
+ghost use Rattle.serve_rules.specs.Turns.{FoundAll};
 
 use crate::frames::send_first;
 use crate::visits::FirstFrame;
@@ -194,6 +195,7 @@ pub fn send_last<R: Wait, K: Sink>(
     ensures sends { SendsOn stay.now.lock.now.head seat.old.sender seat.new.sender seat.old.desk seat.new.desk pass result.0
         (output_of K.Sink output.old) (output_of K.Sink output.new) result.1 }
     ensures whole { IsShownAll stay.now.lock.now.head stay.now.v result.0.seen seat.new.sender.number result.1 }
+    ensures found { FoundAll result.0 }
 {
     let (pass, taken) = take_once(stay, pass, Due::Last, seat);
     let end = send_taken(stay.alloc, taken, seat, output);

@@ -4,7 +4,7 @@ use Rattle.byteorder.specs.Endian.{little_bytes, big_bytes}
 use Rattle.wire_num.specs.Length.{per_len_of}
 use Rattle.caps_sets.specs.declared.cache_size.CacheSize.{CacheSize}
 use Rattle.caps_sets.specs.declared.confirmed.Confirmed.{Confirmed}
-use Rattle.viewer_rules.specs.ClientPackets.{request_data, send_data, wide, info_body, sizes_bytes, bitmap_caches_of, glyph_caches_of, brush_of, pointer_of, confirm_body}
+use Rattle.viewer_rules.specs.ClientPackets.{request_data, send_data, wide, info_body, sizes_bytes, bitmap_caches_of, glyph_caches_of, brush_of, no_pointers, confirm_body}
 use Rattle.viewer_wire.specs.Writes.{request_headers}
 
 -- one part, and then what stands behind it
@@ -67,7 +67,7 @@ confirm_length user c three ten =
     let maps = sizes_length c.bitmaps in
     let glyphs = sizes_length c.glyphs in
     let tail : List ℕ = replicate 4 0 ++ (little_bytes 2 c.glyph_level ++ replicate 2 0) in
-    let a = length-append (bitmap_caches_of c) (brush_of c ++ (glyph_caches_of c ++ pointer_of c)) in
+    let a = length-append (bitmap_caches_of c) (brush_of c ++ (glyph_caches_of c ++ no_pointers)) in
     let b = length-append (sizes_bytes c.glyphs) tail in
-    let d = length-append (glyph_caches_of c) (pointer_of c) in
+    let d = length-append (glyph_caches_of c) no_pointers in
     omega (arith, maps, glyphs, a, b, d, three, ten)

@@ -7,12 +7,12 @@
 //! | Bitmap Cache | 40 | three times entries and cell (12 at 28) |
 //! | Brush | 8 | brushSupportLevel (4 at 4) |
 //! | Glyph Cache | 52 | ten times entries and cell (40 at 4); GlyphSupportLevel (2 at 48) |
-//! | Pointer | 10 | colorPointerCacheSize (2 at 6) |
+//! | Pointer | 10 | none |
 
 ghost use Rattle.std.specs.Prelude.{◌≡◌, ◌++◌, ◌<◌, ◌≤◌, length, OnOk};
 ghost use Rattle.caps_sets.specs.DemandActive.{flag};
 ghost use Rattle.viewer_rules.specs.ClientPackets.{number_if, general_flags, general_of, order_flags, order_of, sizes_bytes, bitmap_caches_of};
-ghost use Rattle.viewer_rules.specs.ClientPackets.{level_by, brush_of, glyph_caches_of, pointer_of, sets_of};
+ghost use Rattle.viewer_rules.specs.ClientPackets.{level_by, brush_of, glyph_caches_of, sets_of};
 ghost use Rattle.viewer_wire.specs.Writes.{order_start, order_end};
 
 use caps_sets::{CacheSize, Confirmed};
@@ -46,8 +46,8 @@ const BRUSH_START: [u8; 4] = [15, 0, 8, 0];
 
 const GLYPH_CACHE_START: [u8; 4] = [16, 0, 52, 0];
 
-/// The set's header, and its field up to colorPointerCacheSize.
-const POINTER_START: [u8; 6] = [8, 0, 10, 0, 0, 0];
+/// The whole set: no shapes of pointers are kept, whatever was given.
+const NO_POINTERS: [u8; 10] = [8, 0, 10, 0, 0, 0, 0, 0, 0, 0];
 
 /// Writes the six sets at the end.
 pub(crate) fn put_sets(body: &mut Vec<u8>, c: &Confirmed) -> Result<(), OutOfMemory>
@@ -60,7 +60,7 @@ pub(crate) fn put_sets(body: &mut Vec<u8>, c: &Confirmed) -> Result<(), OutOfMem
     put_bitmap_caches(body, c)?;
     put_brush(body, c)?;
     put_glyph_caches(body, c)?;
-    put_pointer(body, c)?;
+    body.extend_from_slice(&NO_POINTERS)?;
     Ok(())
 }
 
@@ -189,15 +189,6 @@ fn put_glyph_caches(body: &mut Vec<u8>, c: &Confirmed) -> Result<(), OutOfMemory
     put_sizes(body, c.glyphs.sizes())?;
     body.extend_from_slice(&[0; 4])?;
     body.extend_from_slice(&c.glyph_level.to_le_bytes())?;
-    body.extend_from_slice(&[0; 2])?;
-    Ok(())
-}
-
-fn put_pointer(body: &mut Vec<u8>, c: &Confirmed) -> Result<(), OutOfMemory>
-    ensures { OnOk result (body.new.items ≡ body.old.items ++ pointer_of c.now) }
-{
-    body.extend_from_slice(&POINTER_START)?;
-    body.extend_from_slice(&c.pointers.to_le_bytes())?;
     body.extend_from_slice(&[0; 2])?;
     Ok(())
 }

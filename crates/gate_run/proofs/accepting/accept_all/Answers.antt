@@ -41,7 +41,7 @@ returns-in-Failed-clause-dealt g c = subst (IsDealtOut c.args.pass.share c.loop.
 pub loop-preserved : goal.loop-preserved
 loop-preserved g c =
     let inv = c.loop.invariant in let next = c.in-Link.ensures in let kept = c.collect_ended.ensures in let jobs = c.collect_ended.new.jobs in
-    let job = c.start_link-job in let push = c.push_reserved.ensures in let given = g.G.Gate.given c.loop.gate in
+    let wait = c.wait_for_room.ensures in let job = c.start_link-job in let started = c.wait_for_threads.ensures in let push = c.push_reserved.ensures in let given = g.G.Gate.given c.loop.gate in
     let below : length given < c.args.links = subst (IsBelow (length given)) (inv.asked ∙ c.requires.gate.asked.1) next.limit.0 in
     let count = ap length inv.given ∙ length-map c.loop.jobs.items (λ j. j.given.link.value) in
     record {
@@ -55,12 +55,12 @@ loop-preserved g c =
       made = omega (arith, push.len, kept.len, inv.made);
       few = omega (arith, push.len, kept.len, below, count, c.loop.jobs.ok.0);
       room = omega (arith, push.capacity, kept.capacity, inv.room);
-      given = next.given ∙ (ap (λ l. l ++ c.in-Link.link ∷ []) (inv.given ∙ sym kept.links) ∙ (ap (λ x. map (λ j. j.given.link.value) jobs.items ++ x ∷ []) (sym job.ensures.link)
+      given = (started.given ∙ (wait.given ∙ next.given)) ∙ (ap (λ l. l ++ c.in-Link.link ∷ []) (inv.given ∙ sym kept.links) ∙ (ap (λ x. map (λ j. j.given.link.value) jobs.items ++ x ∷ []) (sym job.ensures.link)
           ∙ (sym (map-append (λ j. j.given.link.value) jobs.items (job.result ∷ [])) ∙ ap (map (λ j. j.given.link.value)) (sym push.items))));
       work = subst (All (IsWork g.G.Link.Link c.args.lock.now)) (sym push.items)
           (All-push (IsWork g.G.Link.Link c.args.lock.now) jobs.items job.result (kept.work c.args.lock.now inv.work) job.ensures.work);
-      finished = next.finished ∙ inv.finished;
-      asked = next.asked ∙ inv.asked;
-      ended = next.ended ∙ inv.ended;
-      faults = next.cause ∙ inv.faults;
+      finished = started.finished ∙ (wait.finished ∙ (next.finished ∙ inv.finished));
+      asked = started.asked ∙ (wait.asked ∙ (next.asked ∙ inv.asked));
+      ended = started.ended ∙ (wait.ended ∙ (next.ended ∙ inv.ended));
+      faults = started.faults ∙ (wait.faults ∙ (next.cause ∙ inv.faults));
     }

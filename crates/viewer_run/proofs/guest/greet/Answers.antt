@@ -28,7 +28,7 @@ loop-init g c =
             refl,
             refl,
             subst (λ (x : Hearing). IsNoRefusal (end_of x)) (sym (silent_after h c.requires.heard)) c.requires.unrefused,
-          ));
+          ) refl);
     }
 
 pub returns-in-Ok-Some-clause-greets : goal.returns-in-Ok-Some-clause-greets

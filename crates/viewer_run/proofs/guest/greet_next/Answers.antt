@@ -20,7 +20,7 @@ returns-in-End-clause-greets g c =
       at_end before.left c.in-End.ensures.bytes.0,
       refl,
       subst (λ (x : Hearing). IsNoRefusal (end_of x)) (sym (silent_after h c.requires.heard)) c.requires.unrefused,
-    )
+    ) c.in-End.ensures.cause
 
 pub returns-in-Failed-clause-greets : goal.returns-in-Failed-clause-greets
 returns-in-Failed-clause-greets g c =
@@ -28,4 +28,8 @@ returns-in-Failed-clause-greets g c =
     let before = input_of g.S.Source c.args.input.now in
     let now = input_of g.S.Source c.read.new.self in
     greets_none h c.args.name.now before now (output_of g.K.Sink c.args.output.now) _ (kept_none before.left now.left c.in-Failed.ensures.bytes)
-    (silent_replies h c.requires.heard) (refl, c.in-Failed.ensures.cause)
+    (silent_replies h c.requires.heard) (refl, c.in-Failed.ensures.cause) (
+      (c.args.name.now, ap (greeting c.args.name.now) (silent_steps h c.requires.heard)),
+      subst (λ (x : Hearing). IsNoRefusal (end_of x)) (sym (silent_after h c.requires.heard)) c.requires.unrefused,
+      refl,
+    )

@@ -1,10 +1,10 @@
 use Rattle.std.proofs.Common.{sym, ◌∙◌, subst, is_some}
 use Rattle.std.specs.Prelude.{true}
 use Rattle.edge_io.specs.Outside.{input_of}
-use Rattle.serve_rules.specs.Reading.{ReadsOn}
+use Rattle.serve_rules.specs.Reading.{ReadsOn, ReadsInTurns}
 use Rattle.serve_rules.specs.declared.ends.ConnEnd.TheVariants.{OutOfMemory}
-use Rattle.serve_rules.proofs.ReadOn.{reads_then, not_stopped}
-use Rattle.viewer_run.proofs.Stretches.{goes_on, done_is_no_stop, reads_done, reads_lost}
+use Rattle.serve_rules.proofs.ReadOn.{not_stopped, in_turns_then}
+use Rattle.viewer_run.proofs.Stretches.{goes_on, done_is_no_stop, reads_done, reads_lost, reads_stopped, lost_in_turns}
 use Rattle.viewer_run.proofs.reading.read_side.Goals as goal
 
 pub returns-then-is_done-clause-reads : goal.returns-then-is_done-clause-reads
@@ -27,8 +27,12 @@ pub returns-in_default-clause-reads : goal.returns-in_default-clause-reads
 returns-in_default-clause-reads g c =
     let before = input_of g.S.Source c.args.input.now in
     let r = c.read_rest-pass in
-    reads_lost c.args.lock.now.head c.args.v (is_some c.args.flag) c.args.rest.now c.args.conn.now.hearing r.new.conn.hearing c.args.pass r.result.0 c.args.noted.now r.new.noted
-    before before r.result.1 (r.ensures.reads before)
+    lost_in_turns c.args.lock.now.head c.args.v (is_some c.args.flag) c.args.rest.now c.args.conn.now.hearing r.new.conn.hearing c.args.pass r.result.0 c.args.noted.now r.new.noted
+    before before
+    (reads_lost c.args.lock.now.head c.args.v (is_some c.args.flag) c.args.rest.now c.args.conn.now.hearing r.new.conn.hearing c.args.pass r.result.0 c.args.noted.now r.new.noted
+    before before
+    (subst (ReadsOn c.args.lock.now.head c.args.v c.args.rest.now true c.args.conn.now.hearing r.new.conn.hearing c.args.pass r.result.0 c.args.noted.now r.new.noted before before)
+    (goes_on r.result.1 (sym c.is_done.ensures ∙ c.if-is_done.false)) (r.ensures.reads before).reads))
 
 pub loop-init : goal.loop-init
 loop-init g c =
@@ -37,11 +41,11 @@ loop-init g c =
     let stopped = goes_on r.result.1 (sym c.is_done.ensures ∙ c.if-is_done.false) in
     record {
       lock = r.ensures.lock;
-      room = (r.ensures.reads before).room;
+      room = (r.ensures.reads before).reads.room;
       buffer = c.in-Ok.ensures.some;
       one = c.in-Ok.ensures.one;
       going = r.ensures.going stopped;
-      reads = subst (ReadsOn c.args.lock.now.head c.args.v c.args.rest.now true c.args.conn.now.hearing r.new.conn.hearing c.args.pass r.result.0 c.args.noted.now r.new.noted before before)
+      reads = subst (ReadsInTurns c.args.lock.now.head c.args.v c.args.rest.now true c.args.conn.now.hearing r.new.conn.hearing c.args.pass r.result.0 c.args.noted.now r.new.noted before before)
           stopped (r.ensures.reads before);
     }
 
@@ -53,7 +57,7 @@ returns-then-is_done-2-clause-reads g c =
     let r = c.read_next-next in
     reads_done c.args.lock.now.head c.args.v (is_some c.args.flag) c.args.rest.now c.args.conn.now.hearing r.new.conn.hearing c.args.pass r.result.0 c.args.noted.now r.new.noted
     before after r.result.1 (sym c.is_done-in-loop.ensures ∙ c.if-is_done-2.true)
-    (reads_then c.args.lock.now.head c.args.v c.args.rest.now true c.args.conn.now.hearing c.loop.conn.hearing r.new.conn.hearing c.args.pass c.loop.now r.result.0
+    (in_turns_then c.args.lock.now.head c.args.v c.args.rest.now true c.args.conn.now.hearing c.loop.conn.hearing r.new.conn.hearing c.args.pass c.loop.now r.result.0
     c.args.noted.now c.loop.noted r.new.noted before between after r.result.1 c.loop.invariant.reads r.ensures.reads)
 
 pub loop-preserved : goal.loop-preserved
@@ -65,12 +69,17 @@ loop-preserved g c =
     let stopped = goes_on r.result.1 (sym c.is_done-in-loop.ensures ∙ c.if-is_done-2.false) in
     record {
       lock = r.ensures.lock;
-      room = r.ensures.reads.room;
+      room = r.ensures.reads.reads.room;
       buffer = c.loop.invariant.buffer;
       one = c.loop.invariant.one;
       going = r.ensures.going stopped;
-      reads = subst (ReadsOn c.args.lock.now.head c.args.v c.args.rest.now true c.args.conn.now.hearing r.new.conn.hearing c.args.pass r.result.0 c.args.noted.now r.new.noted before after)
+      reads = subst (ReadsInTurns c.args.lock.now.head c.args.v c.args.rest.now true c.args.conn.now.hearing r.new.conn.hearing c.args.pass r.result.0 c.args.noted.now r.new.noted before after)
           stopped
-          (reads_then c.args.lock.now.head c.args.v c.args.rest.now true c.args.conn.now.hearing c.loop.conn.hearing r.new.conn.hearing c.args.pass c.loop.now r.result.0
+          (in_turns_then c.args.lock.now.head c.args.v c.args.rest.now true c.args.conn.now.hearing c.loop.conn.hearing r.new.conn.hearing c.args.pass c.loop.now r.result.0
           c.args.noted.now c.loop.noted r.new.noted before between after r.result.1 c.loop.invariant.reads r.ensures.reads);
     }
+
+pub returns-then-is_set-clause-reads : goal.returns-then-is_set-clause-reads
+returns-then-is_set-clause-reads g c =
+    reads_stopped c.args.lock.now.head c.args.v (is_some c.args.flag) c.args.rest.now c.args.conn.now.hearing c.loop.conn.hearing c.args.pass c.loop.now c.args.noted.now c.loop.noted
+    (input_of g.S.Source c.args.input.now) (input_of g.S.Source c.loop.input) (c.is_set.ensures c.if-is_set.true) c.loop.invariant.reads

@@ -1,12 +1,14 @@
-use Rattle.std.proofs.Common.{List, ◌∷◌, ◌+◌, ap, subst, drop, sym, ◌∙◌}
+use Rattle.std.proofs.Common.{List, [], ◌∷◌, ◌++◌, ◌+◌, ap, subst, drop, take, sym, ◌∙◌}
 use Rattle.conn_rules.specs.declared.conn_step.ConnStep.{ConnStep}
 use Rattle.viewer_run.specs.Doing.{StepsFront}
-use Rattle.serve_rules.proofs.Lists.{drop_next}
-use Rattle.viewer_run.proofs.OneStep.{step_done, step_failed, steps_at_first}
+use Rattle.serve_rules.specs.Reading.{HasTurnsOf}
+use Rattle.serve_rules.proofs.Lists.{drop_next, take_next}
+use Rattle.serve_rules.proofs.InTurns.{turns_none}
+use Rattle.viewer_run.proofs.OneStep.{step_done, step_failed, steps_at_first, turns_more}
 use Rattle.viewer_run.proofs.steps.do_steps.Goals as goal
 
 pub loop-step-init : goal.loop-step-init
-loop-step-init g c = record { lock = c.requires.lock; room = c.requires.room; front = steps_at_first _ _ _ _ _ }
+loop-step-init g c = record { lock = c.requires.lock; room = c.requires.room; front = steps_at_first _ _ _ _ _; turns = turns_none c.args.pass }
 
 pub loop-step-preserved : goal.loop-step-preserved
 loop-step-preserved g c =
@@ -18,6 +20,10 @@ loop-step-preserved g c =
       lock = c.do_step-next.ensures.lock;
       room = c.do_step-next.ensures.room;
       front = step_done _ _ _ _ _ _ _ _ _ _ _ c.do_step-next.result.1 front (sym c.is_err.ensures.value ∙ c.if-is_err.false) c.do_step-next.ensures.done;
+      turns = subst (λ (done : List ConnStep). HasTurnsOf done c.args.pass c.do_step-next.result.0) (sym (take_next c.args.steps.now l.step-index c.step-item.result c.loop-step-test.true
+          ∙ ap (λ (x : ConnStep). take l.step-index c.args.steps.now ++ x ∷ []) (sym c.step-item.is)))
+          (turns_more (take l.step-index c.args.steps.now) c.step-item.result c.args.pass l.now c.do_step-next.result.0 c.do_step-next.result.1
+          (sym c.is_err.ensures.value ∙ c.if-is_err.false) l.invariant.turns c.do_step-next.ensures.turns);
     }
 
 pub returns-then-is_err-clause-done : goal.returns-then-is_err-clause-done

@@ -1,6 +1,6 @@
 use Rattle.std.proofs.Common.{List, [], ℕ, sym, subst}
 use Rattle.serve_rules.specs.Events.{Handles}
-use Rattle.viewer_run.proofs.OneStep.{noted}
+use Rattle.viewer_run.proofs.OneStep.{noted, event_turns, if_done}
 use Rattle.serve_rules.proofs.Handling.{handles_nothing}
 use Rattle.viewer_run.proofs.steps.note_event.Goals as goal
 
@@ -10,3 +10,6 @@ returns-clause-done g c = noted _ _ _ _ _ c.handle_event-pass.result.1 _ c.make_
 pub returns-then-is_err-clause-done : goal.returns-then-is_err-clause-done
 returns-then-is_err-clause-done g c =
     subst (λ (l : List ℕ). Handles c.args.stay.now.lock.now.head c.args.stay.now.v [] c.args.pass c.args.pass c.args.noted.now.places.list l) (sym c.make_room.ensures.list) (handles_nothing _ _ _ _)
+
+pub returns-clause-turns : goal.returns-clause-turns
+returns-clause-turns g c = if_done _ c.note_place-answer.result (event_turns _ _ _ _ _ c.handle_event-pass.result.1 c.handle_event-pass.ensures.done)

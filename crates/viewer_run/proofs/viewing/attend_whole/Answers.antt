@@ -21,7 +21,7 @@ pub returns-then-wants_last-clause-whole : goal.returns-then-wants_last-clause-w
 returns-then-wants_last-clause-whole g c = λ wants here.
     let d = c.send_last-pass in
     let n = notice_in c.attend-pass.new.ends.noted in
-    d.ensures.whole here (last_stopped d.result.1 n d.ensures.sends.only (ap (λ (end : ConnEnd). wants_last end n) (sym c.end_of_last.ensures) ∙ wants))
+    (d.ensures.whole here (last_stopped d.result.1 n d.ensures.sends.only (ap (λ (end : ConnEnd). wants_last end n) (sym c.end_of_last.ensures) ∙ wants)), d.ensures.found)
 
 pub send_last-pass-requires-clause-viewer : goal.send_last-pass-requires-clause-viewer
 send_last-pass-requires-clause-viewer g c =

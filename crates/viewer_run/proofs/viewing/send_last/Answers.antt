@@ -29,3 +29,6 @@ pub send_taken-end-requires : goal.send_taken-end-requires
 send_taken-end-requires g c =
     next_is c.args.stay.now.lock.now.head c.take_once-pass.result.0.seen c.args.seat.now.sender c.take_once-pass.new.seat.sender c.args.seat.now.desk c.take_once-pass.new.seat.desk c.take_once-pass.result.1 c.requires.idle
     c.take_once-pass.ensures.taken.takes
+
+pub returns-clause-found : goal.returns-clause-found
+returns-clause-found g c = (c.args.pass.found, c.take_once-pass.ensures.taken.turn.found)
