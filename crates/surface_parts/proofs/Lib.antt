@@ -7,6 +7,7 @@ pub mod Bytes
 pub mod Inks
 pub mod Runs
 pub mod Dots
+pub mod SeenSteps
 pub mod Lines
 pub mod Sound
 pub mod Many

@@ -2,6 +2,7 @@ pub mod Surfaces
 pub mod Refused
 pub mod Bits
 pub mod Courses
+pub mod SeenSteps
 pub mod Held
 pub mod Lined
 pub mod Parts

@@ -25,7 +25,9 @@ mod window;
 pub use block::{Block, black_pixels};
 pub use fault::DrawFault;
 pub use glyphs::{Bits, cell_of, draw_bit_row, draw_bits, draw_glyph};
-pub use line::{Course, Dot, Ends, course_of, distance, draw_course, draw_line, risen, towards};
+pub use line::{
+    Course, Dot, Ends, Steps, course_of, distance, draw_course, draw_line, risen, steps_in, towards,
+};
 pub use loaded_brush::LoadedBrush;
 pub use loaded_glyph::LoadedGlyph;
 pub use loaded_image::LoadedImage;

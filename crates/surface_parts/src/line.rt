@@ -8,6 +8,7 @@ ghost use Rattle.draw_ops.specs.Formulas.{picture_after};
 ghost use Rattle.surface_parts.specs.Lined.{lined, IsCourseOf};
 ghost use Rattle.surface_parts.specs.Parts.{in_part, IsCanvas, IsInside, IsRepainted};
 ghost use Rattle.surface_parts.specs.Courses.{apart, step, rise, is_course_pixel, is_dot, IsCourse};
+ghost use Rattle.surface_parts.specs.SeenSteps.{side_along, AreSeenSteps, HasStepsBetween};
 
 use crate::part::{Part, visible};
 use crate::window::Window;
@@ -35,6 +36,13 @@ pub struct Course {
     pub to_v: usize,
 }
 
+/// Some steps of a course that follow each other, counted from 0: the first one, and the first one behind them.
+#[derive(Clone, Copy)]
+pub struct Steps {
+    pub from: usize,
+    pub end: usize,
+}
+
 /// The pixel of one step, by its two coordinates as a course sees them.
 #[derive(Clone, Copy)]
 pub struct Dot {
@@ -50,8 +58,8 @@ pub fn draw_course(pixels: &mut [u32], size: Size, part: Part, course: Course, c
     requires course { IsCourse course }
     ensures { IsRepainted size (λ x y. in_part part x y && is_course_pixel course (apart course.from_u course.to_u + 1) x y) (λ x y. color) pixels.old pixels.new }
 {
-    let du = distance(course.from_u, course.to_u);
-    for i in 0..du + 1 {
+    let steps = steps_in(part, course);
+    for i in steps.from..steps.end {
         let u = towards(course.from_u, course.to_u, i);
         let v = towards(course.from_v, course.to_v, risen(course, i));
         let dot = Dot {
@@ -60,6 +68,49 @@ pub fn draw_course(pixels: &mut [u32], size: Size, part: Part, course: Course, c
             v,
         };
         draw_dot(pixels, size, part, dot, color);
+    }
+}
+
+/// The steps of a course that can have pixels in a part, by the coordinate of its longer side: no more than the part has pixels that way.
+pub fn steps_in(part: Part, course: Course) -> Steps
+    requires columns { part.x + part.w ≤ 2048 }
+    requires rows { part.y + part.h ≤ 2048 }
+    requires course { IsCourse course }
+    ensures ordered { result.from ≤ result.end }
+    ensures within { result.end ≤ apart course.from_u course.to_u + 1 }
+    ensures few { result.end ≤ result.from + side_along course part }
+    ensures seen { AreSeenSteps part course result }
+{
+    if course.is_steep {
+        steps_between(course, part.y + SHIFT, part.y + SHIFT + part.h)
+    } else {
+        steps_between(course, part.x + SHIFT, part.x + SHIFT + part.w)
+    }
+}
+
+/// The steps of a course at which the coordinate of the longer side is at least `low` and below `high`.
+fn steps_between(course: Course, low: usize, high: usize) -> Steps
+    requires course { IsCourse course }
+    requires bounds { low ≤ high }
+    ensures ordered { result.from ≤ result.end }
+    ensures within { result.end ≤ apart course.from_u course.to_u + 1 }
+    ensures few { result.end ≤ result.from + (high - low) }
+    ensures seen { HasStepsBetween course low high result }
+{
+    let behind_last = distance(course.from_u, course.to_u) + 1;
+    let (from, end) = if course.from_u <= course.to_u {
+        (
+            low.saturating_sub(course.from_u),
+            high.saturating_sub(course.from_u),
+        )
+    } else {
+        let behind = course.from_u + 1;
+        (behind.saturating_sub(high), behind.saturating_sub(low))
+    };
+    let end = end.min(behind_last);
+    Steps {
+        from: from.min(end),
+        end,
     }
 }
 

@@ -1,5 +1,5 @@
 -- Lines into tiles, one step after another: what a step needs and what it leaves.
-use Rattle.std.proofs.Common.{◌≡◌, ℕ, ◌+◌, ◌≤◌, ◌<◌, List, Bool, true, false, refl, sym, ◌∙◌, arith}
+use Rattle.std.proofs.Common.{◌≡◌, ℕ, ◌+◌, ◌≤◌, ◌<◌, List, Bool, true, false, refl, ap, sym, ◌∙◌, arith}
 use Rattle.std.specs.Prelude.{◌&&◌, ◌==◌, nat_lt, pos}
 use Rattle.std.proofs.lemmas.Bool.{and_parts, and_from}
 use Rattle.std.proofs.lemmas.Bool.Decides.{nat_tests}
@@ -10,9 +10,11 @@ use Rattle.draw_ops.specs.Formulas.{line_area}
 use Rattle.surface_parts.specs.declared.part.Part.{Part}
 use Rattle.surface_parts.specs.declared.line.Course.{Course}
 use Rattle.surface_parts.specs.declared.line.Ends.{Ends}
+use Rattle.surface_parts.specs.declared.line.Steps.{Steps}
 use Rattle.surface_parts.specs.Parts.{in_part, IsInside, Pixels}
 use Rattle.surface_parts.specs.Courses.{apart, step, rise, by_steepness, is_course_place, is_course_pixel, is_dot}
 use Rattle.surface_parts.specs.Lined.{IsCourseOf}
+use Rattle.surface_parts.specs.SeenSteps.{AreSeenSteps}
 use Rattle.surface_parts.proofs.Dots.{dot_is_step, other_is_no_step}
 use Rattle.tile_surface.specs.declared.cell.Cell.{Cell}
 use Rattle.tile_surface.specs.Needed.{OwnsPixels}
@@ -59,6 +61,15 @@ step_owned cells part c i within before dot = record {
     by : (x y : ℕ) → in_part part x y ≡ true → is_course_pixel c (i + 1) x y ≡ true → (b : Bool) → is_dot c.is_steep (step c.from_u c.to_u i) (step c.from_v c.to_v (rise c i)) x y ≡ b → IsOwnAt cells x y
     by x y inside is true h = dot.own x y (and_from (in_part part x y) (is_dot c.is_steep (step c.from_u c.to_u i) (step c.from_v c.to_v (rise c i)) x y) inside h)
     by x y inside is false h = before.own x y (and_from (in_part part x y) (is_course_pixel c i x y) inside (step_before c i x y within c.is_steep h ∙ is))
+
+-- ---- the steps that a part sees
+
+module _ (cells : List Cell) (part : Part) (c : Course) (steps : Steps) (seen : AreSeenSteps part c steps) where
+  pub owned_before : OwnsPixels cells (λ x y. in_part part x y && is_course_pixel c steps.from x y)
+  owned_before = record { own = λ x y is. absurd (cc (sym (seen.before x y) ∙ is)) }
+
+  pub owned_whole : (i : ℕ) → i ≡ steps.end → OwnsPixels cells (λ x y. in_part part x y && is_course_pixel c i x y) → OwnsPixels cells (λ x y. in_part part x y && is_course_pixel c (apart c.from_u c.to_u + 1) x y)
+  owned_whole i last owns = record { own = λ x y is. owns.own x y (ap (λ n. in_part part x y && is_course_pixel c n x y) last ∙ seen.whole x y ∙ is) }
 
 -- ---- the whole line
 

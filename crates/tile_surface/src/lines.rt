@@ -19,7 +19,7 @@ use crate::rows::write_dot;
 use px_core::{Size, whole};
 use std::alloc::Global;
 use surface_parts::{
-    Course, Dot, Ends, Part, Window, course_of, distance, risen, towards, visible,
+    Course, Dot, Ends, Part, Window, course_of, risen, steps_in, towards, visible,
 };
 use wire_num::OutOfMemory;
 
@@ -76,8 +76,8 @@ fn own_course(
     ensures stays { StaysOwn cells.old cells.new }
     ensures own { OnOk result (OwnsPixels cells.new (λ x y. in_part part x y && is_course_pixel course (apart course.from_u course.to_u + 1) x y)) }
 {
-    let du = distance(course.from_u, course.to_u);
-    for i in 0..du + 1 {
+    let steps = steps_in(part, course);
+    for i in steps.from..steps.end {
         let u = towards(course.from_u, course.to_u, i);
         let v = towards(course.from_v, course.to_v, risen(course, i));
         let dot = Dot {
@@ -100,8 +100,8 @@ fn draw_course(cells: &mut [Cell], size: Size, part: Part, course: Course, color
         (picture_of size cells.old) (picture_of size cells.new) }
     ensures kept { KeepsRest size cells.old cells.new }
 {
-    let du = distance(course.from_u, course.to_u);
-    for i in 0..du + 1 {
+    let steps = steps_in(part, course);
+    for i in steps.from..steps.end {
         let u = towards(course.from_u, course.to_u, i);
         let v = towards(course.from_v, course.to_v, risen(course, i));
         let dot = Dot {
