@@ -12,3 +12,6 @@ pub mod Finding
 pub mod Dial
 pub mod PlannedDial
 pub mod Outside
+pub mod Store
+pub mod FrameSink
+pub mod PlannedStore

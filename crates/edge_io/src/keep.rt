@@ -28,6 +28,13 @@ impl Keep {
         }
     }
 
+    /// A sink that was told these bytes.
+    pub(crate) fn of(bytes: Vec<u8>) -> Keep
+        ensures { result ≡ bytes.items }
+    {
+        Keep { bytes }
+    }
+
     /// The bytes that it was told.
     pub fn bytes(&self) -> &[u8]
         ensures { result.now ≡ self.now }

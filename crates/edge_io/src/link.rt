@@ -1,13 +1,13 @@
 ghost use Rattle.std.specs.Prelude.{◌≡◌, List, ℕ};
 ghost use Rattle.std.specs.declared.option.Option.{Option};
 
-use crate::{Sink, Source};
+use crate::{FrameSink, Source};
 
 /// A connection: a source and a sink that are used apart from each other, and what is left of it afterwards.
 pub trait Link: Send + Drop {
     type Reader: Source + Send + Drop;
 
-    type Writer: Sink + Send + Drop;
+    type Writer: FrameSink + Send + Drop;
 
     type Spent: Send + Drop;
 

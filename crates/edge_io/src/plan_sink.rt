@@ -1,11 +1,11 @@
-ghost use Rattle.std.specs.Prelude.{◌≡◌, []};
+ghost use Rattle.std.specs.Prelude.{◌≡◌, [], false};
 ghost use Rattle.std.specs.declared.option.Option.TheVariants.{Some};
 ghost use Rattle.edge_io.specs.Sink.{Appends, WriteCause};
 ghost use Rattle.edge_io.specs.Plan.{new_plan, next_fails, plan_after_call};
 ghost use Rattle.edge_io.specs.PlannedSink.{PlannedSink, told_after_write, FailsExactly};
 
 use crate::plan::Plan;
-use crate::{Keep, Sink, Wrote};
+use crate::{FrameSink, Keep, Sink, Wrote};
 use std::alloc::{AllocError, Global};
 use std::marker::Model;
 
@@ -69,5 +69,15 @@ impl Sink for PlanSink {
             return Wrote::Failed;
         }
         self.kept.write_all(bytes)
+    }
+}
+
+impl FrameSink for PlanSink {
+    ghost keeps = { false };
+
+    ghost kept = { λ _. 0 };
+
+    fn keep(&mut self, _number: u64) -> Wrote {
+        Wrote::All
     }
 }

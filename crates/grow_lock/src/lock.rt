@@ -216,6 +216,22 @@ impl<T: Grows> GrowLock<T> {
         self.news.sleep(rt, rings);
     }
 
+    /// Enters a last time, and gives the value, whoever else has a pass of this lock. Waits as `enter` does.
+    pub fn into_value<R: Wait>(self, rt: &R, pass: Pass<T>) -> T
+        requires { IsPassOf self pass }
+        ensures head { T.head result ≡ self.head }
+        ensures list { StartsWith (T.list result) pass.seen }
+    {
+        let Turn { value, seat } = self.enter(rt, pass);
+        let GrowLock {
+            table,
+            waiting: _,
+            news: _,
+        } = self;
+        free(table.close_with(seat));
+        Box::into_inner(value)
+    }
+
     /// Enters a last time, and gives the value. The pass has the whole lock as its share, so there is no other: each
     /// entry behind those that the lock was made with was appended in a turn of this pass, or of one that it met. Waits
     /// as `enter` does.
