@@ -1,7 +1,9 @@
-//! Sockets as links and a gate: the clients that connect to a port, over the system's TCP (profile).
+//! The adapters of the system: sockets as links and a gate, which are the clients that connect to a port, over TCP, and a file as a
+//! store (profile).
 #![tactic(auto)]
 
 mod dial;
+mod file_store;
 mod gate;
 mod limits;
 mod link;
@@ -13,6 +15,7 @@ mod stage;
 mod writer;
 
 pub use dial::TcpDial;
+pub use file_store::FileStore;
 pub use gate::TcpGate;
 pub use limits::{LIMITS, Limits};
 pub use link::{TcpLink, TcpSpent};

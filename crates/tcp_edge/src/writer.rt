@@ -1,7 +1,7 @@
-ghost use Rattle.std.specs.Prelude.{◌≡◌};
+ghost use Rattle.std.specs.Prelude.{◌≡◌, false};
 ghost use Rattle.std.specs.declared.option.Option.TheVariants.{None};
 
-use edge_io::{Sink, Wrote};
+use edge_io::{FrameSink, Sink, Wrote};
 use std::io::Write;
 use std::net::{Shutdown, TcpStream};
 
@@ -27,5 +27,15 @@ impl Sink for TcpWriter {
                 Wrote::Failed
             }
         }
+    }
+}
+
+impl FrameSink for TcpWriter {
+    ghost keeps = { false };
+
+    ghost kept = { λ _. 0 };
+
+    fn keep(&mut self, _number: u64) -> Wrote {
+        Wrote::All
     }
 }
