@@ -1,10 +1,12 @@
 -- What a gate's end and its reports can't be.
-use Rattle.std.proofs.Common.{◌≡◌, ◌∷◌, [], ℕ, List, refl, ap, true, false, arith}
+use Rattle.std.proofs.Common.{◌≡◌, ◌∷◌, [], ℕ, List, refl, ap, true, false, arith, Some}
 use Rattle.std.specs.Prelude.{Option}
 use Rattle.edge_io.specs.Gate.{Asked}
 use Rattle.serve_rules.specs.declared.noted.ConnReport.{ConnReport}
+use Rattle.viewer_run.specs.Greeting.Greeting.{Connects}
 use Rattle.gate_run.specs.declared.served.GateEnd.TheVariants.{Ended, Failed, NoListen}
 use Rattle.gate_run.specs.Gates.{GateState, AreApart, AskedFor, EndCause}
+use Rattle.gate_run.specs.Refusals.{ready_name}
 use Rattle.serve_rules.specs.declared.ends.ConnEnd.TheVariants as end
 use Rattle.std.specs.declared.option.Option.TheVariants as asked
 
@@ -42,3 +44,7 @@ of_viewer v places = record { viewer = v; end = end.Left; places = record { list
 -- wrong: two links may be one viewer's (by reading)
 no_two_links_are_one_viewers : AreApart (of_viewer 1 (0 ∷ [])) (of_viewer 1 (1 ∷ [])) → ⊥
 no_two_links_are_one_viewers h = h.viewers (λ nobody. cc nobody) refl
+
+-- wrong: the name counts that a client gave which isn't ready
+no_name_counts_before_its_client_is_ready : ready_name (Connects (97 ∷ [])) ≡ Some (97 ∷ []) → ⊥
+no_name_counts_before_its_client_is_ready e = absurd (cc e)

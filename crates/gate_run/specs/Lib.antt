@@ -2,3 +2,4 @@ pub mod Gates
 pub mod Working
 pub mod OpenGate
 pub mod Taking
+pub mod Refusals

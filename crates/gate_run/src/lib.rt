@@ -9,6 +9,6 @@ mod served;
 mod serving;
 
 pub use serve_rules::ConnReport;
-pub use served::{GateEnd, Served};
-pub use serving::serve_gate;
+pub use served::{GateEnd, Met, Served};
+pub use serving::{close, serve_gate, serve_lock};
 pub use wire_num::OutOfMemory;

@@ -1,4 +1,5 @@
 //! What serving a gate comes to.
+use grow_lock::Pass;
 use serve_rules::ConnReport;
 use session_core::Session;
 
@@ -18,6 +19,16 @@ pub enum GateEnd {
 pub struct Served {
     /// The closing session.
     pub session: Session,
+    /// A report for each link, in the order in which the gate gave them.
+    pub reports: Vec<ConnReport>,
+    pub end: GateEnd,
+}
+
+/// What the links of a gate came to over a session that stays behind its lock.
+#[derive(Drop)]
+pub struct Met {
+    /// The pass that met those of all links.
+    pub pass: Pass<Session>,
     /// A report for each link, in the order in which the gate gave them.
     pub reports: Vec<ConnReport>,
     pub end: GateEnd,

@@ -25,9 +25,9 @@ of v end = record { viewer = v; end = end; places = record { list = []; room = 0
 -- wrong: a refusal has no place (by reading)
 -- wrong: links are numbered from 0 (by reading)
 a_line_for_each_end : served_text (of 1 end.Left ∷ of 0 (end.Refused 14 952) ∷ of 2 end.Truncated ∷ of 0 end.NotInvited ∷ of 0 end.RoomFull ∷ of 0 end.JoinsSpent
-    ∷ of 3 end.ReadFault ∷ of 4 end.WriteFault ∷ of 5 end.OutOfMemory ∷ [])
+    ∷ of 3 end.ReadFault ∷ of 4 end.WriteFault ∷ of 5 end.OutOfMemory ∷ of 6 end.NotStored ∷ [])
     ≡ line (codes "1 1 0 0") ++ line (codes "2 0 34 952") ++ line (codes "3 2 35 0") ++ line (codes "4 0 36 0") ++ line (codes "5 0 37 0") ++ line (codes "6 0 38 0")
-    ++ line (codes "7 3 4 0") ++ line (codes "8 4 5 0") ++ line (codes "9 5 6 0")
+    ++ line (codes "7 3 4 0") ++ line (codes "8 4 5 0") ++ line (codes "9 5 6 0") ++ line (codes "10 6 8 0")
 unfolding digits
 a_line_for_each_end = refl
 

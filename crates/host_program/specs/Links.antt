@@ -14,6 +14,7 @@ end_code end.RoomFull = 37
 end_code end.JoinsSpent = 38
 end_code end.ReadFault = 4
 end_code end.WriteFault = 5
+end_code end.NotStored = 8
 end_code end.OutOfMemory = 6
 
 -- the place of a refusal, and else 0
@@ -26,6 +27,7 @@ end_place end.RoomFull = 0
 end_place end.JoinsSpent = 0
 end_place end.ReadFault = 0
 end_place end.WriteFault = 0
+end_place end.NotStored = 0
 end_place end.OutOfMemory = 0
 
 -- the line of a link: its number, its viewer's number, the code of its end, and the place of a refusal

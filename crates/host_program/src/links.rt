@@ -79,6 +79,7 @@ fn end_code(end: ConnEnd) -> u32
         ConnEnd::JoinsSpent => 38,
         ConnEnd::ReadFault => 4,
         ConnEnd::WriteFault => 5,
+        ConnEnd::NotStored => 8,
         ConnEnd::OutOfMemory => 6,
     }
 }
@@ -96,6 +97,7 @@ fn end_place(end: ConnEnd) -> u64
         ConnEnd::JoinsSpent => 0,
         ConnEnd::ReadFault => 0,
         ConnEnd::WriteFault => 0,
+        ConnEnd::NotStored => 0,
         ConnEnd::OutOfMemory => 0,
     }
 }

@@ -20,7 +20,7 @@ use Rattle.serve_rules.specs.Events.{Handles}
 use Rattle.serve_rules.specs.Notices.{Notice, events_in, notice_after_all, notice_in}
 use Rattle.serve_rules.specs.Reading.{ReadsOn, ReadsInTurns, HasTurnsOf, ReadEnd, ReadFaults, IsOrderly, IsNoRefusal, IsWhole, IsUnended, StopsReading, one_read}
 use Rattle.serve_rules.specs.declared.ends.ConnEnd.{ConnEnd}
-use Rattle.serve_rules.specs.declared.ends.ConnEnd.TheVariants.{Left, Refused, Truncated, NotInvited, RoomFull, JoinsSpent, ReadFault, WriteFault, OutOfMemory}
+use Rattle.serve_rules.specs.declared.ends.ConnEnd.TheVariants.{Left, Refused, Truncated, NotInvited, RoomFull, JoinsSpent, ReadFault, WriteFault, NotStored, OutOfMemory}
 use Rattle.serve_rules.specs.declared.ends.SideEnd.{SideEnd}
 use Rattle.serve_rules.specs.declared.ends.SideEnd.TheVariants.{Done, Stopped}
 use Rattle.serve_rules.specs.declared.noted.Noted.{Noted}
@@ -57,6 +57,7 @@ end_then flagged xs ys h notice i j l (Done RoomFull) whole same e = e
 end_then flagged xs ys h notice i j l (Done JoinsSpent) whole same e = e
 end_then flagged xs ys h notice i j l (Done ReadFault) whole same e = subst (λ (n : ℕ). Rose n l.faults) same e
 end_then flagged xs ys h notice i j l (Done WriteFault) whole same e = e
+end_then flagged xs ys h notice i j l (Done NotStored) whole same e = e
 end_then flagged xs ys h notice i j l (Done OutOfMemory) whole same e = e
 end_then flagged xs ys h notice i j l Stopped whole same e = e
 
@@ -70,6 +71,7 @@ faults_then h notice i j l (Done RoomFull) same e = e ∙ same
 faults_then h notice i j l (Done JoinsSpent) same e = e ∙ same
 faults_then h notice i j l (Done ReadFault) same e = e
 faults_then h notice i j l (Done WriteFault) same e = e ∙ same
+faults_then h notice i j l (Done NotStored) same e = e ∙ same
 faults_then h notice i j l (Done OutOfMemory) same e = e ∙ same
 faults_then h notice i j l Stopped same e = e ∙ same
 
@@ -86,6 +88,7 @@ calm_refusal h notice i j (Done RoomFull) k at is e = e
 calm_refusal h notice i j (Done JoinsSpent) k at is e = e
 calm_refusal h notice i j (Done ReadFault) k at is e = absurd (refused_goes_on (end_of h) k at is e.0)
 calm_refusal h notice i j (Done WriteFault) k at is e = e
+calm_refusal h notice i j (Done NotStored) k at is e = e
 calm_refusal h notice i j (Done OutOfMemory) k at is e = e
 calm_refusal h notice i j Stopped k at is e = e
 

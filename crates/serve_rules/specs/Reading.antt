@@ -13,7 +13,7 @@ use Rattle.conn_rules.specs.Hearing.StreamEnd.{Between, Within, RefusedAt}
 use Rattle.serve_rules.specs.Turns.{SessionPass}
 use Rattle.serve_rules.specs.Events.{Handles}
 use Rattle.serve_rules.specs.Notices.{Notice, events_in, notice_after_all, notice_in}
-use Rattle.serve_rules.specs.declared.ends.ConnEnd.TheVariants.{Left, Refused, Truncated, NotInvited, RoomFull, JoinsSpent, ReadFault, WriteFault, OutOfMemory}
+use Rattle.serve_rules.specs.declared.ends.ConnEnd.TheVariants.{Left, Refused, Truncated, NotInvited, RoomFull, JoinsSpent, ReadFault, WriteFault, NotStored, OutOfMemory}
 use Rattle.serve_rules.specs.declared.ends.SideEnd.{SideEnd}
 use Rattle.serve_rules.specs.declared.ends.SideEnd.TheVariants.{Done, Stopped}
 use Rattle.serve_rules.specs.declared.noted.Noted.{Noted}
@@ -53,6 +53,7 @@ ReadEnd flagged fed h notice before now (Done RoomFull) = ⊥
 ReadEnd flagged fed h notice before now (Done JoinsSpent) = ⊥
 ReadEnd flagged fed h notice before now (Done ReadFault) = Rose before.faults now.faults
 ReadEnd flagged fed h notice before now (Done WriteFault) = ⊥
+ReadEnd flagged fed h notice before now (Done NotStored) = ⊥
 ReadEnd flagged fed h notice before now (Done OutOfMemory) = ⊤
 ReadEnd flagged fed h notice before now Stopped = flagged ≡ true
 
@@ -70,6 +71,7 @@ ReadFaults h notice before now (Done RoomFull) = now.faults ≡ before.faults
 ReadFaults h notice before now (Done JoinsSpent) = now.faults ≡ before.faults
 ReadFaults h notice before now (Done ReadFault) = GoesOn h notice
 ReadFaults h notice before now (Done WriteFault) = now.faults ≡ before.faults
+ReadFaults h notice before now (Done NotStored) = now.faults ≡ before.faults
 ReadFaults h notice before now (Done OutOfMemory) = now.faults ≡ before.faults
 ReadFaults h notice before now Stopped = now.faults ≡ before.faults
 

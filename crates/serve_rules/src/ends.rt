@@ -19,6 +19,8 @@ pub enum ConnEnd {
     ReadFault,
     /// A write failed.
     WriteFault,
+    /// What a frame shows couldn't be kept.
+    NotStored,
     /// No memory was left.
     OutOfMemory,
 }

@@ -2,7 +2,7 @@
 ghost use Rattle.std.specs.Prelude.{false};
 ghost use Rattle.std.specs.declared.option.Option.TheVariants.{None};
 
-use edge_io::{Bytes, Got, Sink, Source, Wrote};
+use edge_io::{Bytes, FrameSink, Got, Sink, Source, Wrote};
 use std::collections::VecDeque;
 use std::sync::Arc;
 use std::sync::atomic::{AtomicU64, Ordering};
@@ -164,6 +164,16 @@ impl Sink for CueWriter {
     fn write_all(&mut self, bytes: &[u8]) -> Wrote {
         let count = marks_in(bytes);
         self.marks.of(self.nth).fetch_add(count, Ordering::SeqCst);
+        Wrote::All
+    }
+}
+
+impl FrameSink for CueWriter {
+    ghost keeps = { false };
+
+    ghost kept = { λ _. 0 };
+
+    fn keep(&mut self, _number: u64) -> Wrote {
         Wrote::All
     }
 }

@@ -19,7 +19,7 @@ use Rattle.serve_rules.specs.Turns.{SessionPass}
 use Rattle.serve_rules.specs.Notices.{Notice, events_in, notice_after_all, notice_in}
 use Rattle.serve_rules.specs.Reading.{ReadsOn, ReadEnd, ReadFaults, IsOrderly, GoesOn}
 use Rattle.serve_rules.specs.declared.ends.ConnEnd.{ConnEnd}
-use Rattle.serve_rules.specs.declared.ends.ConnEnd.TheVariants.{Left, Refused, Truncated, NotInvited, RoomFull, JoinsSpent, ReadFault, WriteFault, OutOfMemory}
+use Rattle.serve_rules.specs.declared.ends.ConnEnd.TheVariants.{Left, Refused, Truncated, NotInvited, RoomFull, JoinsSpent, ReadFault, WriteFault, NotStored, OutOfMemory}
 use Rattle.serve_rules.specs.declared.ends.SideEnd.{SideEnd}
 use Rattle.serve_rules.specs.declared.ends.SideEnd.TheVariants.{Done, Stopped}
 use Rattle.serve_rules.specs.declared.noted.Noted.{Noted}
@@ -27,7 +27,7 @@ use Rattle.grow_lock.proofs.Shares.{holds_same}
 use Rattle.serve_rules.proofs.Handling.{handles_nothing, handles_more}
 use Rattle.serve_rules.proofs.Lists.{within_back}
 use Rattle.serve_rules.proofs.ReadOn.{reads_then}
-use Rattle.viewer_run.specs.Sending.{IsSendEnd, FollowsWith, SendsOn}
+use Rattle.viewer_run.specs.Sending.{IsSendEnd, IsFault, FollowsWith, SendsOn}
 use Rattle.viewer_run.specs.Frames.{FirstSent, FramesSent}
 use Rattle.viewer_run.specs.Serving.{ViewEnd, ViewFaults, FailsAtMostBeside, ReadsTo, EndsSending, SidesServe, Attends, ended_by, wants_last, end_of_last}
 use Rattle.viewer_run.proofs.FromFirst.{first_alone, first_then, frames_then}
@@ -45,6 +45,7 @@ view_end flagged fed h n i j RoomFull e = e
 view_end flagged fed h n i j JoinsSpent e = e
 view_end flagged fed h n i j ReadFault e = e
 view_end flagged fed h n i j WriteFault e = absurd e
+view_end flagged fed h n i j NotStored e = absurd e
 view_end flagged fed h n i j OutOfMemory e = tt
 
 -- and what it says of reads that failed, where no write had
@@ -58,6 +59,7 @@ view_faults h n m i j RoomFull same e calm = e
 view_faults h n m i j JoinsSpent same e calm = e
 view_faults h n m i j ReadFault same e calm = (subst (GoesOn h) (same (λ is. cc is)) e, calm)
 view_faults h n m i j WriteFault same e calm = inl e
+view_faults h n m i j NotStored same e calm = inl e
 view_faults h n m i j OutOfMemory same e calm = inl e
 
 -- whatever end of the reading is beside that of the sending
@@ -70,6 +72,7 @@ beside h n m i j (Done RoomFull) same e = inl e
 beside h n m i j (Done JoinsSpent) same e = inl e
 beside h n m i j (Done ReadFault) same e = inr (subst (GoesOn h) (same (λ is. cc is)) e)
 beside h n m i j (Done WriteFault) same e = inl e
+beside h n m i j (Done NotStored) same e = inl e
 beside h n m i j (Done OutOfMemory) same e = inl e
 beside h n m i j Stopped same e = inl e
 
@@ -82,6 +85,7 @@ cut_faults h m i j RoomFull only e = absurd only
 cut_faults h m i j JoinsSpent only e = absurd only
 cut_faults h m i j ReadFault only e = absurd only
 cut_faults h m i j WriteFault only e = e
+cut_faults h m i j NotStored only e = e
 cut_faults h m i j OutOfMemory only e = e
 
 -- what was noted is what all steps announce, where they were all done
@@ -92,7 +96,7 @@ all_noted head v rest flagged conn conn' p q a b i j end x orderly =
 
 -- and where it is that of the sending
 cut_end : (fed : List ℕ) (h : Hearing) (n : Notice) (i j : Outside) (end : ConnEnd) → IsSendEnd (Done end)
-    → (Done end ≡ Done WriteFault → Rose i.output.faults j.output.faults) → ViewEnd fed h n i j end
+    → (IsFault (Done end) → Rose i.output.faults j.output.faults) → ViewEnd fed h n i j end
 cut_end fed h n i j Left only cause = absurd only
 cut_end fed h n i j (Refused k at) only cause = absurd only
 cut_end fed h n i j Truncated only cause = absurd only
@@ -100,19 +104,21 @@ cut_end fed h n i j NotInvited only cause = absurd only
 cut_end fed h n i j RoomFull only cause = absurd only
 cut_end fed h n i j JoinsSpent only cause = absurd only
 cut_end fed h n i j ReadFault only cause = absurd only
-cut_end fed h n i j WriteFault only cause = cause refl
+cut_end fed h n i j WriteFault only cause = cause tt
+cut_end fed h n i j NotStored only cause = cause tt
 cut_end fed h n i j OutOfMemory only cause = tt
 
-cut_only : (end : ConnEnd) → IsSendEnd (Done end) → (end ≡ WriteFault → ⊥) → (end ≡ OutOfMemory → ⊥) → ⊥
-cut_only Left only no_write no_memory = only
-cut_only (Refused k at) only no_write no_memory = only
-cut_only Truncated only no_write no_memory = only
-cut_only NotInvited only no_write no_memory = only
-cut_only RoomFull only no_write no_memory = only
-cut_only JoinsSpent only no_write no_memory = only
-cut_only ReadFault only no_write no_memory = only
-cut_only WriteFault only no_write no_memory = no_write refl
-cut_only OutOfMemory only no_write no_memory = no_memory refl
+cut_only : (end : ConnEnd) → IsSendEnd (Done end) → (end ≡ WriteFault → ⊥) → (end ≡ NotStored → ⊥) → (end ≡ OutOfMemory → ⊥) → ⊥
+cut_only Left only no_write no_store no_memory = only
+cut_only (Refused k at) only no_write no_store no_memory = only
+cut_only Truncated only no_write no_store no_memory = only
+cut_only NotInvited only no_write no_store no_memory = only
+cut_only RoomFull only no_write no_store no_memory = only
+cut_only JoinsSpent only no_write no_store no_memory = only
+cut_only ReadFault only no_write no_store no_memory = only
+cut_only WriteFault only no_write no_store no_memory = no_write refl
+cut_only NotStored only no_write no_store no_memory = no_store refl
+cut_only OutOfMemory only no_write no_store no_memory = no_memory refl
 
 module _ (head : Head) (v : ℕ) (rest : List ConnStep) (conn : Hearing) (p q : SessionPass) (a b : Noted) (i j : Outside) (end : ConnEnd) where
   -- the stream was read to its end
@@ -124,7 +130,7 @@ module _ (head : Head) (v : ℕ) (rest : List ConnStep) (conn : Hearing) (p q : 
     steps = h.steps;
     undone = h.undone;
     front = h.front;
-    all = λ no_write no_memory. (h.all (λ is. no_memory (cc is))).0;
+    all = λ no_write no_store no_memory. (h.all (λ is. no_memory (cc is))).0;
     handles = h.handles;
     room = h.room;
     notice = h.notice;
@@ -136,14 +142,14 @@ module _ (head : Head) (v : ℕ) (rest : List ConnStep) (conn : Hearing) (p q : 
 
   -- sending came to its end before
   pub cut_to : (flagged : Bool) (conn' : Hearing) (read : SideEnd) → ReadsOn head v rest flagged conn conn' p q a b i.input j.input read
-      → IsSendEnd (Done end) → (Done end ≡ Done WriteFault → Rose i.output.faults j.output.faults) → ReadsTo head v rest conn p q a b i j end
+      → IsSendEnd (Done end) → (IsFault (Done end) → Rose i.output.faults j.output.faults) → ReadsTo head v rest conn p q a b i j end
   cut_to flagged conn' read h only cause = record {
     fed = h.fed;
     taken = h.taken;
     steps = h.steps;
     undone = h.undone;
     front = h.front;
-    all = λ no_write no_memory. absurd (cut_only end only no_write no_memory);
+    all = λ no_write no_store no_memory. absurd (cut_only end only no_write no_store no_memory);
     handles = h.handles;
     room = h.room;
     notice = h.notice;
@@ -156,7 +162,7 @@ module _ (head : Head) (v : ℕ) (rest : List ConnStep) (conn : Hearing) (p q : 
 
 -- nothing was read
 pub unread_to : (head : Head) (v : ℕ) (rest : List ConnStep) (conn : Hearing) (p : SessionPass) (noted : Noted) (i : Input) (o o' : Output) (end : ConnEnd)
-    → 0 < noted.places.room → IsSendEnd (Done end) → (Done end ≡ Done WriteFault → Rose o.faults o'.faults)
+    → 0 < noted.places.room → IsSendEnd (Done end) → (IsFault (Done end) → Rose o.faults o'.faults)
     → ReadsTo head v rest conn p p noted noted (outside i o) (outside i o') end
 unread_to head v rest conn p noted i o o' end room only cause = record {
   fed = [];
@@ -164,7 +170,7 @@ unread_to head v rest conn p noted i o o' end room only cause = record {
   steps = [];
   undone = rest ++ (heard conn []).steps;
   front = refl;
-  all = λ no_write no_memory. absurd (cut_only end only no_write no_memory);
+  all = λ no_write no_store no_memory. absurd (cut_only end only no_write no_store no_memory);
   handles = handles_nothing head v p noted.places.list;
   room = room;
   notice = refl;
@@ -260,6 +266,7 @@ view_before fed h n i o o' now RoomFull calm e = e
 view_before fed h n i o o' now JoinsSpent calm e = e
 view_before fed h n i o o' now ReadFault calm e = e
 view_before fed h n i o o' now WriteFault calm e = subst (λ (m : ℕ). Rose m now.output.faults) calm e
+view_before fed h n i o o' now NotStored calm e = subst (λ (m : ℕ). Rose m now.output.faults) calm e
 view_before fed h n i o o' now OutOfMemory calm e = tt
 
 faults_before : (h : Hearing) (m : Notice) (i : Input) (o o' : Output) (now : Outside) (end : ConnEnd) → o'.faults ≡ o.faults
@@ -272,6 +279,7 @@ faults_before h m i o o' now RoomFull calm e = e
 faults_before h m i o o' now JoinsSpent calm e = e
 faults_before h m i o o' now ReadFault calm e = (e.0, e.1 ∙ calm)
 faults_before h m i o o' now WriteFault calm e = e
+faults_before h m i o o' now NotStored calm e = e
 faults_before h m i o o' now OutOfMemory calm e = e
 
 module _ (head : Head) (v : ℕ) (confirmed : Confirmed) (rest : List ConnStep) (conn : Hearing) where
@@ -328,11 +336,12 @@ wants_left RoomFull n e = absurd (cc e)
 wants_left JoinsSpent n e = absurd (cc e)
 wants_left ReadFault n e = absurd (cc e)
 wants_left WriteFault n e = absurd (cc e)
+wants_left NotStored n e = absurd (cc e)
 wants_left OutOfMemory n e = absurd (cc e)
 
 -- the connection's end behind it
 last_end : (fed : List ℕ) (h : Hearing) (n : Notice) (before : Outside) (j : Input) (o o' : Output) (sent : SideEnd) → IsSendEnd sent
-    → (sent ≡ Done WriteFault → Rose before.output.faults o'.faults) → ViewEnd fed h n before (outside j o) Left → ViewEnd fed h n before (outside j o') (end_of_last sent)
+    → (IsFault sent → Rose before.output.faults o'.faults) → ViewEnd fed h n before (outside j o) Left → ViewEnd fed h n before (outside j o') (end_of_last sent)
 last_end fed h n before j o o' (Done end) only cause e = cut_end fed h n before (outside j o') end only cause
 last_end fed h n before j o o' Stopped only cause e = e
 
@@ -361,7 +370,8 @@ module _ (head : Head) (v : ℕ) (confirmed : Confirmed) (rest : List ConnStep) 
           steps = h.steps;
           undone = h.undone;
           front = h.front;
-          all = λ no_write no_memory. h.all (λ wrote. absurd (cc (sym is ∙ wrote))) (λ wanted. absurd (cc (sym is ∙ wanted)));
+          all = λ no_write no_store no_memory. h.all (λ wrote. absurd (cc (sym is ∙ wrote))) (λ unkept. absurd (cc (sym is ∙ unkept)))
+              (λ wanted. absurd (cc (sym is ∙ wanted)));
           handles = handles_more head v (events_in h.steps) p q r b.places.list c.places.list x.more_found h.handles x.grows x.found mine (holds_same r.share q.share share);
           room = h.room;
           notice = h.notice;

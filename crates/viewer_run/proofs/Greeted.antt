@@ -11,7 +11,7 @@ use Rattle.conn_rules.specs.Hearing.{Hearing, Heard, heard, then_heard}
 use Rattle.conn_rules.proofs.Pieces.{heard_then}
 use Rattle.serve_rules.specs.Reading.{IsWhole}
 use Rattle.serve_rules.specs.declared.ends.ConnEnd.{ConnEnd}
-use Rattle.serve_rules.specs.declared.ends.ConnEnd.TheVariants.{Left, Refused, Truncated, NotInvited, RoomFull, JoinsSpent, ReadFault, WriteFault, OutOfMemory}
+use Rattle.serve_rules.specs.declared.ends.ConnEnd.TheVariants.{Left, Refused, Truncated, NotInvited, RoomFull, JoinsSpent, ReadFault, WriteFault, NotStored, OutOfMemory}
 use Rattle.serve_rules.proofs.ReadOn.{consumes_then}
 use Rattle.viewer_run.specs.declared.guest.Guest.{Guest}
 use Rattle.caps_sets.specs.declared.confirmed.Confirmed.{Confirmed}
@@ -48,6 +48,7 @@ end_then xs ys unwritten g after new name i j l (Err RoomFull) whole a b e = e
 end_then xs ys unwritten g after new name i j l (Err JoinsSpent) whole a b e = e
 end_then xs ys unwritten g after new name i j l (Err ReadFault) whole a b e = (e.0, subst (λ (n : ℕ). Rose n l.input.faults) a e.1)
 end_then xs ys unwritten g after new name i j l (Err WriteFault) whole a b e = subst (λ (n : ℕ). Rose n l.output.faults) b e
+end_then xs ys unwritten g after new name i j l (Err NotStored) whole a b e = e
 end_then xs ys unwritten g after new name i j l (Err OutOfMemory) whole a b e = e
 
 -- and no read or write of the first stretch failed
@@ -62,6 +63,7 @@ faults_then g h i j l (Err RoomFull) a b e = e ∙ a
 faults_then g h i j l (Err JoinsSpent) a b e = e ∙ a
 faults_then g h i j l (Err ReadFault) a b e = (e.0, e.1, e.2 ∙ b)
 faults_then g h i j l (Err WriteFault) a b e = e ∙ a
+faults_then g h i j l (Err NotStored) a b e = e ∙ a
 faults_then g h i j l (Err OutOfMemory) a b e = e ∙ a
 
 -- a stretch after one that went well

@@ -2,6 +2,7 @@
 use Rattle.std.proofs.Common.{◌≡◌, ℕ, ◌+◌, ◌≤◌, List, [], ◌∷◌, ◌++◌, length, sym, refl, ap, ap₂, ◌∙◌, subst, arith, append-nil, inl}
 use Rattle.std.proofs.KnownBytes.{Appends-nil}
 use Rattle.std.specs.Prelude.{Bool, true, false, ◌&&◌, ◌||◌, ◌==◌, not, ⊤, Option, Result, Ok, Err, IfOk, OnOk, OnErr}
+use Rattle.edge_io.specs.Faults.{Rose}
 use Rattle.edge_io.specs.Outside.{Output}
 use Rattle.std.specs.Io.KnownBytes.{Appends}
 use Rattle.wire_num.specs.declared.out_of_memory.OutOfMemory.{OutOfMemory as NoMemory}
@@ -30,12 +31,13 @@ use Rattle.pointer_share.specs.Desk.{DeskOf, IsDeskOf, IsNoted}
 use Rattle.pointer_share.proofs.Desks.{desk_noted, is_noted}
 use Rattle.grow_lock.proofs.Lists.{length_starts}
 use Rattle.serve_rules.specs.Turns.{SessionPass, IsTurn}
-use Rattle.serve_rules.specs.declared.ends.ConnEnd.TheVariants.{Left, Refused, Truncated, NotInvited, RoomFull, JoinsSpent, ReadFault, WriteFault, OutOfMemory}
+use Rattle.serve_rules.specs.declared.ends.ConnEnd.{ConnEnd}
+use Rattle.serve_rules.specs.declared.ends.ConnEnd.TheVariants.{OutOfMemory}
 use Rattle.serve_rules.specs.declared.ends.SideEnd.{SideEnd}
 use Rattle.serve_rules.specs.declared.ends.SideEnd.TheVariants.{Done, Stopped}
 use Rattle.serve_rules.proofs.ReadOn.{not_stopped}
 use Rattle.serve_rules.proofs.Turning.{TurnFacts, turned}
-use Rattle.viewer_run.specs.Sending.{due, TakesFrame, TakesAs, TakesIn, IsAbsent, IsSendEnd, Encodes, WritesPointed, SendsFrame, SendsTaken, IsNext, FollowsWith, SendsOn}
+use Rattle.viewer_run.specs.Sending.{due, TakesFrame, TakesAs, TakesIn, IsAbsent, IsSendEnd, IsFault, Encodes, WritesPointed, SendsFrame, SendsTaken, IsNext, FollowsWith, SendsOn}
 
 -- ---- a take
 
@@ -90,37 +92,19 @@ taken_in head before mid after base new s s' d d' result old same_head same_jour
 
 -- ---- ends
 
-abbrev IsMemory : SideEnd → Type 0
-IsMemory Stopped = ⊥
-IsMemory (Done Left) = ⊥
-IsMemory (Done (Refused k at)) = ⊥
-IsMemory (Done Truncated) = ⊥
-IsMemory (Done NotInvited) = ⊥
-IsMemory (Done RoomFull) = ⊥
-IsMemory (Done JoinsSpent) = ⊥
-IsMemory (Done ReadFault) = ⊥
-IsMemory (Done WriteFault) = ⊥
-IsMemory (Done OutOfMemory) = ⊤
-
--- want of memory is no fault, and neither is a stop
-pub memory_is_no_fault : Done OutOfMemory ≡ Done WriteFault → ⊥
-memory_is_no_fault e = subst IsMemory e tt
-
-pub stopped_is_no_fault : Stopped ≡ Done WriteFault → ⊥
-stopped_is_no_fault e = not_stopped WriteFault (sym e)
-
--- a frame that wasn't encoded
-pub unsent : (s s' : SenderModel) (d d' : Option DeskOf) (take : TakeModel) (o : Output) → s'.number ≡ s.number → SendsFrame s s' d d' take o o (Done OutOfMemory)
-unsent s s' d d' take o number = record {
+-- a frame that wasn't begun: memory was wanted, or what it shows couldn't be kept
+pub unsent : (s s' : SenderModel) (d d' : Option DeskOf) (take : TakeModel) (o o' : Output) (end : ConnEnd) → s'.number ≡ s.number → IsSendEnd (Done end)
+    → o'.told ≡ o.told → (IsFault (Done end) → Rose o.faults o'.faults) → SendsFrame s s' d d' take o o' (Done end)
+unsent s s' d d' take o o' end number only same cause = record {
   written = [];
-  told = Appends-nil o.told;
-  bytes = λ e frame stands is key of noted. (_, refl, λ stopped. absurd (not_stopped OutOfMemory stopped));
-  after = λ stopped. absurd (not_stopped OutOfMemory stopped);
-  desk = λ stopped. absurd (not_stopped OutOfMemory stopped);
+  told = subst (λ (t : Option (List ℕ)). Appends o.told t []) (sym same) (Appends-nil o.told);
+  bytes = λ e frame stands is key of noted. (_, refl, λ stopped. absurd (not_stopped end stopped));
+  after = λ stopped. absurd (not_stopped end stopped);
+  desk = λ stopped. absurd (not_stopped end stopped);
   number = number;
-  only = tt;
-  cause = λ is. absurd (memory_is_no_fault is);
-  calm = λ stopped. absurd (not_stopped OutOfMemory stopped);
+  only = only;
+  cause = cause;
+  calm = λ stopped. absurd (not_stopped end stopped);
 }
 
 -- a sender that has no frame for a take keeps its number
@@ -178,7 +162,7 @@ found_here head v j take taken found absent = by (is_present v (reached_at head.
 
 module _ (head : Head) (p q : SessionPass) (s t u : SenderModel) (d d' d'' : Option DeskOf) (o o' : Output) (end : SideEnd) where
   -- nothing was sent
-  nothing_sent : IsTurn p q q.seen [] → s.number ≤ length p.seen → IsIdle s → Appends o.told o'.told [] → u ≡ s → d'' ≡ d → IsSendEnd end → (end ≡ Done WriteFault → ⊥) → o'.faults ≡ o.faults
+  nothing_sent : IsTurn p q q.seen [] → s.number ≤ length p.seen → IsIdle s → Appends o.told o'.told [] → u ≡ s → d'' ≡ d → IsSendEnd end → (IsFault end → ⊥) → o'.faults ≡ o.faults
       → SendsOn head s u d d'' p q o o' end
   nothing_sent turn seen idle kept same still only no_fault calm = record {
     takes = [];
@@ -281,9 +265,9 @@ module _ (head : Head) (p q : SessionPass) (s t u : SenderModel) (d d' d'' : Opt
       frame_sent h.turn seen idle
       (subst (λ (n : ℕ). is_present n (reached_at head.size q.seen (length q.seen)).viewers ≡ true) (sym of) (found_here head v q.seen take (Ok (Frame take)) refl absent)) take h.takes x
   sends_one (Ok Nothing) h seen idle v of absent x =
-      nothing_sent h.turn seen idle x.2 (x.0 ∙ h.takes.0) (x.1 ∙ h.takes.1) (subst IsSendEnd (sym x.3) tt) (λ is. stopped_is_no_fault (sym x.3 ∙ is)) x.4
+      nothing_sent h.turn seen idle x.2 (x.0 ∙ h.takes.0) (x.1 ∙ h.takes.1) (subst IsSendEnd (sym x.3) tt) (λ is. subst IsFault x.3 is) x.4
   sends_one (Err refusal) h seen idle v of absent x =
-      nothing_sent h.turn seen idle x.2 (x.0 ∙ h.takes.0) (x.1 ∙ h.takes.1) (subst IsSendEnd (sym x.3) tt) (λ is. memory_is_no_fault (sym x.3 ∙ is)) x.4
+      nothing_sent h.turn seen idle x.2 (x.0 ∙ h.takes.0) (x.1 ∙ h.takes.1) (subst IsSendEnd (sym x.3) tt) (λ is. subst IsFault x.3 is) x.4
 
 abbrev NumberOf : Result Taken NoMemory → ℕ → Head → List Entry → SenderModel → Type 0
 NumberOf taken number head j u = (taken ≡ Ok Nothing → number ≡ length j) → u.number ≡ length j

@@ -23,7 +23,7 @@ use Rattle.serve_rules.specs.Turns.{SessionPass, IsTurn, Idles}
 use Rattle.serve_rules.specs.Events.{IsWithin}
 use Rattle.serve_rules.proofs.Lists.{within_front}
 use Rattle.serve_rules.specs.declared.ends.ConnEnd.{ConnEnd}
-use Rattle.serve_rules.specs.declared.ends.ConnEnd.TheVariants.{Left, Refused, Truncated, NotInvited, RoomFull, JoinsSpent, ReadFault, WriteFault, OutOfMemory}
+use Rattle.serve_rules.specs.declared.ends.ConnEnd.TheVariants.{Left, Refused, Truncated, NotInvited, RoomFull, JoinsSpent, ReadFault, WriteFault, NotStored, OutOfMemory}
 use Rattle.serve_rules.specs.declared.noted.ConnReport.{ConnReport}
 use Rattle.viewer_run.specs.declared.guest.Guest.{Guest}
 use Rattle.viewer_run.specs.Greeting.{Greeting, greeting, GreetEnd, Greets, OutsideFaults}
@@ -60,6 +60,7 @@ module _ (head : Head) (after : SessionPass) (g : Greeting) (h : Hearing) (read 
   onto JoinsSpent w e = e
   onto ReadFault w e = e
   onto WriteFault w e = subst (λ (n : ℕ). Rose link.output.faults n) (sym w) e
+  onto NotStored w e = subst (λ (n : ℕ). Rose link.output.faults n) (sym w) e
   onto OutOfMemory w e = tt
 
   pub ends_said : (end said : ConnEnd) → OutsideEnd head after g h read link (outside input mid) end
@@ -83,6 +84,7 @@ module _ (head : Head) (after : SessionPass) (g : Greeting) (h : Hearing) (read 
   faults_onto JoinsSpent w e = e
   faults_onto ReadFault w e = (e.0, e.1, w ∙ e.2)
   faults_onto WriteFault w e = e
+  faults_onto NotStored w e = e
   faults_onto OutOfMemory w e = e
 
   calm_due : (end : ConnEnd) → (ultimatum_at end false ≡ [] → ⊥) → OutsideFaults g h link (outside input mid) end → input.faults ≡ link.input.faults
@@ -94,6 +96,7 @@ module _ (head : Head) (after : SessionPass) (g : Greeting) (h : Hearing) (read 
   calm_due JoinsSpent due e = e
   calm_due ReadFault due e = absurd (due refl)
   calm_due WriteFault due e = e
+  calm_due NotStored due e = e
   calm_due OutOfMemory due e = e
 
   faults_said : (end said : ConnEnd) → OutsideFaults g h link (outside input mid) end → Said end false said mid now → OutsideFaults g h link (outside input now) said
@@ -136,6 +139,7 @@ module _ (fed unwritten : List ℕ) (g : Greeting) (after new : Hearing) (name :
   greet_all JoinsSpent e free = absurd e
   greet_all ReadFault e free = e.0
   greet_all WriteFault e free = absurd (cc free)
+  greet_all NotStored e free = absurd (cc free)
   greet_all OutOfMemory e free = absurd (cc free)
 
   greet_calm : (end : ConnEnd) → GreetEnd fed unwritten g after new name before now (Err end) → (ultimatum_at end false ≡ [] → ⊥) → now.output.faults ≡ before.output.faults
@@ -147,6 +151,7 @@ module _ (fed unwritten : List ℕ) (g : Greeting) (after new : Hearing) (name :
   greet_calm JoinsSpent e due = absurd e
   greet_calm ReadFault e due = absurd (due refl)
   greet_calm WriteFault e due = absurd (due refl)
+  greet_calm NotStored e due = absurd (due refl)
   greet_calm OutOfMemory e due = absurd (due refl)
 
   greet_ends : (head : Head) (pass : SessionPass) (end : ConnEnd) → GreetEnd fed unwritten g after new name before now (Err end) → OutsideEnd head pass g after fed before now end
@@ -158,6 +163,7 @@ module _ (fed unwritten : List ℕ) (g : Greeting) (after new : Hearing) (name :
   greet_ends head pass JoinsSpent e = absurd e
   greet_ends head pass ReadFault e = e.1
   greet_ends head pass WriteFault e = e
+  greet_ends head pass NotStored e = absurd e
   greet_ends head pass OutOfMemory e = tt
 
 module _ (head : Head) (p q : SessionPass) (report : ConnReport) where

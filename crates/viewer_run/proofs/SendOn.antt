@@ -22,7 +22,6 @@ use Rattle.serve_rules.specs.declared.ends.SideEnd.TheVariants.{Stopped}
 use Rattle.serve_rules.proofs.Lists.{within_front, within_then}
 use Rattle.viewer_run.specs.Sending.{AtLeast, IsPresentAtEach, FollowsWith, SendsOn}
 use Rattle.viewer_run.proofs.TakesOn.{follow_then, at_least_lower, at_least_then, work_then, present_then, present_stays, joined_then, pointed_then, encoder_then, pointed_stay, encoder_stays}
-use Rattle.viewer_run.proofs.OneTake.{stopped_is_no_fault}
 
 -- nothing was done
 pub sends_none : (head : Head) (s : SenderModel) (d : Option DeskOf) (p : SessionPass) (out : Output) → IsIdle s → s.number ≤ length p.seen → SendsOn head s s d d p p out out Stopped
@@ -44,7 +43,7 @@ sends_none head s d p out idle seen = record {
   bytes = λ e fol. ([], refl, λ stopped. refl);
   after_is = λ stopped. (refl, refl, refl, idle, λ e fol. fol);
   only = tt;
-  cause = λ is. absurd (stopped_is_no_fault is);
+  cause = λ is. absurd is;
   calm = λ stopped. refl;
 }
 

@@ -19,7 +19,7 @@ use Rattle.serve_rules.specs.Turns.{SessionPass}
 use Rattle.serve_rules.specs.Events.{Handles}
 use Rattle.serve_rules.specs.Notices.{Notice, events_in, notice_after_all, notice_in}
 use Rattle.serve_rules.specs.Reading.{ReadsOn, ReadsInTurns, ReadEnd, ReadFaults, HasTurnsOf, IsUnended, IsWhole, StopsReading, one_read}
-use Rattle.serve_rules.specs.declared.ends.ConnEnd.TheVariants.{Left, Refused, Truncated, NotInvited, RoomFull, JoinsSpent, ReadFault, WriteFault, OutOfMemory}
+use Rattle.serve_rules.specs.declared.ends.ConnEnd.TheVariants.{Left, Refused, Truncated, NotInvited, RoomFull, JoinsSpent, ReadFault, WriteFault, NotStored, OutOfMemory}
 use Rattle.serve_rules.specs.declared.ends.SideEnd.{SideEnd}
 use Rattle.serve_rules.specs.declared.ends.SideEnd.TheVariants.{Done, Stopped}
 use Rattle.serve_rules.specs.declared.noted.Noted.{Noted}
@@ -100,6 +100,7 @@ refused_end (Done RoomFull) h notice bytes i j r = absurd r
 refused_end (Done JoinsSpent) h notice bytes i j r = absurd r
 refused_end (Done ReadFault) h notice bytes i j r = absurd r
 refused_end (Done WriteFault) h notice bytes i j r = absurd r
+refused_end (Done NotStored) h notice bytes i j r = absurd r
 refused_end (Done OutOfMemory) h notice bytes i j r = tt
 
 -- and so is what was announced
@@ -119,6 +120,7 @@ piece_faults (Done RoomFull) h notice i j r calm = calm
 piece_faults (Done JoinsSpent) h notice i j r calm = calm
 piece_faults (Done ReadFault) h notice i j r calm = absurd r
 piece_faults (Done WriteFault) h notice i j r calm = calm
+piece_faults (Done NotStored) h notice i j r calm = calm
 piece_faults (Done OutOfMemory) h notice i j r calm = calm
 
 faults_with : (end : SideEnd) (h : Hearing) (notice : Notice) (i j : Input) (over : Bool) → RefusedAs end h.stage → j.faults ≡ i.faults → ReadFaults h notice i j (end_with end over)
@@ -302,6 +304,7 @@ module _ (head : Head) (v : ℕ) where
   unstopped flagged (Done JoinsSpent) bytes h notice i j d e = e
   unstopped flagged (Done ReadFault) bytes h notice i j d e = e
   unstopped flagged (Done WriteFault) bytes h notice i j d e = e
+  unstopped flagged (Done NotStored) bytes h notice i j d e = e
   unstopped flagged (Done OutOfMemory) bytes h notice i j d e = e
   unstopped flagged Stopped bytes h notice i j d e = absurd (subst OnlyTrue (sym d) tt)
 

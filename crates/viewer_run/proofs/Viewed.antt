@@ -20,7 +20,7 @@ use Rattle.serve_rules.specs.Turns.{SessionPass, FoundAll}
 use Rattle.serve_rules.specs.Events.{Handles, IsWithin}
 use Rattle.serve_rules.specs.Notices.{Notice, events_in, notice_after_all, notice_in}
 use Rattle.serve_rules.specs.declared.ends.ConnEnd.{ConnEnd}
-use Rattle.serve_rules.specs.declared.ends.ConnEnd.TheVariants.{Left, Refused, Truncated, NotInvited, RoomFull, JoinsSpent, ReadFault, WriteFault, OutOfMemory}
+use Rattle.serve_rules.specs.declared.ends.ConnEnd.TheVariants.{Left, Refused, Truncated, NotInvited, RoomFull, JoinsSpent, ReadFault, WriteFault, NotStored, OutOfMemory}
 use Rattle.serve_rules.specs.declared.ends.SideEnd.{SideEnd}
 use Rattle.serve_rules.specs.declared.ends.SideEnd.TheVariants.{Done, Stopped}
 use Rattle.serve_rules.specs.declared.noted.Noted.{Noted}
@@ -76,6 +76,7 @@ cut_sending RoomFull only free = only
 cut_sending JoinsSpent only free = only
 cut_sending ReadFault only free = only
 cut_sending WriteFault only free = cc free
+cut_sending NotStored only free = cc free
 cut_sending OutOfMemory only free = cc free
 
 -- an end behind which nothing is cut isn't that of the sending
@@ -84,6 +85,9 @@ uncut_stopped sent end e only free = ⊎_elim (λ (l : sent ≡ Stopped). l) (λ
 
 no_write : (end : ConnEnd) → is_cut end ≡ false → end ≡ WriteFault → ⊥
 no_write end free is = cc (sym free ∙ ap is_cut is)
+
+no_store : (end : ConnEnd) → is_cut end ≡ false → end ≡ NotStored → ⊥
+no_store end free is = cc (sym free ∙ ap is_cut is)
 
 no_want : (end : ConnEnd) → is_cut end ≡ false → end ≡ OutOfMemory → ⊥
 no_want end free is = cc (sym free ∙ ap is_cut is)
@@ -101,7 +105,7 @@ module _ (head : Head) (v : ℕ) (confirmed : Confirmed) (rest : List ConnStep) 
         steps = r.steps;
         undone = r.undone;
         front = r.front;
-        all = λ free. r.all (no_write end free) (no_want end free);
+        all = λ free. r.all (no_write end free) (no_store end free) (no_want end free);
         handles = r.handles;
         notice = r.notice;
         ends = r.ends;

@@ -34,7 +34,7 @@ use Rattle.serve_rules.specs.Events.{Act, Handles, HappenFrom, places_of, Ascend
 use Rattle.serve_rules.specs.Notices.{Notice, events_in, notice_after_all, notice_in}
 use Rattle.serve_rules.specs.Reading.{IsUnended, IsWhole}
 use Rattle.serve_rules.specs.declared.ends.ConnEnd.{ConnEnd}
-use Rattle.serve_rules.specs.declared.ends.ConnEnd.TheVariants.{Left, Refused, Truncated, NotInvited, RoomFull, JoinsSpent, ReadFault, WriteFault, OutOfMemory}
+use Rattle.serve_rules.specs.declared.ends.ConnEnd.TheVariants.{Left, Refused, Truncated, NotInvited, RoomFull, JoinsSpent, ReadFault, WriteFault, NotStored, OutOfMemory}
 use Rattle.serve_rules.specs.declared.noted.ConnReport.{ConnReport}
 use Rattle.serve_rules.specs.declared.noted.Noted.{Noted}
 use Rattle.serve_rules.proofs.Handling.{handles_more, high_stays}
@@ -77,6 +77,7 @@ view_then xs ys h n m link between now RoomFull whole a b same e = e
 view_then xs ys h n m link between now JoinsSpent whole a b same e = e
 view_then xs ys h n m link between now ReadFault whole a b same e = subst (λ (k : ℕ). Rose k now.input.faults) a e
 view_then xs ys h n m link between now WriteFault whole a b same e = subst (λ (k : ℕ). Rose k now.output.faults) b e
+view_then xs ys h n m link between now NotStored whole a b same e = subst (λ (k : ℕ). Rose k now.output.faults) b e
 view_then xs ys h n m link between now OutOfMemory whole a b same e = tt
 
 -- an end that stays behind the last word
@@ -90,6 +91,7 @@ view_onto read h n link input mid now RoomFull w e = e
 view_onto read h n link input mid now JoinsSpent w e = e
 view_onto read h n link input mid now ReadFault w e = e
 view_onto read h n link input mid now WriteFault w e = subst (λ (k : ℕ). Rose link.output.faults k) (sym w) e
+view_onto read h n link input mid now NotStored w e = subst (λ (k : ℕ). Rose link.output.faults k) (sym w) e
 view_onto read h n link input mid now OutOfMemory w e = tt
 
 -- behind the last word
@@ -121,6 +123,7 @@ faults_since h m link between now RoomFull a b e = e ∙ a
 faults_since h m link between now JoinsSpent a b e = e ∙ a
 faults_since h m link between now ReadFault a b e = (e.0, e.1 ∙ b)
 faults_since h m link between now WriteFault a b e = beside_since h m link between now a e
+faults_since h m link between now NotStored a b e = beside_since h m link between now a e
 faults_since h m link between now OutOfMemory a b e = beside_since h m link between now a e
 
 -- an end that stays behind the last word
@@ -134,6 +137,7 @@ faults_onto h m link input mid now RoomFull w e = e
 faults_onto h m link input mid now JoinsSpent w e = e
 faults_onto h m link input mid now ReadFault w e = (e.0, w ∙ e.1)
 faults_onto h m link input mid now WriteFault w e = e
+faults_onto h m link input mid now NotStored w e = e
 faults_onto h m link input mid now OutOfMemory w e = e
 
 calm_due : (h : Hearing) (m : Notice) (link now : Outside) (end : ConnEnd) (asked : Bool) → (ultimatum_at end asked ≡ [] → ⊥) → ViewFaults h m link now end
@@ -146,6 +150,7 @@ calm_due h m link now RoomFull asked due e = e
 calm_due h m link now JoinsSpent asked due e = e
 calm_due h m link now ReadFault asked due e = absurd (due refl)
 calm_due h m link now WriteFault asked due e = absurd (due refl)
+calm_due h m link now NotStored asked due e = absurd (due refl)
 calm_due h m link now OutOfMemory asked due e = absurd (due refl)
 
 -- behind the last word
@@ -169,6 +174,7 @@ due_uncut RoomFull asked due = refl
 due_uncut JoinsSpent asked due = refl
 due_uncut ReadFault asked due = refl
 due_uncut WriteFault asked due = absurd (due refl)
+due_uncut NotStored asked due = absurd (due refl)
 due_uncut OutOfMemory asked due = absurd (due refl)
 
 begins_said : (n : ℕ) (end said : ConnEnd) (takes : List TakeOf) → (end ≡ OutOfMemory → said ≡ OutOfMemory) → BeginsWith n end takes → BeginsWith n said takes

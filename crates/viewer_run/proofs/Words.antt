@@ -5,7 +5,7 @@ use Rattle.std.specs.Prelude.{Bool, true, false, Result, Ok, Err, IsOk}
 use Rattle.std.specs.Io.KnownBytes.{Appends}
 use Rattle.edge_io.specs.Faults.{Rose}
 use Rattle.serve_rules.specs.declared.ends.ConnEnd.{ConnEnd}
-use Rattle.serve_rules.specs.declared.ends.ConnEnd.TheVariants.{Left, Refused, Truncated, NotInvited, RoomFull, JoinsSpent, ReadFault, WriteFault, OutOfMemory}
+use Rattle.serve_rules.specs.declared.ends.ConnEnd.TheVariants.{Left, Refused, Truncated, NotInvited, RoomFull, JoinsSpent, ReadFault, WriteFault, NotStored, OutOfMemory}
 use Rattle.viewer_run.specs.Greeting.{Replies}
 use Rattle.viewer_run.specs.Ending.{ultimatum_at}
 use Rattle.edge_io.specs.Outside.{Output, Outside}
@@ -22,6 +22,7 @@ at_most_one RoomFull asked = inr (inl refl)
 at_most_one JoinsSpent asked = inr (inl refl)
 at_most_one ReadFault asked = inl refl
 at_most_one WriteFault asked = inl refl
+at_most_one NotStored asked = inl refl
 at_most_one OutOfMemory asked = inl refl
 
 -- none where what was written may have been cut
@@ -34,6 +35,7 @@ cut_quiet RoomFull asked e = absurd (cc e)
 cut_quiet JoinsSpent asked e = absurd (cc e)
 cut_quiet ReadFault asked e = absurd (cc e)
 cut_quiet WriteFault asked e = refl
+cut_quiet NotStored asked e = refl
 cut_quiet OutOfMemory asked e = refl
 
 word_at : (b : Bool) (end : ConnEnd) (asked : Bool) → IsWordAt b end asked (ultimatum_at end asked)
@@ -91,6 +93,7 @@ said_by end asked said o o' (Err WriteFault) r quiet e = record {
   word = subst (λ (x : ConnEnd). IsLastWord x asked (ultimatum_at end asked)) (sym e) (at_most_one end asked);
   stays = inr (record { due = λ none. cc (quiet none); how = inl (e, r.1) });
 }
+said_by end asked said o o' (Err NotStored) r quiet e = absurd r
 said_by end asked said o o' (Err OutOfMemory) r quiet e = record {
   written = r.0.front;
   unwritten = r.0.rest;

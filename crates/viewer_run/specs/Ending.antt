@@ -2,7 +2,7 @@
 use Rattle.std.specs.Prelude.{ℕ, Bool, List, [], if◌then◌else◌}
 use Rattle.mcs_dom.specs.Ultimatum.{ultimatum_packet}
 use Rattle.serve_rules.specs.declared.ends.ConnEnd.{ConnEnd}
-use Rattle.serve_rules.specs.declared.ends.ConnEnd.TheVariants.{Left, Refused, Truncated, NotInvited, RoomFull, JoinsSpent, ReadFault, WriteFault, OutOfMemory}
+use Rattle.serve_rules.specs.declared.ends.ConnEnd.TheVariants.{Left, Refused, Truncated, NotInvited, RoomFull, JoinsSpent, ReadFault, WriteFault, NotStored, OutOfMemory}
 
 -- the ultimatum that is the last of what is written: 21 80 where the client asked for the end, 20 80 where its stream is refused or it isn't let in
 abbrev pub ultimatum_at : ConnEnd → Bool → List ℕ
@@ -14,4 +14,5 @@ ultimatum_at RoomFull asked = ultimatum_packet 1
 ultimatum_at JoinsSpent asked = ultimatum_packet 1
 ultimatum_at ReadFault asked = []
 ultimatum_at WriteFault asked = []
+ultimatum_at NotStored asked = []
 ultimatum_at OutOfMemory asked = []

@@ -11,7 +11,7 @@ use Rattle.conn_core.specs.declared.conn_fault.ConnFault.TheVariants as fault
 use Rattle.conn_rules.specs.Placed.{AreBytes}
 use Rattle.serve_rules.specs.Notices.{Notice}
 use Rattle.serve_rules.specs.Reading.{IsUnended}
-use Rattle.serve_rules.specs.declared.ends.ConnEnd.TheVariants.{Left, Refused, Truncated, NotInvited, RoomFull, JoinsSpent, ReadFault, WriteFault, OutOfMemory}
+use Rattle.serve_rules.specs.declared.ends.ConnEnd.TheVariants.{Left, Refused, Truncated, NotInvited, RoomFull, JoinsSpent, ReadFault, WriteFault, NotStored, OutOfMemory}
 use Rattle.serve_rules.specs.declared.ends.SideEnd.{SideEnd}
 use Rattle.serve_rules.specs.declared.ends.SideEnd.TheVariants.{Done, Stopped}
 
@@ -26,6 +26,7 @@ RefusedAs (Done RoomFull) here = ⊥
 RefusedAs (Done JoinsSpent) here = ⊥
 RefusedAs (Done ReadFault) here = ⊥
 RefusedAs (Done WriteFault) here = ⊥
+RefusedAs (Done NotStored) here = ⊥
 RefusedAs (Done OutOfMemory) here = ⊥
 
 -- the answer of a connection as an end, if it is one

@@ -15,10 +15,9 @@ use Rattle.pointer_share.specs.Desk.{DeskOf}
 use Rattle.grow_lock.specs.Journal.{StartsWith}
 use Rattle.serve_rules.specs.Turns.{SessionPass}
 use Rattle.serve_rules.specs.Events.{IsWithin}
-use Rattle.serve_rules.specs.declared.ends.ConnEnd.TheVariants.{WriteFault}
 use Rattle.serve_rules.specs.declared.ends.SideEnd.{SideEnd}
-use Rattle.serve_rules.specs.declared.ends.SideEnd.TheVariants.{Done, Stopped}
-use Rattle.viewer_run.specs.Sending.{AtLeast, HaveWork, IsPresentAtEach, IsSendEnd, FollowsWith}
+use Rattle.serve_rules.specs.declared.ends.SideEnd.TheVariants.{Stopped}
+use Rattle.viewer_run.specs.Sending.{AtLeast, HaveWork, IsPresentAtEach, IsSendEnd, IsFault, FollowsWith}
 
 -- a viewer's first take, over the journal of its Join's turn
 abbrev pub first_take : List Entry → Tiles → TakeOf
@@ -38,7 +37,7 @@ pub record FirstSent (head : Head) (v : ℕ) (confirmed : Confirmed) (j : List E
   pub after_is : end ≡ Stopped → (sender.v ≡ v) × (sender.confirmed ≡ confirmed) × (sender.number ≡ length j) × IsIdle sender
       × FollowsWith sender desk (encoder_after head.size confirmed j first_encoder (first_take j asked))
   pub only : IsSendEnd end
-  pub cause : end ≡ Done WriteFault → Rose old.faults new.faults
+  pub cause : IsFault end → Rose old.faults new.faults
   pub calm : end ≡ Stopped → new.faults ≡ old.faults
 
 -- a viewer's frames from the first on, between its Join's turn and another state of the pass: each later take in a turn of its own behind it that found the
@@ -67,5 +66,5 @@ pub record FramesSent (head : Head) (v : ℕ) (confirmed : Confirmed) (sender : 
   pub after_is : end ≡ Stopped → (sender.v ≡ v) × (sender.confirmed ≡ confirmed) × (sender.number ≡ last) × IsIdle sender
       × FollowsWith sender desk (encoder_after_takes head.size confirmed after.seen first_encoder (first_take joined.seen asked ∷ later))
   pub only : IsSendEnd end
-  pub cause : end ≡ Done WriteFault → Rose old.faults new.faults
+  pub cause : IsFault end → Rose old.faults new.faults
   pub calm : end ≡ Stopped → new.faults ≡ old.faults

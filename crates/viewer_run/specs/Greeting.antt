@@ -12,7 +12,7 @@ use Rattle.conn_rules.specs.Hearing.StreamEnd.{RefusedAt}
 use Rattle.conn_rules.specs.Placed.{ArePlaced}
 use Rattle.serve_rules.specs.Reading.{IsWhole, IsNoRefusal}
 use Rattle.serve_rules.specs.declared.ends.ConnEnd.{ConnEnd}
-use Rattle.serve_rules.specs.declared.ends.ConnEnd.TheVariants.{Left, Refused, Truncated, NotInvited, RoomFull, JoinsSpent, ReadFault, WriteFault, OutOfMemory}
+use Rattle.serve_rules.specs.declared.ends.ConnEnd.TheVariants.{Left, Refused, Truncated, NotInvited, RoomFull, JoinsSpent, ReadFault, WriteFault, NotStored, OutOfMemory}
 use Rattle.serve_rules.specs.declared.ends.SideEnd.{SideEnd}
 use Rattle.serve_rules.specs.declared.ends.SideEnd.TheVariants.{Done, Stopped}
 use Rattle.viewer_run.specs.declared.guest.Guest.{Guest}
@@ -59,6 +59,7 @@ GreetEnd fed unwritten g after new name before now (Err RoomFull) = ⊥
 GreetEnd fed unwritten g after new name before now (Err JoinsSpent) = ⊥
 GreetEnd fed unwritten g after new name before now (Err ReadFault) = (unwritten ≡ []) × Rose before.input.faults now.input.faults
 GreetEnd fed unwritten g after new name before now (Err WriteFault) = Rose before.output.faults now.output.faults
+GreetEnd fed unwritten g after new name before now (Err NotStored) = ⊥
 GreetEnd fed unwritten g after new name before now (Err OutOfMemory) = ⊤
 
 -- what the end of a connection says of reads that failed, of a client that isn't ready: at a failed read it still connects and its stream isn't refused, and no
@@ -72,6 +73,7 @@ OutsideFaults g h before now RoomFull = now.input.faults ≡ before.input.faults
 OutsideFaults g h before now JoinsSpent = now.input.faults ≡ before.input.faults
 OutsideFaults g h before now ReadFault = StillConnects g × IsNoRefusal (end_of h) × (now.output.faults ≡ before.output.faults)
 OutsideFaults g h before now WriteFault = now.input.faults ≡ before.input.faults
+OutsideFaults g h before now NotStored = now.input.faults ≡ before.input.faults
 OutsideFaults g h before now OutOfMemory = now.input.faults ≡ before.input.faults
 
 -- likewise of a connection sequence that goes on or is done
@@ -106,6 +108,7 @@ Replies bytes before now (Err RoomFull) = ⊥
 Replies bytes before now (Err JoinsSpent) = ⊥
 Replies bytes before now (Err ReadFault) = ⊥
 Replies bytes before now (Err WriteFault) = WritesFront before.told now.told bytes × Rose before.faults now.faults
+Replies bytes before now (Err NotStored) = ⊥
 Replies bytes before now (Err OutOfMemory) = WritesFront before.told now.told bytes × (now.faults ≡ before.faults)
 
 -- what was said of a client whose steps came to this
@@ -120,6 +123,7 @@ GuestOf g name (Err RoomFull) = ⊥
 GuestOf g name (Err JoinsSpent) = ⊥
 GuestOf g name (Err ReadFault) = ⊥
 GuestOf g name (Err WriteFault) = ⊥
+GuestOf g name (Err NotStored) = ⊥
 GuestOf g name (Err OutOfMemory) = ⊤
 
 -- the areas of the steps that follow Ready are placed, where a client is ready

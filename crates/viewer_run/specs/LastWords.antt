@@ -3,7 +3,7 @@ use Rattle.std.specs.Prelude.{◌≡◌, ◌⊎◌, ℕ, Bool, true, false, List
 use Rattle.std.specs.Io.KnownBytes.{Appends}
 use Rattle.mcs_dom.specs.Ultimatum.{ultimatum_packet}
 use Rattle.serve_rules.specs.declared.ends.ConnEnd.{ConnEnd}
-use Rattle.serve_rules.specs.declared.ends.ConnEnd.TheVariants.{Left, Refused, Truncated, NotInvited, RoomFull, JoinsSpent, ReadFault, WriteFault, OutOfMemory}
+use Rattle.serve_rules.specs.declared.ends.ConnEnd.TheVariants.{Left, Refused, Truncated, NotInvited, RoomFull, JoinsSpent, ReadFault, WriteFault, NotStored, OutOfMemory}
 use Rattle.viewer_run.specs.Greeting.{Replies}
 use Rattle.viewer_run.specs.Ending.{ultimatum_at}
 use Rattle.edge_io.specs.Outside.{Output, Outside}
@@ -18,6 +18,7 @@ is_cut RoomFull = false
 is_cut JoinsSpent = false
 is_cut ReadFault = false
 is_cut WriteFault = true
+is_cut NotStored = true
 is_cut OutOfMemory = true
 
 -- an ultimatum, or none

@@ -30,7 +30,7 @@ use Rattle.serve_rules.specs.Events.{Act, HappenFrom, places_of, Ascend, AreOfEv
 use Rattle.serve_rules.specs.Notices.{events_in, notice_after_all}
 use Rattle.serve_rules.specs.Reading.{IsWhole, IsNoRefusal}
 use Rattle.serve_rules.specs.declared.ends.ConnEnd.{ConnEnd}
-use Rattle.serve_rules.specs.declared.ends.ConnEnd.TheVariants.{Left, Refused, Truncated, NotInvited, RoomFull, JoinsSpent, ReadFault, WriteFault, OutOfMemory}
+use Rattle.serve_rules.specs.declared.ends.ConnEnd.TheVariants.{Left, Refused, Truncated, NotInvited, RoomFull, JoinsSpent, ReadFault, WriteFault, NotStored, OutOfMemory}
 use Rattle.serve_rules.specs.declared.noted.ConnReport.{ConnReport}
 use Rattle.viewer_run.specs.Greeting.{Greeting, greeting, StillConnects, OutsideFaults}
 use Rattle.viewer_run.specs.Greeting.Greeting.{IsReady, HasLeft}
@@ -62,6 +62,7 @@ OutsideEnd head after g h read link spent RoomFull = IsTurnedAwayAs head after g
 OutsideEnd head after g h read link spent JoinsSpent = IsTurnedAwayAs head after g join.JoinsSpent
 OutsideEnd head after g h read link spent ReadFault = Rose link.input.faults spent.input.faults
 OutsideEnd head after g h read link spent WriteFault = Rose link.output.faults spent.output.faults
+OutsideEnd head after g h read link spent NotStored = Rose link.output.faults spent.output.faults
 OutsideEnd head after g h read link spent OutOfMemory = ⊤
 
 -- a client didn't join: the replies to what it sent were written, and the last word

@@ -23,7 +23,7 @@ use Rattle.pointer_share.specs.Desk.{DeskOf, IsDeskOf, IsNoted, noted_with}
 use Rattle.grow_lock.specs.Journal.{StartsWith}
 use Rattle.serve_rules.specs.Turns.{SessionPass, IsTurn}
 use Rattle.serve_rules.specs.Events.{IsWithin}
-use Rattle.serve_rules.specs.declared.ends.ConnEnd.TheVariants.{Left, Refused, Truncated, NotInvited, RoomFull, JoinsSpent, ReadFault, WriteFault, OutOfMemory}
+use Rattle.serve_rules.specs.declared.ends.ConnEnd.TheVariants.{Left, Refused, Truncated, NotInvited, RoomFull, JoinsSpent, ReadFault, WriteFault, NotStored, OutOfMemory}
 use Rattle.serve_rules.specs.declared.ends.SideEnd.{SideEnd}
 use Rattle.serve_rules.specs.declared.ends.SideEnd.TheVariants.{Done, Stopped}
 
@@ -72,7 +72,7 @@ pub record Encodes (s s' : SenderModel) (take : TakeModel) (bytes : List ℕ) : 
   pub after : (e : Encoder) (f : FrameOf) → StandsFor s e → take.frame ≡ taken_as take.size f → StandsFor s' (encoder_after_frame take.size s.confirmed e f)
   pub rest : s' ≡ with_encoded s s'.registers s'.caches
 
--- an end that sending has: a write failed, or memory was wanted, or it was stopped
+-- an end that sending has: a write failed, what a frame shows couldn't be kept, memory was wanted, or it was stopped
 abbrev pub IsSendEnd : SideEnd → Type 0
 IsSendEnd Stopped = ⊤
 IsSendEnd (Done Left) = ⊥
@@ -83,7 +83,22 @@ IsSendEnd (Done RoomFull) = ⊥
 IsSendEnd (Done JoinsSpent) = ⊥
 IsSendEnd (Done ReadFault) = ⊥
 IsSendEnd (Done WriteFault) = ⊤
+IsSendEnd (Done NotStored) = ⊤
 IsSendEnd (Done OutOfMemory) = ⊤
+
+-- a fault of the output: a write failed, or what a frame shows couldn't be kept
+abbrev pub IsFault : SideEnd → Type 0
+IsFault Stopped = ⊥
+IsFault (Done Left) = ⊥
+IsFault (Done (Refused k at)) = ⊥
+IsFault (Done Truncated) = ⊥
+IsFault (Done NotInvited) = ⊥
+IsFault (Done RoomFull) = ⊥
+IsFault (Done JoinsSpent) = ⊥
+IsFault (Done ReadFault) = ⊥
+IsFault (Done WriteFault) = ⊤
+IsFault (Done NotStored) = ⊤
+IsFault (Done OutOfMemory) = ⊥
 
 -- a front of these bytes was written, and at `Stopped` all of them
 pub record WritesFrame (bytes : List ℕ) (old new : Output) (end : SideEnd) : Type 0 where
@@ -93,7 +108,7 @@ pub record WritesFrame (bytes : List ℕ) (old new : Output) (end : SideEnd) : T
   pub told : Appends old.told new.told written
   pub all : end ≡ Stopped → unwritten ≡ []
   pub only : IsSendEnd end
-  pub cause : end ≡ Done WriteFault → Rose old.faults new.faults
+  pub cause : IsFault end → Rose old.faults new.faults
   pub calm : end ≡ Stopped → new.faults ≡ old.faults
 
 -- a packet of a pointer, where there is one, and a frame behind it were written, or a front of both: of whatever was told and noted
@@ -104,7 +119,7 @@ pub record WritesPointed (d d' : Option DeskOf) (frame : List ℕ) (old new : Ou
       → (unwritten : List ℕ) × (pointer_bytes c keys key ++ frame ≡ written ++ unwritten) × (end ≡ Stopped → unwritten ≡ [])
   pub desk : end ≡ Stopped → (c : Confirmed) (keys : List ℕ) (key : ℕ) → IsDeskOf c keys d → IsNoted d key → IsDeskOf c (told_after keys key) d'
   pub only : IsSendEnd end
-  pub cause : end ≡ Done WriteFault → Rose old.faults new.faults
+  pub cause : IsFault end → Rose old.faults new.faults
   pub calm : end ≡ Stopped → new.faults ≡ old.faults
 
 -- a take's frame was written, and before it the packet of the pointer that was noted, where the viewer wasn't told that last; or a front of both where memory
@@ -119,7 +134,7 @@ pub record SendsFrame (s s' : SenderModel) (d d' : Option DeskOf) (take : TakeMo
   pub desk : end ≡ Stopped → (c : Confirmed) (keys : List ℕ) (key : ℕ) → IsDeskOf c keys d → IsNoted d key → IsDeskOf c (told_after keys key) d'
   pub number : s'.number ≡ s.number
   pub only : IsSendEnd end
-  pub cause : end ≡ Done WriteFault → Rose old.faults new.faults
+  pub cause : IsFault end → Rose old.faults new.faults
   pub calm : end ≡ Stopped → new.faults ≡ old.faults
 
 -- what a take found was sent
@@ -180,5 +195,5 @@ pub record SendsOn (head : Head) (before after : SenderModel) (d d' : Option Des
   pub after_is : end ≡ Stopped → (after.v ≡ before.v) × (after.confirmed ≡ before.confirmed) × (after.number ≡ last) × IsIdle after
       × ((e : Encoder) → FollowsWith before d e → FollowsWith after d' (encoder_after_takes head.size before.confirmed pass_after.seen e takes))
   pub only : IsSendEnd end
-  pub cause : end ≡ Done WriteFault → Rose old.faults new.faults
+  pub cause : IsFault end → Rose old.faults new.faults
   pub calm : end ≡ Stopped → new.faults ≡ old.faults

@@ -14,14 +14,15 @@ use Rattle.serve_rules.specs.Events.{Handles}
 use Rattle.serve_rules.specs.Notices.{Notice, events_in, notice_after_all, notice_in}
 use Rattle.serve_rules.specs.Reading.{ReadEnd, GoesOn, StopsReading}
 use Rattle.serve_rules.specs.declared.ends.ConnEnd.{ConnEnd}
-use Rattle.serve_rules.specs.declared.ends.ConnEnd.TheVariants.{Left, Refused, Truncated, NotInvited, RoomFull, JoinsSpent, ReadFault, WriteFault, OutOfMemory}
+use Rattle.serve_rules.specs.declared.ends.ConnEnd.TheVariants.{Left, Refused, Truncated, NotInvited, RoomFull, JoinsSpent, ReadFault, WriteFault, NotStored, OutOfMemory}
 use Rattle.serve_rules.specs.declared.ends.SideEnd.{SideEnd}
 use Rattle.serve_rules.specs.declared.ends.SideEnd.TheVariants.{Done, Stopped}
 use Rattle.serve_rules.specs.declared.noted.Noted.{Noted}
 use Rattle.viewer_run.specs.Sending.{SendsOn}
 use Rattle.viewer_run.specs.Frames.{FramesSent}
 
--- when the connection of a client that is ready ends so: as its stream does that is read to its end, by a write that failed, or by want of memory
+-- when the connection of a client that is ready ends so: as its stream does that is read to its end, by a write that failed, by a frame that couldn't be kept,
+-- or by want of memory
 abbrev pub ViewEnd : List ℕ → Hearing → Notice → (before now : Outside) → ConnEnd → Type 0
 ViewEnd fed h notice before now Left = ReadEnd false fed h notice before.input now.input (Done Left)
 ViewEnd fed h notice before now (Refused k at) = ReadEnd false fed h notice before.input now.input (Done (Refused k at))
@@ -31,9 +32,10 @@ ViewEnd fed h notice before now RoomFull = ⊥
 ViewEnd fed h notice before now JoinsSpent = ⊥
 ViewEnd fed h notice before now ReadFault = Rose before.input.faults now.input.faults
 ViewEnd fed h notice before now WriteFault = Rose before.output.faults now.output.faults
+ViewEnd fed h notice before now NotStored = Rose before.output.faults now.output.faults
 ViewEnd fed h notice before now OutOfMemory = ⊤
 
--- no read failed, unless it did beside a failed write, or beside sending that wanted memory, of a stream that goes on
+-- no read failed, unless it did beside a fault of the output, or beside sending that wanted memory, of a stream that goes on
 abbrev pub FailsAtMostBeside : Hearing → Notice → (before now : Outside) → Type 0
 FailsAtMostBeside h notice before now = (now.input.faults ≡ before.input.faults) ⊎ GoesOn h notice
 
@@ -48,10 +50,11 @@ ViewFaults h notice before now RoomFull = now.input.faults ≡ before.input.faul
 ViewFaults h notice before now JoinsSpent = now.input.faults ≡ before.input.faults
 ViewFaults h notice before now ReadFault = GoesOn h notice × (now.output.faults ≡ before.output.faults)
 ViewFaults h notice before now WriteFault = FailsAtMostBeside h notice before now
+ViewFaults h notice before now NotStored = FailsAtMostBeside h notice before now
 ViewFaults h notice before now OutOfMemory = FailsAtMostBeside h notice before now
 
 -- a client's stream was read until its connection ended: the events of the steps before it and of those that were heard were handled in order, all of them
--- unless a write failed or memory was wanted; nothing was read behind a Bye or a Shutdown
+-- unless a write failed, a frame couldn't be kept or memory was wanted; nothing was read behind a Bye or a Shutdown
 pub record ReadsTo (head : Head) (v : ℕ) (rest : List ConnStep) (conn : Hearing) (before after : SessionPass) (noted_old noted_new : Noted)
     (outside_old outside_new : Outside) (end : ConnEnd) : Type 0 where
   pub fed : List ℕ
@@ -59,7 +62,7 @@ pub record ReadsTo (head : Head) (v : ℕ) (rest : List ConnStep) (conn : Hearin
   pub steps : List ConnStep
   pub undone : List ConnStep
   pub front : rest ++ (heard conn fed).steps ≡ steps ++ undone
-  pub all : (end ≡ WriteFault → ⊥) → (end ≡ OutOfMemory → ⊥) → undone ≡ []
+  pub all : (end ≡ WriteFault → ⊥) → (end ≡ NotStored → ⊥) → (end ≡ OutOfMemory → ⊥) → undone ≡ []
   pub handles : Handles head v (events_in steps) before after noted_old.places.list noted_new.places.list
   pub room : 0 < noted_new.places.room
   pub notice : notice_in noted_new ≡ notice_after_all (notice_in noted_old) steps
@@ -102,6 +105,7 @@ wants_last RoomFull n = false
 wants_last JoinsSpent n = false
 wants_last ReadFault n = false
 wants_last WriteFault n = false
+wants_last NotStored n = false
 wants_last OutOfMemory n = false
 
 -- the connection's end after its last frame

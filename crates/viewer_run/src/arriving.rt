@@ -13,7 +13,7 @@ use crate::viewing::attend_whole;
 use crate::visits::{Arrival, FirstFrame, arrive, depart};
 use crate::{ConnEnd, Ends, Guest, Halves, Host, Noted, OutOfMemory, Places, Stay};
 use conn_core::Conn;
-use edge_io::{Sink, Source};
+use edge_io::{FrameSink, Source};
 use grow_lock::{GrowLock, Pass};
 use session_core::{JoinFault, Session};
 use std::alloc::Global;
@@ -31,7 +31,7 @@ pub struct Visit {
 
 /// A client that is ready joins by its name, is attended to until its connection ends, and leaves. The places of its Join and its Leave are noted. What the
 /// pass has seen then is a legal journal.
-pub fn serve_arrival<R: Threads + Wait + Sync, S: Source + Send, K: Sink + Send>(
+pub fn serve_arrival<R: Threads + Wait + Sync, S: Source + Send, K: FrameSink + Send>(
     host: &Host<'_, R>,
     pass: Pass<Session>,
     guest: &Guest,
@@ -73,7 +73,7 @@ pub fn serve_arrival<R: Threads + Wait + Sync, S: Source + Send, K: Sink + Send>
 
 /// A client that is ready joins by its name, is attended to and leaves, as `serve_arrival` says; gives what was noted too. An `Err` says how the connection
 /// of a client that didn't join ended.
-pub fn serve_guest<R: Threads + Wait + Sync, S: Source + Send, K: Sink + Send>(
+pub fn serve_guest<R: Threads + Wait + Sync, S: Source + Send, K: FrameSink + Send>(
     host: &Host<'_, R>,
     pass: Pass<Session>,
     guest: &Guest,
@@ -149,7 +149,7 @@ fn note_join(pass: &Pass<Session>, noted: &mut Noted)
 }
 
 /// Attends to a viewer who has joined, unless memory was wanted for its first frame.
-fn attend_first<R: Threads + Wait + Sync, S: Source + Send, K: Sink + Send>(
+fn attend_first<R: Threads + Wait + Sync, S: Source + Send, K: FrameSink + Send>(
     stay: &Stay<'_, R>,
     pass: Pass<Session>,
     ends: &mut Ends<'_>,

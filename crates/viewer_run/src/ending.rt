@@ -73,6 +73,7 @@ pub fn put_last<K: Sink>(
         | ConnEnd::Truncated
         | ConnEnd::ReadFault
         | ConnEnd::WriteFault
+        | ConnEnd::NotStored
         | ConnEnd::OutOfMemory => reply(output, &[]),
     }
 }

@@ -10,12 +10,12 @@ ghost use Rattle.viewer_run.specs.Frames.{FirstSent};
 
 use crate::visits::FirstFrame;
 use crate::{SideEnd, send_frame};
-use edge_io::Sink;
+use edge_io::FrameSink;
 use std::alloc::Global;
 use viewer_sender::Seat;
 
 /// Sends a viewer's first frame behind its pointer, and gives what sends the next ones.
-pub fn send_first<K: Sink>(alloc: Global, first: FirstFrame, output: &mut K) -> (Seat, SideEnd)
+pub fn send_first<K: FrameSink>(alloc: Global, first: FirstFrame, output: &mut K) -> (Seat, SideEnd)
     requires next { first.take.serial ≡ first.seat.sender.encoded }
     requires own { IsOwnTake first.seat.sender.confirmed first.take }
     ensures { (head : Head) (j : List Entry) (v : ℕ) (confirmed : ConfirmedModel) → IsFirst head j v confirmed (Ok first)

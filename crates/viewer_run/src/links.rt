@@ -16,7 +16,7 @@ use crate::last_words::{say_last, turn_away};
 use crate::{Guest, Halves, Host, Visit, greet, serve_guest, size_of};
 use caps_sets::Confirmed;
 use conn_core::Conn;
-use edge_io::{Link, Sink, Source};
+use edge_io::{FrameSink, Link, Sink, Source};
 use grow_lock::{GrowLock, Pass};
 use serve_rules::{ConnEnd, ConnReport, Noted};
 use session_core::Session;
@@ -43,7 +43,7 @@ pub fn serve_viewer<R: Threads + Wait + Sync, L: Link>(
 }
 
 /// Serves a client over the two halves of its link: its connection sequence, its time as a viewer if it is let in, and the last word to it.
-pub fn serve_pair<R: Threads + Wait + Sync, S: Source + Send, K: Sink + Send>(
+pub fn serve_pair<R: Threads + Wait + Sync, S: Source + Send, K: FrameSink + Send>(
     rt: &R,
     alloc: Global,
     lock: &GrowLock<Session>,
@@ -70,7 +70,7 @@ pub fn serve_pair<R: Threads + Wait + Sync, S: Source + Send, K: Sink + Send>(
 }
 
 /// Serves a client that is ready over the two halves of its link.
-fn serve_over<R: Threads + Wait + Sync, S: Source + Send, K: Sink + Send>(
+fn serve_over<R: Threads + Wait + Sync, S: Source + Send, K: FrameSink + Send>(
     host: &Host<'_, R>,
     pass: Pass<Session>,
     guest: &Guest,
@@ -93,7 +93,7 @@ fn serve_over<R: Threads + Wait + Sync, S: Source + Send, K: Sink + Send>(
 }
 
 /// Serves a client that is ready.
-fn serve_ready<R: Threads + Wait + Sync, S: Source + Send, K: Sink + Send>(
+fn serve_ready<R: Threads + Wait + Sync, S: Source + Send, K: FrameSink + Send>(
     host: &Host<'_, R>,
     pass: Pass<Session>,
     guest: &Guest,

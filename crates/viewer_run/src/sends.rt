@@ -1,6 +1,7 @@
 //! The send side of a viewer: frames are taken, each in a turn of its own, and encoded and written outside it. The pointer that goes before a frame
 //! is that of the take's turn.
 ghost use Rattle.std.specs.Prelude.{◌≡◌, ◌≤◌, length, IsTrue, Ok, IfOk, OnOk, OnErr};
+ghost use Rattle.edge_io.specs.FrameSink.{MayShow};
 ghost use Rattle.edge_io.specs.Outside.{output_of};
 ghost use Rattle.session_core.specs.SessionModel.{is_here, asked_by, is_suppressed};
 ghost use Rattle.frame_plan.specs.Plans.{taken_if, asked_if};
@@ -15,7 +16,7 @@ ghost use Rattle.viewer_run.specs.Sending.{TakesAs, TakesIn, IsAbsent, IsNext, S
 
 use crate::reading::{NO_MEMORY, is_done};
 use crate::{ConnEnd, OutOfMemory, SideEnd, Stay};
-use edge_io::{Sink, Wrote};
+use edge_io::{FrameSink, Sink, Wrote};
 use grow_lock::{GrowLock, Pass};
 use session_core::Session;
 use std::alloc::Global;
@@ -32,8 +33,9 @@ pub enum Due {
     Last,
 }
 
-/// The send side of a viewer. It sends what is new, and sleeps where nothing else is, until memory or the output fails, or it finds the flag set.
-pub fn send_side<R: Wait, K: Sink>(
+/// The send side of a viewer. It sends what is new, and sleeps where nothing else is, until memory or the output fails, a frame can't be kept, or it finds
+/// the flag set.
+pub fn send_side<R: Wait, K: FrameSink>(
     rt: &R,
     alloc: Global,
     lock: &GrowLock<Session>,
@@ -71,7 +73,7 @@ pub fn send_side<R: Wait, K: Sink>(
 
 /// One round of a send side: a take in a turn, and its frame. Then it sleeps until there was more news than this, of which the take may
 /// have found some. `Stopped` says that no fault came.
-fn send_once<R: Wait, K: Sink>(
+fn send_once<R: Wait, K: FrameSink>(
     stay: &Stay<'_, R>,
     pass: Pass<Session>,
     rings: u64,
@@ -167,7 +169,7 @@ fn allow_for(due: Due, session: &mut Session, v: u32)
 }
 
 /// Sends what a take found. `Stopped` says that no fault came.
-pub fn send_taken<K: Sink>(
+pub fn send_taken<K: FrameSink>(
     alloc: Global,
     taken: Result<Taken, OutOfMemory>,
     seat: &mut Seat,
@@ -183,10 +185,31 @@ pub fn send_taken<K: Sink>(
     }
 }
 
-/// Encodes a take's frame, and writes it behind the packet that tells the pointer noted, where there is one to tell.
-pub fn send_frame<K: Sink>(alloc: Global, take: Take, seat: &mut Seat, output: &mut K) -> SideEnd
+/// Sends a take's frame behind the packet that tells the pointer noted, where there is one to tell, once the output has what it shows kept.
+pub fn send_frame<K: FrameSink>(
+    alloc: Global,
+    take: Take,
+    seat: &mut Seat,
+    output: &mut K,
+) -> SideEnd
     requires next { take.serial ≡ seat.old.sender.encoded }
     requires own { IsOwnTake seat.old.sender.confirmed take }
+    ensures { SendsFrame seat.old.sender seat.new.sender seat.old.desk seat.new.desk take (output_of K.Sink output.old) (output_of K.Sink output.new) result }
+{
+    match output.keep(seat.number()) {
+        Wrote::All => send_kept(alloc, take, seat, output),
+        Wrote::Failed => SideEnd::Done {
+            end: ConnEnd::NotStored,
+        },
+        Wrote::OutOfMemory => NO_MEMORY,
+    }
+}
+
+/// Encodes the frame of a take whose entries are kept, and writes it behind the packet before it.
+fn send_kept<K: FrameSink>(alloc: Global, take: Take, seat: &mut Seat, output: &mut K) -> SideEnd
+    requires next { take.serial ≡ seat.old.sender.encoded }
+    requires own { IsOwnTake seat.old.sender.confirmed take }
+    requires kept { MayShow K.FrameSink.keeps (K.FrameSink.kept output.old) seat.old.sender.number }
     ensures { SendsFrame seat.old.sender seat.new.sender seat.old.desk seat.new.desk take (output_of K.Sink output.old) (output_of K.Sink output.new) result }
 {
     match seat.encode(alloc, take) {

@@ -11,7 +11,7 @@ ghost use Rattle.viewer_run.specs.Sending.{SendsOn};
 use crate::reading::read_side;
 use crate::sends::send_side;
 use crate::{Ends, Halves, SideEnd, Stay};
-use edge_io::{Sink, Source};
+use edge_io::{FrameSink, Source};
 use grow_lock::{GrowLock, Pass};
 use session_core::Session;
 use std::sync::Wait;
@@ -74,7 +74,7 @@ impl Shared {
 }
 
 /// Runs both sides, each in a thread, and gives the pass that has seen what both saw.
-pub fn run_sides<R: Threads + Wait + Sync, S: Source + Send, K: Sink + Send>(
+pub fn run_sides<R: Threads + Wait + Sync, S: Source + Send, K: FrameSink + Send>(
     stay: &Stay<'_, R>,
     pass: Pass<Session>,
     ends: &mut Ends<'_>,
@@ -103,7 +103,7 @@ pub fn run_sides<R: Threads + Wait + Sync, S: Source + Send, K: Sink + Send>(
 }
 
 /// Runs both sides, each in a thread with a pass of its own.
-fn side_by_side<R: Threads + Wait + Sync, S: Source + Send, K: Sink + Send>(
+fn side_by_side<R: Threads + Wait + Sync, S: Source + Send, K: FrameSink + Send>(
     stay: &Stay<'_, R>,
     passes: (Pass<Session>, Pass<Session>),
     ends: &mut Ends<'_>,
@@ -180,7 +180,7 @@ fn side_by_side<R: Threads + Wait + Sync, S: Source + Send, K: Sink + Send>(
 }
 
 /// The send side beside the read side; it sends nothing where that doesn't run beside it.
-fn send_beside<R: Wait, K: Sink>(
+fn send_beside<R: Wait, K: FrameSink>(
     stay: &Stay<'_, R>,
     pass: Pass<Session>,
     seat: &mut Seat,

@@ -17,7 +17,7 @@ use crate::visits::FirstFrame;
 use crate::{
     ConnEnd, Due, Ends, Halves, Noted, SideEnd, Stay, read_side, run_sides, send_taken, take_once,
 };
-use edge_io::{Sink, Source};
+use edge_io::{FrameSink, Source};
 use grow_lock::Pass;
 use session_core::Session;
 use std::sync::Wait;
@@ -25,7 +25,7 @@ use std::thread::Threads;
 use viewer_sender::Seat;
 
 /// Sends a viewer's first frame, and then runs both its sides until the connection ends.
-pub fn attend<R: Threads + Wait + Sync, S: Source + Send, K: Sink + Send>(
+pub fn attend<R: Threads + Wait + Sync, S: Source + Send, K: FrameSink + Send>(
     stay: &Stay<'_, R>,
     pass: Pass<Session>,
     ends: &mut Ends<'_>,
@@ -54,7 +54,7 @@ pub fn attend<R: Threads + Wait + Sync, S: Source + Send, K: Sink + Send>(
 }
 
 /// Attends to a viewer who has joined, and sends its last frame where one is due.
-pub fn attend_whole<R: Threads + Wait + Sync, S: Source + Send, K: Sink + Send>(
+pub fn attend_whole<R: Threads + Wait + Sync, S: Source + Send, K: FrameSink + Send>(
     stay: &Stay<'_, R>,
     pass: Pass<Session>,
     ends: &mut Ends<'_>,
@@ -94,6 +94,7 @@ fn wants_last(end: ConnEnd, noted: &Noted) -> bool
         | ConnEnd::JoinsSpent
         | ConnEnd::ReadFault
         | ConnEnd::WriteFault
+        | ConnEnd::NotStored
         | ConnEnd::OutOfMemory => false,
     }
 }
@@ -109,7 +110,7 @@ fn end_of_last(sent: SideEnd) -> ConnEnd
 }
 
 /// Runs both sides of a viewer, and reads its stream on where neither met the connection's end.
-fn serve_sides<R: Threads + Wait + Sync, S: Source + Send, K: Sink + Send>(
+fn serve_sides<R: Threads + Wait + Sync, S: Source + Send, K: FrameSink + Send>(
     stay: &Stay<'_, R>,
     pass: Pass<Session>,
     ends: &mut Ends<'_>,
@@ -179,7 +180,7 @@ fn read_out<R: Wait, S: Source>(
 }
 
 /// Output is allowed again, and a viewer's last frame is taken and sent. `Stopped` says that no fault came.
-pub fn send_last<R: Wait, K: Sink>(
+pub fn send_last<R: Wait, K: FrameSink>(
     stay: &Stay<'_, R>,
     pass: Pass<Session>,
     seat: &mut Seat,

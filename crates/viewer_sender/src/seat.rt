@@ -54,6 +54,13 @@ impl Seat {
         self.sender.viewer()
     }
 
+    /// The number of its last frame; 0 before the first.
+    pub fn number(&self) -> u64
+        ensures { result ≡ self.now.sender.number }
+    {
+        self.sender.number()
+    }
+
     /// Takes the frame that is due to the viewer, who is present and has seen a front of the journal, and notes the session's pointer for it;
     /// `Nothing`, with which nothing is noted, where the viewer is suppressed, or the journal hasn't grown since its last frame and no tile is asked
     /// for. An `Err` leaves the session and the seat as they were.

@@ -117,6 +117,13 @@ impl Sender {
         self.desk.viewer()
     }
 
+    /// The number of its last frame; 0 before the first.
+    pub(crate) fn number(&self) -> u64
+        ensures { result ≡ self.now.number }
+    {
+        self.desk.number()
+    }
+
     /// The frame that was encoded last was lost: it isn't counted, and the sender is spent.
     pub(crate) fn lose_last(&mut self)
         requires { 1 ≤ self.old.encoded }
