@@ -10,4 +10,5 @@ pub mod Fronts
 pub mod Counting
 pub mod Feeding
 pub mod Replayed
+pub mod Resuming
 mod ReplayRows

@@ -17,11 +17,13 @@ mod read_shape;
 mod reading;
 mod replay;
 mod replay_fault;
+mod resumed;
 mod told;
 mod write;
 
 pub use replay::Replay;
 pub use replay_fault::ReplayFault;
+pub use resumed::Resumed;
 pub use session_core::{Entry, Invite};
 pub use wire_num::OutOfMemory;
 pub use write::{write_entry, write_head};

@@ -9,11 +9,13 @@ ghost use Rattle.record_file.specs.Replaying.{replayed, picture_at};
 ghost use Rattle.record_file.specs.Told.{told_picture};
 ghost use Rattle.record_file.specs.Standing.{ReadsOn};
 ghost use Rattle.record_file.specs.Replays.{HasRead, end_of, IsAnswered, UnlessMemory, IsNeverRefused, TellsFrontIfWhole, IsMissing};
+ghost use Rattle.record_file.specs.Resuming.{IsResumed};
 
 use crate::course::Course;
 use crate::reading::read_on;
+use crate::resumed::session_of;
 use crate::told::Told;
-use crate::{OutOfMemory, ReplayFault};
+use crate::{OutOfMemory, ReplayFault, Resumed};
 use px_core::Size;
 use std::alloc::Global;
 use std::marker::Model;
@@ -118,6 +120,22 @@ impl Replay {
             return None;
         }
         Some(self.course.missing as u64)
+    }
+
+    /// The session, where the head is whole and no fault was found.
+    pub fn into_session(self) -> Option<Resumed>
+        ensures { (stream : List ℕ) → HasRead stream self → IsResumed result stream }
+    {
+        let Replay {
+            alloc: _,
+            course,
+            told: _,
+            end,
+        } = self;
+        match end {
+            Some(_) => None,
+            None => session_of(course),
+        }
     }
 }
 
