@@ -23,7 +23,7 @@ fn click_here(session: &mut Session)
 }
 
 /// Clicks in a turn of its own.
-fn click<R: Wait>(rt: &R, lock: &GrowLock<Session>, pass: Pass<Session>) -> Pass<Session>
+pub fn click<R: Wait>(rt: &R, lock: &GrowLock<Session>, pass: Pass<Session>) -> Pass<Session>
     requires { IsPassOf lock.now pass }
     ensures { IsPassOf lock.now result × (result.share ≡ pass.share) }
 {

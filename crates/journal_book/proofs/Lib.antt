@@ -1,0 +1,5 @@
+pub mod Pieces
+pub mod Moments
+pub mod Steps
+pub mod Calls
+pub mod Ends
