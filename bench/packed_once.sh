@@ -54,4 +54,4 @@ is_times "for $viewers viewers at 24 bits" "$(packing "$viewers" 24 0)" "$once" 
 both=$(packing 2 '24 16' 0)
 is_times "for $viewers viewers at 24 and at 16 bits" "$(packing "$viewers" '24 16' 0)" "$both" 1
 is_times "for $viewers viewers, drawn on between" "$(packing "$viewers" 24 1)" "$once" "$viewers"
-met
+exit "$unmet"

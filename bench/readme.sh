@@ -9,7 +9,7 @@
 # is given (then its programs are the proved ones), and `rt ci`, the gate.
 #
 # usage: sh bench/readme.sh [build]      (it needs the kit, python3 and pngtopnm of netpbm; xvfb, freerdp2-x11, rdesktop, xdotool and imagemagick
-#                                         for the clients. Without proof each program is built once, which takes a minute or two)
+#                                         for the clients. Without proof each program is built once, for a minute or two of a processor)
 bench=readme
 . "$(dirname "$0")/programs.sh"
 clone=$work/clone

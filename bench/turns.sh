@@ -2,7 +2,7 @@
 # Counts, by valgrind's callgrind, what a take costs while the session is locked for it, and what sharing tiles costs those who draw:
 # a late joiner behind N entries; a take of all tiles of the largest picture, for each tile; a drawing on tiles that were lent and given
 # back; and the memory of a new session of the largest picture. A count is the difference of two runs: of all instructions, or of what the
-# profile gives for a function with all that it calls (`Sender::take`, which is what a turn does, and `Session::draw`). Then what it costs that
+# profile gives for a function with all that it calls (`Seat::take`, which is what a turn does, and `Session::draw`). Then what it costs that
 # sixteen viewers watch a window full of text, who are sent it as packed tiles or as orders. A figure that isn't as it is wanted is told.
 #
 # usage: sh bench/turns.sh      (it needs valgrind)
@@ -39,10 +39,12 @@ drawn() {
     }'
 }
 
-# The instructions of a function in the same run.
+# The instructions of a function in the same run. Where the profile has none of that name, a 0 would pass for a figure that is met.
 within() {
     script_instructions "$@" >/dev/null
-    inclusive "$function"
+    count=$(inclusive "$function")
+    [ "$count" -gt 0 ] || { echo "$bench: the profile has no $function" >&2; exit 1; }
+    echo "$count"
 }
 
 table 'a late joiner: its join and its first frame' instructions
@@ -55,7 +57,7 @@ for entries in 1000 100000 1000000; do
 done
 echo
 table 'a turn' instructions
-function='Sender::take'
+function='Seat::take'
 once=$(within whole 1)
 twice=$(within whole 2)
 row 'a take of all 1,024 tiles, for each of them' $(((twice - once) / 1024)) 400

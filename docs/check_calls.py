@@ -34,10 +34,11 @@ QUOTED = re.compile(r"b?'(\\.[^']*|[^'\\])'")
 
 class Call:
     """A call of a source file: where its name stands; its type or trait, or None; the trait that it is of, or None; its head behind the
-    name, and what it gives; labels of its clauses, and the text of these; its body, or an empty text."""
-    def __init__(self, file, place, owner, kind, of, name, public, head, labels, contract, body, is_law):
+    name, and what it gives; labels of its clauses, and the text of these; its body, or an empty text; the head of its impl, or an empty text."""
+    def __init__(self, file, place, owner, kind, of, name, public, head, labels, contract, body, is_law, bounds):
         self.file, self.place, self.owner, self.kind, self.of, self.name = file, place, owner, kind, of, name
         self.public, self.head, self.labels, self.contract, self.body, self.is_law = public, head, labels, contract, body, is_law
+        self.bounds = bounds
         self.gives = head.rsplit('->', 1)[1].strip() if '->' in head else ''
 
     def path(self):
@@ -122,8 +123,8 @@ def without_generics(head):
     return head
 
 
-def calls_in(file, text, low, high, owner=None, kind='function', of=None):
-    """The calls of a part of a source file, those of nested modules not with them."""
+def calls_in(file, text, low, high, owner=None, kind='function', of=None, bounds=''):
+    """The calls of a part of a source file, those of nested modules not with them. bounds: the head of the impl that they stand in."""
     while True:
         found = START.search(text, low, high)
         if found is None:
@@ -132,7 +133,7 @@ def calls_in(file, text, low, high, owner=None, kind='function', of=None):
             head, labels, contract, body, low = function(text, found.end())
             public = bool(found.group('pub')) and not found.group('within')
             is_law = body is not None and not body.strip() and bool(labels) and owner is None
-            yield Call(file, found.start('call'), owner, kind, of, found.group('call'), public, head, labels, contract, body or '', is_law)
+            yield Call(file, found.start('call'), owner, kind, of, found.group('call'), public, head, labels, contract, body or '', is_law, bounds)
             continue
         stop = found.end() - 1
         while text[stop] not in '{;':
@@ -144,7 +145,7 @@ def calls_in(file, text, low, high, owner=None, kind='function', of=None):
             head = without_generics(text[found.end():stop].strip())
             trait, _, name = head.rpartition(' for ')
             yield from calls_in(file, text, stop + 1, end, re.match(r'\w+', name.strip()).group(),
-                                'of a trait' if trait else 'method', trait.strip() or None)
+                                'of a trait' if trait else 'method', trait.strip() or None, text[found.end():stop])
         low = end + 1
 
 

@@ -3,8 +3,8 @@
 - an edge that no file of the crate names, in src/, specs/, proofs/ or must-fail/;
 - more than MOST_WAYS ways of libraries, in all: `rt` sums a crate's files once for each way through crates.txt that leads to it. A library
   has one of its own, and one for each way of what it stands on;
-- a may_wait that isn't the number of functions under `Wait`. The prover counts those whose own head has that bound, and the `main` of a
-  program that calls one; so they are counted by their heads here, those of tests not with them, and a `main` where its crate or one that
+- a may_wait that isn't the number of functions under `Wait`. The prover counts those whose own head or whose impl's has that bound, and the `main` of a
+  program that calls one; so they are counted by these heads here, those of tests not with them, and a `main` where its crate or one that
   it names has such a function;
 - a crate with more than MOST_EDITS edits in must-fail/ beside its named ones, which are those of a table of docs/working.md; one of these
   that isn't there; an edit that stands there and in bench/wrong_bodies/, or that a page cites and that stands in neither;
@@ -84,7 +84,7 @@ def own_calls(crate):
 
 def stale_counts(crates):
     """What is wrong with the numbers of may_wait."""
-    waits = {crate: sum(bool(WAIT.search(call.head)) for call in own_calls(crate)) for crate in crates}
+    waits = {crate: sum(bool(WAIT.search(call.head + call.bounds)) for call in own_calls(crate)) for crate in crates}
     for line in (TOP / 'crates.txt').read_text().splitlines():
         head = line.split(':')[0].split()
         if not head or head[0] not in crates:
