@@ -6,6 +6,8 @@
 #[cfg(test)]
 mod crowd;
 #[cfg(test)]
+mod files;
+#[cfg(test)]
 mod sockets;
 #[cfg(test)]
 mod standard;
